@@ -1,0 +1,11 @@
+pub mod Text
+pub mod Field
+pub mod Kind
+pub mod Record
+pub mod Tree
+pub mod Sheet
+pub mod Check
+pub mod Lower
+pub mod Plan
+pub mod Call
+pub mod Examples
