@@ -1,4 +1,4 @@
--- The searches that document 01 works through, M1 to M10, and the two at the limit of 2,048 operators: sheets as bytes, and the plan sheet or the refusal that the document names. The expected side is typed from the document.
+-- The searches that document 01 works through, M1 to M10: sheets as bytes, and the plan sheet or the refusal that the document names; behind them a refusal for each sentence on forms that a number or a name could get past. The expected side is typed from the document.
 use mathlib.Core.Path.{_≡_, refl}
 use Prim.Native.Nat.{ℕ, zero, suc}
 use Prim.Native.String.{String}
@@ -66,27 +66,32 @@ table =
     ∷ refuses "stmt\t1\t0\nwhere\t3\t8\nlist\t2\nundes\t0\nunres\tx\n" (treeRefusal 7 4 (record { start = 3; end = 8 }) 0)
     -- M10, an empty head and one empty arm
     ∷ plans "stmt\t0\t1\narm\t0\t0\n" "plan\t3\t0\nsource\t0\t0\nsource\t0\t0\nunion\t0\t1\t0\n"
+    -- no `-0`
+    ∷ refuses "stmt\t1\t0\nwhere\t0\t1\nint\t-0\n" (lineRefusal 3 3)
+    -- no spare zero
+    ∷ refuses "stmt\t1\t0\nwhere\t0\t1\nint\t07\n" (lineRefusal 3 3)
+    -- a span does not end before it starts
+    ∷ refuses "stmt\t1\t0\nwhere\t4\t3\nnull\n" (lineRefusal 3 2)
+    -- ids, counts and spans have 32 bits
+    ∷ refuses "stmt\t1\t0\nwhere\t0\t4294967296\nnull\n" (lineRefusal 3 2)
+    -- no other escape is read
+    ∷ refuses "stmt\t1\t0\nwhere\t0\t1\nstr\ta\\r\n" (lineRefusal 3 3)
+    -- `one` has no bounds
+    ∷ refuses "stmt\t1\t0\nmatch\t0\t1\t0\t9\npart\t-\t0\t1\nrel\t-\t0\t0\tone\t1\t-\t0\t0\t9\n" (lineRefusal 3 4)
+    -- a due record without its line feed
+    ∷ refuses "stmt\t0\t0" (lineRefusal 3 1)
+    -- a line with nothing due
+    ∷ refuses "stmt\t0\t0\nstmt\t0\t0\n" (lineRefusal 3 2)
+    -- a record that is missing
+    ∷ refuses "stmt\t1\t0\n" (lineRefusal 3 2)
+    -- the first write, after all lines are read
+    ∷ refuses "stmt\t3\t0\nwhere\t0\t1\nunres\tx\nwrite\t5\t6\nwrite\t7\t8\n" (lineRefusal 5 4)
+    -- a bad line behind a write
+    ∷ refuses "stmt\t2\t0\nwrite\t5\t6\nwhere\t0\t1\nnil\n" (lineRefusal 3 4)
+    -- a part that begins with a rel, inside a node's props, under that node's span
+    ∷ refuses "stmt\t1\t0\nmatch\t0\t1\t0\t9\npart\t-\t0\t1\nnode\t-\t0\t1\t2\t3\npat\t1\npart\t-\t0\t1\nrel\t-\t0\t0\tone\t-\t-\t0\t4\t5\n" (treeRefusal 8 6 (record { start = 2; end = 3 }) 0)
     ∷ []
 
 pub worked : map (λ r. asked r) table ≡ map (λ r. expected r) table
 unfolding asked expected table
 worked = refl
-
--- a lone return of a list of n `pat 0`
-unfoldable pub patterns : ℕ → Bytes → Bytes
-unfolding bytes
-patterns zero s = s
-patterns (suc n) s = bytes "pat\t0\n" ++ patterns n s
-
-unfoldable pub manyPatterns : ℕ → String → Bytes
-unfolding bytes patterns
-manyPatterns n head = bytes head ++ patterns n []
-
--- 1,023 of them make 2,048 operators, and 1,024 are refused with 9
-pub full : take 12 (compute (manyPatterns 1023 "stmt\t1\t0\nreturn\t1\t0\t0\t0\t0\t0\t9\nitem\t-\nlist\t1023\n") (replicate 65536 255) .slice) ≡ bytes "plan\t2048\t0\n"
-unfolding compute manyPatterns
-full = refl
-
-pub overfull : compute (manyPatterns 1024 "stmt\t1\t0\nreturn\t1\t0\t0\t0\t0\t0\t9\nitem\t-\nlist\t1024\n") page ≡ record { answer = plainRefusal 9; slice = page }
-unfolding compute manyPatterns page
-overfull = refl
