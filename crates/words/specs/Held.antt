@@ -1,0 +1,84 @@
+-- The reader's promise: a tree's records stand in the words from a record on, one after another in sheet order, within a depth. The crates above rest on this alone. Assumes nothing: these are definitions.
+use mathlib.Core.Path.{_≡_}
+use Prim.Native.Nat.{ℕ, zero, suc, _+_, _-_, _<_, _≤_}
+use mathlib.Core.Bool.{cond}
+use mathlib.Core.List.{List, [], _∷_}
+use mathlib.Core.Option.{Option, some}
+use lib.ListN.{getD}
+use Rattle.model.specs.Text.{Bytes}
+use Rattle.model.specs.Field.{Form, Fields, num, flag, var, varOrAbsent, numOrAbsent, int, float, text, alias, span}
+use Rattle.model.specs.Field
+use Rattle.model.specs.Kind.{Sort, Kind, statement}
+use Rattle.model.specs.Record.{Group, forms, children, beside}
+use Rattle.model.specs.Tree.{Tree, Trees, Forest, node, []ᵗ, _∷ᵗ_, end, _▸_}
+use Rattle.words.specs.Words.{part, decode, Roomy, maxRecords}
+
+-- a flag's word is 0 or 1
+abbrev pub Flag : Form → ℕ → Type 0
+Flag (num l) x = Unit {0}
+Flag flag x = x ≤ 1
+Flag var x = Unit {0}
+Flag varOrAbsent x = x ≤ 1
+Flag (numOrAbsent l) x = x ≤ 1
+Flag int x = Unit {0}
+Flag float x = Unit {0}
+Flag text x = Unit {0}
+Flag alias x = Unit {0}
+Flag span x = Unit {0}
+Flag Field.length x = Unit {0}
+
+-- so in the fields from field g on
+abbrev pub Flags : List Form → List ℕ → ℕ → Type 0
+Flags [] ws g = Unit {0}
+Flags (f ∷ fs) ws g = Flag f (getD ws (g + g + 2) 0) × Flags fs ws (suc g)
+
+-- how deep the children may be of a record that may be d deep: a map's key and its expression stand side by side
+abbrev pub roomIn : Sort → ℕ → ℕ
+roomIn s d = cond (beside s) d (d - 1)
+
+-- record i is one of the first 2,048, and its words are those of a kind and its fields
+pub record RecordAt (sheet : Bytes) (a b : List ℕ) (i : ℕ) (s : Sort) (k : Kind s) (f : Fields (forms s k)) : Type 0 where
+  pub low : i < maxRecords
+  pub is : decode s sheet (part a b i) ≡ some (k, f)
+  pub flags : Flags (forms s k) (part a b i) 0
+
+-- how many records a tree has
+unfoldable mutual
+  pub size : {s : Sort} → Tree s → ℕ
+  size (node s line k f kids) = suc (sizeIn kids)
+
+  pub sizeOf : {s : Sort} {n : ℕ} → Trees s n → ℕ
+  sizeOf []ᵗ = 0
+  sizeOf (t ∷ᵗ ts) = size t + sizeOf ts
+
+  pub sizeIn : {gs : List Group} → Forest gs → ℕ
+  sizeIn end = 0
+  sizeIn (ts ▸ f) = sizeOf ts + sizeIn f
+
+-- `Held d i t`: the tree t, at most d deep, has the records from i on; its lines are one more than those
+module _ (sheet : Bytes) (a b : List ℕ) where
+  unfoldable mutual
+    pub Held : {s : Sort} → Tree s → (d i : ℕ) → Type 0
+    Held (node s line k f kids) d i = (line ≡ suc i) × RecordAt sheet a b i s k f × (0 < d) × HeldIn kids (roomIn s d) (i + 1)
+
+    pub HeldOf : {s : Sort} {n : ℕ} → Trees s n → (d i : ℕ) → Type 0
+    HeldOf []ᵗ d i = Unit {0}
+    HeldOf (t ∷ᵗ ts) d i = Held t d i × HeldOf ts d (i + size t)
+
+    pub HeldIn : {gs : List Group} → Forest gs → (d i : ℕ) → Type 0
+    HeldIn end d i = Unit {0}
+    HeldIn (ts ▸ f) d i = HeldOf ts d i × HeldIn f d (i + sizeOf ts)
+
+-- some tree is held: what a walk over the words requires
+pub record HeldSome (sheet : Bytes) (a b : List ℕ) (s : Sort) (d i : ℕ) : Type 0 where
+  pub tree : Tree s
+  pub is : Held sheet a b tree d i
+
+-- n trees of a sort
+pub record HeldMany (sheet : Bytes) (a b : List ℕ) (s : Sort) (n d i : ℕ) : Type 0 where
+  pub trees : Trees s n
+  pub are : HeldOf sheet a b trees d i
+
+-- a statement, which begins at record 0 and is at most 64 deep
+abbrev pub HeldStatement : Bytes → List ℕ → List ℕ → Tree statement → Type 0
+HeldStatement sheet a b t = Held sheet a b t 64 0

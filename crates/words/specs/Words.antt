@@ -1,0 +1,118 @@
+-- How words hold records: sixteen words a record, the first 1,024 records in one slice and the others in a second. Word 0 is the number of the record's kind; field g is words 2g + 2 and 2g + 3; a text is its place in the sheet. One function reads a record of a sort off its words, and the crates above cite that. Assumes nothing: these are definitions.
+use mathlib.Core.Path.{_≡_}
+use Prim.Native.Nat.{ℕ, zero, suc, _+_, _*_, _-_, _≤_, _<_}
+use mathlib.Core.Bool.{Bool, true, false, cond}
+use mathlib.Core.List.{List, [], _∷_, _++_}
+use mathlib.Core.Option.{Option, none, some}
+use lib.Dec.{eqb, ltb}
+use lib.IntN.{ℤ, pos, negsuc}
+use lib.ListN.{length, getD, take, drop}
+use lib.Seq.{slice}
+use Rattle.model.specs.Text.{Bytes, unescape, split, tab}
+use Rattle.model.specs.Field.{Form, num, flag, var, varOrAbsent, numOrAbsent, int, float, text, alias, span, Fields, Val, meaning}
+use Rattle.model.specs.Field
+use Rattle.model.specs.Kind.{Sort, Kind, statement, unionArm, clause, projection, orderItem, patternPart, patternElement, name, yieldItem, entry, expr, inPlan}
+use Rattle.model.specs.Record.{Rec, RecOf, forms, kinds}
+
+-- ── places ──
+
+abbrev pub maxRecords : ℕ
+maxRecords = 2048
+
+-- the slices are long enough
+pub record Roomy (a b : List ℕ) : Type 0 where
+  pub first : 16384 ≤ length a
+  pub second : 16384 ≤ length b
+
+-- word c of record i
+abbrev pub cell : List ℕ → List ℕ → ℕ → ℕ → ℕ
+cell a b i c = cond (ltb i 1024) (getD a (i * 16 + c) 0) (getD b ((i - 1024) * 16 + c) 0)
+
+-- the sixteen words of record i
+unfoldable pub part : List ℕ → List ℕ → ℕ → List ℕ
+part a b i = cond (ltb i 1024) (slice (i * 16) (i * 16 + 16) a) (slice ((i - 1024) * 16) ((i - 1024) * 16 + 16) b)
+
+-- ── fields ──
+
+abbrev pub two32 : ℕ
+two32 = 4294967296
+
+abbrev pub two31 : ℕ
+two31 = 2147483648
+
+-- a signed number: the high word's top bit says that it is negative, and the rest is then one less than its size
+unfoldable pub intOf : ℕ → ℕ → ℤ
+intOf lo hi = cond (ltb hi two31) (pos (hi * two32 + lo)) (negsuc ((hi - two31) * two32 + lo))
+
+-- a number or none, by a first word that is 0 for none
+unfoldable pub optionOf : ℕ → ℕ → Option ℕ
+optionOf zero n = none
+optionOf (suc p) n = some n
+
+-- a name at a place; no name stands at the place 0
+unfoldable pub aliasOf : Bytes → ℕ → ℕ → Option Bytes
+aliasOf sheet zero y = none
+aliasOf sheet (suc x) y = some (unescape (slice (suc x) y sheet))
+
+-- pieces of a part of the sheet
+unfoldable pub piecesOf : Bytes → List Bytes
+piecesOf s = let p = split tab s in p .first ∷ p .more
+
+-- a field's value, from its two words
+unfoldable pub fieldOf : (f : Form) → Bytes → ℕ → ℕ → Val f
+fieldOf (num l) sheet x y = x
+fieldOf flag sheet x y = eqb x 1
+fieldOf var sheet x y = x
+fieldOf varOrAbsent sheet x y = optionOf x y
+fieldOf (numOrAbsent l) sheet x y = optionOf x y
+fieldOf int sheet x y = intOf x y
+fieldOf float sheet x y = y * two32 + x
+fieldOf text sheet x y = unescape (slice x y sheet)
+fieldOf alias sheet x y = aliasOf sheet x y
+fieldOf span sheet x y = record { start = x; end = y }
+fieldOf Field.length sheet x y = meaning Field.length (piecesOf (slice x y sheet))
+
+-- the fields from field g on
+unfoldable pub fieldsOf : (fs : List Form) → Bytes → List ℕ → ℕ → Fields fs
+fieldsOf [] sheet ws g = tt
+fieldsOf (f ∷ fs) sheet ws g = (fieldOf f sheet (getD ws (g + g + 2) 0) (getD ws (g + g + 3) 0), fieldsOf fs sheet ws (suc g))
+
+-- ── kinds ──
+
+-- the number of a sort's first kind: kinds are numbered sort by sort, in the table's order
+unfoldable pub firstKind : Sort → ℕ
+firstKind statement = 0
+firstKind unionArm = 1
+firstKind clause = 2
+firstKind projection = 9
+firstKind orderItem = 10
+firstKind patternPart = 11
+firstKind patternElement = 12
+firstKind name = 14
+firstKind yieldItem = 15
+firstKind entry = 16
+firstKind expr = 17
+firstKind (inPlan p) = 39
+
+unfoldable pub nth : {A : Type 0} → List A → ℕ → Option A
+nth [] i = none
+nth (a ∷ l) zero = some a
+nth (a ∷ l) (suc i) = nth l i
+
+unfoldable pub kindOf : (s : Sort) → ℕ → Option (Kind s)
+kindOf s n = cond (ltb n (firstKind s)) none (nth (kinds s) (n - firstKind s))
+
+-- ── records ──
+
+unfoldable pub recOf : (s : Sort) → Bytes → List ℕ → Option (Kind s) → Option (RecOf s)
+recOf s sheet ws none = none
+recOf s sheet ws (some k) = some (k, fieldsOf (forms s k) sheet ws 0)
+
+-- sixteen words, read as a record of a sort
+unfoldable pub decode : (s : Sort) → Bytes → List ℕ → Option (RecOf s)
+decode s sheet ws = recOf s sheet ws (kindOf s (getD ws 0 0))
+
+-- records stand one after another from record i on
+pub data Stand (sheet : Bytes) (a b : List ℕ) : ℕ → List Rec → Type 0 where
+  stand-none : {i : ℕ} → Stand sheet a b i []
+  stand-more : {i : ℕ} {r : Rec} {rs : List Rec} → decode (r .sort) sheet (part a b i) ≡ some (r .kind, r .fields) → Stand sheet a b (suc i) rs → Stand sheet a b i (r ∷ rs)
