@@ -1,0 +1,9 @@
+pub mod TextLaws
+pub mod NumberLaws
+pub mod FieldLaws
+pub mod KindLaws
+pub mod RecordLaws
+pub mod TreeLaws
+pub mod ReadingLaws
+pub mod SpelledLaws
+pub mod SheetLaws
