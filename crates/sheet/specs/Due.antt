@@ -115,34 +115,41 @@ unfolding readLine
 too-deep s p f g = too-deep-at s (p .line) (p .text) (p .more) f g
 
 -- a record whose children stand beside it has none that has such children
-beside-plan : (d : ℕ) (s : PlanSort) (k : PlanKind s) (f : Fields (planForms s k)) → planBeside s ≡ true → Reads (suc d) (readNode (λ c q. readTree d c q)) (planChildren s k f)
-unfolding readTree
-beside-plan d plan k f e = absurd (false≢true e)
-beside-plan d readOp k f e = absurd (false≢true e)
-beside-plan d relSpec k f e = absurd (false≢true e)
-beside-plan d nodeSpec k f e = absurd (false≢true e)
-beside-plan d planProjection k f e = absurd (false≢true e)
-beside-plan d aggExpr k f e = absurd (false≢true e)
-beside-plan d orderKey k f e = absurd (false≢true e)
-beside-plan d pathElement k f e = absurd (false≢true e)
-beside-plan d PlanSort.mapped k f e = absurd (false≢true e)
-beside-plan d planEntry k f e = (λ q. refl, tt)
-beside-plan d planExpr k f e = absurd (false≢true e)
+abbrev pub NotBeside : List Group → Type 0
+NotBeside [] = Unit {0}
+NotBeside (g ∷ gs) = (beside (g .0) ≡ false) × NotBeside gs
 
-beside-reads : (d : ℕ) (s : Sort) (k : Kind s) (f : Fields (forms s k)) → beside s ≡ true → Reads (suc d) (readNode (λ c q. readTree d c q)) (children s k f)
+not-beside-plan : (s : PlanSort) (k : PlanKind s) (f : Fields (planForms s k)) → planBeside s ≡ true → NotBeside (planChildren s k f)
+not-beside-plan plan k f e = absurd (false≢true e)
+not-beside-plan readOp k f e = absurd (false≢true e)
+not-beside-plan relSpec k f e = absurd (false≢true e)
+not-beside-plan nodeSpec k f e = absurd (false≢true e)
+not-beside-plan planProjection k f e = absurd (false≢true e)
+not-beside-plan aggExpr k f e = absurd (false≢true e)
+not-beside-plan orderKey k f e = absurd (false≢true e)
+not-beside-plan pathElement k f e = absurd (false≢true e)
+not-beside-plan PlanSort.mapped k f e = absurd (false≢true e)
+not-beside-plan planEntry k f e = (refl, tt)
+not-beside-plan planExpr k f e = absurd (false≢true e)
+
+pub not-beside : (s : Sort) (k : Kind s) (f : Fields (forms s k)) → beside s ≡ true → NotBeside (children s k f)
+not-beside statement k f e = absurd (false≢true e)
+not-beside unionArm k f e = absurd (false≢true e)
+not-beside clause k f e = absurd (false≢true e)
+not-beside projection k f e = absurd (false≢true e)
+not-beside orderItem k f e = absurd (false≢true e)
+not-beside patternPart k f e = absurd (false≢true e)
+not-beside patternElement k f e = absurd (false≢true e)
+not-beside name k f e = absurd (false≢true e)
+not-beside yieldItem k f e = absurd (false≢true e)
+not-beside entry k f e = (refl, tt)
+not-beside expr k f e = absurd (false≢true e)
+not-beside (inPlan s) k f e = not-beside-plan s k f e
+
+beside-reads : (d : ℕ) (gs : List Group) → NotBeside gs → Reads (suc d) (readNode (λ c q. readTree d c q)) gs
 unfolding readTree
-beside-reads d statement k f e = absurd (false≢true e)
-beside-reads d unionArm k f e = absurd (false≢true e)
-beside-reads d clause k f e = absurd (false≢true e)
-beside-reads d projection k f e = absurd (false≢true e)
-beside-reads d orderItem k f e = absurd (false≢true e)
-beside-reads d patternPart k f e = absurd (false≢true e)
-beside-reads d patternElement k f e = absurd (false≢true e)
-beside-reads d name k f e = absurd (false≢true e)
-beside-reads d yieldItem k f e = absurd (false≢true e)
-beside-reads d entry k f e = (λ q. refl, tt)
-beside-reads d expr k f e = absurd (false≢true e)
-beside-reads d (inPlan s) k f e = beside-plan d s k f e
+beside-reads d [] h = tt
+beside-reads d (g ∷ gs) h = (λ q. rw (h .0), beside-reads d gs (h .1))
 
 plain-reads : (d : ℕ) (gs : List Group) → Reads d (λ c q. readTree d c q) gs
 plain-reads d [] = tt
@@ -175,7 +182,7 @@ below d b = cond b (readNode (λ c q. readTree d c q)) (λ c q. readTree d c q)
 
 below-reads : (d : ℕ) (s : Sort) (k : Kind s) (f : Fields (forms s k)) (b : Bool) → beside s ≡ b → Reads (cond b (suc d) d) (below d b) (children s k f)
 unfolding below
-below-reads d s k f true h = beside-reads d s k f h
+below-reads d s k f true h = beside-reads d (children s k f) (not-beside s k f h)
 below-reads d s k f false h = plain-reads d (children s k f)
 
 -- one line: its record, then its children, then what was due behind it

@@ -1,1 +1,4 @@
 pub mod Due
+pub mod Standing
+pub mod Writes
+pub mod Progress

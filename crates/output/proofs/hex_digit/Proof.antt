@@ -1,0 +1,17 @@
+-- `hex_digit` meets its contract, by its test. Assumes nothing.
+use borrow.Author.Needs.{needs}
+use borrow.Author.Tests.{lt-ltb, le-ltb}
+use Rattle.model.specs.Text.{hexDigit}
+use Rattle.output.proofs.hex_digit.Statement.{statement}
+use Rattle.output.proofs.hex_digit.Tie as tie
+
+returns : tie.Need-returns
+unfolding hexDigit
+returns c = rw (lt-ltb _ 10 (c .if1 .taken))
+
+returns-2 : tie.Need-returns-2
+unfolding hexDigit
+returns-2 c = rw (le-ltb _ 10 (c .if1 .left))
+
+pub hex-digit-spec : {M : Type 1} → statement M
+hex-digit-spec = tie.close (tie.spec (λ c. search needs) (λ c. search needs) returns returns-2)
