@@ -1,0 +1,11 @@
+pub mod Earlier
+pub mod Fine
+pub mod Pattern
+pub mod Size
+pub mod Expr
+pub mod Clause
+pub mod Inputs
+pub mod Counts
+pub mod Ends
+pub mod Root
+pub mod Ended
