@@ -102,7 +102,7 @@ pub at-the-end : (sheet : Bytes) (n : ℕ) → rest [] (placeAt sheet (length sh
 unfolding rest readDue next placeAt atEnd split
 at-the-end sheet n = rw (drop-length sheet)
 
-more-at : (n : ℕ) (t : Bool) (b : ℕ) (p : Pieces) → atEnd {A = List Rec} [] n (cond t (record { first = []; more = p .first ∷ p .more }) (record { first = b ∷ p .first; more = p .more }) .first) (cond t (record { first = []; more = p .first ∷ p .more }) (record { first = b ∷ p .first; more = p .more }) .more) ≡ refused 3 n
+more-at : (n : ℕ) (t : Bool) (b : ℕ) (p : Pieces) → atEnd {A = List Rec} [] n (cond {A = Pieces} t (record { first = []; more = p .first ∷ p .more }) (record { first = b ∷ p .first; more = p .more }) .first) (cond {A = Pieces} t (record { first = []; more = p .first ∷ p .more }) (record { first = b ∷ p .first; more = p .more }) .more) ≡ refused 3 n
 unfolding atEnd
 more-at n true b p = refl
 more-at n false b p = refl

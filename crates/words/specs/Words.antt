@@ -12,7 +12,7 @@ use Rattle.model.specs.Text.{Bytes, unescape, split, tab}
 use Rattle.model.specs.Field.{Form, num, flag, var, varOrAbsent, numOrAbsent, int, float, text, alias, span, Fields, Val, meaning}
 use Rattle.model.specs.Field
 use Rattle.model.specs.Kind.{Sort, Kind, statement, unionArm, clause, projection, orderItem, patternPart, patternElement, name, yieldItem, entry, expr, inPlan}
-use Rattle.model.specs.Record.{Rec, RecOf, forms, kinds}
+use Rattle.model.specs.Record.{RecOf, forms, kinds}
 
 -- ── places ──
 
@@ -111,8 +111,3 @@ recOf s sheet ws (some k) = some (k, fieldsOf (forms s k) sheet ws 0)
 -- sixteen words, read as a record of a sort
 unfoldable pub decode : (s : Sort) → Bytes → List ℕ → Option (RecOf s)
 decode s sheet ws = recOf s sheet ws (kindOf s (getD ws 0 0))
-
--- records stand one after another from record i on
-pub data Stand (sheet : Bytes) (a b : List ℕ) : ℕ → List Rec → Type 0 where
-  stand-none : {i : ℕ} → Stand sheet a b i []
-  stand-more : {i : ℕ} {r : Rec} {rs : List Rec} → decode (r .sort) sheet (part a b i) ≡ some (r .kind, r .fields) → Stand sheet a b (suc i) rs → Stand sheet a b i (r ∷ rs)

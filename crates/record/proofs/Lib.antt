@@ -1,0 +1,9 @@
+pub mod ReadLaws
+pub mod PieceLaws
+pub mod GatherLaws
+pub mod DecimalLaws
+pub mod AbsentLaws
+pub mod NameLaws
+pub mod LengthLaws
+pub mod HexLaws
+pub mod IntLaws

@@ -1,0 +1,6 @@
+pub mod Answer
+pub mod AnswerLaws
+pub mod Hex
+pub mod Name
+pub mod Number
+pub mod Piece
