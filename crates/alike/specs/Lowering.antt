@@ -215,4 +215,4 @@ module _ (R : ℕ → ℕ → Type 0) (one-to-one : (a b x y : ℕ) → R a b �
 
   pub lowerStatement~ : {t u : Tree statement} → Named t → Tree~ R statement t u → Ctx~ R (lowerStatement t) (lowerStatement u)
   unfolding lowerStatement empty
-  lowerStatement~ w t = state~ _ _ (lower~ w t .run empty empty (ctx~ []~))
+  lowerStatement~ {t} {u} w p = state~ (lower t empty) (lower u empty) (lower~ w p .run empty empty (ctx~ []~))

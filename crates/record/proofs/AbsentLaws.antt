@@ -1,15 +1,15 @@
 -- A dash, a number or a dash, and a flag: what the definition reads, in the terms of the code. Assumes nothing.
 use mathlib.Core.Path.{_≡_, refl, sym, ap, _∙_}
 use mathlib.Core.Bool.{Bool, true, false, cond, _&&_, and-true, and-false}
-use mathlib.Core.List.{List, [], _∷_}
-use mathlib.Core.Option.{Option, none, some}
-use Prim.Native.Nat.{ℕ, zero, suc}
+use mathlib.Core.List.{[], _∷_}
+use mathlib.Core.Option.{none, some}
+use Prim.Native.Nat.{ℕ}
 use native.Mathlib.Omega.{arith}
 use borrow.Author.Tests.{eqb-true, eqb-false, eq-eqb, ne-eqb}
 use lib.Dec.{eqb, leb}
 use lib.ListN.{length, getD}
 use Rattle.model.specs.Text.{Bytes, same, sameBy, decimal, value}
-use Rattle.model.specs.Field.{Form, num, var, varOrAbsent, numOrAbsent, flag, u32, read, meaning, piece, spell, spellOption, spellFlag, fits, fitsOption, optionValue}
+use Rattle.model.specs.Field.{num, numOrAbsent, flag, read, meaning, piece, spell, spellOption, spellFlag, fits, fitsOption, optionValue}
 use Rattle.laws.specs.TextLaws.{same-sound}
 use Rattle.record.specs.declared.Decimal.{Decimal}
 use Rattle.record.specs.declared.OptDecimal.{OptDecimal}

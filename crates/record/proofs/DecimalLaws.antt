@@ -1,24 +1,30 @@
 -- A text is a decimal number of the sheet exactly if it is digits with no spare zero. Assumes nothing.
 use mathlib.Core.Path.{_≡_, refl, sym, ap, _∙_}
 use mathlib.Core.Bool.{Bool, true, false, cond, not, _&&_, and-true, false≢true}
-use mathlib.Core.List.{List, [], _∷_, _++_, append-assoc, append-nil}
-use mathlib.Core.Option.{Option, none, some}
+use mathlib.Core.List.{[], _∷_, _++_, append-assoc, append-nil}
+use mathlib.Core.Option.{none, some}
 use Prim.Native.Nat.{ℕ, zero, suc, _+_, _*_, _-_, _/_, _%_, _^_, _≤_, _<_}
 use native.Mathlib.Nat.{pow-suc, zero-add}
 use native.Mathlib.Omega.{arith}
-use borrow.Author.Tests.{le-leb, lt-leb, leb-true, leb-false, lt-ltb, le-ltb, ltb-true, ltb-false, eqb-true, eqb-false, eq-eqb, ne-eqb, not-true}
+use borrow.Author.Tests.{le-leb, leb-true, leb-false, lt-ltb, le-ltb, ltb-true, ltb-false, eqb-true, eqb-false, eq-eqb, ne-eqb, not-true}
 use lib.Dec.{eqb, leb, ltb}
 use lib.ListN.{length, getD}
 use Rattle.model.specs.Text.{Bytes, valueOn, value, digits, decimal}
-use Rattle.model.specs.Field.{Form, Val, num, u64, read, spell, fits}
+use Rattle.model.specs.Field.{num, u64, read, spell, fits}
 use Rattle.laws.specs.TextLaws.{and-left, and-right}
 use Rattle.laws.specs.NumberLaws.{decimal-value}
 use Rattle.laws.specs.FieldLaws.{limited}
 use Rattle.record.specs.declared.Decimal.{Decimal}
 use Rattle.record.specs.declared.Decimal.the-variants.{Is, Not}
 use Rattle.record.specs.Answer.{decimalOf}
-use Rattle.record.specs.Number.{digit, allDigits, digitsOn, plain}
+use Rattle.record.specs.Number.{digit, allDigits, digitsOn}
 use Rattle.record.proofs.ReadLaws.{accepted, refused, piece-is}
+
+-- digits with no spare zero in front
+pub plain : Bytes → Bool
+plain [] = false
+plain (b ∷ []) = digit b
+plain (b ∷ c ∷ s) = not (eqb b 48) && allDigits (b ∷ c ∷ s)
 
 -- a byte that is a digit
 pub digit-bounds : (b : ℕ) → digit b ≡ true → (48 ≤ b) × (b ≤ 57)

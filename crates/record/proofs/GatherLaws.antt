@@ -1,8 +1,8 @@
 -- Gathering digits one by one: what each byte does to the answer, in the terms of the code. Assumes nothing.
-use mathlib.Core.Path.{_≡_, refl, sym, ap, _∙_}
-use mathlib.Core.Bool.{true, false, cond, _&&_, and-false}
+use mathlib.Core.Path.{_≡_, sym, _∙_}
+use mathlib.Core.Bool.{and-false}
 use mathlib.Core.List.{[], _∷_}
-use Prim.Native.Nat.{ℕ, suc, _+_, _*_, _-_, _/_, _≤_, _<_}
+use Prim.Native.Nat.{ℕ, _+_, _*_, _-_, _≤_, _<_}
 use native.Mathlib.Numerals.{add-one}
 use native.Mathlib.Omega.{arith}
 use borrow.Author.Tests.{le-leb, lt-leb}
@@ -12,7 +12,7 @@ use lib.Seq.{drop-cons}
 use Rattle.model.specs.Text.{Bytes, valueOn}
 use Rattle.record.specs.declared.Decimal.{Decimal}
 use Rattle.record.specs.declared.Decimal.the-variants.{Is, Not}
-use Rattle.record.specs.Number.{digit, allDigits, digitsOn}
+use Rattle.record.specs.Number.{allDigits, digitsOn}
 
 pub value-grows : (v : ℕ) (s : Bytes) → v ≤ valueOn v s
 unfolding valueOn
@@ -42,8 +42,5 @@ module _ (limit v : ℕ) (s : Bytes) (i : ℕ) (g : Decimal) (inv : digitsOn lim
       unfolding digitsOn allDigits valueOn
       on = rw (add-one i) (rw (drop-cons s i 0 h, ← e, le-leb 48 b l, le-leb b 57 (omega arith)) at inv)
 
-      pub tens : limit / 10 < v → Not ≡ g
-      tens k = sym (too-big limit (v * 10 + (b - 48)) (drop (i + 1) s) (omega arith)) ∙ on
-
-      pub ones : v ≤ limit / 10 → limit - v * 10 < b - 48 → Not ≡ g
-      ones t k = sym (too-big limit (v * 10 + (b - 48)) (drop (i + 1) s) (omega arith)) ∙ on
+      pub over : limit < v * 10 + (b - 48) → Not ≡ g
+      over k = sym (too-big limit (v * 10 + (b - 48)) (drop (i + 1) s) k) ∙ on

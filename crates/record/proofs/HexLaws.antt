@@ -1,17 +1,17 @@
 -- A text is a float of the sheet exactly if it is sixteen hexadecimal digits. Assumes nothing.
 use mathlib.Core.Path.{_≡_, refl, sym, ap, _∙_}
-use mathlib.Core.Bool.{Bool, true, false, cond, _&&_, false≢true}
-use mathlib.Core.List.{List, [], _∷_, _++_, append-assoc, append-nil}
-use mathlib.Core.Option.{Option, none, some}
+use mathlib.Core.Bool.{Bool, true, false, false≢true}
+use mathlib.Core.List.{[], _∷_, _++_, append-assoc, append-nil}
+use mathlib.Core.Option.{none, some}
 use Prim.Native.Nat.{ℕ, zero, suc, _+_, _*_, _-_, _/_, _%_, _^_, _≤_, _<_}
 use native.Mathlib.Nat.{pow-suc, pow-le-pow-right, add-zero}
 use native.Mathlib.Numerals.{add-one}
 use native.Mathlib.Omega.{arith}
-use borrow.Author.Tests.{le-leb, lt-ltb, le-ltb, ltb-true, ltb-false, eq-eqb, ne-eqb, eqb-true}
-use lib.Dec.{eqb, ltb}
+use borrow.Author.Tests.{le-leb, lt-ltb, le-ltb, ltb-true, ltb-false}
+use lib.Dec.{ltb}
 use lib.ListN.{length, drop, getD, drop-of-length-le, length-append}
 use lib.Seq.{drop-cons}
-use Rattle.model.specs.Text.{Bytes, hexDigit, hexDigits, hexDigitValue, hexValueOn, hexValue}
+use Rattle.model.specs.Text.{Bytes, hexDigit, hexDigits, hexDigitValue, hexValueOn}
 use Rattle.model.specs.Field.{float, u64, read, spell, fits}
 use Rattle.laws.specs.TextLaws.{and-left, and-right}
 use Rattle.laws.specs.FieldLaws.{limited}
@@ -24,19 +24,19 @@ use Rattle.record.proofs.ReadLaws.{accepted, refused, piece-is}
 
 -- the ranges of a byte
 data Range (b : ℕ) : Type 0 where
-  number : 48 ≤ b → b < 58 → digit b ≡ b - 48 → Range b
-  letter : 97 ≤ b → b < 103 → digit b ≡ b - 87 → Range b
+  number : 47 < b → b ≤ 57 → digit b ≡ b - 48 → Range b
+  letter : 96 < b → b ≤ 102 → digit b ≡ b - 87 → Range b
   other : digit b ≡ 16 → Range b
 
 range : (b : ℕ) → Range b
 unfolding digit
-range b = go (ltb b 48) refl (ltb b 58) refl (ltb b 97) refl (ltb b 103) refl
+range b = go (ltb 102 b) refl (ltb 96 b) refl (ltb 57 b) refl (ltb 47 b) refl
   where
-    go : (t : Bool) → ltb b 48 ≡ t → (u : Bool) → ltb b 58 ≡ u → (v : Bool) → ltb b 97 ≡ v → (w : Bool) → ltb b 103 ≡ w → Range b
+    go : (t : Bool) → ltb 102 b ≡ t → (u : Bool) → ltb 96 b ≡ u → (v : Bool) → ltb 57 b ≡ v → (w : Bool) → ltb 47 b ≡ w → Range b
     go true e u f v g w h = other (rw e)
-    go false e true f v g w h = number (ltb-false b 48 e) (ltb-true b 58 f) (rw (e, f))
+    go false e true f v g w h = letter (ltb-true 96 b f) (ltb-false 102 b e) (rw (e, f))
     go false e false f true g w h = other (rw (e, f, g))
-    go false e false f false g true h = letter (ltb-false b 97 g) (ltb-true b 103 h) (rw (e, f, g, h))
+    go false e false f false g true h = number (ltb-true 47 b h) (ltb-false 57 b g) (rw (e, f, g, h))
     go false e false f false g false h = other (rw (e, f, g, h))
 
 -- a digit's value is the definition's, and spells it
@@ -45,7 +45,7 @@ unfolding hexDigitValue
 digit-value b h = go (range b)
   where
     go : Range b → hexDigitValue b ≡ digit b
-    go (number l u e) = rw (e, lt-ltb b 58 u)
+    go (number l u e) = rw (e, lt-ltb b 58 (omega arith))
     go (letter l u e) = rw (e, le-ltb b 58 (omega arith))
     go (other e) = absurd (omega arith)
 
@@ -65,10 +65,10 @@ digit-of d h = go (ltb d 10) refl
     go : (t : Bool) → ltb d 10 ≡ t → digit (hexDigit d) < 16
     go true e =
         let k = ltb-true d 10 e in
-        rw e (rw (le-ltb (48 + d) 48 (omega arith), lt-ltb (48 + d) 58 (omega arith)) (omega arith))
+        rw e (rw (le-ltb 102 (48 + d) (omega arith), le-ltb 96 (48 + d) (omega arith), le-ltb 57 (48 + d) (omega arith), lt-ltb 47 (48 + d) (omega arith)) (omega arith))
     go false e =
         let k = ltb-false d 10 e in
-        rw e (rw (le-ltb (87 + d) 48 (omega arith), le-ltb (87 + d) 58 (omega arith), le-ltb (87 + d) 97 (omega arith), lt-ltb (87 + d) 103 (omega arith)) (omega arith))
+        rw e (rw (le-ltb 102 (87 + d) (omega arith), lt-ltb 96 (87 + d) (omega arith)) (omega arith))
 
 -- ── many ──
 

@@ -1,13 +1,12 @@
 -- Signed numbers: what the definition reads, in the terms of the code, and the two steps to a signed word. Assumes nothing.
 use mathlib.Core.Path.{_≡_, refl, sym, ap, _∙_}
-use mathlib.Core.Bool.{Bool, true, false}
-use mathlib.Core.List.{List, [], _∷_}
-use mathlib.Core.Option.{Option, none, some}
-use Prim.Native.Nat.{ℕ, zero, suc, _+_, _-_, _≤_, _<_}
+use mathlib.Core.Bool.{true}
+use mathlib.Core.List.{[], _∷_}
+use mathlib.Core.Option.{none, some}
+use Prim.Native.Nat.{ℕ, zero, suc, _-_, _≤_, _<_}
 use native.Mathlib.Nat.{zero-add}
 use native.Mathlib.Omega.{arith}
 use borrow.Author.Tests.{le-leb, leb-true, eqb-false}
-use lib.Dec.{eqb, leb}
 use lib.IntN.{ℤ, pos, negsuc, _-ℤ_}
 use lib.ListN.{length, getD, take, drop}
 use mir.Syntax.{w64}
@@ -15,7 +14,7 @@ use mir.Val.{toZ, ofZ, SFits}
 use mir.ValLaws.{toZ-pos, toZ-ofZ}
 use Rattle.model.specs.Text.{Bytes, same, sameBy, digits, decimal, value, signed, signedValue}
 use Rattle.model.specs.Field.{num, int, u64, i64, read, meaning, piece, spell, fits, fitsInt}
-use Rattle.laws.specs.TextLaws.{Each, each-head}
+use Rattle.laws.specs.TextLaws.{each-head}
 use Rattle.laws.specs.NumberLaws.{decimal-value, decimal-free}
 use Rattle.laws.specs.FieldLaws.{limited, read-spell}
 use Rattle.record.specs.declared.Decimal.{Decimal}

@@ -1,17 +1,17 @@
 -- A relationship's length: what the definition reads, in the terms of the code. Assumes nothing.
 use mathlib.Core.Path.{_≡_, refl, sym, ap, ap₂, _∙_}
 use mathlib.Core.Bool.{Bool, true, false, cond, _&&_, and-true, and-false}
-use mathlib.Core.List.{List, [], _∷_}
+use mathlib.Core.List.{[], _∷_}
 use mathlib.Core.Option.{Option, none, some}
 use Prim.Native.Nat.{ℕ}
 use native.Mathlib.Omega.{arith}
-use borrow.Author.Tests.{eqb-true, eqb-false, eq-eqb, ne-eqb}
+use borrow.Author.Tests.{eq-eqb, ne-eqb}
 use lib.Dec.{eqb}
 use lib.ListN as ListN
 use lib.ListN.{getD}
 use Rattle.model.specs.Text.{Bytes, bytesFrom, bytes, same, sameBy}
 use Rattle.model.specs.Field.{Single, Variable, numOrAbsent, length, u64, read, meaning, piece, spell, spellOption, spellLength, fits, fitsOption, fitsLength, optionValue, lengthValue}
-use Rattle.laws.specs.TextLaws.{same-sound, same-refl}
+use Rattle.laws.specs.TextLaws.{same-sound}
 use Rattle.record.specs.declared.OptDecimal.{OptDecimal}
 use Rattle.record.specs.Answer.{isRead, optDecimalOf}
 use Rattle.record.specs.Number.{dash}

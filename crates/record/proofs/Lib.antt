@@ -1,3 +1,4 @@
+pub mod TestRules
 pub mod ReadLaws
 pub mod PieceLaws
 pub mod GatherLaws

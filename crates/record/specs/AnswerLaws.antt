@@ -57,6 +57,7 @@ alias-value s e = go (same s (45 ∷ [])) (read-meaning alias (s ∷ []) (named 
     named : (o : Option (Option Bytes)) → aliasOf o ≡ Alias.Named → isRead o ≡ true
     named none e = let z : _≡_ {A = ℕ} 0 1 = cc in absurd (omega arith)
     named (some o) e = refl
+
     go : (t : Bool) → read alias (s ∷ []) ≡ some (cond t none (some (unescape (tail s)))) → read alias (s ∷ []) ≡ some (some (unescape (tail s)))
     go true r = let z : Alias.Absent ≡ Alias.Named = sym (ap aliasOf r) ∙ e in let y : _≡_ {A = ℕ} 0 1 = cc in absurd (omega arith)
     go false r = r

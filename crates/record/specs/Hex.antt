@@ -8,7 +8,7 @@ use Rattle.record.specs.declared.Decimal.{Decimal}
 
 -- the value of a lower-case digit; 16 for any other byte
 unfoldable pub digit : ℕ → ℕ
-digit b = cond (ltb b 48) 16 (cond (ltb b 58) (b - 48) (cond (ltb b 97) 16 (cond (ltb b 103) (b - 87) 16)))
+digit b = cond (ltb 102 b) 16 (cond (ltb 96 b) (b - 87) (cond (ltb 57 b) 16 (cond (ltb 47 b) (b - 48) 16)))
 
 unfoldable pub allHex : Bytes → Bool
 allHex [] = true

@@ -1,8 +1,8 @@
 -- Runs of digits. Assumes nothing: these are definitions.
 use Prim.Native.Nat.{ℕ}
-use mathlib.Core.Bool.{Bool, true, false, cond, not, _&&_}
+use mathlib.Core.Bool.{Bool, true, cond, _&&_}
 use mathlib.Core.List.{[], _∷_}
-use lib.Dec.{eqb, leb}
+use lib.Dec.{leb}
 use Rattle.model.specs.Text.{Bytes, valueOn}
 use Rattle.record.specs.declared.Decimal.{Decimal}
 use Rattle.record.specs.declared.Decimal.the-variants.{Is, Not}
@@ -21,9 +21,3 @@ allDigits (b ∷ s) = digit b && allDigits s
 -- digits that follow a number v: the number with them, if it is at most the limit
 unfoldable pub digitsOn : ℕ → ℕ → Bytes → Decimal
 digitsOn limit v s = cond (allDigits s && leb (valueOn v s) limit) (Is (valueOn v s)) Not
-
--- digits with no spare zero in front
-unfoldable pub plain : Bytes → Bool
-plain [] = false
-plain (b ∷ []) = digit b
-plain (b ∷ c ∷ s) = not (eqb b 48) && allDigits (b ∷ c ∷ s)

@@ -4,7 +4,6 @@ ghost use mathlib.Core.List.{[], _∷_};
 ghost use Rattle.model.specs.Field.{read, Form};
 ghost use Rattle.record.specs.Answer.{decimalOf};
 ghost use Rattle.record.specs.Hex.{digit as digitOf};
-
 use crate::Decimal;
 
 // The value of a digit, or 16 for any other byte.
@@ -12,16 +11,16 @@ fn digit(b: u8) -> u64
     ensures { λ r. ⌜ r ≡ digitOf b ⌝ }
 {
     let d = b as u64;
-    if d < 48 {
+    if 102 < d {
         return 16;
     }
-    if d < 58 {
-        return d - 48;
+    if 96 < d {
+        return d - 87;
     }
-    if d < 97 {
+    if 57 < d {
         return 16;
     }
-    if d < 103 { d - 87 } else { 16 }
+    if 47 < d { d - 48 } else { 16 }
 }
 
 // Sixteen lower-case hexadecimal digits.

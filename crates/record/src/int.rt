@@ -5,10 +5,11 @@ ghost use Prim.Native.Nat.{_-_, _≤_, _<_};
 ghost use lib.IntN.{pos, negsuc};
 ghost use Rattle.model.specs.Field.{read, i64 as largest, Form};
 ghost use Rattle.record.specs.Answer.{signedOf};
-
-use crate::{Decimal, Signed};
+use crate::Decimal;
+use crate::Signed;
 use crate::number::decimal;
 
+// The same number, signed.
 fn positive(n: u64) -> i64
     requires { ⌜ n ≤ largest ⌝ }
     ensures { λ r. ⌜ r ≡ pos n ⌝ }

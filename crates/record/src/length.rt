@@ -4,9 +4,9 @@ ghost use mathlib.Core.List.{[], _∷_};
 ghost use Rattle.model.specs.Field.{read, u64, Form};
 ghost use Rattle.model.specs.Text.{same};
 ghost use Rattle.record.specs.Answer.{isRead};
-
 use crate::OptDecimal;
-use crate::number::{decimal_or_absent, is_dash};
+use crate::number::decimal_or_absent;
+use crate::number::is_dash;
 
 // A word of three letters.
 fn is_word(s: &[u8], x: u8, y: u8, z: u8) -> bool

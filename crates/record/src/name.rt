@@ -14,6 +14,7 @@ enum Seen {
     Bad,
 }
 
+// A byte with nothing open before it.
 fn bare(b: u8) -> Seen
     ensures { λ r. ⌜ r ≡ bareOf b ⌝ }
 {
@@ -23,9 +24,14 @@ fn bare(b: u8) -> Seen
     if b == b'\n' {
         return Seen::Bad;
     }
-    if b == b'\\' { Seen::Escape } else { Seen::Plain }
+    if b == b'\\' {
+        Seen::Escape
+    } else {
+        Seen::Plain
+    }
 }
 
+// A byte behind a backslash.
 fn letter(b: u8) -> Seen
     ensures { λ r. ⌜ r ≡ letterOf b ⌝ }
 {
@@ -38,6 +44,7 @@ fn letter(b: u8) -> Seen
     if b == b't' { Seen::Plain } else { Seen::Bad }
 }
 
+// One byte more.
 fn step(seen: Seen, b: u8) -> Seen
     ensures { λ r. ⌜ r ≡ stepOf seen b ⌝ }
 {

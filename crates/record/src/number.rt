@@ -8,6 +8,7 @@ ghost use Rattle.record.specs.Number.{digitsOn, dash};
 use crate::Decimal;
 use crate::OptDecimal;
 
+// A byte as a number of 64 bits.
 fn wide(b: u8) -> u64
     ensures { λ r. ⌜ r ≡ b ⌝ }
 {
@@ -61,7 +62,10 @@ pub fn decimal(s: &[u8], limit: u64) -> Decimal
 pub fn is_dash(s: &[u8]) -> bool
     ensures { λ r. ⌜ r ≡ same (now (s .entry)) dash ⌝ }
 {
-    if s.len() == 1 { s[0] == b'-' } else { false }
+    if s.len() != 1 {
+        return false;
+    }
+    s[0] == b'-'
 }
 
 // A decimal number as above, or a dash.

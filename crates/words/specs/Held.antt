@@ -4,14 +4,15 @@ use Prim.Native.Nat.{ℕ, zero, suc, _+_, _-_, _<_, _≤_}
 use mathlib.Core.Bool.{cond}
 use mathlib.Core.List.{List, [], _∷_}
 use mathlib.Core.Option.{Option, some}
-use lib.ListN.{getD}
+use lib.ListN.{length, getD}
+use lib.Seq.{slice}
 use Rattle.model.specs.Text.{Bytes}
-use Rattle.model.specs.Field.{Form, Fields, num, flag, var, varOrAbsent, numOrAbsent, int, float, text, alias, span}
+use Rattle.model.specs.Field.{Form, Fields, num, flag, var, varOrAbsent, numOrAbsent, int, float, text, alias, span, spell}
 use Rattle.model.specs.Field
 use Rattle.model.specs.Kind.{Sort, Kind, statement}
 use Rattle.model.specs.Record.{Group, forms, children, beside}
 use Rattle.model.specs.Tree.{Tree, Trees, Forest, node, []ᵗ, _∷ᵗ_, end, _▸_}
-use Rattle.words.specs.Words.{part, decode, Roomy, maxRecords}
+use Rattle.words.specs.Words.{part, decode, fieldOf, piecesOf, Roomy, maxRecords}
 
 -- a flag's word is 0 or 1
 abbrev pub Flag : Form → ℕ → Type 0
@@ -32,6 +33,31 @@ abbrev pub Flags : List Form → List ℕ → ℕ → Type 0
 Flags [] ws g = Unit {0}
 Flags (f ∷ fs) ws g = Flag f (getD ws (g + g + 2) 0) × Flags fs ws (suc g)
 
+-- a field that stands in the sheet from x up to y is spelled as the sheet has it
+pub record PlaceAt (f : Form) (sheet : Bytes) (x y : ℕ) : Type 0 where
+  pub from : x ≤ y
+  pub to : y ≤ length sheet
+  pub spelled : spell f (fieldOf f sheet x y) ≡ piecesOf (slice x y sheet)
+
+-- of the forms whose words are a place; no name stands at the place 0
+abbrev pub Text : Form → Bytes → ℕ → ℕ → Type 0
+Text (num l) sheet x y = Unit {0}
+Text flag sheet x y = Unit {0}
+Text var sheet x y = Unit {0}
+Text varOrAbsent sheet x y = Unit {0}
+Text (numOrAbsent l) sheet x y = Unit {0}
+Text int sheet x y = Unit {0}
+Text float sheet x y = Unit {0}
+Text text sheet x y = PlaceAt text sheet x y
+Text alias sheet x y = 0 < x → PlaceAt text sheet x y
+Text span sheet x y = Unit {0}
+Text Field.length sheet x y = PlaceAt Field.length sheet x y
+
+-- so in the fields from field g on
+abbrev pub Texts : List Form → Bytes → List ℕ → ℕ → Type 0
+Texts [] sheet ws g = Unit {0}
+Texts (f ∷ fs) sheet ws g = Text f sheet (getD ws (g + g + 2) 0) (getD ws (g + g + 3) 0) × Texts fs sheet ws (suc g)
+
 -- how deep the children may be of a record that may be d deep: a map's key and its expression stand side by side
 abbrev pub roomIn : Sort → ℕ → ℕ
 roomIn s d = cond (beside s) d (d - 1)
@@ -41,6 +67,7 @@ pub record RecordAt (sheet : Bytes) (a b : List ℕ) (i : ℕ) (s : Sort) (k : K
   pub low : i < maxRecords
   pub is : decode s sheet (part a b i) ≡ some (k, f)
   pub flags : Flags (forms s k) (part a b i) 0
+  pub texts : Texts (forms s k) sheet (part a b i) 0
 
 -- how many records a tree has
 unfoldable mutual

@@ -5,4 +5,4 @@ use Rattle.record.proofs.number.is_dash.Statement.{statement}
 use Rattle.record.proofs.number.is_dash.Tie as tie
 
 pub is-dash-spec : {M : Type 1} → statement M
-is-dash-spec = tie.close (tie.spec (λ c. search needs) (λ c. search (dash-one, needs)) (λ c. search (dash-not, needs)))
+is-dash-spec = tie.close (tie.spec (λ c. search (dash-not, needs)) (λ c. search needs) (λ c. search (dash-one, needs)))
