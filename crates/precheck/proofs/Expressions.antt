@@ -1,0 +1,63 @@
+-- Expressions: what the check sees of one, by the number of its kind. Assumes nothing.
+use mathlib.Core.Path.{_≡_, refl}
+use Prim.Native.Nat.{ℕ, suc, _+_, _-_, _<_}
+use native.Mathlib.Omega.{arith}
+use mathlib.Core.List.{List}
+use Rattle.model.specs.Text.{Bytes}
+use Rattle.model.specs.Field.{Span}
+use Rattle.model.specs.Kind.{Expr, expr, entry, projection, orderItem, patternPart}
+use Rattle.model.specs.Record.{exprForms, exprChildren}
+use Rattle.model.specs.Check.{Verdict, violated, andThen, check, ofRecord, ofExpr}
+use Rattle.words.specs.Words.{Roomy, cell, fieldsOf, fieldOf}
+use Rattle.words.specs.Held.{Held, size}
+use Rattle.precheck.specs.Steps.{Run}
+use Rattle.precheck.specs.Cells.{cells}
+use Rattle.precheck.specs.Numbers.{sameNumber, exprNumber, same-low}
+use Rattle.precheck.specs.Stands.{At, countOf}
+use Rattle.precheck.proofs.Laws.{just, last-of, run-none}
+use Rattle.precheck.proofs.Opened.{kids-of, Body, open-at}
+
+-- ── an expression behind its record ──
+
+module _ {a b : List ℕ} (room : Roomy a b) {d : ℕ} {span : Span} where
+  -- a key of a map, whose expression stands beside it
+  pub of-entry : (i : ℕ) (v : Verdict) (e : ℕ) → At a b entry d span i v e → At a b expr d span (i + 1) v e
+  unfolding ofRecord
+  of-entry i v e h = just (last-of (kids-of (open-at room h .body) refl))
+
+  pub of-item : (i : ℕ) (v : Verdict) (e : ℕ) → At a b projection d span i v e → At a b expr (d - 1) span (i + 1) v e
+  unfolding ofRecord
+  of-item i v e h = just (last-of (kids-of (open-at room h .body) refl))
+
+  pub of-key : (i : ℕ) (v : Verdict) (e : ℕ) → At a b orderItem d span i v e → At a b expr (d - 1) span (i + 1) v e
+  unfolding ofRecord
+  of-key i v e h = just (last-of (kids-of (open-at room h .body) refl))
+
+-- ── an expression ──
+
+-- no number that the check tells apart
+pub record Plain (c : ℕ) : Type 0 where
+  pub map : c ≡ 33 → ⊥
+  pub pattern : c ≡ 35 → ⊥
+  pub unresolved : c ≡ 37 → ⊥
+  pub undesugared : c ≡ 38 → ⊥
+
+-- what the check sees of an expression of kind number c with n children
+pub data Seen (a b : List ℕ) (d : ℕ) (span : Span) (i : ℕ) (c n : ℕ) (v : Verdict) (e : ℕ) : Type 0 where
+  plain : Plain c → Run (At a b expr d span) n (i + 1) v e → Seen a b d span i c n v e
+  entries : c ≡ 33 → Run (At a b entry d span) n (i + 1) v e → Seen a b d span i c n v e
+  pattern : c ≡ 35 → Run (At a b patternPart d span) n (i + 1) v e → Seen a b d span i c n v e
+  unresolved : c ≡ 37 → v ≡ violated 6 (suc i) span 0 → Seen a b d span i c n v e
+  undesugared : c ≡ 38 → v ≡ violated 7 (suc i) span (cell a b i 2) → Seen a b d span i c n v e
+
+module _ {a b : List ℕ} {d : ℕ} {span : Span} {i : ℕ} {v : Verdict} {e : ℕ} where
+  pub see : (sheet : Bytes) (c : ℕ) (k : Expr) → c ≡ exprNumber k → Body sheet a b expr d span i v e k (fieldsOf (exprForms k) sheet (cells a b i) 0) → Seen a b (d - 1) span i c (countOf (exprChildren k (fieldsOf (exprForms k) sheet (cells a b i) 0))) v e
+  unfolding exprNumber ofRecord ofExpr fieldsOf fieldOf andThen Held check size
+  see sheet c (Expr.Over h) n o = plain (let l : sameNumber h < 32 = same-low h in omega arith) (last-of (kids-of o refl))
+  see sheet c Expr.Var n o = plain (omega arith) (run-none (kids-of o refl))
+  see sheet c Expr.Map n o = entries n (last-of (kids-of o refl))
+  see sheet c Expr.Call n o = plain (omega arith) (last-of (kids-of o refl))
+  see sheet c Expr.PatternPredicate n o = pattern n (last-of (kids-of o refl))
+  see sheet c Expr.ListPredicate n o = plain (omega arith) (last-of (kids-of o refl))
+  see sheet c Expr.Unresolved n o = unresolved n (o .verdict)
+  see sheet c Expr.Undesugared n o = undesugared n (o .verdict)

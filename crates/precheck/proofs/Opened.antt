@@ -1,0 +1,130 @@
+-- What stands at a record is opened: the number of its kind, its fields as the words have them, and its children, group by group. Assumes nothing.
+use mathlib.Core.Path.{_≡_, refl, sym, subst, _∙_}
+use Prim.Native.Nat.{ℕ, suc, _+_, _<_, _≤_}
+use native.Mathlib.Nat.{add-assoc, add-zero}
+use native.Mathlib.Omega.{arith}
+use mathlib.Core.List.{List, [], _∷_}
+use mathlib.Core.Option.{some}
+use Rattle.model.specs.Text.{Bytes}
+use Rattle.model.specs.Field.{Span, Fields}
+use Rattle.model.specs.Kind.{Sort, Kind}
+use Rattle.model.specs.Record.{Group, forms, children}
+use Rattle.model.specs.Tree.{Tree, Trees, Forest, node, []ᵗ, _∷ᵗ_, end, _▸_}
+use Rattle.model.specs.Check.{Verdict, fine, andThen, check, checkOf, checkIn, ofRecord, spanIn}
+use Rattle.words.specs.Words.{Roomy, cell, kindOf, fieldsOf, maxRecords}
+use Rattle.words.specs.Held.{Held, HeldOf, HeldIn, Flags, size, sizeOf, sizeIn, roomIn}
+use Rattle.precheck.specs.Steps.{Then, Run, no-more, one-more}
+use Rattle.precheck.specs.Cells.{cells, Shown, shown}
+use Rattle.precheck.specs.Stands.{At}
+use Rattle.precheck.proofs.Laws.{End}
+
+-- ── groups of children ──
+
+module _ (a b : List ℕ) (d : ℕ) (span : Span) where
+  abbrev pub Groups : List Group → ℕ → Verdict → ℕ → Type 0
+  Groups [] i v e = End i v e
+  Groups (g ∷ gs) i v e = Then (Run (At a b (g .0) d span) (g .1) i) (λ j w x. Groups gs j w x) v e
+
+  pub trees : (sheet : Bytes) {s : Sort} {n : ℕ} (ts : Trees s n) (i : ℕ) → HeldOf sheet a b ts d i → Run (At a b s d span) n i (checkOf ts span) (i + sizeOf ts)
+  unfolding Held check size
+  trees sheet []ᵗ i h = rw add-zero no-more
+  trees sheet (t ∷ᵗ ts) i h =
+      rw (← add-assoc)
+      (one-more (record { sheet = sheet; tree = t; held = h .0; verdict = refl; next = refl }) (trees sheet ts (i + size t) (h .1)) refl)
+
+  pub groups : (sheet : Bytes) {gs : List Group} (f : Forest gs) (i : ℕ) → HeldIn sheet a b f d i → Groups gs i (checkIn f span) (i + sizeIn f)
+  unfolding Held check size
+  groups sheet end i h = (refl, sym (add-zero i))
+  groups sheet (_▸_ {s = s} {n = n} {gs = gs} ts f) i h =
+      rw (← add-assoc)
+      (record {
+        verdict = checkOf ts span;
+        next = i + sizeOf ts;
+        first = trees sheet ts i (h .0);
+        later = checkIn f span;
+        rest = groups sheet f (i + sizeOf ts) (h .1);
+        both = refl;
+      })
+
+-- ── a record ──
+
+-- the children of a record with fields f, its verdict and the record behind
+pub record Body (sheet : Bytes) (a b : List ℕ) (s : Sort) (d : ℕ) (span : Span) (i : ℕ) (v : Verdict) (e : ℕ) (k : Kind s) (f : Fields (forms s k)) : Type 0 where
+  pub forest : Forest (children s k f)
+  pub held : HeldIn sheet a b forest (roomIn s d) (i + 1)
+  pub verdict : v ≡ andThen (ofRecord s (suc i) k f forest span) (checkIn forest (spanIn s k f span))
+  pub next : e ≡ i + 1 + sizeIn forest
+
+-- where the record itself is fine, its children are all that counts
+pub kids-of : {sheet : Bytes} {a b : List ℕ} {s : Sort} {d : ℕ} {span : Span} {i : ℕ} {v : Verdict} {e : ℕ} {k : Kind s} {f : Fields (forms s k)} (o : Body sheet a b s d span i v e k f) → ofRecord s (suc i) k f (o .forest) span ≡ fine → Groups a b (roomIn s d) (spanIn s k f span) (children s k f) (i + 1) v e
+unfolding andThen
+kids-of {sheet} {a} {b} {s} {d} {span} {i} {v} {e} {k} {f} o own =
+    let z : v ≡ checkIn (o .forest) (spanIn s k f span) = o .verdict ∙ rw own in
+    rw (z, o .next) (groups a b (roomIn s d) (spanIn s k f span) sheet (o .forest) (i + 1) (o .held))
+
+pub record Opened (a b : List ℕ) (s : Sort) (d : ℕ) (span : Span) (i : ℕ) (v : Verdict) (e : ℕ) : Type 0 where
+  pub sheet : Bytes
+  pub kind : Kind s
+  pub low : i < maxRecords
+  pub deep : 0 < d
+  pub number : kindOf s (cell a b i 0) ≡ some kind
+  pub flags : Flags (forms s kind) (cells a b i) 0
+  pub body : Body sheet a b s d span i v e kind (fieldsOf (forms s kind) sheet (cells a b i) 0)
+
+open-tree : {a b : List ℕ} {d : ℕ} {span : Span} {i : ℕ} {v : Verdict} {e : ℕ} → Roomy a b → (sheet : Bytes) {s : Sort} (t : Tree s) → Held sheet a b t d i → v ≡ check t span → e ≡ i + size t → Opened a b s d span i v e
+unfolding Held check size
+open-tree {a} {b} {d} {span} {i} {v} {e} room sheet (node s line k f kids) h hv he =
+    let w : Shown sheet a b i s k f = shown room (h .1) in
+    let body : Body sheet a b s d span i v e k f =
+    record { forest = kids; held = h .3; verdict = hv ∙ rw (h .0) refl; next = omega arith }
+    in
+    record {
+      sheet = sheet;
+      kind = k;
+      low = h .1 .low;
+      deep = h .2;
+      number = w .kind;
+      flags = w .flags;
+      body = subst (λ (g : Fields (forms s k)). Body sheet a b s d span i v e k g) (w .fields) body;
+    }
+
+pub open-at : {a b : List ℕ} {s : Sort} {d : ℕ} {span : Span} {i : ℕ} {v : Verdict} {e : ℕ} → Roomy a b → At a b s d span i v e → Opened a b s d span i v e
+open-at room h = open-tree room (h .sheet) (h .tree) (h .held) (h .verdict) (h .next)
+
+-- ── a record of a kind that is known ──
+
+pub record As (sheet : Bytes) (a b : List ℕ) (s : Sort) (d : ℕ) (span : Span) (i : ℕ) (v : Verdict) (e : ℕ) (k : Kind s) : Type 0 where
+  pub flags : Flags (forms s k) (cells a b i) 0
+  pub body : Body sheet a b s d span i v e k (fieldsOf (forms s k) sheet (cells a b i) 0)
+
+pub open-as : {a b : List ℕ} {s : Sort} {d : ℕ} {span : Span} {i : ℕ} {v : Verdict} {e : ℕ} (o : Opened a b s d span i v e) (k : Kind s) → kindOf s (cell a b i 0) ≡ some k → As (o .sheet) a b s d span i v e k
+open-as {a} {b} {s} {d} {span} {i} {v} {e} o k h =
+    let p : o .kind ≡ k = cc (o .number) in
+    subst (λ (x : Kind s). As (o .sheet) a b s d span i v e x) p (record { flags = o .flags; body = o .body })
+
+-- ── what stands in the words ends in them ──
+
+module _ (sheet : Bytes) (a b : List ℕ) where
+  mutual
+    unfolding Held size
+
+    low-tree : {s : Sort} (t : Tree s) (d i : ℕ) → Held sheet a b t d i → i + size t ≤ 2048
+    low-tree (node s line k f kids) d i h =
+        let l : i < 2048 = h .1 .low in
+        let r : i + 1 + sizeIn kids ≤ 2048 = low-forest kids (roomIn s d) (i + 1) (omega arith) (h .3) in
+        omega arith
+
+    low-trees : {s : Sort} {n : ℕ} (ts : Trees s n) (d i : ℕ) → i ≤ 2048 → HeldOf sheet a b ts d i → i + sizeOf ts ≤ 2048
+    low-trees []ᵗ d i l h = omega arith
+    low-trees (t ∷ᵗ ts) d i l h =
+        let r : i + size t + sizeOf ts ≤ 2048 = low-trees ts d (i + size t) (low-tree t d i (h .0)) (h .1) in
+        omega arith
+
+    low-forest : {gs : List Group} (f : Forest gs) (d i : ℕ) → i ≤ 2048 → HeldIn sheet a b f d i → i + sizeIn f ≤ 2048
+    low-forest end d i l h = omega arith
+    low-forest (ts ▸ f) d i l h =
+        let r : i + sizeOf ts + sizeIn f ≤ 2048 = low-forest f d (i + sizeOf ts) (low-trees ts d i l (h .0)) (h .1) in
+        omega arith
+
+pub low-end : {a b : List ℕ} {s : Sort} {d : ℕ} {span : Span} {i : ℕ} {v : Verdict} {e : ℕ} → At a b s d span i v e → e ≤ 2048
+low-end {a} {b} {d = d} {i = i} h = rw (h .next) (low-tree (h .sheet) a b (h .tree) d i (h .held))

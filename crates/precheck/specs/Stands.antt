@@ -1,0 +1,98 @@
+-- What stands in the words, for the check: a tree that they hold, with its verdict and the record behind it; and what the small functions read off a record. Assumes nothing: these are definitions.
+use mathlib.Core.Path.{_≡_}
+use Prim.Native.Nat.{ℕ, suc, _+_, _-_, _<_, _≤_}
+use mathlib.Core.Bool.{Bool, true, false, cond}
+use mathlib.Core.List.{List, [], _∷_}
+use mathlib.Core.Option.{some}
+use lib.Dec.{eqb}
+use Rattle.model.specs.Text.{Bytes}
+use Rattle.model.specs.Field.{Span}
+use Rattle.model.specs.Kind.{Sort, Expr, expr, patternPart, patternElement}
+use Rattle.model.specs.Record.{Group, exprForms, exprChildren}
+use Rattle.model.specs.Tree.{Tree}
+use Rattle.model.specs.Check.{Verdict, fine, violated, check}
+use Rattle.words.specs.Words.{cell, kindOf, fieldsOf}
+use Rattle.words.specs.Held.{Held, Flags, size}
+use Rattle.precheck.specs.Answer.{spanOf}
+use Rattle.precheck.specs.Steps.{Stage, Some, Then, Run}
+use Rattle.precheck.specs.Cells.{cells}
+use Rattle.precheck.specs.declared.HirSpan.{HirSpan}
+use Rattle.precheck.specs.declared.Props.{Props}
+
+-- a tree of a sort is held from record i on, at most d deep; v is its verdict under a span, and e the record behind it
+pub record At (a b : List ℕ) (s : Sort) (d : ℕ) (span : Span) (i : ℕ) (v : Verdict) (e : ℕ) : Type 0 where
+  pub sheet : Bytes
+  pub tree : Tree s
+  pub held : Held sheet a b tree d i
+  pub verdict : v ≡ check tree span
+  pub next : e ≡ i + size tree
+
+-- one stands there, and its place and depth are in bounds
+pub record Standing (a b : List ℕ) (s : Sort) (d : ℕ) (span : Span) (i : ℕ) : Type 0 where
+  pub low : i < 2048
+  pub deep : 0 < d
+  pub some : Some (At a b s d span i)
+
+-- n expressions, each behind so many records
+abbrev pub Exprs : (a b : List ℕ) (skip d : ℕ) → Span → (n i : ℕ) → Stage
+Exprs a b skip d span n i v e = Run (λ j. At a b expr d span (j + skip)) n i v e
+
+-- the number of children of a record whose children are one group
+abbrev pub countOf : List Group → ℕ
+countOf [] = 0
+countOf (g ∷ gs) = g .1
+
+-- n is the number of children of the expression at record i
+pub record Counts (a b : List ℕ) (i n : ℕ) : Type 0 where
+  pub each : (sheet : Bytes) (k : Expr) → kindOf expr (cell a b i 0) ≡ some k → Flags (exprForms k) (cells a b i) 0 → n ≡ countOf (exprChildren k (fieldsOf (exprForms k) sheet (cells a b i) 0))
+
+-- the span in words c and c + 1 of record i
+abbrev pub spanIn : (a b : List ℕ) (i c : ℕ) → Span
+spanIn a b i c = record { start = cell a b i c; end = cell a b i (c + 1) }
+
+-- a span is the one there
+pub record Spans (a b : List ℕ) (i c : ℕ) (s : HirSpan) : Type 0 where
+  pub start : s .start ≡ cell a b i c
+  pub end : s .end ≡ cell a b i (c + 1)
+
+-- a tree of a sort stands at record i, at whatever depth
+pub record SomeAt (a b : List ℕ) (s : Sort) (i : ℕ) : Type 0 where
+  pub low : i < 2048
+  pub depth : ℕ
+  pub span : Span
+  pub verdict : Verdict
+  pub next : ℕ
+  pub is : At a b s depth span i verdict next
+
+-- the expressions that the check looks at in a pattern element are all that it is refused for
+pub record Inside (a b : List ℕ) (i : ℕ) (p : Props) : Type 0 where
+  pub each : (d : ℕ) (around : Span) (v : Verdict) (e : ℕ) → At a b patternElement d around i v e → Exprs a b 0 (d - 1) (spanOf (p .span)) (p .n) (p .first) v e
+
+-- a part that begins with a node is refused only for its elements; another for itself
+abbrev pub BeginsAs : Bool → (a b : List ℕ) (i d : ℕ) (span : Span) (v : Verdict) (e : ℕ) → Type 0
+BeginsAs true a b i d span v e = Run (At a b patternElement (d - 1) span) (cell a b i 6) (i + 1) v e
+BeginsAs false a b i d span v e = v ≡ violated 8 (suc i) span 0
+
+pub record Begins (a b : List ℕ) (i : ℕ) (t : Bool) : Type 0 where
+  pub each : (d : ℕ) (span : Span) (v : Verdict) (e : ℕ) → At a b patternPart d span i v e → BeginsAs t a b i d span v e
+
+-- ── clauses ──
+
+-- the word of a clause's record at which its span begins, by the number of its kind
+abbrev pub spanWord : ℕ → ℕ
+spanWord c = cond (eqb c 2) 6 (cond (eqb c 3) 2 (cond (eqb c 6) 4 (cond (eqb c 7) 10 (cond (eqb c 8) 2 12))))
+
+-- sort keys, skip and limit of the clause at record i, from record j on
+abbrev pub Trailers : (a b : List ℕ) (i d : ℕ) → Span → ℕ → Stage
+Trailers a b i d span j v e =
+    Then (Exprs a b 1 (d - 1) span (cell a b i 6) j) (λ k. Then (Exprs a b 0 d span (cell a b i 8) k) (λ l. Exprs a b 0 d span (cell a b i 10) l)) v e
+
+-- its items, and then so many filters, and then its trailers
+abbrev pub Projected : (a b : List ℕ) (i filters d : ℕ) → Span → Stage
+Projected a b i filters d span v e =
+    Then (Exprs a b 1 (d - 1) span (cell a b i 2) (i + 1)) (λ j. Then (Exprs a b 0 d span filters j) (λ k. Trailers a b i d span k)) v e
+
+-- the arguments of a call, and then its yields, which are passed over
+abbrev pub Called : (a b : List ℕ) (i d : ℕ) → Span → Stage
+Called a b i d span v e =
+    Then (Exprs a b 0 d span (cell a b i 4) (i + 1)) (λ j w x. (w ≡ fine) × (j + cell a b i 6 ≡ x) × (x ≤ 2048)) v e

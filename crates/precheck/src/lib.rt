@@ -1,0 +1,448 @@
+// The check of a resolved statement that the words hold: the first record, in sheet order, that the lowering does not take. It rests on the reader's promise alone.
+ghost use mathlib.Core.Path.{_≡_};
+ghost use Prim.Native.Nat.{ℕ, _<_};
+ghost use Rattle.model.specs.Kind.{statement, unionArm, clause, expr, patternPart, patternElement};
+ghost use Rattle.model.specs.Check.{Verdict, noSpan, precheckStatement};
+ghost use Rattle.model.specs.Text.{Bytes};
+ghost use Rattle.model.specs.Tree.{Tree};
+ghost use Rattle.words.specs.Held.{Held, HeldSome};
+ghost use Rattle.words.specs.Words.{Roomy, cell};
+ghost use Rattle.precheck.specs.Answer.{spanOf, verdictOf};
+ghost use Rattle.precheck.specs.Steps.{Some, Ends, Walks, Run};
+ghost use Rattle.precheck.specs.Stands.{At, Standing, Exprs, Spans, Counts, SomeAt, Inside, Begins, spanWord, Trailers, Projected, Called};
+
+// A part of the source text.
+pub struct HirSpan {
+    pub start: u32,
+    pub end: u32,
+}
+
+// What the check finds that the lowering does not take, with the line of its record.
+pub enum PlanLowerError {
+    UnresolvedName { line: u32, span: HirSpan },
+    UndesugaredExpr { line: u32, span: HirSpan, kind: u32 },
+    EmptyPatternPart { line: u32, span: HirSpan },
+}
+
+// The check's answer.
+pub enum Checked {
+    Fine,
+    Refused(PlanLowerError),
+}
+
+// Where a walk over records goes on, or what stopped it.
+enum Walk {
+    Go(usize),
+    Refused(PlanLowerError),
+}
+
+// ── what a record has ──
+
+// Word c of record i, as a count.
+fn count(a: &[u32], b: &[u32], i: usize, c: usize) -> usize
+    requires { ⌜ i < 2048 ⌝ }
+    requires { ⌜ c < 16 ⌝ }
+    requires { ⌜ Roomy (now a) (now b) ⌝ }
+    ensures { λ r. ⌜ (r ≡ cell (now (a .entry)) (now (b .entry)) i c) × (r < 4294967296) ⌝ }
+{
+    words::word(a, b, i, c) as usize
+}
+
+// The span in words c and c + 1 of record i.
+fn span_at(a: &[u32], b: &[u32], i: usize, c: usize) -> HirSpan
+    requires { ⌜ i < 2048 ⌝ }
+    requires { ⌜ c < 15 ⌝ }
+    requires { ⌜ Roomy (now a) (now b) ⌝ }
+    ensures { λ r. ⌜ Spans (now (a .entry)) (now (b .entry)) i c r ⌝ }
+{
+    let start = words::word(a, b, i, c);
+    let end = words::word(a, b, i, c + 1);
+    HirSpan { start, end }
+}
+
+// How many children the expression at record i has, by its kind and its words 2, 4 and 6.
+fn children_of(a: &[u32], b: &[u32], i: usize, kind: u32) -> usize
+    requires { ⌜ i < 2048 ⌝ }
+    requires { ⌜ Roomy (now a) (now b) ⌝ }
+    requires { ⌜ kind ≡ cell (now a) (now b) i 0 ⌝ }
+    ensures { λ r. ⌜ Counts (now (a .entry)) (now (b .entry)) i r ⌝ }
+{
+    let x = count(a, b, i, 2);
+    let y = count(a, b, i, 4);
+    let z = count(a, b, i, 6);
+    match kind {
+        // prop, index, slice, list
+        23 => 1,
+        24 => 2,
+        25 => 1 + x + y,
+        26 => x,
+        // bin, un, case, isnull, in
+        27 => 2,
+        28 => 1,
+        29 => x + y * 2 + z,
+        30 => 1,
+        31 => 2,
+        // map, fn, pat, listp
+        33 => x,
+        34 => y,
+        35 => x,
+        36 => 1 + z,
+        // null, bool, int, float, str, param, var, unres, undes
+        _ => 0,
+    }
+}
+
+// The expression that a node or a rel may have behind its labels or types, and the span that is reported inside it.
+struct Props {
+    first: usize,
+    n: usize,
+    span: HirSpan,
+}
+
+// What the check looks at in the pattern element at record i.
+fn props_of(a: &[u32], b: &[u32], i: usize) -> Props
+    requires { ⌜ Roomy (now a) (now b) ⌝ }
+    requires { ⌜ SomeAt (now a) (now b) patternElement i ⌝ }
+    ensures { λ r. ⌜ Inside (now (a .entry)) (now (b .entry)) i r ⌝ }
+{
+    let kind = words::word(a, b, i, 0);
+    let labels = count(a, b, i, 4);
+    let first = i + 1 + labels;
+    // a node, or else a rel
+    if kind == 12 {
+        let n = count(a, b, i, 6);
+        let span = span_at(a, b, i, 8);
+        return Props { first, n, span };
+    }
+    let n = count(a, b, i, 10);
+    let span = span_at(a, b, i, 12);
+    Props { first, n, span }
+}
+
+// Whether the part at record i begins with a node.
+fn begins_with_node(a: &[u32], b: &[u32], i: usize) -> bool
+    requires { ⌜ Roomy (now a) (now b) ⌝ }
+    requires { ⌜ SomeAt (now a) (now b) patternPart i ⌝ }
+    ensures { λ r. ⌜ Begins (now (a .entry)) (now (b .entry)) i r ⌝ }
+{
+    let elements = words::word(a, b, i, 6);
+    if elements == 0 {
+        return false;
+    }
+    let head = words::word(a, b, i + 1, 0);
+    if head == 12 {
+        return true;
+    }
+    false
+}
+
+// ── the check of an expression and that of a pattern ──
+
+// The expression at record i, at most left deep.
+fn check_expr(a: &[u32], b: &[u32], i: usize, left: usize, span: HirSpan) -> Walk
+    requires { ⌜ Roomy (now a) (now b) ⌝ }
+    requires { ⌜ Standing (now a) (now b) expr left (spanOf span) i ⌝ }
+    ensures { λ r. ⌜ Walks r (At (now (a .entry)) (now (b .entry)) expr left (spanOf span) i) ⌝ }
+{
+    let kind = words::word(a, b, i, 0);
+    let x = words::word(a, b, i, 2);
+    let n = children_of(a, b, i, kind);
+    let first = i + 1;
+    let line = first as u32;
+    let less = left - 1;
+    match kind {
+        // map: each expression behind its name
+        33 => check_exprs(a, b, first, n, 1, less, span),
+        // pat
+        35 => check_pattern(a, b, first, n, less, span),
+        // unres, undes
+        37 => Walk::Refused(PlanLowerError::UnresolvedName { line, span }),
+        38 => Walk::Refused(PlanLowerError::UndesugaredExpr {
+            line,
+            span,
+            kind: x,
+        }),
+        // every other has expressions for children, or none
+        _ => check_exprs(a, b, first, n, 0, less, span),
+    }
+}
+
+// n expressions from record i on, each behind skip records.
+fn check_exprs(
+    a: &[u32],
+    b: &[u32],
+    i: usize,
+    n: usize,
+    skip: usize,
+    left: usize,
+    span: HirSpan,
+) -> Walk
+    requires { ⌜ Roomy (now a) (now b) ⌝ }
+    requires { ⌜ Some (Exprs (now a) (now b) skip left (spanOf span) n i) ⌝ }
+    ensures { λ r. ⌜ Walks r (Exprs (now (a .entry)) (now (b .entry)) skip left (spanOf span) n i) ⌝ }
+{
+    let mut at = i;
+    let mut m = n;
+    while m != 0 {
+        let first = at + skip;
+        match check_expr(a, b, first, left, span) {
+            Walk::Go(next) => {
+                at = next;
+            }
+            Walk::Refused(x) => {
+                return Walk::Refused(x);
+            }
+        }
+        m -= 1;
+    }
+    Walk::Go(at)
+}
+
+// The n parts of a pattern, from record i on: each begins with a node, and is then checked element by element.
+fn check_pattern(a: &[u32], b: &[u32], i: usize, n: usize, left: usize, span: HirSpan) -> Walk
+    requires { ⌜ Roomy (now a) (now b) ⌝ }
+    requires { ⌜ Some (Run (At (now a) (now b) patternPart left (spanOf span)) n i) ⌝ }
+    ensures { λ r. ⌜ Walks r (Run (At (now (a .entry)) (now (b .entry)) patternPart left (spanOf span)) n i) ⌝ }
+{
+    let mut at = i;
+    let mut m = n;
+    while m != 0 {
+        let first = at + 1;
+        if !begins_with_node(a, b, at) {
+            let line = first as u32;
+            return Walk::Refused(PlanLowerError::EmptyPatternPart { line, span });
+        }
+        let elements = count(a, b, at, 6);
+        match check_elements(a, b, first, elements, left - 1) {
+            Walk::Go(next) => {
+                at = next;
+            }
+            Walk::Refused(x) => {
+                return Walk::Refused(x);
+            }
+        }
+        m -= 1;
+    }
+    Walk::Go(at)
+}
+
+// The n elements of a part, from record i on: the props of each, under its own span.
+fn check_elements(a: &[u32], b: &[u32], i: usize, n: usize, left: usize) -> Walk
+    requires { ⌜ Roomy (now a) (now b) ⌝ }
+    requires { ⌜ Some (Run (At (now a) (now b) patternElement left noSpan) n i) ⌝ }
+    ensures { λ r. ⌜ Walks r (Run (At (now (a .entry)) (now (b .entry)) patternElement left noSpan) n i) ⌝ }
+{
+    let mut at = i;
+    let mut m = n;
+    while m != 0 {
+        let props = props_of(a, b, at);
+        let first = props.first;
+        let k = props.n;
+        let span = props.span;
+        match check_exprs(a, b, first, k, 0, left - 1, span) {
+            Walk::Go(next) => {
+                at = next;
+            }
+            Walk::Refused(x) => {
+                return Walk::Refused(x);
+            }
+        }
+        m -= 1;
+    }
+    Walk::Go(at)
+}
+
+// ── the check of a clause ──
+
+// The word of a clause's record at which its span begins.
+fn span_word(kind: u32) -> usize
+    ensures { λ r. ⌜ (r ≡ spanWord kind) × (r < 15) ⌝ }
+{
+    match kind {
+        // match, where
+        2 => 6,
+        3 => 2,
+        // unwind, call, write
+        6 => 4,
+        7 => 10,
+        8 => 2,
+        // with, return
+        _ => 12,
+    }
+}
+
+// Sort keys, then skip, then limit, of the clause at record i, from record at on.
+fn check_order_skip_limit(
+    a: &[u32],
+    b: &[u32],
+    i: usize,
+    at: usize,
+    left: usize,
+    span: HirSpan,
+) -> Walk
+    requires { ⌜ Roomy (now a) (now b) ⌝ }
+    requires { ⌜ (i < 2048) × (0 < left) ⌝ }
+    requires { ⌜ Some (Trailers (now a) (now b) i left (spanOf span) at) ⌝ }
+    ensures { λ r. ⌜ Walks r (Trailers (now (a .entry)) (now (b .entry)) i left (spanOf span) at) ⌝ }
+{
+    let keys = count(a, b, i, 6);
+    let skip = count(a, b, i, 8);
+    let limit = count(a, b, i, 10);
+    let less = left - 1;
+    let ordered = check_exprs(a, b, at, keys, 1, less, span);
+    let Walk::Go(p) = ordered else {
+        return ordered;
+    };
+    let skipped = check_exprs(a, b, p, skip, 0, left, span);
+    let Walk::Go(q) = skipped else {
+        return skipped;
+    };
+    check_exprs(a, b, q, limit, 0, left, span)
+}
+
+// Items, then a filter if there is one, then the rest, of the `with` or `return` at record i.
+fn check_projections(
+    a: &[u32],
+    b: &[u32],
+    i: usize,
+    filters: usize,
+    left: usize,
+    span: HirSpan,
+) -> Walk
+    requires { ⌜ Roomy (now a) (now b) ⌝ }
+    requires { ⌜ (i < 2048) × (0 < left) ⌝ }
+    requires { ⌜ Some (Projected (now a) (now b) i filters left (spanOf span)) ⌝ }
+    ensures { λ r. ⌜ Walks r (Projected (now (a .entry)) (now (b .entry)) i filters left (spanOf span)) ⌝ }
+{
+    let items = count(a, b, i, 2);
+    let first = i + 1;
+    let less = left - 1;
+    let projected = check_exprs(a, b, first, items, 1, less, span);
+    let Walk::Go(p) = projected else {
+        return projected;
+    };
+    let filtered = check_exprs(a, b, p, filters, 0, left, span);
+    let Walk::Go(q) = filtered else {
+        return filtered;
+    };
+    check_order_skip_limit(a, b, i, q, left, span)
+}
+
+// The arguments of the `call` at record i; its yields are passed over.
+fn check_call(a: &[u32], b: &[u32], i: usize, left: usize, span: HirSpan) -> Walk
+    requires { ⌜ Roomy (now a) (now b) ⌝ }
+    requires { ⌜ i < 2048 ⌝ }
+    requires { ⌜ Some (Called (now a) (now b) i left (spanOf span)) ⌝ }
+    ensures { λ r. ⌜ Walks r (Called (now (a .entry)) (now (b .entry)) i left (spanOf span)) ⌝ }
+{
+    let args = count(a, b, i, 4);
+    let yields = count(a, b, i, 6);
+    let first = i + 1;
+    let checked = check_exprs(a, b, first, args, 0, left, span);
+    let Walk::Go(at) = checked else {
+        return checked;
+    };
+    Walk::Go(at + yields)
+}
+
+// The clause at record i, at most left deep, under its own span. A `write` has nothing to check.
+fn check_clause(a: &[u32], b: &[u32], i: usize, left: usize) -> Walk
+    requires { ⌜ Roomy (now a) (now b) ⌝ }
+    requires { ⌜ 1 < left ⌝ }
+    requires { ⌜ Standing (now a) (now b) clause left noSpan i ⌝ }
+    ensures { λ r. ⌜ Walks r (At (now (a .entry)) (now (b .entry)) clause left noSpan i) ⌝ }
+{
+    let kind = words::word(a, b, i, 0);
+    let n = count(a, b, i, 4);
+    let at = span_word(kind);
+    let span = span_at(a, b, i, at);
+    let first = i + 1;
+    let less = left - 1;
+    match kind {
+        // match, where
+        2 => check_pattern(a, b, first, n, less, span),
+        3 => check_exprs(a, b, first, 1, 0, less, span),
+        // with, return
+        4 => check_projections(a, b, i, n, less, span),
+        5 => check_projections(a, b, i, 0, less, span),
+        // unwind, call, write
+        6 => check_exprs(a, b, first, 1, 0, less, span),
+        7 => check_call(a, b, i, less, span),
+        _ => Walk::Go(first),
+    }
+}
+
+// n clauses from record i on.
+fn check_clauses(a: &[u32], b: &[u32], i: usize, n: usize, left: usize) -> Walk
+    requires { ⌜ Roomy (now a) (now b) ⌝ }
+    requires { ⌜ 1 < left ⌝ }
+    requires { ⌜ Some (Run (At (now a) (now b) clause left noSpan) n i) ⌝ }
+    ensures { λ r. ⌜ Walks r (Run (At (now (a .entry)) (now (b .entry)) clause left noSpan) n i) ⌝ }
+{
+    let mut at = i;
+    let mut m = n;
+    while m != 0 {
+        match check_clause(a, b, at, left) {
+            Walk::Go(next) => {
+                at = next;
+            }
+            Walk::Refused(x) => {
+                return Walk::Refused(x);
+            }
+        }
+        m -= 1;
+    }
+    Walk::Go(at)
+}
+
+// n arms from record i on, the clauses of each.
+fn check_arms(a: &[u32], b: &[u32], i: usize, n: usize, left: usize) -> Walk
+    requires { ⌜ Roomy (now a) (now b) ⌝ }
+    requires { ⌜ 2 < left ⌝ }
+    requires { ⌜ Some (Run (At (now a) (now b) unionArm left noSpan) n i) ⌝ }
+    ensures { λ r. ⌜ Walks r (Run (At (now (a .entry)) (now (b .entry)) unionArm left noSpan) n i) ⌝ }
+{
+    let mut at = i;
+    let mut m = n;
+    while m != 0 {
+        let clauses = count(a, b, at, 4);
+        let first = at + 1;
+        match check_clauses(a, b, first, clauses, left - 1) {
+            Walk::Go(next) => {
+                at = next;
+            }
+            Walk::Refused(x) => {
+                return Walk::Refused(x);
+            }
+        }
+        m -= 1;
+    }
+    Walk::Go(at)
+}
+
+// ── the check of a statement ──
+
+// The first record, in sheet order, that the lowering does not take: clauses in order, then each arm's.
+pub fn precheck_statement(a: &[u32], b: &[u32]) -> Checked
+    requires { ⌜ Roomy (now a) (now b) ⌝ }
+    requires { ⌜ ((sheet : Bytes) × HeldSome sheet (now a) (now b) statement 64 0) ⌝ }
+    ensures { λ r. ⌜ ((sheet : Bytes) (t : Tree statement) → Held sheet (now (a .entry)) (now (b .entry)) t 64 0 → verdictOf r ≡ precheckStatement t) ⌝ }
+{
+    let clauses = count(a, b, 0, 2);
+    let arms = count(a, b, 0, 4);
+    let head = check_clauses(a, b, 1, clauses, 63);
+    let Walk::Go(at) = head else {
+        return answer(head);
+    };
+    answer(check_arms(a, b, at, arms, 63))
+}
+
+// The answer that a walk over the whole statement has.
+fn answer(w: Walk) -> Checked
+    ensures { λ r. ⌜ ((v : Verdict) (e : ℕ) → Ends w v e → verdictOf r ≡ v) ⌝ }
+{
+    match w {
+        Walk::Go(_) => Checked::Fine,
+        Walk::Refused(x) => Checked::Refused(x),
+    }
+}
