@@ -56,7 +56,7 @@ unfolding next mapped
 mapped-next h (got a p) f = refl
 mapped-next h (refused n l) f = refl
 
-mapped-mapped : {A B C : Type 0} (h : B → C) (f : A → B) (r : Reading A) → mapped h (mapped f r) ≡ mapped (λ a. h (f a)) r
+pub mapped-mapped : {A B C : Type 0} (h : B → C) (f : A → B) (r : Reading A) → mapped h (mapped f r) ≡ mapped (λ a. h (f a)) r
 unfolding mapped
 mapped-mapped h f (got a p) = refl
 mapped-mapped h f (refused n l) = refl
@@ -66,7 +66,7 @@ unfolding next
 next-ext (got a p) f g h = h a p
 next-ext (refused n l) f g h = refl
 
-mapped-ext : {A B : Type 0} (r : Reading A) (f g : A → B) → ((a : A) → f a ≡ g a) → mapped f r ≡ mapped g r
+pub mapped-ext : {A B : Type 0} (r : Reading A) (f g : A → B) → ((a : A) → f a ≡ g a) → mapped f r ≡ mapped g r
 unfolding mapped
 mapped-ext (got a p) f g h = ap (λ b. got b p) (h a)
 mapped-ext (refused n l) f g h = refl

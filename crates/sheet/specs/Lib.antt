@@ -3,3 +3,7 @@ pub mod Standing
 pub mod Writes
 pub mod Progress
 pub mod Stack
+pub mod Dues
+pub mod Reader
+pub mod Steps
+pub mod Next

@@ -9,6 +9,7 @@ use Rattle.model.specs.Kind.{Sort}
 use Rattle.model.specs.Record.{Rec, rec, Group, children, beside}
 use Rattle.model.specs.Tree.{Trees, []ᵗ, _∷ᵗ_, recordsOf}
 use Rattle.model.specs.Sheet.{Place, Reading, got, refused, next, readLine, readMany, readTree, atEnd}
+use Rattle.line.specs.GroupLaws.{sortsOf}
 use Rattle.sheet.specs.Due.{Due, due, dueOf, mapped, readDue, isZero, roomBelow, step, none-due}
 use Rattle.sheet.specs.Progress.{rest}
 
@@ -71,10 +72,6 @@ Fit [] = Unit {0}
 Fit (g ∷ st) = (0 < g .count) × (g .room ≤ 64) × (length st + 1 + slack (g .sort) ≤ 11 * (65 - g .room)) × Fit st
 
 -- ── groups one by one ──
-
-unfoldable pub sortsOf : List Group → List Sort
-sortsOf [] = []
-sortsOf (g ∷ gs) = replicate (g .1) (g .0) ++ sortsOf gs
 
 ones : ℕ → List Sort → List Due
 ones d [] = []

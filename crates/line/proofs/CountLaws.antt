@@ -1,0 +1,18 @@
+-- How many records a group has, from its source in the table. Assumes nothing.
+use mathlib.Core.Path.{_≡_}
+use Prim.Native.Nat.{ℕ, _+_, _-_, _<_, _≤_}
+use mathlib.Core.List.{List}
+use native.Mathlib.Omega.{arith}
+use borrow.Author.Tests.{lt-ltb, le-ltb}
+use Rattle.words.specs.Words.{part, cell}
+use Rattle.line.specs.Table.{countOf}
+use Rattle.line.specs.GroupLaws.{part-cell}
+
+module _ (a b : List ℕ) (i c s : ℕ) (e : c ≡ s) where
+  pub count-fixed : c < 3 → c ≡ countOf (part a b i) s
+  count-fixed h = rw (← e, lt-ltb c 3 h)
+
+  pub count-word : 3 ≤ c → c < 8 → (r : ℕ) → r ≡ cell a b i (c + c - 4) → r ≡ countOf (part a b i) s
+  count-word h k r q =
+      let low : c + c - 4 < 16 = omega arith in
+      rw (← e, le-ltb c 3 h, part-cell a b i (c + c - 4) low) q

@@ -1,0 +1,13 @@
+pub mod PackLaws
+pub mod KindLaws
+pub mod PlaceLaws
+pub mod WordLaws
+pub mod NameLaws
+pub mod SignedLaws
+pub mod SpanLaws
+pub mod FormLaws
+pub mod CodeLaws
+pub mod FillLaws
+pub mod LineLaws
+pub mod IntoLaws
+pub mod CountLaws

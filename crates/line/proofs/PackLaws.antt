@@ -1,0 +1,146 @@
+-- Short texts and the numbers that they are packed into: one tells the other, and the packing loop gathers it byte by byte. Assumes nothing.
+use mathlib.Core.Path.{_≡_, refl, sym, ap, _∙_}
+use Prim.Native.Nat.{ℕ, zero, suc, _+_, _*_, _-_, _/_, _%_, _^_, _<_, _≤_}
+use mathlib.Core.Bool.{Bool, true, false, cond}
+use mathlib.Core.List.{[], _∷_, _++_, append-nil}
+use native.Mathlib.Nat.{add-zero, mul-add-div-right, mul-add-mod-self-right, mod-eq-of-lt, div-eq-of-lt, pow-le-pow-right, pow-suc}
+use native.Mathlib.Numerals.{add-one}
+use native.Mathlib.Omega.{arith}
+use borrow.Author.Tests.{lt-ltb, le-ltb, ltb-true, leb-true, le-leb, eqb-true, eqb-false, ne-eqb}
+use lib.Dec.{ltb, leb, eqb}
+use lib.ListN.{length, take, getD}
+use lib.Seq.{take-suc, take-all}
+use Rattle.model.specs.Text.{Bytes, same}
+use Rattle.laws.specs.TextLaws.{and-left, and-right, same-sound, same-refl}
+use Rattle.line.specs.Table.{packOn, packed}
+use Rattle.line.specs.TableLaws.{eachBelow, short}
+use Rattle.line.specs.Kinds.{Packed}
+
+-- ── unpacking ──
+
+-- the bytes of a number, up to k of them, before others
+unpackOn : ℕ → ℕ → Bytes → Bytes
+unpackOn zero n t = t
+unpackOn (suc k) n t = cond (ltb n 256) t (unpackOn k (n / 256) (n % 256 ∷ t))
+
+unpack-step : (j v b : ℕ) (t : Bytes) → 0 < v → b < 256 → unpackOn (suc j) (v * 256 + b) t ≡ unpackOn j v (b ∷ t)
+unfolding unpackOn
+unpack-step j v b t p h =
+    let up : 256 ≤ v * 256 + b = omega arith in
+    let over : (v * 256 + b) / 256 ≡ v = mul-add-div-right (omega arith) v b ∙ rw (div-eq-of-lt h) (add-zero v) in
+    let left : (v * 256 + b) % 256 ≡ b = mul-add-mod-self-right v 256 b ∙ mod-eq-of-lt h in
+    rw (le-ltb _ _ up, over, left)
+
+unpack-pack : (s t : Bytes) (v j : ℕ) → 0 < v → eachBelow 256 s ≡ true → unpackOn (length s + j) (packOn v s) t ≡ unpackOn j v (s ++ t)
+unfolding packOn eachBelow
+unpack-pack [] t v j p h = rw zero-plus
+  where
+    zero-plus : 0 + j ≡ j
+    zero-plus = omega arith
+unpack-pack (b ∷ s) t v j p h =
+    let low : b < 256 = ltb-true b 256 (and-left (ltb b 256) (eachBelow 256 s) h) in
+    let count : suc (length s) + j ≡ length s + suc j = omega arith in
+    rw count (unpack-pack s t (v * 256 + b) (suc j) (omega arith) (and-right (ltb b 256) (eachBelow 256 s) h) ∙ unpack-step j v b (s ++ t) p low)
+
+unpack-one : (j : ℕ) (t : Bytes) → unpackOn j 1 t ≡ t
+unfolding unpackOn
+unpack-one zero t = refl
+unpack-one (suc j) t = refl
+
+unpack : (s : Bytes) → short s ≡ true → unpackOn 7 (packed s) [] ≡ s
+unfolding packed short
+unpack s h =
+    let few : length s ≤ 7 = leb-true (length s) 7 (and-left (leb (length s) 7) (eachBelow 256 s) h) in
+    let sum : length s + (7 - length s) ≡ 7 = omega arith in
+    rw (← sum) (unpack-pack s [] 1 (7 - length s) (omega arith) (and-right (leb (length s) 7) (eachBelow 256 s) h) ∙ unpack-one (7 - length s) (s ++ []) ∙ append-nil s)
+
+short-few : (s : Bytes) → short s ≡ true → length s ≤ 7
+unfolding short
+short-few s h = leb-true (length s) 7 (and-left (leb (length s) 7) (eachBelow 256 s) h)
+
+packOn-up : (s : Bytes) (v : ℕ) → 0 < v → 0 < packOn v s
+unfolding packOn
+packOn-up [] v h = h
+packOn-up (b ∷ s) v h = packOn-up s (v * 256 + b) (omega arith)
+
+packed-up : (s : Bytes) → 0 < packed s
+unfolding packed
+packed-up s = packOn-up s 1 (omega arith)
+
+-- ── one tells the other ──
+
+same-not : (s w : Bytes) → (s ≡ w → ⊥) → same s w ≡ false
+same-not s w h = go (same s w) refl
+  where
+    go : (t : Bool) → same s w ≡ t → t ≡ false
+    go true e = absurd (h (same-sound s w e))
+    go false e = refl
+
+pub packed-tells : (s : Bytes) → short s ≡ true → Packed s (packed s)
+packed-tells s h =
+    record {
+      tells = λ w k.
+          let go : (t : Bool) → eqb (packed s) (packed w) ≡ t → t ≡ same s w = λ t. elim t [
+            | true ↦ (λ e. let q : s ≡ w = sym (unpack s h) ∙ rw (eqb-true (packed s) (packed w) e) (unpack w k) in rw q (sym (same-refl w)))
+            | false ↦ (λ e. sym (same-not s w (λ q. eqb-false _ _ e (ap packed q))))
+          ] in
+          go (eqb (packed s) (packed w)) refl;
+    }
+
+pub long-tells : (s : Bytes) → 7 < length s → Packed s 0
+long-tells s h =
+    record {
+      tells = λ w k.
+          rw (ne-eqb 0 (packed w) (λ e. absurd (omega (arith, packed-up w, e))))
+          (sym (same-not s w (λ q. let few : length w ≤ 7 = short-few w k in absurd (omega (arith, ap length q)))));
+    }
+
+-- ── the loop ──
+
+pub record Packing (s : Bytes) (v i : ℕ) : Type 0 where
+  pub within : i ≤ length s
+  pub few : length s ≤ 7
+  pub is : v ≡ packOn 1 (take i s)
+  pub bytes : eachBelow 256 (take i s) ≡ true
+  pub low : v < 2 * 256 ^ i
+
+packOn-append : (v : ℕ) (s t : Bytes) → packOn v (s ++ t) ≡ packOn (packOn v s) t
+unfolding packOn
+packOn-append v [] t = refl
+packOn-append v (b ∷ s) t = packOn-append (v * 256 + b) s t
+
+bytes-append : (s t : Bytes) → eachBelow 256 s ≡ true → eachBelow 256 t ≡ true → eachBelow 256 (s ++ t) ≡ true
+unfolding eachBelow
+bytes-append [] t p q = q
+bytes-append (b ∷ s) t p q = rw (and-left (ltb b 256) (eachBelow 256 s) p) (bytes-append s t (and-right (ltb b 256) (eachBelow 256 s) p) q)
+
+module _ (s : Bytes) where
+  pub pack-none : length s ≤ 7 → Packing s 1 0
+  unfolding packOn eachBelow
+  pack-none h = record { within = omega arith; few = h; is = refl; bytes = refl; low = omega arith }
+
+  module _ (v i : ℕ) (p : Packing s v i) where
+    pub pack-room : i < length s → v < 562949953421312
+    pack-room h =
+        let six : i ≤ 6 = omega (arith, p .few) in
+        let up : 256 ^ i ≤ 256 ^ 6 = pow-le-pow-right (omega arith) six in
+        omega (arith, p .low)
+
+    pub pack-more : i < length s → (b : ℕ) → b ≡ getD s i 0 → b < 256 → Packing s (v * 256 + b) (i + 1)
+    unfolding packOn eachBelow
+    pack-more h b e l =
+        let one : take (i + 1) s ≡ take i s ++ (getD s i 0 ∷ []) = rw (add-one i) (take-suc s i 0 h) in
+        record {
+          within = omega arith;
+          few = p .few;
+          is = rw (one, packOn-append, ← (p .is), e);
+          bytes = rw one (bytes-append (take i s) _ (p .bytes) (rw (← e, lt-ltb _ _ l)));
+          low = rw (add-one i, pow-suc) (omega (arith, p .low, e));
+        }
+
+    pub pack-done : length s ≤ i → Packed s v
+    unfolding short packed
+    pack-done h =
+        let all : take i s ≡ s = take-all i s h in
+        let plain : short s ≡ true = rw (le-leb (length s) 7 (p .few)) (rw all at (p .bytes)) in
+        rw (p .is, all) (packed-tells s plain)

@@ -1,0 +1,33 @@
+-- What a keyword names, as the number of a kind. Assumes nothing: these are definitions.
+use mathlib.Core.Path.{_≡_}
+use Prim.Native.Nat.{ℕ}
+use mathlib.Core.Bool.{true}
+use mathlib.Core.Option.{Option, none, some}
+use lib.Dec.{eqb}
+use Rattle.model.specs.Text.{Bytes, same}
+use Rattle.model.specs.Kind.{Sort, Kind}
+use Rattle.model.specs.Record.{kinds, kindNamed}
+use Rattle.words.specs.Words.{kindOf}
+use Rattle.line.specs.Table.{packed}
+use Rattle.line.specs.TableLaws.{short}
+use Rattle.line.specs.declared.kind.KindFound.{KindFound}
+use Rattle.line.specs.declared.kind.KindFound.the-variants.{Is, Not}
+
+-- a number that tells a text from every short one
+pub record Packed (s : Bytes) (n : ℕ) : Type 0 where
+  pub tells : (w : Bytes) → short w ≡ true → eqb n (packed w) ≡ same s w
+
+-- the kind that an answer stands for
+abbrev pub kindFound : (s : Sort) → KindFound → Option (Kind s)
+kindFound s (Is n) = kindOf s n
+kindFound s Not = none
+
+-- a number that is answered is one of the sort's kinds
+abbrev pub Known : KindFound → (s : Sort) → Type 0
+Known (Is n) s = (k : Kind s) × (kindOf s n ≡ some k)
+Known Not s = Unit {0}
+
+-- the answer is the kind that the definition finds
+pub record Named (s : Sort) (w : Bytes) (r : KindFound) : Type 0 where
+  pub is : kindNamed s w (kinds s) ≡ kindFound s r
+  pub known : Known r s

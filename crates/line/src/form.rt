@@ -1,0 +1,127 @@
+// The field at a place of a line, by its form.
+ghost use mathlib.Core.Path.{_≡_};
+ghost use Prim.Native.Nat.{_+_, _<_, _≤_};
+ghost use mathlib.Core.List.{[], _∷_};
+ghost use lib.ListN.{length};
+ghost use lib.Seq.{slice};
+ghost use Rattle.model.specs.Field.{Form};
+ghost use Rattle.line.specs.Place.{PieceAt};
+ghost use Rattle.line.specs.FieldRead.{FieldAt, WordsOf};
+ghost use Rattle.line.specs.Table.{formOf};
+use crate::field::Words;
+use crate::field::alias;
+use crate::field::flag;
+use crate::field::float;
+use crate::field::int;
+use crate::field::number;
+use crate::field::text;
+use crate::field::variable;
+use crate::piece::piece_to;
+use crate::table::LIMITS;
+
+// A field's words and the place of the next piece, or none.
+pub enum FieldRead {
+    Is(u32, u32, usize),
+    Not,
+}
+
+// A span: two numbers, the start at most the end. Its first piece is that from p up to r.
+fn span(sheet: &[u8], p: usize, r: usize, e: usize) -> FieldRead
+    requires { ⌜ e ≤ length (now sheet) ⌝ }
+    requires { ⌜ PieceAt (now sheet) p e r ⌝ }
+    ensures { λ w. ⌜ FieldAt Form.span (now (sheet .entry)) p e w ⌝ }
+{
+    if r == e {
+        return FieldRead::Not;
+    }
+    let q = r + 1;
+    let t = piece_to(sheet, q, e);
+    let Words::Is(x, _) = number(&sheet[p..r], 4294967295) else {
+        return FieldRead::Not;
+    };
+    let Words::Is(y, _) = number(&sheet[q..t], 4294967295) else {
+        return FieldRead::Not;
+    };
+    if x <= y {
+        return FieldRead::Is(x, y, t + 1);
+    }
+    FieldRead::Not
+}
+
+// The length of a pattern's relationship: three pieces, held as their place. The first is that from p up to r.
+fn hops(sheet: &[u8], p: usize, r: usize, e: usize) -> FieldRead
+    requires { ⌜ (e ≤ length (now sheet)) × (length (now sheet) ≤ 32768) ⌝ }
+    requires { ⌜ PieceAt (now sheet) p e r ⌝ }
+    ensures { λ w. ⌜ FieldAt Form.length (now (sheet .entry)) p e w ⌝ }
+{
+    if r == e {
+        return FieldRead::Not;
+    }
+    let q = r + 1;
+    let t = piece_to(sheet, q, e);
+    if t == e {
+        return FieldRead::Not;
+    }
+    let u = t + 1;
+    let v = piece_to(sheet, u, e);
+    if record::length::length(&sheet[p..r], &sheet[q..t], &sheet[u..v]) {
+        return FieldRead::Is(p as u32, v as u32, v + 1);
+    }
+    FieldRead::Not
+}
+
+// A field of one piece, that from p up to r, by a code below 8.
+fn plain(sheet: &[u8], p: usize, r: usize, form: u32) -> Words
+    requires { ⌜ (p ≤ r) × (r ≤ length (now sheet)) ⌝ }
+    requires { ⌜ length (now sheet) ≤ 32768 ⌝ }
+    requires { ⌜ (0 < form) × (form < 8) ⌝ }
+    ensures { λ w. ⌜ WordsOf (formOf form) (now (sheet .entry)) (slice p r (now (sheet .entry)) ∷ []) w ⌝ }
+{
+    let s = &sheet[p..r];
+    match form {
+        1 => flag(s),
+        2 => number(s, 4294967295),
+        3 => variable(s),
+        4 => int(s),
+        5 => float(s),
+        6 => text(sheet, p, r),
+        _ => alias(sheet, p, r),
+    }
+}
+
+// A field of one piece, by its code: from 10 on a number with the table's limit.
+fn single(sheet: &[u8], p: usize, r: usize, form: u32) -> Words
+    requires { ⌜ (p ≤ r) × (r ≤ length (now sheet)) ⌝ }
+    requires { ⌜ length (now sheet) ≤ 32768 ⌝ }
+    requires { ⌜ (0 < form) × (form < 15) ⌝ }
+    requires { ⌜ ((form ≡ 8 → ⊥) × (form ≡ 9 → ⊥)) ⌝ }
+    ensures { λ w. ⌜ WordsOf (formOf form) (now (sheet .entry)) (slice p r (now (sheet .entry)) ∷ []) w ⌝ }
+{
+    if form < 8 {
+        return plain(sheet, p, r, form);
+    }
+    let limit = LIMITS[(form - 10) as usize];
+    number(&sheet[p..r], limit)
+}
+
+// The field that begins at p, of the line that ends before e. If p is behind e, no piece is left.
+pub fn read_form(sheet: &[u8], p: usize, e: usize, form: u32) -> FieldRead
+    requires { ⌜ (e ≤ length (now sheet)) × (length (now sheet) ≤ 32768) ⌝ }
+    requires { ⌜ (0 < form) × (form < 15) ⌝ }
+    ensures { λ w. ⌜ FieldAt (formOf form) (now (sheet .entry)) p e w ⌝ }
+{
+    if e < p {
+        return FieldRead::Not;
+    }
+    let r = piece_to(sheet, p, e);
+    if form == 8 {
+        return span(sheet, p, r, e);
+    }
+    if form == 9 {
+        return hops(sheet, p, r, e);
+    }
+    match single(sheet, p, r, form) {
+        Words::Is(x, y) => FieldRead::Is(x, y, r + 1),
+        Words::Not => FieldRead::Not,
+    }
+}

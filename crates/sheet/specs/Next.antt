@@ -1,0 +1,159 @@
+-- What one line does to the reader's state. Assumes nothing.
+use mathlib.Core.Path.{_≡_, refl, sym, _∙_, ap, subst}
+use Prim.Native.Nat.{ℕ, zero, suc, _+_, _*_, _-_, _<_, _≤_}
+use native.Mathlib.Numerals.{add-one}
+use native.Mathlib.Omega.{arith}
+use mathlib.Core.Bool.{Bool, true, false, cond}
+use mathlib.Core.List.{List, [], _∷_, _++_}
+use mathlib.Core.Option.{Option, none, some}
+use borrow.Author.Tests.{eqb-true, eqb-false}
+use lib.Dec.{eqb}
+use lib.ListN.{length, drop, getD}
+use lib.Seq.{slice}
+use Rattle.model.specs.Text.{Bytes, split, lineFeed}
+use Rattle.model.specs.Field.{Fields}
+use Rattle.model.specs.Kind.{Sort, Kind}
+use Rattle.model.specs.Record.{Rec, rec, RecOf, forms, readRec, children}
+use Rattle.model.specs.Sheet.{Place, got, refused, readLine, orElse}
+use Rattle.model.specs.Call.{refuse, lineRefusal}
+use Rattle.words.specs.Words.{Roomy, part, decode, recOf, kindOf, fieldsOf}
+use Rattle.words.specs.Held.{RecordAt}
+use Rattle.record.specs.Piece.{Piece}
+use Rattle.line.specs.Table.{sortOf}
+use Rattle.line.specs.LineRead.{Got, IntoRead}
+use Rattle.line.specs.declared.read.Line.{Line}
+use Rattle.sheet.specs.declared.reader.Read.{Read}
+use Rattle.sheet.specs.declared.reader.Read.the-variants.{BadLine, BigTree}
+use Rattle.sheet.specs.declared.reader.Step.{Step}
+use Rattle.sheet.specs.declared.reader.Step.the-variants.{More, Bad, Big}
+use Rattle.sheet.specs.Due.{due, roomBelow, isZero}
+use Rattle.sheet.specs.Writes.{writes, writeAmong}
+use Rattle.sheet.specs.Progress.{placeAt, rest, line-refused, no-feed, too-many, deep, unformed, well-formed}
+use Rattle.sheet.specs.Stack.{Fit}
+use Rattle.sheet.specs.Dues.{dues, dues-length, group, Sorted, Room, Popped, Groups, Space}
+use Rattle.sheet.specs.Steps.{writes-eight, space, due-now}
+use Rattle.sheet.specs.Reader.{readOnly, Reads, Ends, SoFar, writeOf, rest-refused, top-is, advance, seen-more, seen-write}
+
+-- behind record i
+abbrev pub Next : Bytes → List ℕ → List ℕ → List ℕ → ℕ → Step → Type 0
+Next sheet a b w i (More pos m wr) = SoFar sheet a b w (i + 1) pos m wr
+Next sheet a b w i Bad = readOnly sheet ≡ refuse (lineRefusal 3 (i + 1))
+Next sheet a b w i Big = readOnly sheet ≡ refuse (lineRefusal 4 (i + 1))
+
+-- the line of the first write, when record i has kind number n
+pub record Wrote (n wr i wr′ : ℕ) : Type 0 where
+  pub new : n ≡ 8 → wr ≡ 0 → wr′ ≡ suc i
+  pub old : n ≡ 8 → (wr ≡ 0 → ⊥) → wr′ ≡ wr
+  pub other : (n ≡ 8 → ⊥) → wr′ ≡ wr
+
+module _ (sheet : Bytes) (a b w : List ℕ) (i pos m wr : ℕ) (o : SoFar sheet a b w i pos (m + 1) wr) where
+  -- with the successor that definitions go by
+  state : SoFar sheet a b w i pos (suc m) wr
+  state = rw (add-one m) at o
+
+  pub top-sort : getD w (m * 3) 0 < 11
+  top-sort = o .sorted .at m (omega arith)
+
+  pub top-count : 0 < getD w (m * 3 + 1) 0
+  unfolding dues
+  top-count = state .fit .0
+
+  pub top-room : Room w m
+  unfolding dues
+  top-room = record { few = omega (arith, state .fit .2, dues-length w m); long = state .long }
+
+  pub roomy-still : (sort : Sort) (e : ℕ) (a′ b′ : List ℕ) (l : Line) → IntoRead sort sheet pos e i a b a′ b′ l → Roomy a′ b′
+  roomy-still sort e a′ b′ l into = record { first = omega (arith, o .roomy .first, into .first); second = omega (arith, o .roomy .second, into .second) }
+
+  line-refuses : (n : ℕ) → readLine (group w m .sort) (isZero (group w m .room)) (placeAt sheet pos (suc i)) ≡ refused n (suc i) → readOnly sheet ≡ refuse (lineRefusal n (i + 1))
+  line-refuses n e = rw (add-one i) (rest-refused sheet a b w i pos (suc m) wr state n (suc i) (ap (λ st. rest st (placeAt sheet pos (suc i))) (top-is w m (state .fit)) ∙ line-refused (group w m .sort) (group w m .count - 1) (group w m .room) (dues w m) (placeAt sheet pos (suc i)) n (suc i) e))
+
+  module _ (e : ℕ) (piece : Piece 10 sheet pos e) where
+    pub next-unended : e ≡ length sheet → readOnly sheet ≡ refuse (lineRefusal 3 (i + 1))
+    next-unended q = line-refuses 3 (no-feed sheet pos (suc i) (group w m .sort) (group w m .room) (piece .last q))
+
+    module _ (ends : (e ≡ length sheet) → ⊥) where
+      within : e < length sheet
+      within = omega (arith, piece .within, ends)
+
+      pub next-many : i ≡ 2048 → readOnly sheet ≡ refuse (lineRefusal 4 (i + 1))
+      next-many q = line-refuses 4 (too-many sheet pos (suc i) (group w m .sort) (group w m .room) (e + 1) (piece .more within) (omega arith))
+
+      pub next-deep : getD w (m * 3 + 2) 0 ≡ 0 → readOnly sheet ≡ refuse (lineRefusal 4 (i + 1))
+      next-deep q = line-refuses 4 (deep sheet pos (suc i) (group w m .sort) (group w m .room) (e + 1) (piece .more within) q)
+
+      module _ (few : i ≡ 2048 → ⊥) (room : getD w (m * 3 + 2) 0 ≡ 0 → ⊥) where
+        low : i < 2048
+        low = omega (arith, o .few, few)
+
+        deep-enough : 0 < getD w (m * 3 + 2) 0
+        deep-enough = omega (arith, room)
+
+        pub next-unformed : (a′ b′ : List ℕ) (l : Line) → IntoRead (group w m .sort) sheet pos e i a b a′ b′ l → l ≡ Line.Not → readOnly sheet ≡ refuse (lineRefusal 3 (i + 1))
+        next-unformed a′ b′ l into z = let q = (rw z at into) .line .answer in line-refuses 3 (unformed sheet pos (suc i) (group w m .sort) (group w m .room) (e + 1) (piece .more within) low deep-enough (ap (readRec (group w m .sort)) (sym (piece .first)) ∙ q))
+
+        -- ── a record ──
+
+        module _ (a′ b′ w′ : List ℕ) (n r d : ℕ) (l : Line) (into : IntoRead (group w m .sort) sheet pos e i a b a′ b′ l) (is : l ≡ Line.Kind n) (pop : Popped w w′ m r) (below : d ≡ roomBelow (group w m .sort) (group w m .room)) where
+          got-it : Got (group w m .sort) sheet pos e (part a′ b′ i) n
+          got-it = (rw is at into) .line .answer
+
+          fields : Fields (forms (group w m .sort) (got-it .kind))
+          fields = fieldsOf (forms (group w m .sort) (got-it .kind)) sheet (part a′ b′ i) 0
+
+          decoded : decode (group w m .sort) sheet (part a′ b′ i) ≡ some (got-it .kind, fields)
+          unfolding decode recOf fields
+          decoded = rw (got-it .number, got-it .named)
+
+          is-read : readRec (group w m .sort) (slice pos e sheet) ≡ some (got-it .kind, fields)
+          is-read = got-it .read ∙ sym (got-it .held) ∙ decoded
+
+          pub next-low : n < 39
+          next-low = got-it .low
+
+          pub next-space : Space w′ n r d
+          next-space = space w w′ m r n (state .long) (state .fit) (state .sorted) pop deep-enough (got-it .kind) (got-it .named) d below
+
+          writes-is : writes (group w m .sort) (got-it .kind) ≡ eqb n 8
+          writes-is = writes-eight (getD w (m * 3) 0) top-sort n (got-it .kind) (got-it .named)
+
+          module _ (w″ : List ℕ) (r″ wr′ : ℕ) where
+            seen : (t : Bool) → eqb n 8 ≡ t → Wrote n wr i wr′ → (ss : List Rec) → writeAmong 1 ((state .done ++ (rec (group w m .sort) (got-it .kind) fields ∷ [])) ++ ss) ≡ orElse (writeOf wr′) (writeAmong (suc (suc i)) ss)
+            seen true q wrote = seen-write sheet a b w a′ b′ w″ i pos m wr state (e + 1) r″ wr′ (got-it .kind, fields) (writes-is ∙ q) (wrote .new (eqb-true n 8 q)) (wrote .old (eqb-true n 8 q))
+            seen false q wrote = seen-more sheet a b w a′ b′ w″ i pos m wr state (e + 1) r″ wr′ (got-it .kind, fields) (writes-is ∙ q) (wrote .other (eqb-false n 8 q))
+
+            pub next-more : Groups w′ w″ n (part a′ b′ i) 0 5 r d r″ → Wrote n wr i wr′ → Next sheet a′ b′ w″ i (More (e + 1) r″ wr′)
+            unfolding fields
+            next-more groups wrote =
+                rw (add-one i)
+                (advance sheet a b w a′ b′ w″ i pos m wr state (e + 1) r″ wr′ (got-it .kind, fields)
+                (well-formed sheet pos (suc i) (group w m .sort) (group w m .room) (e + 1) (piece .more within) low deep-enough (got-it .kind, fields) (ap (readRec (group w m .sort)) (sym (piece .first)) ∙ is-read))
+                low
+                (omega (arith, within))
+                (record { low = low; is = decoded; flags = got-it .flags; texts = got-it .texts })
+                (λ j h. into .others j (omega arith) (λ q. omega arith))
+                (roomy-still (group w m .sort) e a′ b′ l into)
+                (omega (arith, state .long, pop .same, groups .same))
+                (groups .fit)
+                (groups .sorted)
+                (due-now w w′ m r n (state .long) (state .fit) (state .sorted) pop deep-enough (got-it .kind) (got-it .named) w″ r″ d sheet (part a′ b′ i) (got-it .flags) below groups)
+                (seen (eqb n 8) refl wrote))
+
+-- ── the loop ──
+
+module _ (sheet : Bytes) (a b w : List ℕ) (i pos m wr : ℕ) (o : SoFar sheet a b w i pos m wr) where
+  pub loop-top : 0 < m → SoFar sheet a b w i pos (m - 1 + 1) wr
+  loop-top h = let e : m - 1 + 1 ≡ m = omega arith in rw e o
+
+  pub loop-done : (m ≡ 0) → (r : Read) → Ends sheet i pos wr r → Reads sheet a b r
+  loop-done e r h = h .is a b w (rw e at o)
+
+-- what a line answers, by cases
+pub next-more-is : (sheet : Bytes) (a b w : List ℕ) (i : ℕ) (s : Step) (p n wr : ℕ) → s ≡ More p n wr → Next sheet a b w i s → SoFar sheet a b w (i + 1) p n wr
+next-more-is sheet a b w i s p n wr e h = rw e at h
+
+pub next-bad-is : (sheet : Bytes) (a b w : List ℕ) (i : ℕ) (s : Step) → s ≡ Bad → Next sheet a b w i s → Reads sheet a b (BadLine (i + 1))
+next-bad-is sheet a b w i s e h = rw e at h
+
+pub next-big-is : (sheet : Bytes) (a b w : List ℕ) (i : ℕ) (s : Step) → s ≡ Big → Next sheet a b w i s → Reads sheet a b (BigTree (i + 1))
+next-big-is sheet a b w i s e h = rw e at h

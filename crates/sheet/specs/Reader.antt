@@ -1,0 +1,262 @@
+-- What the reader of a sheet answers and promises, and how far it has come between two lines. Assumes nothing.
+use mathlib.Core.Path.{_≡_, refl, sym, _∙_, ap, subst}
+use Prim.Native.Nat.{ℕ, zero, suc, _+_, _-_, _<_, _≤_}
+use native.Mathlib.Nat.{zero-add}
+use native.Mathlib.Omega.{arith}
+use mathlib.Core.Bool.{Bool, true, false, cond}
+use mathlib.Core.List.{List, [], _∷_, _++_, append-assoc, append-nil}
+use mathlib.Core.Option.{Option, none, some}
+use lib.ListN.{length, length-append}
+use Rattle.model.specs.Text.{Bytes}
+use Rattle.model.specs.Field.{Fields}
+use Rattle.model.specs.Kind.{Sort, Kind, statement}
+use Rattle.model.specs.Record.{Rec, rec, RecOf, forms, children}
+use Rattle.model.specs.Tree.{Tree, records}
+use Rattle.model.specs.Sheet.{Place, Reading, got, refused, readLine, readSheet, firstWrite, orElse}
+use Rattle.model.specs.Call.{Test, refuse, pass, then, testReading, testWrite, lineRefusal, recordCount}
+use Rattle.words.specs.Words.{Roomy, part}
+use Rattle.words.specs.Held.{RecordAt, Held}
+use Rattle.laws.specs.TreeLaws.{numbered}
+use Rattle.laws.specs.SheetLaws.{WellFormed, sheet-sound}
+use Rattle.line.specs.Table.{sorts, sortOf}
+use Rattle.sheet.specs.declared.reader.Read.{Read}
+use Rattle.sheet.specs.declared.reader.Read.the-variants.{Records, BadLine, BigTree, WriteClause}
+use Rattle.sheet.specs.Due.{Due, due, dueOf, mapped, mapped-mapped, mapped-ext, roomBelow, isZero}
+use Rattle.sheet.specs.Standing.{Standing, standing-both, stands-held}
+use Rattle.sheet.specs.Writes.{writes, writeAmong, first-write}
+use Rattle.sheet.specs.Progress.{placeAt, rest, whole, at-start, line-got, line-refused, at-the-end, not-the-end}
+use Rattle.sheet.specs.Stack.{Alike, rest-alike, Fit}
+use Rattle.sheet.specs.Dues.{dues, group, Sorted, Pushed}
+
+-- tests 3 to 5
+unfoldable pub readOnly : Bytes → Test (Tree statement)
+readOnly sheet = then (testReading (readSheet 64 sheet)) λ t. testWrite t (firstWrite t)
+
+-- the promise: the words hold the tree, or the answer is the refusal
+abbrev pub Reads : Bytes → List ℕ → List ℕ → Read → Type 0
+Reads sheet a b (Records n) = (t : Tree statement) × (readOnly sheet ≡ pass t) × (recordCount t ≡ n) × Held sheet a b t 64 0
+Reads sheet a b (BadLine l) = readOnly sheet ≡ refuse (lineRefusal 3 l)
+Reads sheet a b (BigTree l) = readOnly sheet ≡ refuse (lineRefusal 4 l)
+Reads sheet a b (WriteClause l) = readOnly sheet ≡ refuse (lineRefusal 5 l)
+
+-- the line of the first write so far, 0 for none
+unfoldable pub writeOf : ℕ → Option ℕ
+writeOf zero = none
+writeOf (suc l) = some (suc l)
+
+-- i records are read, up to position pos; m groups are due
+pub record SoFar (sheet : Bytes) (a b w : List ℕ) (i pos m wr : ℕ) : Type 0 where
+  pub done : List Rec
+  pub stands : Standing sheet a b 0 done
+  pub many : length done ≡ i
+  pub few : i ≤ 2048
+  pub here : pos ≤ length sheet
+  pub long : 16384 ≤ length w
+  pub roomy : Roomy a b
+  pub fit : Fit (dues w m)
+  pub sorted : Sorted w m
+  pub left : whole 64 sheet ≡ mapped (λ rs. done ++ rs) (rest (dues w m) (placeAt sheet pos (suc i)))
+  pub wrote : (ss : List Rec) → writeAmong 1 (done ++ ss) ≡ orElse (writeOf wr) (writeAmong (suc i) ss)
+
+-- ── refusals ──
+
+mapped-refused : {A B : Type 0} (f : A → B) (r : Reading A) (n l : ℕ) → mapped f r ≡ refused n l → r ≡ refused n l
+unfolding mapped
+mapped-refused f (got a p) n l e = let z : _≡_ {A = ℕ} 0 1 = cc in absurd (omega arith)
+mapped-refused f (refused m k) n l e = let p : m ≡ n = cc in let q : k ≡ l = cc in rw (p, q)
+
+refusal : (sheet : Bytes) (n l : ℕ) → readSheet 64 sheet ≡ refused n l → readOnly sheet ≡ refuse (lineRefusal n l)
+unfolding readOnly then testReading
+refusal sheet n l e = rw e
+
+module _ (sheet : Bytes) (a b w : List ℕ) (i pos m wr : ℕ) (s : SoFar sheet a b w i pos m wr) where
+  pub rest-refused : (n l : ℕ) → rest (dues w m) (placeAt sheet pos (suc i)) ≡ refused n l → readOnly sheet ≡ refuse (lineRefusal n l)
+  unfolding mapped whole
+  rest-refused n l e = refusal sheet n l (mapped-refused (λ t. records t) (readSheet 64 sheet) n l (s .left ∙ ap (mapped (λ rs. s .done ++ rs)) e))
+
+-- ── the end ──
+
+record Mapped {A B : Type 0} (f : A → B) (r : Reading A) (b : B) (q : Place) : Type 0 where
+  value : A
+  is : r ≡ got value q
+  result : f value ≡ b
+
+mapped-got : {A B : Type 0} (f : A → B) (r : Reading A) (b : B) (q : Place) → mapped f r ≡ got b q → Mapped f r b q
+unfolding mapped
+mapped-got f (got a p) b q e = let z : p ≡ q = cc in record { value = a; is = rw z; result = cc }
+mapped-got f (refused n l) b q e = let z : _≡_ {A = ℕ} 0 1 = cc in absurd (omega arith)
+
+-- a sheet that was read whole
+record Ended (sheet : Bytes) (a b : List ℕ) (i wr : ℕ) : Type 0 where
+  tree : Tree statement
+  place : Place
+  reads : readSheet 64 sheet ≡ got tree place
+  count : recordCount tree ≡ i
+  write : firstWrite tree ≡ writeOf wr
+  is : Held sheet a b tree 64 0
+
+orElse-none : (v : Option ℕ) → orElse v none ≡ v
+unfolding orElse
+orElse-none none = refl
+orElse-none (some a) = refl
+
+passed : (t : Tree statement) (wr : ℕ) → wr ≡ 0 → testWrite t (writeOf wr) ≡ pass t
+unfolding testWrite writeOf
+passed t zero z = refl
+passed t (suc l) z = absurd (omega arith)
+
+written : (t : Tree statement) (wr : ℕ) → (wr ≡ 0 → ⊥) → testWrite t (writeOf wr) ≡ refuse (lineRefusal 5 wr)
+unfolding testWrite writeOf
+written t zero z = absurd (z refl)
+written t (suc l) z = refl
+
+module _ (sheet : Bytes) (a b w : List ℕ) (i pos wr : ℕ) (s : SoFar sheet a b w i pos 0 wr) (e : pos ≡ length sheet) where
+  ended-whole : whole 64 sheet ≡ got (s .done) (placeAt sheet (length sheet) (suc i))
+  unfolding mapped dues
+  ended-whole = s .left ∙ rw (e, at-the-end sheet (suc i)) (ap (λ l. got l (placeAt sheet (length sheet) (suc i))) (append-nil (s .done)))
+
+  ended-tree : (t : Tree statement) (q : Place) → readSheet 64 sheet ≡ got t q → records t ≡ s .done → Ended sheet a b i wr
+  unfolding recordCount writeAmong
+  ended-tree t q g d =
+      let wf = sheet-sound 64 sheet t q g .0 in
+      record {
+        tree = t;
+        place = q;
+        reads = g;
+        count = ap length d ∙ s .many;
+        write = ap firstWrite (sym (wf .numbers)) ∙ first-write t ∙ ap (writeAmong 1) (d ∙ sym (append-nil (s .done))) ∙ s .wrote [] ∙ orElse-none (writeOf wr);
+        is = subst (λ u. Held sheet a b u 64 0) (wf .numbers) (stands-held sheet a b t 64 0 (wf .deep) (subst (λ l. Standing sheet a b 0 l) (sym d) (s .stands)));
+      }
+
+  ended : Ended sheet a b i wr
+  unfolding whole
+  ended =
+      let g = mapped-got (λ t. records t) (readSheet 64 sheet) (s .done) (placeAt sheet (length sheet) (suc i)) ended-whole in
+      ended-tree (g .value) (placeAt sheet (length sheet) (suc i)) (g .is) (g .result)
+
+  pub all-read : wr ≡ 0 → Reads sheet a b (Records i)
+  unfolding readOnly then testReading
+  all-read z = let d = ended in (d .tree, rw (d .reads, d .write) (passed (d .tree) wr z), d .count, d .is)
+
+  pub write-read : (wr ≡ 0 → ⊥) → Reads sheet a b (WriteClause wr)
+  unfolding readOnly then testReading
+  write-read z = let d = ended in rw (d .reads, d .write) (written (d .tree) wr z)
+
+-- ── a line ──
+
+record-same : (sheet : Bytes) (a b a′ b′ : List ℕ) (i : ℕ) (s : Sort) (k : Kind s) (f : Fields (forms s k)) → part a′ b′ i ≡ part a b i → RecordAt sheet a b i s k f → RecordAt sheet a′ b′ i s k f
+record-same sheet a b a′ b′ i s k f e r = record { low = r .low; is = rw e (r .is); flags = rw e (r .flags); texts = rw e (r .texts) }
+
+-- words of other records may change
+standing-same : (sheet : Bytes) (a b a′ b′ : List ℕ) (rs : List Rec) (i n : ℕ) → i + length rs ≤ n → ((j : ℕ) → j < n → part a′ b′ j ≡ part a b j) → Standing sheet a b i rs → Standing sheet a′ b′ i rs
+standing-same sheet a b a′ b′ [] i n l h g = tt
+standing-same sheet a b a′ b′ (r ∷ rs) i n l h g = (record-same sheet a b a′ b′ i (r .sort) (r .kind) (r .fields) (h i (omega arith)) (g .0), standing-same sheet a b a′ b′ rs (i + 1) n (omega arith) h (g .1))
+
+-- the top group has a record left
+pub top-is : (w : List ℕ) (m : ℕ) → Fit (dues w (suc m)) → dues w (suc m) ≡ due (group w m .sort) (suc (group w m .count - 1)) (group w m .room) ∷ dues w m
+unfolding dues
+top-is w m f = ap (λ n. due (group w m .sort) n (group w m .room) ∷ dues w m) (omega (arith, f .0))
+
+first-of : (wr wr′ i : ℕ) (v : Option ℕ) → (wr ≡ 0 → wr′ ≡ suc i) → ((wr ≡ 0 → ⊥) → wr′ ≡ wr) → orElse (writeOf wr) (some (suc i)) ≡ orElse (writeOf wr′) v
+unfolding orElse writeOf
+first-of zero wr′ i v new old = rw (new refl)
+first-of (suc l) wr′ i v new old = rw (old (λ e. omega arith))
+
+-- one record more, x, of sort s
+module _ (sheet : Bytes) (a b w a′ b′ w′ : List ℕ) (i pos m wr : ℕ) (o : SoFar sheet a b w i pos (suc m) wr) (to m′ wr′ : ℕ) (x : RecOf (group w m .sort)) where
+  pub seen-more : writes (group w m .sort) (x .0) ≡ false → wr′ ≡ wr → (ss : List Rec) → writeAmong 1 ((o .done ++ (rec (group w m .sort) (x .0) (x .1) ∷ [])) ++ ss) ≡ orElse (writeOf wr′) (writeAmong (suc (suc i)) ss)
+  unfolding writeAmong
+  seen-more q e ss = ap (writeAmong 1) (append-assoc (o .done) (rec (group w m .sort) (x .0) (x .1) ∷ []) ss) ∙ o .wrote (rec (group w m .sort) (x .0) (x .1) ∷ ss) ∙ rw (q, e)
+
+  -- the record is a write: the first one, if none came before
+  pub seen-write : writes (group w m .sort) (x .0) ≡ true → (wr ≡ 0 → wr′ ≡ suc i) → ((wr ≡ 0 → ⊥) → wr′ ≡ wr) → (ss : List Rec) → writeAmong 1 ((o .done ++ (rec (group w m .sort) (x .0) (x .1) ∷ [])) ++ ss) ≡ orElse (writeOf wr′) (writeAmong (suc (suc i)) ss)
+  unfolding writeAmong
+  seen-write q new old ss = ap (writeAmong 1) (append-assoc (o .done) (rec (group w m .sort) (x .0) (x .1) ∷ []) ss) ∙ o .wrote (rec (group w m .sort) (x .0) (x .1) ∷ ss) ∙ rw q (first-of wr wr′ i (writeAmong (suc (suc i)) ss) new old)
+
+  left-is : readLine (group w m .sort) (isZero (group w m .room)) (placeAt sheet pos (suc i)) ≡ got x (placeAt sheet to (suc (suc i))) → Alike (dues w′ m′) (dueOf (roomBelow (group w m .sort) (group w m .room)) (children (group w m .sort) (x .0) (x .1)) ++ (due (group w m .sort) (group w m .count - 1) (group w m .room) ∷ dues w m)) → whole 64 sheet ≡ mapped (λ rs. (o .done ++ (rec (group w m .sort) (x .0) (x .1) ∷ [])) ++ rs) (rest (dues w′ m′) (placeAt sheet to (suc (suc i))))
+  left-is r alike =
+      o .left
+      ∙ ap (λ st. mapped (λ rs. o .done ++ rs) (rest st (placeAt sheet pos (suc i)))) (top-is w m (o .fit))
+      ∙ ap (mapped (λ rs. o .done ++ rs)) (line-got (group w m .sort) (group w m .count - 1) (group w m .room) (dues w m) (placeAt sheet pos (suc i)) (placeAt sheet to (suc (suc i))) x r)
+      ∙ mapped-mapped (λ rs. o .done ++ rs) (λ rs. rec (group w m .sort) (x .0) (x .1) ∷ rs) _
+      ∙ ap (mapped (λ rs. o .done ++ (rec (group w m .sort) (x .0) (x .1) ∷ rs))) (sym (rest-alike alike (placeAt sheet to (suc (suc i)))))
+      ∙ mapped-ext (rest (dues w′ m′) (placeAt sheet to (suc (suc i)))) _ _ (λ rs. sym (append-assoc (o .done) (rec (group w m .sort) (x .0) (x .1) ∷ []) rs))
+
+  pub advance :
+      readLine (group w m .sort) (isZero (group w m .room)) (placeAt sheet pos (suc i)) ≡ got x (placeAt sheet to (suc (suc i)))
+      → i < 2048
+      → to ≤ length sheet
+      → RecordAt sheet a′ b′ i (group w m .sort) (x .0) (x .1)
+      → ((j : ℕ) → j < i → part a′ b′ j ≡ part a b j)
+      → Roomy a′ b′
+      → 16384 ≤ length w′
+      → Fit (dues w′ m′)
+      → Sorted w′ m′
+      → Alike (dues w′ m′) (dueOf (roomBelow (group w m .sort) (group w m .room)) (children (group w m .sort) (x .0) (x .1)) ++ (due (group w m .sort) (group w m .count - 1) (group w m .room) ∷ dues w m))
+      → ((ss : List Rec) → writeAmong 1 ((o .done ++ (rec (group w m .sort) (x .0) (x .1) ∷ [])) ++ ss) ≡ orElse (writeOf wr′) (writeAmong (suc (suc i)) ss))
+      → SoFar sheet a′ b′ w′ (suc i) to m′ wr′
+  advance r low here at others roomy long fit sorted alike wrote =
+      record {
+        done = o .done ++ (rec (group w m .sort) (x .0) (x .1) ∷ []);
+        stands = standing-both sheet a′ b′ (o .done) _ 0 (standing-same sheet a b a′ b′ (o .done) 0 i (omega (arith, o .many)) others (o .stands)) (at-end at);
+        many = omega (arith, length-append (o .done) (rec (group w m .sort) (x .0) (x .1) ∷ []), o .many);
+        few = low;
+        here = here;
+        long = long;
+        roomy = roomy;
+        fit = fit;
+        sorted = sorted;
+        left = left-is r alike;
+        wrote = wrote;
+      }
+    where
+      at-end : RecordAt sheet a′ b′ i (group w m .sort) (x .0) (x .1) → Standing sheet a′ b′ (0 + length (o .done)) (rec (group w m .sort) (x .0) (x .1) ∷ [])
+      at-end h = rw (o .many, zero-add i) (h, tt)
+
+-- ── the beginning ──
+
+mapped-all : (r : Reading (List Rec)) → mapped (λ rs. [] ++ rs) r ≡ r
+unfolding mapped
+mapped-all (got rs p) = refl
+mapped-all (refused n l) = refl
+
+only-statement : (w w′ : List ℕ) → Pushed w w′ 0 0 1 64 → dues w′ 1 ≡ due statement 1 64 ∷ []
+unfolding dues sortOf sorts
+only-statement w w′ p = p .is
+
+statement-fits : Fit (due statement 1 64 ∷ [])
+statement-fits = (omega arith, omega arith, omega arith, tt)
+
+pub begin : (sheet : Bytes) (a b w w′ : List ℕ) → Roomy a b → 16384 ≤ length w → Pushed w w′ 0 0 1 64 → SoFar sheet a b w′ 0 0 1 0
+unfolding writeOf orElse
+begin sheet a b w w′ roomy long p =
+    let e = only-statement w w′ p in
+    record {
+      done = [];
+      stands = tt;
+      many = refl;
+      few = omega arith;
+      here = omega arith;
+      long = omega (arith, p .same);
+      roomy = roomy;
+      fit = subst (λ st. Fit st) (sym e) statement-fits;
+      sorted = p .sorted (record { at = λ j l. absurd (omega arith) }) (omega arith);
+      left = at-start 64 sheet ∙ sym (mapped-all (rest (due statement 1 64 ∷ []) (placeAt sheet 0 1))) ∙ ap (λ st. mapped (λ rs. [] ++ rs) (rest st (placeAt sheet 0 1))) (sym e);
+      wrote = λ ss. refl;
+    }
+
+-- ── behind the last due record ──
+
+-- the answer where nothing is due, for every state that the reader can have come to there
+pub record Ends (sheet : Bytes) (i pos wr : ℕ) (r : Read) : Type 0 where
+  pub is : (a b w : List ℕ) → SoFar sheet a b w i pos 0 wr → Reads sheet a b r
+
+pub ends-bad : (sheet : Bytes) (i pos wr l : ℕ) → pos < length sheet → l ≡ suc i → Ends sheet i pos wr (BadLine l)
+unfolding dues
+ends-bad sheet i pos wr l h e = record { is = λ a b w s. rw e (rest-refused sheet a b w i pos 0 wr s 3 (suc i) (not-the-end sheet pos (suc i) h)) }
+
+pub ends-read : (sheet : Bytes) (i pos wr : ℕ) → length sheet ≤ pos → wr ≡ 0 → Ends sheet i pos wr (Records i)
+ends-read sheet i pos wr h z = record { is = λ a b w s. all-read sheet a b w i pos wr s (omega (arith, s .here)) z }
+
+pub ends-write : (sheet : Bytes) (i pos wr : ℕ) → length sheet ≤ pos → (wr ≡ 0 → ⊥) → Ends sheet i pos wr (WriteClause wr)
+ends-write sheet i pos wr h z = record { is = λ a b w s. write-read sheet a b w i pos wr s (omega (arith, s .here)) z }

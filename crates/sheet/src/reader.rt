@@ -1,0 +1,126 @@
+// Reading a sheet line by line.
+ghost use mathlib.Core.Path.{_≡_};
+ghost use Prim.Native.Nat.{_+_, _<_, _≤_};
+ghost use lib.ListN.{length};
+ghost use Rattle.words.specs.Words.{Roomy};
+ghost use Rattle.line.specs.Table.{sortOf};
+ghost use Rattle.sheet.specs.Due.{roomBelow};
+ghost use Rattle.sheet.specs.Reader.{Reads, SoFar, Ends};
+ghost use Rattle.sheet.specs.Next.{Next, Wrote};
+
+use crate::stack::{pop, push, push_groups};
+use line::read::{Line, read_into};
+use record::piece::piece_end;
+
+// The number of records, or a refusal with its line.
+pub enum Read {
+    Records(usize),
+    BadLine(u32),
+    BigTree(u32),
+    WriteClause(u32),
+}
+
+// Nothing is due any more: i records were read, up to pos, and the first write is on line `write`, if that is not 0.
+fn finish(sheet: &[u8], i: usize, pos: usize, write: u32) -> Read
+    requires { ⌜ i ≤ 2048 ⌝ }
+    ensures { λ r. ⌜ Ends (now (sheet .entry)) i pos write r ⌝ }
+{
+    if pos < sheet.len() {
+        return Read::BadLine(i as u32 + 1);
+    }
+    if write == 0 {
+        return Read::Records(i);
+    }
+    Read::WriteClause(write)
+}
+
+// How far a line leads: the next position, how many groups are due then, and the line of the first write.
+pub enum Step {
+    More(usize, usize, u32),
+    Bad,
+    Big,
+}
+
+// The room of the children of a record: a map's key and its expression stand side by side.
+fn room_below(sort: u32, room: u32) -> u32
+    requires { ⌜ (sort < 11) × (0 < room) ⌝ }
+    ensures { λ r. ⌜ r ≡ roomBelow (sortOf sort) room ⌝ }
+{
+    if sort == 9 {
+        return room;
+    }
+    room - 1
+}
+
+// The line of the first write, when record i is of a kind.
+fn write_line(kind: u32, write: u32, i: usize) -> u32
+    requires { ⌜ i < 2048 ⌝ }
+    ensures { λ r. ⌜ Wrote kind write i r ⌝ }
+{
+    if kind == 8 {
+        if write == 0 {
+            return i as u32 + 1;
+        }
+    }
+    write
+}
+
+// The line at pos, as a record of the group on top of `top` others.
+fn read_next(sheet: &[u8], a: &mut [u32], b: &mut [u32], stack: &mut [u32], i: usize, pos: usize, top: usize, write: u32) -> Step
+    requires { ⌜ length (now sheet) ≤ 32768 ⌝ }
+    requires { ⌜ SoFar (now sheet) (now a) (now b) (now stack) i pos (top + 1) write ⌝ }
+    ensures { λ r. ⌜ Next (now (sheet .entry)) (now (a .exit)) (now (b .exit)) (now (stack .exit)) i r ⌝ }
+{
+    let e = piece_end(sheet, pos, 10);
+    if e == sheet.len() {
+        return Step::Bad;
+    }
+    let at = top * 3;
+    let sort = stack[at];
+    let room = stack[at + 2];
+    if i == 2048 {
+        return Step::Big;
+    }
+    if room == 0 {
+        return Step::Big;
+    }
+    let Line::Kind(kind) = read_into(sheet, pos, e, sort, a, b, i) else {
+        return Step::Bad;
+    };
+    let left = pop(stack, top);
+    let below = room_below(sort, room);
+    let due = push_groups(a, b, stack, left, i, kind, below);
+    let first = write_line(kind, write, i);
+    Step::More(e + 1, due, first)
+}
+
+// Reads a sheet into the records of two slices; the third is room to work in. What a refusal leaves in them is not promised.
+pub fn read_sheet(sheet: &[u8], a: &mut [u32], b: &mut [u32], stack: &mut [u32]) -> Read
+    requires { ⌜ length (now sheet) ≤ 32768 ⌝ }
+    requires { ⌜ Roomy (now a) (now b) ⌝ }
+    requires { ⌜ 16384 ≤ length (now stack) ⌝ }
+    ensures { λ r. ⌜ Reads (now (sheet .entry)) (now (a .exit)) (now (b .exit)) r ⌝ }
+{
+    push(stack, 0, 0, 1, 64);
+    let mut i = 0;
+    let mut pos = 0;
+    let mut due = 1;
+    let mut write = 0;
+    while due > 0 {
+        match read_next(sheet, a, b, stack, i, pos, due - 1, write) {
+            Step::More(p, n, w) => {
+                pos = p;
+                due = n;
+                write = w;
+                i += 1;
+            }
+            Step::Bad => {
+                return Read::BadLine(i as u32 + 1);
+            }
+            Step::Big => {
+                return Read::BigTree(i as u32 + 1);
+            }
+        }
+    }
+    finish(sheet, i, pos, write)
+}

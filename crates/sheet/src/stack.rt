@@ -1,0 +1,69 @@
+// The stack of due groups: three words a group (sort, count, room), group m from word 3m on.
+ghost use mathlib.Core.Path.{_≡_};
+ghost use Prim.Native.Nat.{_+_, _*_, _-_, _<_, _≤_};
+ghost use lib.ListN.{length, getD};
+ghost use Rattle.words.specs.Words.{Roomy, part};
+ghost use Rattle.line.specs.Table.{groupSort, groupSource, countOf};
+ghost use Rattle.sheet.specs.Dues.{Pushed, Popped, Room, Grouped, Groups, Space};
+
+use line::group::{group_count, group_sort};
+
+// A group on top of m others.
+pub fn push(stack: &mut [u32], m: usize, sort: u32, count: u32, room: u32)
+    requires { ⌜ Room (now stack) m ⌝ }
+    ensures { λ r. ⌜ Pushed (now (stack .entry)) (now (stack .exit)) m sort count room ⌝ }
+{
+    let at = m * 3;
+    stack[at] = sort;
+    stack[at + 1] = count;
+    stack[at + 2] = room;
+}
+
+// One record of the group on top of `top` others is read: it has one less, and is gone at none. How many groups there are now.
+pub fn pop(stack: &mut [u32], top: usize) -> usize
+    requires { ⌜ Room (now stack) top ⌝ }
+    requires { ⌜ 0 < getD (now stack) (top * 3 + 1) 0 ⌝ }
+    ensures { λ r. ⌜ Popped (now (stack .entry)) (now (stack .exit)) top r ⌝ }
+{
+    let at = top * 3 + 1;
+    let count = stack[at];
+    if count == 1 {
+        return top;
+    }
+    stack[at] = count - 1;
+    top + 1
+}
+
+// Group g of record i on top, unless it is a group of none. How many groups there are now.
+fn push_group(a: &[u32], b: &[u32], stack: &mut [u32], m: usize, i: usize, kind: u32, g: usize, room: u32) -> usize
+    requires { ⌜ (kind < 39) × (g < 5) ⌝ }
+    requires { ⌜ i < 2048 ⌝ }
+    requires { ⌜ Roomy (now a) (now b) ⌝ }
+    requires { ⌜ Room (now stack) m ⌝ }
+    ensures { λ r. ⌜ Grouped (now (stack .entry)) (now (stack .exit)) m (groupSort kind g) (countOf (part (now (a .entry)) (now (b .entry)) i) (groupSource kind g)) room r ⌝ }
+{
+    let n = group_count(a, b, i, kind, g);
+    if n == 0 {
+        return m;
+    }
+    let s = group_sort(kind, g);
+    push(stack, m, s, n, room);
+    m + 1
+}
+
+// The groups of record i on top of m others, its first group topmost. How many groups there are now.
+pub fn push_groups(a: &[u32], b: &[u32], stack: &mut [u32], m: usize, i: usize, kind: u32, room: u32) -> usize
+    requires { ⌜ kind < 39 ⌝ }
+    requires { ⌜ i < 2048 ⌝ }
+    requires { ⌜ Roomy (now a) (now b) ⌝ }
+    requires { ⌜ Space (now stack) kind m room ⌝ }
+    ensures { λ r. ⌜ Groups (now (stack .entry)) (now (stack .exit)) kind (part (now (a .entry)) (now (b .entry)) i) 0 5 m room r ⌝ }
+{
+    let mut g = 5;
+    let mut top = m;
+    while g > 0 {
+        g -= 1;
+        top = push_group(a, b, stack, top, i, kind, g, room);
+    }
+    top
+}
