@@ -1,0 +1,157 @@
+-- What the small steps of the lowering's state do to the words. Assumes nothing.
+use mathlib.Core.Path.{_≡_, refl, sym, ap, subst, _∙_}
+use mathlib.Core.Bool.{Bool, true, false, cond}
+use mathlib.Core.List.{List, [], _∷_, _++_, append-nil}
+use mathlib.Core.Option.{Option, none, some}
+use Prim.Native.Nat.{ℕ, zero, suc, _+_, _*_, _-_, _≤_, _<_}
+use native.Mathlib.Numerals.{add-one, sub-one}
+use native.Mathlib.Omega.{arith}
+use lib.ListN.{length, take, drop, getD, set, length-set, length-take}
+use lib.Dec.{eqb}
+use lib.Seq.{take-all, getD-set-same, getD-set-other, drop-set-lt, drop-at, length-take-le, getD-take}
+use lib.ListN.{List·getD-append, length-drop, drop-of-length-le}
+use borrow.Author.Tests.{eq-eqb, ne-eqb}
+use Rattle.model.specs.Lower.{Recs, Lowering, lookup, mapVar, numbered, fresh, endpointVar}
+use Rattle.model.specs.Lower
+use Rattle.words.specs.Words.{optionOf}
+use Rattle.context.specs.Tables.{varsOf, foundOf, stateOf, Op, opAt, Issued, Noted, Notes, Numbers, Pushed, varsAt}
+use Rattle.context.specs.declared.LowerCtx.{LowerCtx}
+use Rattle.context.specs.declared.Numbered.{Numbered}
+use Rattle.context.specs.declared.Found.{Found}
+use Rattle.context.specs.declared.Found.the-variants.{At, Nothing}
+
+-- ── looking up ──
+
+abbrev pub from : List ℕ → ℕ → ℕ → Found
+from vs k id = foundOf (lookup (varsOf k vs) id)
+
+pub hit : (vs : List ℕ) (k id : ℕ) → ((k ≡ 0) → ⊥) → getD vs ((k - 1) * 2) 0 ≡ id → At (getD vs ((k - 1) * 2 + 1) 0) ≡ from vs k id
+unfolding varsOf lookup foundOf
+hit vs zero id h e = absurd (h refl)
+hit vs (suc k) id h e = let e′ : getD vs (k * 2) 0 ≡ id = rw sub-one at e in rw (sub-one, eq-eqb _ _ e′)
+
+pub miss : (vs : List ℕ) (k id : ℕ) → ((k ≡ 0) → ⊥) → ((getD vs ((k - 1) * 2) 0 ≡ id) → ⊥) → from vs k id ≡ from vs (k - 1) id
+unfolding varsOf lookup foundOf
+miss vs zero id h e = absurd (h refl)
+miss vs (suc k) id h e = let e′ : (getD vs (k * 2) 0 ≡ id) → ⊥ = rw sub-one at e in rw (sub-one, ne-eqb _ _ e′)
+
+pub nothing : (vs : List ℕ) (k id : ℕ) → k ≡ 0 → Nothing ≡ from vs k id
+unfolding varsOf lookup foundOf
+nothing vs k id e = rw e
+
+-- ── issuing ──
+
+vars-same : (n : ℕ) (vs vs′ : List ℕ) → ((q : ℕ) → q < n * 2 → getD vs′ q 0 ≡ getD vs q 0) → varsOf n vs′ ≡ varsOf n vs
+unfolding varsOf
+vars-same zero vs vs′ h = refl
+vars-same (suc n) vs vs′ h = rw (h (n * 2) (omega arith), h (n * 2 + 1) (omega arith), vars-same n vs vs′ (λ q l. h q (omega arith)))
+
+Told : Found → Type 0
+Told (At n) = Unit {0}
+Told Nothing = ⊥
+
+told : Found → ℕ
+told (At n) = n
+told Nothing = 0
+
+found-none : (o : Option ℕ) → foundOf o ≡ Nothing → o ≡ none
+unfolding foundOf Told
+found-none none e = refl
+found-none (some n) e = absurd (subst Told e tt)
+
+found-some : (o : Option ℕ) (n : ℕ) → foundOf o ≡ At n → o ≡ some n
+unfolding foundOf Told told
+found-some none n e = absurd (subst Told (sym e) tt)
+found-some (some k) n e = ap some (ap told e)
+
+pub new-var : (c : LowerCtx) (vs : List ℕ) (id : ℕ) → c .mapped < 5888 → 11776 ≤ length vs → foundOf (lookup (varsOf (c .mapped) vs) id) ≡ Nothing → Issued (mapVar id) c vs (set (set vs (c .mapped * 2) id) (c .mapped * 2 + 1) (c .next)) (record { number = c .next; ctx = record { ops = c .ops; next = c .next + 1; mapped = c .mapped + 1 } })
+unfolding mapVar numbered varsOf
+new-var c vs id h l f =
+    let n : ℕ = c .mapped in
+    let vs′ : List ℕ = set (set vs (n * 2) id) (n * 2 + 1) (c .next) in
+    let e : lookup (varsOf n vs) id ≡ none = found-none _ f in
+    let x : getD vs′ (n * 2) 0 ≡ id = getD-set-other (set vs (n * 2) id) (n * 2 + 1) (n * 2) (c .next) 0 (omega arith) ∙ getD-set-same vs (n * 2) id 0 (omega arith) in
+    let y : getD vs′ (n * 2 + 1) 0 ≡ c .next = getD-set-same (set vs (n * 2) id) (n * 2 + 1) (c .next) 0 (simp length-set (omega arith)) in
+    let z : varsOf n vs′ ≡ varsOf n vs = vars-same n vs vs′ (λ q l. getD-set-other (set vs (n * 2) id) (n * 2 + 1) q (c .next) 0 (omega arith) ∙ getD-set-other vs (n * 2) q id 0 (omega arith)) in
+    record { is = λ ops. rw (e, add-one n, add-one (c .next), x, y, z); ops = refl; low = omega arith; met = omega arith }
+
+pub old-var : (c : LowerCtx) (vs : List ℕ) (id n : ℕ) {r : Found} → r ≡ foundOf (lookup (varsOf (c .mapped) vs) id) → r ≡ At n → Issued (mapVar id) c vs vs (record { number = n; ctx = c })
+unfolding mapVar numbered
+old-var c vs id n h e = record { is = λ ops. rw (found-some _ n (sym h ∙ e)); ops = refl; low = omega arith; met = omega arith }
+
+-- ── notes ──
+
+pub notes : (rest : List ℕ) (place v : ℕ) → place < 4608 → 16384 ≤ length rest → Notes place v rest (set rest place v)
+notes rest place v h l = record { noted = record { here = getD-set-same rest place v 0 (omega arith); other = λ q _ e. getD-set-other rest place q v 0 e }; vars = drop-set-lt 4608 rest place v h }
+
+-- the variables' words, as a part behind the notes
+module _ (rest : List ℕ) (vs′ : List ℕ) (l : 16384 ≤ length rest) where
+  pub part-drop : drop 4608 (take 4608 rest ++ vs′) ≡ vs′
+  part-drop = drop-at (take 4608 rest) vs′ 4608 (length-take-le 4608 rest (omega arith))
+
+  pub part-note : (q : ℕ) → q < 4608 → getD (take 4608 rest ++ vs′) q 0 ≡ getD rest q 0
+  part-note q h = List·getD-append (take 4608 rest) vs′ 0 q (rw (length-take-le 4608 rest (omega arith)) h) ∙ getD-take 4608 rest q 0 h
+
+pub number-law : (id place n : ℕ) (c : LowerCtx) (rest vs′ rest′ : List ℕ) (r : Numbered) → 16384 ≤ length rest → n ≡ length rest - 4608 → Issued (mapVar id) c (take n (drop 4608 rest)) vs′ r → Notes place (r .number) (take 4608 rest ++ (vs′ ++ drop n (drop 4608 rest))) rest′ → Numbers (mapVar id) place c rest rest′ r
+number-law id place n c rest vs′ rest′ r l en i k =
+    let h : length (drop 4608 rest) ≤ n = rw (length-drop, en) (omega arith) in
+    let e₁ : take n (drop 4608 rest) ≡ drop 4608 rest = take-all n (drop 4608 rest) h in
+    let e₂ : vs′ ++ drop n (drop 4608 rest) ≡ vs′ = rw (drop-of-length-le (drop 4608 rest) h) (append-nil vs′) in
+    let k′ : Notes place (r .number) (take 4608 rest ++ vs′) rest′ = rw e₂ at k in
+    let i′ : Issued (mapVar id) c (drop 4608 rest) vs′ r = rw e₁ at i in
+    let e : drop 4608 rest′ ≡ vs′ = k′ .vars ∙ part-drop rest vs′ l in
+    record { issued = rw e i′; noted = record { here = k′ .noted .here; other = λ q h x. k′ .noted .other q h x ∙ part-note rest vs′ l q h } }
+
+pub unnamed-law : (named id place : ℕ) (c : LowerCtx) (rest rest′ : List ℕ) (r : Numbered) → named ≡ 0 → (r .number ≡ c .next) × (r .ctx .ops ≡ c .ops) × (r .ctx .next ≡ c .next + 1) × (r .ctx .mapped ≡ c .mapped) → Notes place (r .number) rest rest′ → Numbers (endpointVar (optionOf named id)) place c rest rest′ r
+unfolding endpointVar optionOf fresh
+unnamed-law named id place c rest rest′ r z f n =
+    record { issued = record { is = λ ops. rw (z, n .vars, f .0, f .2, f .3, add-one); ops = f .1; low = omega (arith, f .2); met = omega (arith, f .3) }; noted = n .noted }
+
+named-by : (named id : ℕ) → ((named ≡ 0) → ⊥) → optionOf named id ≡ some id
+unfolding optionOf
+named-by zero id h = absurd (h refl)
+named-by (suc n) id h = refl
+
+pub named-law : (named id place : ℕ) (c : LowerCtx) (rest rest′ : List ℕ) (r : Numbered) → ((named ≡ 0) → ⊥) → Numbers (mapVar id) place c rest rest′ r → Numbers (endpointVar (optionOf named id)) place c rest rest′ r
+unfolding endpointVar
+named-law named id place c rest rest′ r z n = rw (named-by named id z) n
+
+-- ── operators ──
+
+-- stores one after another, at b + j, b + suc j and so on
+unfoldable pub run : List ℕ → ℕ → ℕ → List ℕ → List ℕ
+run o b j [] = o
+run o b j (x ∷ xs) = run (set o (b + j) x) b (suc j) xs
+
+run-other : (o : List ℕ) (b j : ℕ) (xs : List ℕ) (p : ℕ) → p < b + j → getD (run o b j xs) p 0 ≡ getD o p 0
+unfolding run
+run-other o b j [] p h = refl
+run-other o b j (x ∷ xs) p h = run-other (set o (b + j) x) b (suc j) xs p (omega arith) ∙ getD-set-other o (b + j) p x 0 (omega arith)
+
+run-at : (o : List ℕ) (b j : ℕ) (xs : List ℕ) (p : ℕ) → p < length xs → b + j + length xs ≤ length o → getD (run o b j xs) (b + j + p) 0 ≡ getD xs p 0
+unfolding run
+run-at o b j [] p h l = absurd (omega arith)
+run-at o b j (x ∷ xs) zero h l = let e : b + j + 0 ≡ b + j = omega arith in rw e (run-other (set o (b + j) x) b (suc j) xs (b + j) (omega arith) ∙ getD-set-same o (b + j) x 0 (omega arith))
+run-at o b j (x ∷ xs) (suc p) h l =
+    let e : b + j + suc p ≡ b + suc j + p = omega arith in
+    let g : b + suc j + length xs ≤ length (set o (b + j) x) = rw length-set (omega arith) in
+    rw e (run-at (set o (b + j) x) b (suc j) xs p (omega arith) g)
+
+pub stored : (c : LowerCtx) (o : List ℕ) (a i n x y l z : ℕ) → c .ops < 2048 → 16384 ≤ length o → Pushed c (record { ops = c .ops + 1; next = c .next; mapped = c .mapped }) o (set (set (set (set (set (set (set o (c .ops * 8 + 1) a) (c .ops * 8 + 2) i) (c .ops * 8 + 3) n) (c .ops * 8 + 4) x) (c .ops * 8 + 5) y) (c .ops * 8 + 6) l) (c .ops * 8 + 7) z) (record { kind = a; idx = i; input = n; x = x; y = y; left = l; base = z })
+unfolding run opAt
+stored c o a i n x y l z h g =
+    let B : ℕ = c .ops * 8 in
+    let xs : List ℕ = a ∷ i ∷ n ∷ x ∷ y ∷ l ∷ z ∷ [] in
+    let f : (p j : ℕ) → p < 7 → j ≡ 1 + p → getD (run o B 1 xs) (B + j) 0 ≡ getD xs p 0 = λ p j h′ e. (let e′ : B + j ≡ B + 1 + p = omega arith in rw e′ (run-at o B 1 xs p h′ (omega arith))) in
+    record {
+      count = refl;
+      next = refl;
+      mapped = refl;
+      here = λ _. rw (f 0 1 (omega arith) refl, f 1 2 (omega arith) refl, f 2 3 (omega arith) refl, f 3 4 (omega arith) refl, f 4 5 (omega arith) refl, f 5 6 (omega arith) refl, f 6 7 (omega arith) refl);
+      other = λ k l′ l″.
+          let r : (j : ℕ) → j < 8 → getD (run o B 1 xs) (k * 8 + j) 0 ≡ getD o (k * 8 + j) 0 = λ j h′. run-other o B 1 xs (k * 8 + j) (omega arith) in
+          rw (r 1 (omega arith), r 2 (omega arith), r 3 (omega arith), r 4 (omega arith), r 5 (omega arith), r 6 (omega arith), r 7 (omega arith));
+    }
+
+pub not-stored : (c : LowerCtx) (o : List ℕ) (x : Op) → 2048 ≤ c .ops → Pushed c (record { ops = c .ops + 1; next = c .next; mapped = c .mapped }) o o x
+not-stored c o x h = record { count = refl; next = refl; mapped = refl; here = λ l. absurd (omega arith); other = λ k l l′. refl }

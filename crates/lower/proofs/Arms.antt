@@ -1,0 +1,155 @@
+-- The arms of the lowering of an expression, by the number of its kind. Assumes nothing.
+use mathlib.Core.Path.{_≡_, refl, sym, ap, subst, _∙_}
+use Prim.Native.Nat.{ℕ, zero, suc, _+_, _*_, _-_, _≤_, _<_}
+use native.Mathlib.Nat.{le-refl}
+use native.Mathlib.Numerals.{add-one, sub-one}
+use native.Mathlib.Omega.{arith}
+use mathlib.Core.Bool.{Bool, true, false}
+use mathlib.Core.List.{List, [], _∷_, _++_, append-nil}
+use mathlib.Core.Logic.{_⊎_, inl, inr, ⊎-elim}
+use mathlib.Core.Option.{Option, none, some}
+use lib.ListN.{length, getD}
+use lib.Dec.{eqb}
+use Rattle.model.specs.Text.{Bytes}
+use Rattle.model.specs.Field.{Fields}
+use Rattle.model.specs.Kind.{Sort, Kind, Same, Expr, PlanExpr, expr, entry, patternPart}
+use Rattle.model.specs.Record.{Rec, rec, Group, one, forms, exprForms, children}
+use Rattle.model.specs.Tree.{Tree, Trees, Forest, node, []ᵗ, _∷ᵗ_, end, _▸_, toList, fold, foldOf}
+use Rattle.model.specs.Lower.{Recs, Lowering, Lowered, made, _>>=_, ret, mapVar, inOrder, over, exprStep, planned, lowerExpr, lowerParts, lowerMatchPattern, optionalJoin, copy, at}
+use Rattle.words.specs.Words.{Roomy, cell, fieldsOf, fieldOf}
+use Rattle.words.specs.Held.{Held, HeldOf, HeldIn, RecordAt, size, sizeOf, sizeIn}
+use Rattle.context.specs.Tables.{Numbers, Notes, varsAt}
+use Rattle.context.specs.declared.Numbered.{Numbered}
+use Rattle.lower.specs.Cells.{cells, Shown, shown}
+use Rattle.lower.specs.Count.{Inner, countAt, countBy}
+use Rattle.lower.specs.Render.{Ops, render, renderOf, renderIn, recsOver, exprRecs, Below, BelowOf, BelowIn, belowIn, copiesBelow}
+use Rattle.lower.specs.Render
+use Rattle.lower.specs.Shows.{shift}
+use Rattle.lower.specs.Rep.{State, Mem, mem, notes, Written, In, Sub, Blank, Agree, Future, Rep, To, Piece, Ran, Rooted, Good, Moved}
+use Rattle.lower.specs.Pieces.{exprPiece, Carried, []ᶜ, _∷ᶜ_, lowerC, renderC, BelowC, sizeC, HeldC, carriedPiece, SomeTree, SomeCarried, LowersExpr, LowersExprs}
+use Rattle.lower.proofs.State.{sub-refl, sub-then, sub-more, sub-within, blank-within, blank-before, blank-behind, back, rep-wider, to-refl, to-then, to-wider, Given, number-to, note-to}
+use Rattle.lower.proofs.Fits.{tree-fits}
+use Rattle.lower.proofs.Counting.{exprNumber, sameNumber, innerNumber, inner-number, counted}
+use Rattle.lower.proofs.Exprs.{moved-within, narrow}
+use Rattle.lower.proofs.Carry.{plainC, plain-lower, plain-size, plain-held, plain-render, plain-below, entriesC, entries-lower, entries-size, entries-held, entries-render, entries-below}
+
+-- ── the number of the kind ──
+
+pub number-at : {sheet : Bytes} {a b : List ℕ} {i : ℕ} {k : Expr} {f : Fields (exprForms k)} → Roomy a b → RecordAt sheet a b i expr k f → cell a b i 0 ≡ exprNumber k
+unfolding innerNumber
+number-at {k = k} room h = inner-number expr tt _ k (shown room h .kind)
+
+pub same-low : (h : Same) → sameNumber h < 32
+unfolding sameNumber
+same-low Same.Null = omega arith
+same-low Same.Bool = omega arith
+same-low Same.Int = omega arith
+same-low Same.Float = omega arith
+same-low Same.String = omega arith
+same-low Same.Param = omega arith
+same-low Same.Prop = omega arith
+same-low Same.Index = omega arith
+same-low Same.Slice = omega arith
+same-low Same.List = omega arith
+same-low Same.BinOp = omega arith
+same-low Same.UnaryOp = omega arith
+same-low Same.Case = omega arith
+same-low Same.IsNull = omega arith
+same-low Same.InList = omega arith
+
+-- ── a record over expressions, with nothing noted at it ──
+
+-- the tree is a record over so many expressions, each so many records behind the one before it
+pub record Headed (sheet : Bytes) (a b : List ℕ) (gap d i : ℕ) (t : Tree expr) : Type 0 where
+  pub n : ℕ
+  pub list : Carried n
+  pub total : countAt a b i ≡ n
+  pub held : HeldC sheet a b gap list (d - 1) (i + 1)
+  pub sized : size t ≡ suc (sizeC gap list)
+  pub head : Rec
+  pub lower : (s : State) → lowerExpr t s ≡ (head ∷ lowerC list s .0, lowerC list s .1)
+  pub shown : (N : Render.Notes) (A : Ops) → render N A t ≡ head ∷ renderC N A list
+  pub below : (N : Render.Notes) (k : ℕ) → BelowC N k list → Below N k t
+
+module _ {sheet : Bytes} {a b : List ℕ} {d i : ℕ} (room : Roomy a b) where
+  pub plainly : (t : Tree expr) → Held sheet a b t d i → ((cell a b i 0 ≡ 32) → ⊥) → ((cell a b i 0 ≡ 33) → ⊥) → ((cell a b i 0 ≡ 35) → ⊥) → ((cell a b i 0 ≡ 36) → ⊥) → Headed sheet a b 0 d i t
+  unfolding Held size exprNumber lowerExpr fold made exprStep over _>>=_ ret render recsOver exprRecs Below belowIn copiesBelow lowerC renderC sizeC HeldC
+  plainly (node expr line (Expr.Over h) f (ts ▸ end)) hd n32 n33 n35 n36 = record {
+    n = _;
+    list = plainC ts;
+    total = counted room tt (hd .1) ∙ (omega arith);
+    held = plain-held sheet a b ts (d - 1) (i + 1) (hd .3 .0);
+    sized = let e = plain-size ts in omega arith;
+    head = planned (PlanExpr.Over h) f;
+    lower = λ s. rw (plain-lower ts s);
+    shown = λ N A. ap (λ (x : Recs). planned (PlanExpr.Over h) f ∷ x) (append-nil (renderOf N A ts) ∙ plain-render N A ts);
+    below = λ N k b. (plain-below N k ts b, tt);
+  }
+  plainly (node expr line Expr.Var f kids) hd n32 n33 n35 n36 = absurd (n32 (number-at room (hd .1)))
+  plainly (node expr line Expr.Map f kids) hd n32 n33 n35 n36 = absurd (n33 (number-at room (hd .1)))
+  plainly (node expr line Expr.Call (func, (n, (distinct, t))) (ts ▸ end)) hd n32 n33 n35 n36 = record {
+    n = n;
+    list = plainC ts;
+    total = counted room tt (hd .1) ∙ (omega arith);
+    held = plain-held sheet a b ts (d - 1) (i + 1) (hd .3 .0);
+    sized = let e = plain-size ts in omega arith;
+    head = planned PlanExpr.Call (func, (n, tt));
+    lower = λ s. rw (plain-lower ts s);
+    shown = λ N A. ap (λ (x : Recs). planned PlanExpr.Call (func, (n, tt)) ∷ x) (append-nil (renderOf N A ts) ∙ plain-render N A ts);
+    below = λ N k b. (plain-below N k ts b, tt);
+  }
+  plainly (node expr line Expr.PatternPredicate f kids) hd n32 n33 n35 n36 = absurd (n35 (number-at room (hd .1)))
+  plainly (node expr line Expr.ListPredicate f kids) hd n32 n33 n35 n36 = absurd (n36 (number-at room (hd .1)))
+  plainly (node expr line Expr.Unresolved f end) hd n32 n33 n35 n36 = record { n = 0; list = []ᶜ; total = counted room tt (hd .1); held = tt; sized = refl; head = planned (PlanExpr.Over Same.Null) tt; lower = λ s. refl; shown = λ N A. refl; below = λ N k b. tt }
+  plainly (node expr line Expr.Undesugared f end) hd n32 n33 n35 n36 = record { n = 0; list = []ᶜ; total = counted room tt (hd .1); held = tt; sized = refl; head = planned (PlanExpr.Over Same.Null) tt; lower = λ s. refl; shown = λ N A. refl; below = λ N k b. tt }
+
+  pub mapped : (t : Tree expr) → Held sheet a b t d i → cell a b i 0 ≡ 33 → Headed sheet a b 1 d i t
+  unfolding Held size exprNumber lowerExpr fold made exprStep over _>>=_ ret render recsOver exprRecs Below belowIn copiesBelow
+  mapped (node expr line (Expr.Over h) f kids) hd e = let z = number-at room (hd .1) in let l = same-low h in absurd (omega arith)
+  mapped (node expr line Expr.Var f kids) hd e = let z = number-at room (hd .1) in absurd (omega arith)
+  mapped (node expr line Expr.Map (n, t) (ts ▸ end)) hd e = record {
+    n = n;
+    list = entriesC ts;
+    total = counted room tt (hd .1) ∙ (omega arith);
+    held = entries-held sheet a b ts (d - 1) (i + 1) (hd .3 .0);
+    sized = let e = entries-size ts in omega arith;
+    head = planned PlanExpr.Map (n, tt);
+    lower = λ s. rw (entries-lower ts s);
+    shown = λ N A. ap (λ (x : Recs). planned PlanExpr.Map (n, tt) ∷ x) (append-nil (renderOf N A ts) ∙ entries-render N A ts);
+    below = λ N k b. (entries-below N k ts b, tt);
+  }
+  mapped (node expr line Expr.Call f kids) hd e = let z = number-at room (hd .1) in absurd (omega arith)
+  mapped (node expr line Expr.PatternPredicate f kids) hd e = let z = number-at room (hd .1) in absurd (omega arith)
+  mapped (node expr line Expr.ListPredicate f kids) hd e = let z = number-at room (hd .1) in absurd (omega arith)
+  mapped (node expr line Expr.Unresolved f kids) hd e = let z = number-at room (hd .1) in absurd (omega arith)
+  mapped (node expr line Expr.Undesugared f kids) hd e = let z = number-at room (hd .1) in absurd (omega arith)
+
+-- a record over its expressions is lowered by lowering them
+headed-run : {sheet : Bytes} {a b : List ℕ} {gap d base i e : ℕ} {m m′ : Mem} (t : Tree expr) (o : Headed sheet a b gap d i t) (W : Written) (s : State) → Ran sheet a b W (carriedPiece (o .list)) base (suc (i + 1)) (suc e) s m m′ → Ran sheet a b W (exprPiece t) base (suc i) (suc e) s m m′
+headed-run {base = base} {i = i} {e = e} t o W s p =
+    let u : Sub ((base + suc (i + 1), base + suc e) ∷ W) ((base + suc i, base + suc e) ∷ W) = sub-within (omega arith) (le-refl _) (sub-more (base + suc i, base + suc e) W) in
+    record {
+      to = rw (o .lower s) (to-wider u (p .to));
+      shown = λ N A f. rw (o .shown (shift N base) A, o .lower s) (ap (λ (x : Recs). o .head ∷ x) (p .shown N A (narrow u (rw (o .lower s) at f))));
+      below = λ N A f. o .below (shift N base) _ (p .below N A (narrow u (rw (o .lower s) at f)));
+    }
+
+-- what follows from lowering the expressions behind a record, if every tree there is a record over them
+pub headed-law : {a b : List ℕ} {n gap d base i e : ℕ} {m m′ : Mem} → ((sheet : Bytes) (t : Tree expr) → Held sheet a b t d i → Headed sheet a b gap d i t) → n ≡ countAt a b i → i + 1 ≤ 2048 → LowersExprs a b n gap (d - 1) base (i + 1) e m m′ → LowersExpr a b d base i e m m′
+headed-law {a} {b} {n} {gap} {d} {base} {i} {e} {m} {m′} see en l p = record {
+  moved = moved-within (omega arith) (le-refl _) (p .moved .here) (p .moved);
+  next = λ sheet t hd.
+      let o = see sheet t hd in
+      let p′ : LowersExprs a b (o .n) gap (d - 1) base (i + 1) e m m′ = rw (en ∙ o .total) at p in
+      let z = p′ .next sheet (o .list) (o .held) in
+      let w = o .sized in
+      omega arith;
+  run = λ sheet t hd W s r bl.
+      let o = see sheet t hd in
+      let p′ : LowersExprs a b (o .n) gap (d - 1) base (i + 1) e m m′ = rw (en ∙ o .total) at p in
+      headed-run t o W s (p′ .run sheet (o .list) (o .held) W s r (blank-within (omega arith) (le-refl _) bl));
+}
+
+-- what the lowering of the expressions behind a record requires
+pub headed-some : {a b : List ℕ} {n gap d i : ℕ} → ((sheet : Bytes) (t : Tree expr) → Held sheet a b t d i → Headed sheet a b gap d i t) → n ≡ countAt a b i → SomeTree a b expr d i → SomeCarried a b n gap (d - 1) (i + 1)
+headed-some see en x = let o = see (x .sheet) (x .tree) (x .held) in rw (en ∙ o .total) (record { sheet = x .sheet; list = o .list; held = o .held })

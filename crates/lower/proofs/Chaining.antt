@@ -1,0 +1,206 @@
+-- A part as a chain: its elements, a source of everything where there is no operator, and the path if it is named. Assumes nothing.
+use mathlib.Core.Path.{_≡_, refl, sym, ap, subst, _∙_}
+use Prim.Native.Nat.{ℕ, zero, suc, _+_, _*_, _-_, _≤_, _<_}
+use native.Mathlib.Nat.{le-refl}
+use native.Mathlib.Omega.{arith}
+use mathlib.Core.Bool.{Bool, true, false}
+use mathlib.Core.List.{List, [], _∷_, _++_}
+use mathlib.Core.Option.{Option, none, some}
+use mathlib.Core.Logic.{inl, inr}
+use lib.ListN.{length}
+use Rattle.model.specs.Text.{Bytes}
+use Rattle.model.specs.Field.{Fields}
+use Rattle.model.specs.Kind.{ReadOp, patternPart, patternElement}
+use Rattle.model.specs.Record.{forms}
+use Rattle.model.specs.Tree.{Tree, Trees, node, []ᵗ, _∷ᵗ_, end, _▸_, toList, fold, foldOf}
+use Rattle.model.specs.Lower.{Recs, Lowering, Lowered, made, _>>=_, ret, push, op, source, upcoming, mapVar, pushSourceAll, orSourceAll, rootOf, pathElements, bindPath, lowerElements, lowerChain}
+use Rattle.model.specs.Lower
+use Rattle.words.specs.Words.{Roomy, cell, optionOf, fieldsOf, fieldOf}
+use Rattle.words.specs.Held.{Held, HeldOf, size, sizeOf}
+use Rattle.context.specs.Tables.{Op, Pushed, Numbers}
+use Rattle.context.specs.declared.LowerCtx.{LowerCtx}
+use Rattle.context.specs.declared.Numbered.{Numbered}
+use Rattle.lower.specs.Cells.{shown}
+use Rattle.lower.specs.Render.{Notes, Ops, keptFrom}
+use Rattle.lower.specs.Shows.{shift, Shows, shows-all, shows-path}
+use Rattle.lower.specs.Rep.{State, Mem, mem, Written, Sub, Blank, Future, Rep, To, Rooted, Good, Moved}
+use Rattle.lower.specs.Pieces.{SomeTree}
+use Rattle.lower.specs.Patterns.{SomeTrees}
+use Rattle.lower.specs.Chains.{givenIf, seenIf, stepsOf, Waiting, no-rel, Linked, Sturdy, Anchored, passed, ChainedAll, LowersElements, Sourced, OrSource, chainL, LowersChain, startChain}
+use Rattle.lower.specs.declared.Chain.{Chain}
+use Rattle.lower.proofs.State.{sub-more, sub-within, blank-within, blank-before, blank-behind, back, to-refl, to-then, to-wider, push-to, Given, number-to, upcoming-number}
+use Rattle.lower.proofs.Fits.{tree-fits, trees-fits}
+use Rattle.lower.proofs.Exprs.{moved-within, narrow}
+use Rattle.lower.proofs.Parts.{allOp}
+
+-- ── the operator before, or a source of everything ──
+
+some-given : {A : Type 0} (h : ℕ) (x : A) → ((h ≡ 0) → ⊥) → givenIf h x ≡ some x
+unfolding givenIf
+some-given zero x n = absurd (n refl)
+some-given (suc h) x n = refl
+
+none-given : {A : Type 0} (h : ℕ) (x : A) → h ≡ 0 → givenIf h x ≡ none
+unfolding givenIf
+none-given h x e = rw e
+
+pub source-there : (has last : ℕ) (m : Mem) → ((has ≡ 0) → ⊥) → last < m .ctx .ops → OrSource (orSourceAll (givenIf has last)) last m m
+unfolding orSourceAll ret
+source-there has last m h l = record { grow = le-refl _; few = omega arith; next = refl; mapped = refl; rest = refl; in-ops = refl; low = l; run = λ sheet a b W s r. rw (some-given has last h) (record { to = to-refl r; root = refl }) }
+
+pub source-new : (has last : ℕ) (m : Mem) (c : LowerCtx) (os : List ℕ) → has ≡ 0 → Pushed (m .ctx) c (m .ops) os (allOp (m .ctx .next)) → length os ≡ length (m .ops) → OrSource (orSourceAll (givenIf has last)) (m .ctx .ops) m (mem c os (m .rest))
+unfolding orSourceAll pushSourceAll upcoming _>>=_ push
+source-new has last m c os h p lo = record {
+  grow = omega (arith, p .count);
+  few = omega (arith, p .count);
+  next = p .next;
+  mapped = p .mapped;
+  rest = refl;
+  in-ops = lo;
+  low = omega (arith, p .count);
+  run = λ sheet a b W s r. rw (none-given has last h) (record { to = push-to m c os (allOp (m .ctx .next)) (source (s .next) []) r p (λ N A f. shows-all refl (ap (λ (x : ℕ). source x []) (sym (upcoming-number m r)))); root = r .count });
+}
+
+-- ── a part, opened ──
+
+pub record IsPart (sheet : Bytes) (a b : List ℕ) (d i : ℕ) (t : Tree patternPart) : Type 0 where
+  pub n : ℕ
+  pub elements : Trees patternElement n
+  pub many : n ≡ cell a b i 6
+  pub held : HeldOf sheet a b elements (d - 1) (i + 1)
+  pub sized : size t ≡ suc (sizeOf elements)
+  pub chain : (s : State) → chainL t s ≡ lowerChain (optionOf (cell a b i 2) (cell a b i 3)) (stepsOf elements) s
+  pub shaped : (s : State) → fold Lowered made t s ≡ Lower.lowerPatternPart (optionOf (cell a b i 2) (cell a b i 3)) (cell a b i 4) (stepsOf elements) s
+
+pub a-part : {sheet : Bytes} {a b : List ℕ} {d i : ℕ} (room : Roomy a b) (t : Tree patternPart) → Held sheet a b t d i → IsPart sheet a b d i t
+unfolding Held size chainL fold made fieldsOf fieldOf
+a-part {sheet} {a} {b} {d} {i} room (node patternPart line k (namedAs, (shortest, (n, u))) (ts ▸ end)) hd =
+    let w = shown room (hd .1) .fields in
+    let e₁ : namedAs ≡ optionOf (cell a b i 2) (cell a b i 3) = ap (λ (x : Fields (forms patternPart tt)). x .0) w in
+    let e₂ : shortest ≡ cell a b i 4 = ap (λ (x : Fields (forms patternPart tt)). x .1 .0) w in
+    let e₃ : n ≡ cell a b i 6 = ap (λ (x : Fields (forms patternPart tt)). x .1 .1 .0) w in
+    record { n = n; elements = ts; many = e₃; held = hd .3 .0; sized = omega arith; chain = λ s. rw e₁; shaped = λ s. rw (e₁, e₂) }
+
+pub some-elements : {a b : List ℕ} {n d i : ℕ} → Roomy a b → n ≡ cell a b i 6 → SomeTree a b patternPart d i → SomeTrees a b patternElement n (d - 1) (i + 1)
+some-elements room en x = let v = a-part room (x .tree) (x .held) in rw (en ∙ sym (v .many)) (record { sheet = x .sheet; trees = v .elements; held = v .held })
+
+-- ── the chain ──
+
+abbrev noChain : Lower.Chain
+noChain = record { last = none; pending = none; path = [] }
+
+pub start-sturdy : (i : ℕ) (c : LowerCtx) → i + 1 ≤ 2048 → Sturdy (startChain i c)
+start-sturdy i c l = record { has = omega arith; waits = omega arith; from = le-refl _; next = l; last = omega arith; below = λ h. absurd (h refl); kept = omega arith }
+
+pub start-anchored : (a b : List ℕ) (sheet : Bytes) (d i : ℕ) (c : LowerCtx) → Anchored a b d (startChain i c)
+start-anchored a b sheet d i c = record { sheet = sheet; pending = none; waiting = no-rel refl refl refl }
+
+start-linked : (sheet : Bytes) (a b : List ℕ) (d i : ℕ) (c : LowerCtx) → Linked sheet a b d (startChain i c) noChain
+unfolding givenIf
+start-linked sheet a b d i c = record { last = refl; waiting = no-rel refl refl refl; kept = refl }
+
+root-given : (h last origin : ℕ) → rootOf (givenIf h (last, origin)) ≡ givenIf h last
+unfolding rootOf givenIf
+root-given zero last origin = refl
+root-given (suc h) last origin = refl
+
+abbrev afterElements : {n : ℕ} → Trees patternElement n → State → Lower.Chain × State
+afterElements ts s = lowerElements noChain (stepsOf ts) s
+
+chain-def : {n : ℕ} (o : Option ℕ) (ts : Trees patternElement n) (s : State) (g : Option ℕ) → rootOf (afterElements ts s .0 .last) ≡ g → lowerChain o (stepsOf ts) s ≡ bindPath o (orSourceAll g (afterElements ts s .1) .0) (afterElements ts s .0 .path) (orSourceAll g (afterElements ts s .1) .1)
+unfolding lowerChain _>>=_
+chain-def o ts s g e = rw e
+
+abbrev pub pathOp : (i input kept number d base : ℕ) → Op
+pathOp i input kept number d base = record { kind = 5; idx = i; input = input; x = kept; y = number; left = d - 1; base = base }
+
+option-some : (x y : ℕ) → ((x ≡ 0) → ⊥) → optionOf x y ≡ some y
+unfolding optionOf
+option-some zero y h = absurd (h refl)
+option-some (suc x) y h = refl
+
+path-is : (k x x′ n n′ : ℕ) (path path′ : List ℕ) → x ≡ x′ → n ≡ n′ → path ≡ path′ → op ReadOp.BindPath (k, (x, (n, tt))) ∷ pathElements path ≡ op ReadOp.BindPath (k, (x′, (n′, tt))) ∷ pathElements path′
+path-is k x x′ n n′ path path′ ex en ep = rw (ex, en, ep)
+
+module _ {a b : List ℕ} {n base : ℕ} {c : LowerCtx} {ch : Chain} {os os₁ rs rs₁ : List ℕ} {k : ℕ} {m₂ : Mem} (d i : ℕ) (room : Roomy a b) (lb : base ≤ 2048) (en : n ≡ cell a b i 6) (el : LowersElements a b n (d - 1) base (startChain i c) ch os os₁ rs rs₁) (sr : OrSource (orSourceAll (givenIf (ch .has) (ch .last))) k (mem (ch .ctx) os₁ rs₁) m₂) where
+  chain-next : (sheet : Bytes) (t : Tree patternPart) → Held sheet a b t d i → ch .next ≡ i + size t
+  chain-next sheet t hd =
+      let v = a-part room t hd in
+      let el′ : LowersElements a b (v .n) (d - 1) base (startChain i c) ch os os₁ rs rs₁ = rw (en ∙ sym (v .many)) at el in
+      let x = el′ .next sheet (v .elements) (v .held) in
+      let y = v .sized in
+      omega arith
+
+  -- elements and source
+  pub record Rooting (sheet : Bytes) (t : Tree patternPart) (W : Written) (s : State) (v : IsPart sheet a b d i t) : Type 0 where
+    pub all : ChainedAll sheet a b W (d - 1) base (startChain i c) ch (v .elements) noChain s (mem c os rs) (mem (ch .ctx) os₁ rs₁)
+    pub src : Sourced sheet a b (orSourceAll (givenIf (ch .has) (ch .last))) k (passed base (startChain i c) ch W) (afterElements (v .elements) s .1) (mem (ch .ctx) os₁ rs₁) m₂
+    pub def : (o : Option ℕ) → lowerChain o (stepsOf (v .elements)) s ≡ bindPath o k (afterElements (v .elements) s .0 .path) (orSourceAll (givenIf (ch .has) (ch .last)) (afterElements (v .elements) s .1) .1)
+
+  rooting : (sheet : Bytes) (t : Tree patternPart) (hd : Held sheet a b t d i) (W : Written) (s : State) → Rep sheet a b W s (mem c os rs) → Blank W (base + suc i) (base + suc (ch .next)) → Rooting sheet t W s (a-part room t hd)
+  rooting sheet t hd W s r bl =
+      let v = a-part room t hd in
+      let el′ : LowersElements a b (v .n) (d - 1) base (startChain i c) ch os os₁ rs rs₁ = rw (en ∙ sym (v .many)) at el in
+      let y = el′ .run sheet (v .elements) (v .held) W s noChain r (start-linked sheet a b (d - 1) i c) (blank-within (omega arith) (le-refl _) bl) in
+      let z = sr .run sheet a b _ _ (y .to .rep) in
+      record { all = y; src = z; def = λ o. chain-def o (v .elements) s _ (ap rootOf (y .linked .last) ∙ root-given (ch .has) (ch .last) (ch .origin)) ∙ ap (λ (x : ℕ). bindPath o x (afterElements (v .elements) s .0 .path) (orSourceAll (givenIf (ch .has) (ch .last)) (afterElements (v .elements) s .1) .1)) (sym (z .root)) }
+
+  module _ (k2 : cell a b i 2 ≡ 0) where
+    unnamed-run : (sheet : Bytes) (t : Tree patternPart) → Held sheet a b t d i → (W : Written) (s : State) → Rep sheet a b W s (mem c os rs) → Blank W (base + suc i) (base + suc (ch .next)) → Rooted sheet a b W (chainL t) k base (suc i) (suc (ch .next)) s (mem c os rs) m₂
+    unfolding bindPath ret optionOf
+    unnamed-run sheet t hd W s r bl =
+        let v = a-part room t hd in
+        let x = rooting sheet t hd W s r bl in
+        let D = v .chain s ∙ ap (λ (o : Option ℕ). lowerChain o (stepsOf (v .elements)) s) (ap (λ (z : ℕ). optionOf z (cell a b i 3)) k2) ∙ x .def none in
+        let f = el .sturdy .from in
+        record { to = rw D (to-wider (sub-within (omega arith) (omega arith) (sub-more (base + suc i, base + suc (ch .next)) W)) (to-then (x .all .to) (x .src .to))); root = rw D; low = sr .low }
+
+    pub unnamed-law : LowersChain a b d base i (ch .next) k (mem c os rs) m₂
+    unnamed-law =
+        let v = el .moved in
+        let f = el .sturdy .from in
+        record {
+          moved = record { up = omega (arith, v .up); here = el .sturdy .next; few = omega (arith, v .few, sr .few); low = omega (arith, v .low, sr .next); met = omega (arith, v .met, sr .mapped); in-ops = sr .in-ops ∙ v .in-ops; in-rest = ap length (sr .rest) ∙ v .in-rest };
+          low = sr .low;
+          next = chain-next;
+          run = unnamed-run;
+        }
+
+  module _ {place : ℕ} {r₃ : Numbered} {rest₃ os₄ : List ℕ} {c₄ : LowerCtx} (k2 : (cell a b i 2 ≡ 0) → ⊥) (ep : place ≡ base + (i + 1)) (nm : Numbers (mapVar (cell a b i 3)) place (m₂ .ctx) (m₂ .rest) rest₃ r₃) (lr : length rest₃ ≡ length (m₂ .rest)) (pp : Pushed (r₃ .ctx) c₄ (m₂ .ops) os₄ (pathOp i k (ch .kept) (r₃ .number) d base)) (lo : length os₄ ≡ length (m₂ .ops)) where
+    named-run : (sheet : Bytes) (t : Tree patternPart) → Held sheet a b t d i → (W : Written) (s : State) → Rep sheet a b W s (mem c os rs) → Blank W (base + suc i) (base + suc (ch .next)) → Rooted sheet a b W (chainL t) (r₃ .ctx .ops) base (suc i) (suc (ch .next)) s (mem c os rs) (mem c₄ os₄ rest₃)
+    unfolding bindPath _>>=_ push optionOf seenIf
+    named-run sheet t hd W s r bl =
+        let v = a-part room t hd in
+        let x = rooting sheet t hd W s r bl in
+        let id : ℕ = cell a b i 3 in
+        let f = el .sturdy .from in
+        let g₀ = el .ahead in
+        let W₁ : Written = passed base (startChain i c) ch W in
+        let s₂ : State = orSourceAll (givenIf (ch .has) (ch .last)) (afterElements (v .elements) s .1) .1 in
+        let path : List ℕ = afterElements (v .elements) s .0 .path in
+        let D = v .chain s ∙ ap (λ (o : Option ℕ). lowerChain o (stepsOf (v .elements)) s) (option-some (cell a b i 2) id k2) ∙ x .def (some id) in
+        let ep′ : place ≡ base + suc i = omega arith in
+        let g : Given sheet a b W₁ s₂ (mapVar id) (base + suc i) m₂ rest₃ r₃ = number-to (mapVar id) (base + suc i) m₂ rest₃ r₃ (x .src .to .rep) (rw ep′ at nm) (blank-before (omega arith) (blank-within (le-refl _) (omega arith) bl)) in
+        let recs : Recs = op ReadOp.BindPath (k, (mapVar id s₂ .0, (length path, tt))) ∷ pathElements path in
+        let y = push-to (mem (r₃ .ctx) (m₂ .ops) rest₃) c₄ os₄ (pathOp i k (ch .kept) (r₃ .number) d base) recs (g .to .rep) pp
+        (λ N A fu. shows-path refl (record {
+          count = v .n;
+          elements = v .elements;
+          counted = v .many;
+          held = v .held;
+          is = path-is k (mapVar id s₂ .0) (r₃ .number) (length path) (ch .kept) path _ (sym (g .number)) (x .all .linked .kept) (x .all .path N A (back (x .src .to) (back (g .to) fu)));
+        })) in
+        let u : Sub ((base + suc i, base + suc i + 1) ∷ W₁) ((base + suc i, base + suc (ch .next)) ∷ W) = sub-within (le-refl _) (omega arith) (sub-within (omega arith) (omega arith) (sub-more (base + suc i, base + suc (ch .next)) W)) in
+        record { to = rw D (to-wider u (to-then (x .all .to) (to-then (x .src .to) (to-then (g .to) y)))); root = rw D (g .to .rep .count); low = let e : c₄ .ops ≡ r₃ .ctx .ops + 1 = pp .count in omega arith }
+
+    pub named-law : LowersChain a b d base i (ch .next) (r₃ .ctx .ops) (mem c os rs) (mem c₄ os₄ rest₃)
+    named-law =
+        let v = el .moved in
+        let f = el .sturdy .from in
+        let n = nm .issued in
+        record {
+          moved = record { up = omega (arith, v .up); here = el .sturdy .next; few = omega (arith, v .few, sr .few, n .ops, pp .count); low = omega (arith, v .low, sr .next, n .low, pp .next); met = omega (arith, v .met, sr .mapped, n .met, pp .mapped); in-ops = lo ∙ sr .in-ops ∙ v .in-ops; in-rest = lr ∙ ap length (sr .rest) ∙ v .in-rest };
+          low = omega (arith, pp .count);
+          next = chain-next;
+          run = named-run;
+        }

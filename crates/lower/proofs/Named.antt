@@ -1,0 +1,198 @@
+-- The arms of the lowering of an expression at which something is noted: a variable, a list predicate, a pattern. Assumes nothing.
+use mathlib.Core.Path.{_≡_, refl, sym, ap, subst, _∙_}
+use Prim.Native.Nat.{ℕ, zero, suc, _+_, _*_, _-_, _≤_, _<_}
+use native.Mathlib.Nat.{le-refl}
+use native.Mathlib.Omega.{arith}
+use mathlib.Core.Bool.{Bool, true, false}
+use mathlib.Core.List.{List, [], _∷_, _++_, append-nil}
+use mathlib.Core.Logic.{_⊎_, inl, inr, ⊎-elim}
+use mathlib.Core.Option.{Option, none, some}
+use lib.ListN.{length, getD}
+use lib.Dec.{eqb}
+use Rattle.model.specs.Text.{Bytes}
+use Rattle.model.specs.Field.{Fields}
+use Rattle.model.specs.Kind.{Sort, Kind, Same, Expr, PlanExpr, expr, entry, patternPart}
+use Rattle.model.specs.Record.{Rec, rec, Group, one, forms, exprForms, children}
+use Rattle.model.specs.Tree.{Tree, Trees, Forest, node, []ᵗ, _∷ᵗ_, end, _▸_, toList, fold, foldOf}
+use Rattle.model.specs.Lower.{Recs, Lowering, Lowered, made, _>>=_, ret, mapVar, inOrder, over, exprStep, planned, lowerExpr, lowerParts, lowerMatchPattern, optionalJoin, copy, at}
+use Rattle.words.specs.Words.{Roomy, cell, fieldsOf, fieldOf}
+use Rattle.words.specs.Held.{Held, HeldOf, HeldIn, RecordAt, size, sizeOf, sizeIn}
+use Rattle.context.specs.Tables.{Numbers, Notes, varsAt}
+use Rattle.context.specs.declared.LowerCtx.{LowerCtx}
+use Rattle.context.specs.declared.Numbered.{Numbered}
+use Rattle.lower.specs.Cells.{cells, Shown, shown}
+use Rattle.lower.specs.Count.{Inner, countAt, countBy}
+use Rattle.lower.specs.Render.{Ops, render, renderOf, renderIn, recsOver, exprRecs, Below, BelowOf, BelowIn, belowIn, copiesBelow}
+use Rattle.lower.specs.Render
+use Rattle.lower.specs.Shows.{shift}
+use Rattle.lower.specs.Rep.{State, Mem, mem, notes, Written, In, Sub, Blank, Agree, Future, Rep, To, Piece, Ran, Rooted, Good, Moved}
+use Rattle.lower.specs.Pieces.{exprPiece, Carried, []ᶜ, _∷ᶜ_, lowerC, renderC, BelowC, sizeC, HeldC, carriedPiece, SomeTree, SomeCarried, LowersExpr, LowersExprs}
+use Rattle.lower.specs.Patterns.{partsL, SomeTrees, LowersParts}
+use Rattle.lower.proofs.State.{sub-refl, sub-then, sub-more, sub-within, blank-within, blank-before, blank-behind, back, rep-wider, to-refl, to-then, to-wider, Given, number-to, note-to}
+use Rattle.lower.proofs.Fits.{tree-fits}
+use Rattle.lower.proofs.Counting.{exprNumber, sameNumber, counted}
+use Rattle.lower.proofs.Exprs.{moved-within, narrow}
+use Rattle.lower.proofs.Carry.{plainC, plain-lower, plain-size, plain-held, plain-render, plain-below}
+use Rattle.lower.proofs.Arms.{number-at, same-low}
+
+-- ── a variable that is numbered at the record, before the expressions behind it ──
+
+pub record Naming (sheet : Bytes) (a b : List ℕ) (d i id : ℕ) (t : Tree expr) : Type 0 where
+  pub n : ℕ
+  pub list : Carried n
+  pub total : countAt a b i ≡ n
+  pub held : HeldC sheet a b 0 list (d - 1) (i + 1)
+  pub sized : size t ≡ suc (sizeC 0 list)
+  pub head : ℕ → Rec
+  pub lower : (s : State) → lowerExpr t s ≡ (head (mapVar id s .0) ∷ lowerC list (mapVar id s .1) .0, lowerC list (mapVar id s .1) .1)
+  pub shown : (N : Render.Notes) (A : Ops) → render N A t ≡ head (N (suc i)) ∷ renderC N A list
+  pub below : (N : Render.Notes) (k : ℕ) → BelowC N k list → Below N k t
+
+module _ {sheet : Bytes} {a b : List ℕ} {d i : ℕ} (room : Roomy a b) where
+  pub variable : (t : Tree expr) → Held sheet a b t d i → cell a b i 0 ≡ 32 → Naming sheet a b d i (cell a b i 2) t
+  unfolding Held size exprNumber lowerExpr fold made exprStep _>>=_ ret render recsOver exprRecs Below belowIn copiesBelow lowerC renderC sizeC HeldC fieldsOf fieldOf
+  variable (node expr line (Expr.Over h) f kids) hd e = let z = number-at room (hd .1) in let l = same-low h in absurd (omega arith)
+  variable (node expr line Expr.Var (id, t) end) hd e =
+      let ei : id ≡ cell a b i 2 = ap (λ (x : Fields (exprForms Expr.Var)). x .0) (shown room (hd .1) .fields) in
+      record { n = 0; list = []ᶜ; total = counted room tt (hd .1); held = tt; sized = refl; head = λ x. planned PlanExpr.Var (x, tt); lower = λ s. rw ei; shown = λ N A. rw (hd .0); below = λ N k b. tt }
+  variable (node expr line Expr.Map f kids) hd e = let z = number-at room (hd .1) in absurd (omega arith)
+  variable (node expr line Expr.Call f kids) hd e = let z = number-at room (hd .1) in absurd (omega arith)
+  variable (node expr line Expr.PatternPredicate f kids) hd e = let z = number-at room (hd .1) in absurd (omega arith)
+  variable (node expr line Expr.ListPredicate f kids) hd e = let z = number-at room (hd .1) in absurd (omega arith)
+  variable (node expr line Expr.Unresolved f kids) hd e = let z = number-at room (hd .1) in absurd (omega arith)
+  variable (node expr line Expr.Undesugared f kids) hd e = let z = number-at room (hd .1) in absurd (omega arith)
+
+  pub predicate : (t : Tree expr) → Held sheet a b t d i → cell a b i 0 ≡ 36 → Naming sheet a b d i (cell a b i 4) t
+  unfolding Held size exprNumber lowerExpr fold made exprStep over _>>=_ ret render recsOver exprRecs Below belowIn copiesBelow fieldsOf fieldOf
+  predicate (node expr line (Expr.Over h) f kids) hd e = let z = number-at room (hd .1) in let l = same-low h in absurd (omega arith)
+  predicate (node expr line Expr.Var f kids) hd e = let z = number-at room (hd .1) in absurd (omega arith)
+  predicate (node expr line Expr.Map f kids) hd e = let z = number-at room (hd .1) in absurd (omega arith)
+  predicate (node expr line Expr.Call f kids) hd e = let z = number-at room (hd .1) in absurd (omega arith)
+  predicate (node expr line Expr.PatternPredicate f kids) hd e = let z = number-at room (hd .1) in absurd (omega arith)
+  predicate (node expr line Expr.ListPredicate (kind, (id, (pred, t))) (ts ▸ end)) hd e =
+      let ei : id ≡ cell a b i 4 = ap (λ (x : Fields (exprForms Expr.ListPredicate)). x .1 .0) (shown room (hd .1) .fields) in
+      record {
+        n = _;
+        list = plainC ts;
+        total = counted room tt (hd .1) ∙ (omega arith);
+        held = plain-held sheet a b ts (d - 1) (i + 1) (hd .3 .0);
+        sized = let e = plain-size ts in omega arith;
+        head = λ x. planned PlanExpr.ListPredicate (kind, (x, (pred, tt)));
+        lower = λ s. rw (ei, plain-lower ts (mapVar (cell a b i 4) s .1));
+        shown = λ N A. rw (hd .0) (ap (λ (x : Recs). planned PlanExpr.ListPredicate (kind, (N (suc i), (pred, tt))) ∷ x) (append-nil (renderOf N A ts) ∙ plain-render N A ts));
+        below = λ N k b. (plain-below N k ts b, tt);
+      }
+  predicate (node expr line Expr.Unresolved f kids) hd e = let z = number-at room (hd .1) in absurd (omega arith)
+  predicate (node expr line Expr.Undesugared f kids) hd e = let z = number-at room (hd .1) in absurd (omega arith)
+
+naming-run : {sheet : Bytes} {a b : List ℕ} {d base i e id : ℕ} {m m′ : Mem} (t : Tree expr) (o : Naming sheet a b d i id t) (W : Written) (s : State) (rest′ : List ℕ) (r : Numbered) → base ≤ 2048 → i < 2048 → i + 1 ≤ e → Given sheet a b W s (mapVar id) (base + suc i) m rest′ r → Ran sheet a b ((base + suc i, base + suc i + 1) ∷ W) (carriedPiece (o .list)) base (suc (i + 1)) (suc e) (mapVar id s .1) (mem (r .ctx) (m .ops) rest′) m′ → Ran sheet a b W (exprPiece t) base (suc i) (suc e) s m m′
+naming-run {base = base} {i = i} {e = e} {id = id} {m = m} t o W s rest′ r lb li le g p =
+    let u : Sub ((base + suc (i + 1), base + suc e) ∷ (base + suc i, base + suc i + 1) ∷ W) ((base + suc i, base + suc e) ∷ W) = sub-within (omega arith) (le-refl _) (sub-within (le-refl _) (omega arith) (sub-more (base + suc i, base + suc e) W)) in
+    record {
+      to = rw (o .lower s) (to-wider u (to-then (g .to) (p .to)));
+      shown = λ N A f.
+          let f′ = narrow u (rw (o .lower s) at f) in
+          let z : N (base + suc i) ≡ mapVar id s .0 = back (p .to) f′ .notes .at (base + suc i) (omega arith) (inl (omega arith, omega arith)) ∙ g .noted ∙ g .number in
+          rw (o .shown (shift N base) A, o .lower s, z) (ap (λ (x : Recs). o .head (mapVar id s .0) ∷ x) (p .shown N A f′));
+      below = λ N A f. o .below (shift N base) _ (p .below N A (narrow u (rw (o .lower s) at f)));
+    }
+
+module _ {a b : List ℕ} {n d base i e id place : ℕ} {c : LowerCtx} {os rest rest′ : List ℕ} {r : Numbered} {m′ : Mem} (see : (sheet : Bytes) (t : Tree expr) → Held sheet a b t d i → Naming sheet a b d i id t) (en : n ≡ countAt a b i) (lb : base ≤ 2048) (li : i < 2048) (ep : place ≡ base + (i + 1)) (nm : Numbers (mapVar id) place c rest rest′ r) (lr : length rest′ ≡ length rest) (p : LowersExprs a b n 0 (d - 1) base (i + 1) e (mem (r .ctx) os rest′) m′) where
+  naming-next : (sheet : Bytes) (t : Tree expr) → Held sheet a b t d i → e ≡ i + size t
+  naming-next sheet t hd =
+      let o = see sheet t hd in
+      let p′ : LowersExprs a b (o .n) 0 (d - 1) base (i + 1) e (mem (r .ctx) os rest′) m′ = rw (en ∙ o .total) at p in
+      let z = p′ .next sheet (o .list) (o .held) in
+      let w = o .sized in
+      omega arith
+
+  pub naming-law : LowersExpr a b d base i e (mem c os rest) m′
+  naming-law = record {
+    moved =
+        let v = p .moved in
+        let w = nm .issued in
+        record { up = omega (arith, v .up); here = v .here; few = omega (arith, v .few, w .ops); low = omega (arith, v .low, w .low); met = omega (arith, v .met, w .met); in-ops = v .in-ops; in-rest = v .in-rest ∙ lr };
+    next = naming-next;
+    run = λ sheet t hd W s q bl.
+        let o = see sheet t hd in
+        let u = p .moved .up in
+        let p′ : LowersExprs a b (o .n) 0 (d - 1) base (i + 1) e (mem (r .ctx) os rest′) m′ = rw (en ∙ o .total) at p in
+        let ep′ : place ≡ base + suc i = omega arith in
+        let g : Given sheet a b W s (mapVar id) (base + suc i) (mem c os rest) rest′ r = number-to (mapVar id) (base + suc i) (mem c os rest) rest′ r q (rw ep′ at nm) (blank-within (le-refl _) (omega arith) bl) in
+        naming-run t o W s rest′ r lb li u g (p′ .run sheet (o .list) (o .held) _ _ (g .to .rep) (blank-behind (omega arith) (blank-within (omega arith) (le-refl _) bl)));
+  }
+
+pub naming-some : {a b : List ℕ} {n d i id : ℕ} → ((sheet : Bytes) (t : Tree expr) → Held sheet a b t d i → Naming sheet a b d i id t) → n ≡ countAt a b i → SomeTree a b expr d i → SomeCarried a b n 0 (d - 1) (i + 1)
+naming-some see en x = let o = see (x .sheet) (x .tree) (x .held) in rw (en ∙ o .total) (record { sheet = x .sheet; list = o .list; held = o .held })
+
+-- ── a pattern: its parts, and then the note of its root ──
+
+pub record Matched (sheet : Bytes) (a b : List ℕ) (d i : ℕ) (t : Tree expr) : Type 0 where
+  pub n : ℕ
+  pub parts : Trees patternPart n
+  pub total : cell a b i 2 ≡ n
+  pub held : HeldOf sheet a b parts (d - 1) (i + 1)
+  pub sized : size t ≡ suc (sizeOf parts)
+  pub lower : (s : State) → lowerExpr t s ≡ (planned PlanExpr.Exists tt ∷ at (partsL parts s .1 .ops) (partsL parts s .0), partsL parts s .1)
+  pub shown : (N : Render.Notes) (A : Ops) → render N A t ≡ planned PlanExpr.Exists tt ∷ A (N (suc i))
+  pub below : (N : Render.Notes) (k : ℕ) → N (suc i) < k → Below N k t
+
+module _ {sheet : Bytes} {a b : List ℕ} {d i : ℕ} (room : Roomy a b) where
+  pub pattern : (t : Tree expr) → Held sheet a b t d i → cell a b i 0 ≡ 35 → Matched sheet a b d i t
+  unfolding Held size exprNumber lowerExpr fold made exprStep lowerMatchPattern optionalJoin copy _>>=_ ret render recsOver exprRecs Below belowIn copiesBelow fieldsOf fieldOf
+  pattern (node expr line (Expr.Over h) f kids) hd e = let z = number-at room (hd .1) in let l = same-low h in absurd (omega arith)
+  pattern (node expr line Expr.Var f kids) hd e = let z = number-at room (hd .1) in absurd (omega arith)
+  pattern (node expr line Expr.Map f kids) hd e = let z = number-at room (hd .1) in absurd (omega arith)
+  pattern (node expr line Expr.Call f kids) hd e = let z = number-at room (hd .1) in absurd (omega arith)
+  pattern (node expr line Expr.PatternPredicate (n, t) (ts ▸ end)) hd e = record {
+    n = n;
+    parts = ts;
+    total = sym (ap (λ (x : Fields (exprForms Expr.PatternPredicate)). x .0) (shown room (hd .1) .fields));
+    held = hd .3 .0;
+    sized = omega arith;
+    lower = λ s. refl;
+    shown = λ N A. rw (hd .0);
+    below = λ N k l. rw (hd .0) l;
+  }
+  pattern (node expr line Expr.ListPredicate f kids) hd e = let z = number-at room (hd .1) in absurd (omega arith)
+  pattern (node expr line Expr.Unresolved f kids) hd e = let z = number-at room (hd .1) in absurd (omega arith)
+  pattern (node expr line Expr.Undesugared f kids) hd e = let z = number-at room (hd .1) in absurd (omega arith)
+
+module _ {a b : List ℕ} {n d base i e k place : ℕ} {rest′ : List ℕ} {m m₁ : Mem} (see : (sheet : Bytes) (t : Tree expr) → Held sheet a b t d i → Matched sheet a b d i t) (en : n ≡ cell a b i 2) (lb : base ≤ 2048) (li : i < 2048) (ep : place ≡ base + (i + 1)) (p : LowersParts a b n (d - 1) base i e k m m₁) (nt : Notes place k (m₁ .rest) rest′) (lr : length rest′ ≡ length (m₁ .rest)) where
+  pattern-next : (sheet : Bytes) (t : Tree expr) → Held sheet a b t d i → e ≡ i + size t
+  pattern-next sheet t hd =
+      let o = see sheet t hd in
+      let p′ : LowersParts a b (o .n) (d - 1) base i e k m m₁ = rw (en ∙ o .total) at p in
+      let z = p′ .next sheet (o .parts) (o .held) in
+      let w = o .sized in
+      omega arith
+
+  pattern-run : (sheet : Bytes) (t : Tree expr) → Held sheet a b t d i → (W : Written) (s : State) → Rep sheet a b W s m → Blank W (base + suc i) (base + suc e) → Ran sheet a b W (exprPiece t) base (suc i) (suc e) s m (mem (m₁ .ctx) (m₁ .ops) rest′)
+  pattern-run sheet t hd W s q bl =
+      let o = see sheet t hd in
+      let v = p .moved .up in
+      let p′ : LowersParts a b (o .n) (d - 1) base i e k m m₁ = rw (en ∙ o .total) at p in
+      let v′ = p′ .next sheet (o .parts) (o .held) in
+      let ep′ : place ≡ base + suc i = omega arith in
+      let nt′ : Notes (base + suc i) k (m₁ .rest) rest′ = rw ep′ at nt in
+      let g = p′ .run sheet (o .parts) (o .held) W s q (blank-within (omega arith) (le-refl _) bl) in
+      let h = note-to (base + suc i) k m₁ rest′ (g .to .rep) nt′ (blank-before (omega arith) (blank-within (le-refl _) (omega arith) bl)) in
+      let u : Sub ((base + suc i, base + suc i + 1) ∷ (base + suc (i + 1), base + suc e) ∷ W) ((base + suc i, base + suc e) ∷ W) = sub-within (le-refl _) (omega arith) (sub-within (omega arith) (le-refl _) (sub-more (base + suc i, base + suc e) W)) in
+      let noted : (N : Render.Notes) (A : Ops) → Future ((base + suc i, base + suc e) ∷ W) (partsL (o .parts) s .1) (mem (m₁ .ctx) (m₁ .ops) rest′) N A → N (base + suc i) ≡ k = λ N A f. f .notes .at (base + suc i) (omega arith) (inl (omega arith, omega arith)) ∙ nt′ .noted .here in
+      record {
+        to = rw (o .lower s) (to-wider u (to-then (g .to) h));
+        shown = λ N A f.
+            let f′ = rw (o .lower s) at f in
+            rw (o .shown (shift N base) A, o .lower s, noted N A f′) (ap (λ (x : Recs). planned PlanExpr.Exists tt ∷ x) (f′ .ops k (p .low) ∙ ap (λ (x : ℕ). at (partsL (o .parts) s .1 .ops) x) (g .root)));
+        below = λ N A f. o .below (shift N base) _ (rw (noted N A (rw (o .lower s) at f)) (p .low));
+      }
+
+  pub pattern-law : LowersExpr a b d base i e m (mem (m₁ .ctx) (m₁ .ops) rest′)
+  pattern-law = record {
+    moved = let v = p .moved in record { up = v .up; here = v .here; few = v .few; low = v .low; met = v .met; in-ops = v .in-ops; in-rest = lr ∙ v .in-rest };
+    next = pattern-next;
+    run = pattern-run;
+  }
+
+pub pattern-some : {a b : List ℕ} {n d i : ℕ} → ((sheet : Bytes) (t : Tree expr) → Held sheet a b t d i → Matched sheet a b d i t) → n ≡ cell a b i 2 → SomeTree a b expr d i → SomeTrees a b patternPart n (d - 1) (i + 1)
+pattern-some see en x = let o = see (x .sheet) (x .tree) (x .held) in rw (en ∙ o .total) (record { sheet = x .sheet; trees = o .parts; held = o .held })

@@ -1,0 +1,139 @@
+-- A part by its shape: a chain, unless it is a shortest part of exactly node, rel, node. Assumes nothing.
+use mathlib.Core.Path.{_≡_, refl, sym, ap, subst, _∙_}
+use Prim.Native.Nat.{ℕ, zero, suc, _+_, _*_, _-_, _≤_, _<_}
+use native.Mathlib.Omega.{arith}
+use mathlib.Core.Bool.{Bool, true, false, cond}
+use mathlib.Core.List.{List, [], _∷_, _++_}
+use lib.Dec.{eqb}
+use borrow.Author.Tests.{eqb-true, eqb-false}
+use Rattle.model.specs.Text.{Bytes}
+use Rattle.model.specs.Kind.{patternPart, patternElement}
+use Rattle.model.specs.Tree.{Tree, Trees}
+use Rattle.model.specs.Lower.{Step, NodeStep, RelStep, ofNode, ofRel, Shape, other, shapeOf}
+use Rattle.words.specs.Words.{Roomy, cell}
+use Rattle.words.specs.Held.{Held, HeldOf, size, sizeOf}
+use Rattle.lower.specs.Count.{Starts, Ends}
+use Rattle.lower.specs.Rep.{State, Mem, Rooted, Good, Moved}
+use Rattle.lower.specs.Pieces.{SomeTree}
+use Rattle.lower.specs.Patterns.{partL, LowersPart}
+use Rattle.lower.specs.Chains.{stepOf, stepsOf, chainL, LowersChain, elementOf}
+use Rattle.lower.specs.declared.Element.{Element}
+use Rattle.lower.specs.declared.Element.the-variants.{Node, Rel}
+use Rattle.lower.proofs.Fits.{tree-fits}
+use Rattle.lower.proofs.Elements.{IsNode, IsRel, a-node, a-rel, other-element}
+use Rattle.lower.proofs.Chaining.{IsPart, a-part}
+use Rattle.lower.proofs.Shortest.{Three, three, plain-part, other-part, shape-not-three, steps-length}
+
+-- ── an element's enum tells its kind ──
+
+Told : Element → ℕ
+Told (Node i) = 12
+Told (Rel i) = 13
+
+told-by : (t : Bool) (k i : ℕ) (r : Element) → eqb k 12 ≡ t → r ≡ cond t (Node i) (Rel i) → (Told r ≡ 12 → k ≡ 12) × (Told r ≡ 13 → (k ≡ 12) → ⊥)
+unfolding Told
+told-by true k i r e h = rw h (λ z. eqb-true k 12 e, λ z. absurd (omega arith))
+told-by false k i r e h = rw h (λ z. absurd (omega arith), λ z. eqb-false k 12 e)
+
+pub is-node : (k i x : ℕ) (r : Element) → r ≡ elementOf k i → r ≡ Node x → k ≡ 12
+unfolding Told
+is-node k i x r h e = told-by (eqb k 12) k i r refl h .0 (rw e)
+
+pub is-rel : (k i x : ℕ) (r : Element) → r ≡ elementOf k i → r ≡ Rel x → (k ≡ 12) → ⊥
+unfolding Told
+is-rel k i x r h e = told-by (eqb k 12) k i r refl h .1 (rw e)
+
+-- ── as a chain ──
+
+pub chain-part : {a b : List ℕ} {d base i e k : ℕ} {m m′ : Mem} → ((sheet : Bytes) (t : Tree patternPart) → Held sheet a b t d i → (s : State) → partL t s ≡ chainL t s) → LowersChain a b d base i e k m m′ → LowersPart a b d base i e k m m′
+chain-part same p = record {
+  moved = p .moved;
+  low = p .low;
+  next = p .next;
+  run = λ sheet t hd W s r bl.
+      let x = p .run sheet t hd W s r bl in
+      let z = same sheet t hd s in
+      record { to = rw z (x .to); root = x .root ∙ ap (λ (y : ℕ × State). y .0) (sym z); low = x .low };
+}
+
+module _ {a b : List ℕ} (d i : ℕ) (room : Roomy a b) where
+  pub no-shortest : cell a b i 4 ≡ 0 → (sheet : Bytes) (t : Tree patternPart) → Held sheet a b t d i → (s : State) → partL t s ≡ chainL t s
+  no-shortest k sheet t hd s = let v = a-part room t hd in v .shaped s ∙ plain-part _ _ _ s k ∙ sym (v .chain s)
+
+  by-shape : (sheet : Bytes) (t : Tree patternPart) (hd : Held sheet a b t d i) → shapeOf (stepsOf (a-part room t hd .elements)) ≡ other → (s : State) → partL t s ≡ chainL t s
+  by-shape sheet t hd e s = let v = a-part room t hd in v .shaped s ∙ other-part _ (cell a b i 4) _ s e ∙ sym (v .chain s)
+
+  pub not-three : ((cell a b i 6 ≡ 3) → ⊥) → (sheet : Bytes) (t : Tree patternPart) → Held sheet a b t d i → (s : State) → partL t s ≡ chainL t s
+  not-three h sheet t hd s = let v = a-part room t hd in by-shape sheet t hd (shape-not-three _ (λ e. h (sym (v .many) ∙ sym (steps-length (v .elements)) ∙ e))) s
+
+-- three elements of another shape
+shape-first : (ss : List Step) (x y z : Step) (r : RelStep) → ss ≡ x ∷ y ∷ z ∷ [] → x ≡ ofRel r → shapeOf ss ≡ other
+unfolding shapeOf
+shape-first ss x y z r e ex = rw (e, ex)
+
+shape-second : (ss : List Step) (x y z : Step) (n m : NodeStep) → ss ≡ x ∷ y ∷ z ∷ [] → x ≡ ofNode n → y ≡ ofNode m → shapeOf ss ≡ other
+unfolding shapeOf
+shape-second ss x y z n m e ex ey = rw (e, ex, ey)
+
+shape-third : (ss : List Step) (x y z : Step) (n : NodeStep) (r q : RelStep) → ss ≡ x ∷ y ∷ z ∷ [] → x ≡ ofNode n → y ≡ ofRel r → z ≡ ofRel q → shapeOf ss ≡ other
+unfolding shapeOf
+shape-third ss x y z n r q e ex ey ez = rw (e, ex, ey, ez)
+
+module _ {a b : List ℕ} (d i : ℕ) {rel : ℕ} (room : Roomy a b) (k6 : cell a b i 6 ≡ 3) (na : Ends a b (i + 1) rel) where
+  -- where the three stand
+  record Stand (sheet : Bytes) (t : Tree patternPart) (v : IsPart sheet a b d i t) : Type 0 where
+    trees : Three (v .elements)
+    first : Held sheet a b (trees .first) (d - 1) (i + 1)
+    second : Held sheet a b (trees .rel) (d - 1) rel
+    third : Held sheet a b (trees .far) (d - 1) (rel + size (trees .rel))
+
+  stand : (sheet : Bytes) (t : Tree patternPart) (hd : Held sheet a b t d i) → Stand sheet t (a-part room t hd)
+  stand sheet t hd =
+      let v = a-part room t hd in
+      let th = three (v .elements) (v .many ∙ k6) in
+      let h = th .held sheet a b (d - 1) (i + 1) (v .held) in
+      let e : rel ≡ i + 1 + size (th .first) = na .each sheet patternElement (d - 1) (th .first) tt (h .0) in
+      record { trees = th; first = h .0; second = rw e (h .1); third = rw e (h .2) }
+
+  pub some-first : SomeTree a b patternPart d i → SomeTree a b patternElement (d - 1) (i + 1)
+  some-first x = let s = stand (x .sheet) (x .tree) (x .held) in record { sheet = x .sheet; tree = s .trees .first; held = s .first }
+
+  pub some-second : SomeTree a b patternPart d i → SomeTree a b patternElement (d - 1) rel
+  some-second x = let s = stand (x .sheet) (x .tree) (x .held) in record { sheet = x .sheet; tree = s .trees .rel; held = s .second }
+
+  pub not-first : ((cell a b (i + 1) 0 ≡ 12) → ⊥) → (sheet : Bytes) (t : Tree patternPart) → Held sheet a b t d i → (s : State) → partL t s ≡ chainL t s
+  not-first h sheet t hd s =
+      let x = stand sheet t hd in
+      let v = a-rel room (x .trees .first) (x .first) (other-element room sheet (d - 1) (i + 1) (x .trees .first) (x .first) h) in
+      by-shape d i room sheet t hd (shape-first _ _ _ _ _ (x .trees .steps) (v .step)) s
+
+  pub not-second : cell a b (i + 1) 0 ≡ 12 → cell a b rel 0 ≡ 12 → (sheet : Bytes) (t : Tree patternPart) → Held sheet a b t d i → (s : State) → partL t s ≡ chainL t s
+  not-second h h′ sheet t hd s =
+      let x = stand sheet t hd in
+      let v = a-node room (x .trees .first) (x .first) h in
+      let w = a-node room (x .trees .rel) (x .second) h′ in
+      by-shape d i room sheet t hd (shape-second _ _ _ _ _ _ (x .trees .steps) (v .step) (w .step)) s
+
+  module _ {far : ℕ} (nr : Ends a b rel far) where
+    third-at : (sheet : Bytes) (t : Tree patternPart) (hd : Held sheet a b t d i) → Held sheet a b (stand sheet t hd .trees .far) (d - 1) far
+    third-at sheet t hd = let x = stand sheet t hd in rw (nr .each sheet patternElement (d - 1) (x .trees .rel) tt (x .second)) (x .third)
+
+    pub some-third : SomeTree a b patternPart d i → SomeTree a b patternElement (d - 1) far
+    some-third x = record { sheet = x .sheet; tree = stand (x .sheet) (x .tree) (x .held) .trees .far; held = third-at (x .sheet) (x .tree) (x .held) }
+
+    pub not-third : cell a b (i + 1) 0 ≡ 12 → ((cell a b rel 0 ≡ 12) → ⊥) → ((cell a b far 0 ≡ 12) → ⊥) → (sheet : Bytes) (t : Tree patternPart) → Held sheet a b t d i → (s : State) → partL t s ≡ chainL t s
+    not-third h h′ h″ sheet t hd s =
+        let x = stand sheet t hd in
+        let v = a-node room (x .trees .first) (x .first) h in
+        let w = a-rel room (x .trees .rel) (x .second) (other-element room sheet (d - 1) rel (x .trees .rel) (x .second) h′) in
+        let z = a-rel room (x .trees .far) (third-at sheet t hd) (other-element room sheet (d - 1) far (x .trees .far) (third-at sheet t hd) h″) in
+        by-shape d i room sheet t hd (shape-third _ _ _ _ _ _ _ (x .trees .steps) (v .step) (w .step) (z .step)) s
+
+pub other-kind : {a b : List ℕ} {d i : ℕ} → Roomy a b → SomeTree a b patternElement d i → ((cell a b i 0 ≡ 12) → ⊥) → cell a b i 0 ≡ 13
+other-kind {d = d} {i = i} room x h = other-element room (x .sheet) d i (x .tree) (x .held) h
+
+pub starts : {a b : List ℕ} {d i : ℕ} → SomeTree a b patternElement d i → Starts a b i
+starts {d = d} x = record { sheet = x .sheet; sort = patternElement; depth = d; tree = x .tree; inner = tt; held = x .held }
+
+pub low-at : {a b : List ℕ} {d i : ℕ} → SomeTree a b patternElement d i → i < 2048
+low-at {a} {b} {d} {i} x = let f = tree-fits (x .sheet) a b (x .tree) d i (x .held) in omega arith

@@ -1,0 +1,149 @@
+-- A node with its number: the source, and the filter by its props. Assumes nothing.
+use mathlib.Core.Path.{_≡_, refl, sym, ap, subst, _∙_}
+use Prim.Native.Nat.{ℕ, zero, suc, _+_, _*_, _-_, _≤_, _<_}
+use native.Mathlib.Nat.{le-refl}
+use native.Mathlib.Omega.{arith}
+use mathlib.Core.Bool.{Bool, true, false}
+use mathlib.Core.List.{List, [], _∷_, _++_, append-nil}
+use mathlib.Core.Option.{Option, none, some}
+use lib.ListN.{length, getD}
+use Rattle.model.specs.Text.{Bytes}
+use Rattle.model.specs.Kind.{ReadOp, patternElement, expr, name}
+use Rattle.model.specs.Record.{one}
+use Rattle.model.specs.Tree.{Tree, Trees, toList, fold, foldOf}
+use Rattle.model.specs.Lower.{Recs, Lowering, Lowered, made, _>>=_, ret, push, op, source, filter, filterByProps, propsOf, lowerExpr, NodeStep, ofNode, at}
+use Rattle.words.specs.Words.{Roomy, cell, optionOf}
+use Rattle.words.specs.Held.{Held, HeldOf, size, sizeOf}
+use Rattle.context.specs.Tables.{Op, Pushed}
+use Rattle.context.specs.declared.LowerCtx.{LowerCtx}
+use Rattle.lower.specs.Render.{Notes, Ops}
+use Rattle.lower.specs.Shows.{shift, Shows, shows-source, shows-filter}
+use Rattle.lower.specs.Rep.{State, Mem, mem, Written, Sub, Blank, Future, Rep, To, Ran, Rooted, Good, Moved}
+use Rattle.lower.specs.Pieces.{exprPiece, SomeTree, LowersExpr}
+use Rattle.lower.specs.Chains.{stepOf, startL, LowersStart}
+use Rattle.lower.proofs.State.{sub-refl, sub-then, sub-more, sub-within, blank-within, blank-before, blank-behind, back, rep-wider, to-refl, to-then, to-wider, push-to}
+use Rattle.lower.proofs.Fits.{tree-fits}
+use Rattle.lower.proofs.Exprs.{moved-within, narrow}
+use Rattle.lower.proofs.Elements.{names-render, names-size, IsElement, IsNode, a-node, OneProp, one-prop, no-prop, same-node}
+
+abbrev pub sourceOp : (i number d base : ℕ) → Op
+sourceOp i number d base = record { kind = 1; idx = i; input = 0; x = number; y = 0; left = d - 1; base = base }
+
+abbrev pub filterOp : (i input d base : ℕ) → Op
+filterOp i input d base = record { kind = 2; idx = i; input = input; x = 0; y = 0; left = d - 1; base = base }
+
+module _ {a b : List ℕ} (d i : ℕ) (room : Roomy a b) (k12 : cell a b i 0 ≡ 12) where
+  pub some-end : SomeTree a b patternElement d i → i + 1 + cell a b i 4 ≤ 2048
+  some-end x =
+      let v = a-node room (x .tree) (x .held) k12 .el in
+      let f = tree-fits (x .sheet) a b (x .tree) d i (x .held) in
+      let z = v .sized in
+      let y = v .many in
+      omega arith
+
+  -- the expression behind the names
+  pub some-prop : SomeTree a b patternElement d i → ((cell a b i 6 ≡ 0) → ⊥) → SomeTree a b expr (d - 1) (i + 1 + cell a b i 4)
+  some-prop x h =
+      let v = a-node room (x .tree) (x .held) k12 .el in
+      let o = one-prop (v .p) (v .props) (λ e. h (sym (v .flagged) ∙ e)) in
+      record { sheet = x .sheet; tree = o .tree; held = o .held (x .sheet) a b (d - 1) _ (rw (v .many) at (v .held-props)) }
+
+-- its props
+props-of : {a b : List ℕ} (d i : ℕ) (room : Roomy a b) (k12 : cell a b i 0 ≡ 12) (sheet : Bytes) (t : Tree patternElement) (n : NodeStep) (hd : Held sheet a b t d i) → stepOf t ≡ ofNode n → n .props ≡ propsOf (a-node room t hd k12 .el .p) (foldOf Lowered made (a-node room t hd k12 .el .props))
+props-of d i room k12 sheet t n hd st = ap (λ (x : NodeStep). x .props) (same-node (sym st ∙ a-node room t hd k12 .step))
+
+bare-root : (number k : ℕ) (n : NodeStep) (s : State) → n .props ≡ none → k ≡ length (s .ops) → (startL number n s .1 ≡ push (source number (n .labels)) s .1) × (k ≡ startL number n s .0)
+unfolding _>>=_ push filterByProps ret
+bare-root number k n s e ek = rw e (refl, ek)
+
+-- the state behind a source, and a filter by props
+abbrev sourced : ℕ → NodeStep → State → State
+sourced number n s = push (source number (n .labels)) s .1
+
+filter-root : (number : ℕ) (n : NodeStep) (e : Tree expr) (s : State) → n .props ≡ some (λ z. lowerExpr e z) → startL number n s ≡ push (filter (length (s .ops)) (lowerExpr e (sourced number n s) .0)) (lowerExpr e (sourced number n s) .1)
+unfolding _>>=_ push filterByProps
+filter-root number n e s h = rw h
+
+filter-is : (k k′ : ℕ) (rs rs′ : Recs) → k ≡ k′ → rs ≡ rs′ → filter k′ rs′ ≡ op ReadOp.Filter (k, tt) ∷ rs
+unfolding filter
+filter-is k k′ rs rs′ e e′ = rw (e, e′)
+
+module _ {a b : List ℕ} {base number : ℕ} {c : LowerCtx} {os′ : List ℕ} {m : Mem} (d i : ℕ) (room : Roomy a b) (k12 : cell a b i 0 ≡ 12) (ps : Pushed (m .ctx) c (m .ops) os′ (sourceOp i number d base)) (lo : length os′ ≡ length (m .ops)) where
+  -- the source
+  source-to : (sheet : Bytes) (t : Tree patternElement) (n : NodeStep) → Held sheet a b t d i → stepOf t ≡ ofNode n → (W : Written) (s : State) → Rep sheet a b W s m → To sheet a b W W s (push (source number (n .labels)) s .1) m (mem c os′ (m .rest))
+  source-to sheet t n hd st W s r =
+      let v = a-node room t hd k12 in
+      let e : n ≡ record { bind = optionOf (cell a b i 2) (cell a b i 3); labels = toList (v .el .n) (foldOf Lowered made (v .el .names)); props = propsOf (v .el .p) (foldOf Lowered made (v .el .props)) } = same-node (sym st ∙ v .step) in
+      push-to m c os′ (sourceOp i number d base) (source number (n .labels)) r ps
+      (λ N A f. shows-source refl (record {
+        count = v .el .n;
+        labels = v .el .names;
+        counted = v .el .many;
+        held = v .el .held-names;
+        is = ap (λ (x : Recs). source number x) (ap (λ (x : NodeStep). x .labels) e ∙ sym (names-render (shift N base) A (v .el .names)));
+      }))
+
+  module _ (k6 : cell a b i 6 ≡ 0) where
+    bare-run : (sheet : Bytes) (t : Tree patternElement) (n : NodeStep) → Held sheet a b t d i → stepOf t ≡ ofNode n → (W : Written) (s : State) → Rep sheet a b W s m → Rooted sheet a b W (startL number n) (m .ctx .ops) base (suc (i + 1)) (suc (i + 1 + cell a b i 4)) s m (mem c os′ (m .rest))
+    bare-run sheet t n hd st W s r =
+        let v = a-node room t hd k12 .el in
+        let z = bare-root number (m .ctx .ops) n s (props-of d i room k12 sheet t n hd st ∙ no-prop (v .p) (v .props) (v .flagged ∙ k6) .0) (r .count) in
+        record {
+          to = rw (z .0) (to-wider (sub-more (base + suc (i + 1), base + suc (i + 1 + cell a b i 4)) W) (source-to sheet t n hd st W s r));
+          root = z .1;
+          low = let e : c .ops ≡ m .ctx .ops + 1 = ps .count in omega arith;
+        }
+
+    pub bare-law : SomeTree a b patternElement d i → LowersStart a b d base i number (i + 1 + cell a b i 4) (m .ctx .ops) m (mem c os′ (m .rest))
+    bare-law x =
+        let l = some-end d i room k12 x in
+        record {
+          moved = record { up = omega arith; here = l; few = omega (arith, ps .count); low = omega (arith, ps .next); met = omega (arith, ps .mapped); in-ops = lo; in-rest = refl };
+          numbers = omega (arith, ps .next);
+          mapped = omega (arith, ps .mapped);
+          low = omega (arith, ps .count);
+          next = λ sheet t hd. (let v = a-node room t hd k12 .el in let z = no-prop (v .p) (v .props) (v .flagged ∙ k6) .1 in let y = v .sized in let w = v .many in omega arith);
+          run = λ sheet t n hd st W s r bl. bare-run sheet t n hd st W s r;
+        }
+
+  module _ {e : ℕ} {c₃ : LowerCtx} {os₃ : List ℕ} {m₂ : Mem} (k6 : (cell a b i 6 ≡ 0) → ⊥) (ex : LowersExpr a b (d - 1) base (i + 1 + cell a b i 4) e (mem c os′ (m .rest)) m₂) (pf : Pushed (m₂ .ctx) c₃ (m₂ .ops) os₃ (filterOp (i + 1 + cell a b i 4) (m .ctx .ops) d base)) (lo₃ : length os₃ ≡ length (m₂ .ops)) where
+    prop-at : (sheet : Bytes) (t : Tree patternElement) (hd : Held sheet a b t d i) → OneProp (a-node room t hd k12 .el .p) (a-node room t hd k12 .el .props)
+    prop-at sheet t hd = let v = a-node room t hd k12 .el in one-prop (v .p) (v .props) (λ z. k6 (sym (v .flagged) ∙ z))
+
+    prop-held : (sheet : Bytes) (t : Tree patternElement) (hd : Held sheet a b t d i) → Held sheet a b (prop-at sheet t hd .tree) (d - 1) (i + 1 + cell a b i 4)
+    prop-held sheet t hd = let v = a-node room t hd k12 .el in prop-at sheet t hd .held sheet a b (d - 1) _ (rw (v .many) at (v .held-props))
+
+    filtered-run : (sheet : Bytes) (t : Tree patternElement) (n : NodeStep) → Held sheet a b t d i → stepOf t ≡ ofNode n → (W : Written) (s : State) → Rep sheet a b W s m → Blank W (base + suc (i + 1)) (base + suc e) → Rooted sheet a b W (startL number n) (m₂ .ctx .ops) base (suc (i + 1)) (suc e) s m (mem c₃ os₃ (m₂ .rest))
+    unfolding push
+    filtered-run sheet t n hd st W s r bl =
+        let u = ex .moved .up in
+        let j : ℕ = i + 1 + cell a b i 4 in
+        let o = prop-at sheet t hd in
+        let z = filter-root number n (o .tree) s (props-of d i room k12 sheet t n hd st ∙ o .is) in
+        let a₁ = source-to sheet t n hd st W s r in
+        let a₂ = ex .run sheet (o .tree) (prop-held sheet t hd) W (sourced number n s) (a₁ .rep) (blank-within (omega arith) (le-refl _) bl) in
+        let s₂ : State = lowerExpr (o .tree) (sourced number n s) .1 in
+        let a₃ = push-to m₂ c₃ os₃ (filterOp j (m .ctx .ops) d base) (filter (length (s .ops)) (lowerExpr (o .tree) (sourced number n s) .0)) (a₂ .to .rep) pf
+        (λ N A f. shows-filter refl (record {
+          tree = o .tree;
+          held = prop-held sheet t hd;
+          below = a₂ .below N A f;
+          is = filter-is (m .ctx .ops) (length (s .ops)) _ _ (r .count) (a₂ .shown N A f);
+        })) in
+        record {
+          to = rw z (to-wider (sub-within (omega arith) (le-refl _) (sub-more (base + suc (i + 1), base + suc e) W)) (to-then a₁ (to-then (a₂ .to) a₃)));
+          root = rw z (a₂ .to .rep .count);
+          low = let w : c₃ .ops ≡ m₂ .ctx .ops + 1 = pf .count in omega arith;
+        }
+
+    pub filtered-law : LowersStart a b d base i number e (m₂ .ctx .ops) m (mem c₃ os₃ (m₂ .rest))
+    filtered-law =
+        let v = ex .moved in
+        record {
+          moved = record { up = omega (arith, v .up); here = v .here; few = omega (arith, ps .count, pf .count, v .few); low = omega (arith, ps .next, pf .next, v .low, v .up); met = omega (arith, ps .mapped, pf .mapped, v .met, v .up); in-ops = lo₃ ∙ v .in-ops ∙ lo; in-rest = v .in-rest };
+          numbers = omega (arith, ps .next, pf .next, v .low, v .up);
+          mapped = omega (arith, ps .mapped, pf .mapped, v .met, v .up);
+          low = omega (arith, pf .count);
+          next = λ sheet t hd. (let w = a-node room t hd k12 .el in let q = ex .next sheet (prop-at sheet t hd .tree) (prop-held sheet t hd) in let y = w .sized in let x = w .many in let z = prop-at sheet t hd .sized in omega arith);
+          run = filtered-run;
+        }

@@ -1,0 +1,76 @@
+-- How many children a record has, by its words; and records one after another, as many as are due. Assumes nothing: these are definitions.
+use mathlib.Core.Path.{_≡_}
+use Prim.Native.Nat.{ℕ, zero, suc, _+_, _*_}
+use mathlib.Core.Bool.{cond}
+use mathlib.Core.List.{List, [], _∷_}
+use lib.Dec.{eqb}
+use Rattle.model.specs.Text.{Bytes}
+use Rattle.model.specs.Kind.{Sort, statement, unionArm, clause, projection, orderItem, patternPart, patternElement, name, yieldItem, entry, expr, inPlan}
+use Rattle.model.specs.Record.{Group, children}
+use Rattle.model.specs.Tree.{Tree, node}
+use Rattle.words.specs.Words.{cell}
+use Rattle.words.specs.Held.{Held, size}
+
+-- the sorts of what stands in a pattern or an expression
+abbrev pub Inner : Sort → Type 0
+Inner statement = ⊥
+Inner unionArm = ⊥
+Inner clause = ⊥
+Inner projection = ⊥
+Inner orderItem = ⊥
+Inner patternPart = Unit {0}
+Inner patternElement = Unit {0}
+Inner name = Unit {0}
+Inner yieldItem = ⊥
+Inner entry = Unit {0}
+Inner expr = Unit {0}
+Inner (inPlan p) = ⊥
+
+abbrev pub total : List Group → ℕ
+total [] = 0
+total (g ∷ gs) = g .1 + total gs
+
+abbrev pub kidsOf : {s : Sort} → Tree s → ℕ
+kidsOf (node s line k f kids) = total (children s k f)
+
+-- by the number of the kind and the first words of the fields
+unfoldable pub countBy : (kind x y z u : ℕ) → ℕ
+countBy kind x y z u =
+    cond (eqb kind 11) z
+    (cond (eqb kind 12) (y + z)
+    (cond (eqb kind 13) (y + u)
+    (cond (eqb kind 16) 1
+    (cond (eqb kind 23) 1
+    (cond (eqb kind 24) 2
+    (cond (eqb kind 25) (1 + x + y)
+    (cond (eqb kind 26) x
+    (cond (eqb kind 27) 2
+    (cond (eqb kind 28) 1
+    (cond (eqb kind 29) (x + y * 2 + z)
+    (cond (eqb kind 30) 1
+    (cond (eqb kind 31) 2
+    (cond (eqb kind 33) x
+    (cond (eqb kind 34) y
+    (cond (eqb kind 35) x
+    (cond (eqb kind 36) (1 + z) 0))))))))))))))))
+
+abbrev pub countAt : (a b : List ℕ) (i : ℕ) → ℕ
+countAt a b i = countBy (cell a b i 0) (cell a b i 2) (cell a b i 4) (cell a b i 6) (cell a b i 10)
+
+-- n trees stand one after another from record i on, and end at e
+pub data Due (sheet : Bytes) (a b : List ℕ) (e : ℕ) : (n i : ℕ) → Type 0 where
+  none-due : {i : ℕ} → i ≡ e → Due sheet a b e zero i
+  one-due : {n i : ℕ} (s : Sort) (d : ℕ) (t : Tree s) → Inner s → Held sheet a b t d i → Due sheet a b e n (i + size t) → Due sheet a b e (suc n) i
+
+-- some tree is held whose record is one of a pattern or an expression
+pub record Starts (a b : List ℕ) (i : ℕ) : Type 0 where
+  pub sheet : Bytes
+  pub sort : Sort
+  pub depth : ℕ
+  pub tree : Tree sort
+  pub inner : Inner sort
+  pub held : Held sheet a b tree depth i
+
+-- the record behind any such tree
+pub record Ends (a b : List ℕ) (i e : ℕ) : Type 0 where
+  pub each : (sheet : Bytes) (s : Sort) (d : ℕ) (t : Tree s) → Inner s → Held sheet a b t d i → e ≡ i + size t

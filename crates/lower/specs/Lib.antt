@@ -1,0 +1,8 @@
+pub mod Cells
+pub mod Count
+pub mod Render
+pub mod Shows
+pub mod Rep
+pub mod Pieces
+pub mod Patterns
+pub mod Chains

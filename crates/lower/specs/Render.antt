@@ -1,0 +1,132 @@
+-- What trees come to in the plan, read off the numbers that are noted at their records: a note is kept by the record's line, and a pattern's copy is of the operator noted at it. Assumes nothing: these are definitions.
+use mathlib.Core.Path.{_≡_}
+use Prim.Native.Nat.{ℕ, zero, suc, _+_, _<_}
+use mathlib.Core.Bool.{Bool, true, false}
+use mathlib.Core.List.{List, [], _∷_, _++_}
+use mathlib.Core.Option.{Option, none, some}
+use Rattle.model.specs.Text.{Bytes}
+use Rattle.model.specs.Field.{Fields}
+use Rattle.model.specs.Kind.{Sort, Kind, PatternElement, Same, Expr, ReadOp, PlanExpr}
+use Rattle.model.specs.Kind.{statement, unionArm, clause, projection, orderItem, patternPart, patternElement, name, yieldItem, entry, expr, inPlan}
+use Rattle.model.specs.Kind.{readOp, relSpec, nodeSpec, planProjection, aggExpr, orderKey, pathElement, planEntry, planExpr}
+use Rattle.model.specs.Record.{Rec, rec, Group, one, forms, exprForms, elementForms, children, elementChildren}
+use Rattle.model.specs.Tree.{Tree, Trees, Forest, node, []ᵗ, _∷ᵗ_, end, _▸_}
+use Rattle.model.specs.Lower.{Recs, planned, op, item, aliasOr, synthesiseAlias}
+
+-- what is noted at a line: the number issued at its record, or a pattern's root operator
+abbrev pub Notes : Type 0
+Notes = ℕ → ℕ
+
+-- operators by number
+abbrev pub Ops : Type 0
+Ops = ℕ → Recs
+
+-- an expression, over what its children come to
+unfoldable pub exprRecs : Notes → Ops → (line : ℕ) (k : Expr) → Fields (exprForms k) → Recs → Recs
+exprRecs N A line (Expr.Over h) f rs = planned (PlanExpr.Over h) f ∷ rs
+exprRecs N A line Expr.Var f rs = planned PlanExpr.Var (N line, tt) ∷ []
+exprRecs N A line Expr.Map (n, _) rs = planned PlanExpr.Map (n, tt) ∷ rs
+exprRecs N A line Expr.Call (func, (n, _)) rs = planned PlanExpr.Call (func, (n, tt)) ∷ rs
+exprRecs N A line Expr.PatternPredicate f rs = planned PlanExpr.Exists tt ∷ A (N line)
+exprRecs N A line Expr.ListPredicate (kind, (id, (pred, _))) rs = planned PlanExpr.ListPredicate (kind, (N line, (pred, tt))) ∷ rs
+exprRecs N A line Expr.Unresolved f rs = planned (PlanExpr.Over Same.Null) tt ∷ []
+exprRecs N A line Expr.Undesugared f rs = planned (PlanExpr.Over Same.Null) tt ∷ []
+
+-- the name of an item without an alias
+unfoldable pub nameOf : Forest ((expr, 1) ∷ []) → Bytes
+nameOf ((e ∷ᵗ []ᵗ) ▸ end) = synthesiseAlias e
+
+-- a record, over what its children come to
+unfoldable pub recsOver : Notes → Ops → (s : Sort) (line : ℕ) (k : Kind s) (f : Fields (forms s k)) → Forest (children s k f) → Recs → Recs
+recsOver N A statement line k f kids rs = []
+recsOver N A unionArm line k f kids rs = []
+recsOver N A clause line k f kids rs = []
+recsOver N A projection line k (alias, _) kids rs = item (aliasOr alias (nameOf kids)) rs
+recsOver N A orderItem line k (descending, _) kids rs = rec (inPlan orderKey) tt (descending, tt) ∷ rs
+recsOver N A patternPart line k f kids rs = []
+recsOver N A patternElement line k f kids rs = []
+recsOver N A name line k f kids rs = rec name k f ∷ []
+recsOver N A yieldItem line k (column, (id, _)) kids rs = rec yieldItem tt (column, (N line, tt)) ∷ []
+recsOver N A entry line k (key, _) kids rs = rec (inPlan planEntry) tt (key, tt) ∷ rs
+recsOver N A expr line k f kids rs = exprRecs N A line k f rs
+recsOver N A (inPlan p) line k f kids rs = []
+
+unfoldable mutual
+  pub render : Notes → Ops → {s : Sort} → Tree s → Recs
+  render N A (node s line k f kids) = recsOver N A s line k f kids (renderIn N A kids)
+
+  pub renderOf : Notes → Ops → {s : Sort} {n : ℕ} → Trees s n → Recs
+  renderOf N A []ᵗ = []
+  renderOf N A (t ∷ᵗ ts) = render N A t ++ renderOf N A ts
+
+  pub renderIn : Notes → Ops → {gs : List Group} → Forest gs → Recs
+  renderIn N A end = []
+  renderIn N A (ts ▸ f) = renderOf N A ts ++ renderIn N A f
+
+-- every copy is of an operator below b
+unfoldable pub copiesBelow : Notes → ℕ → (line : ℕ) → Expr → Type 0 → Type 0
+copiesBelow N b line (Expr.Over h) inside = inside
+copiesBelow N b line Expr.Var inside = Unit {0}
+copiesBelow N b line Expr.Map inside = inside
+copiesBelow N b line Expr.Call inside = inside
+copiesBelow N b line Expr.PatternPredicate inside = N line < b
+copiesBelow N b line Expr.ListPredicate inside = inside
+copiesBelow N b line Expr.Unresolved inside = Unit {0}
+copiesBelow N b line Expr.Undesugared inside = Unit {0}
+
+unfoldable pub belowIn : Notes → ℕ → (s : Sort) (line : ℕ) → Kind s → Type 0 → Type 0
+belowIn N b statement line k inside = Unit {0}
+belowIn N b unionArm line k inside = Unit {0}
+belowIn N b clause line k inside = Unit {0}
+belowIn N b projection line k inside = inside
+belowIn N b orderItem line k inside = inside
+belowIn N b patternPart line k inside = Unit {0}
+belowIn N b patternElement line k inside = Unit {0}
+belowIn N b name line k inside = Unit {0}
+belowIn N b yieldItem line k inside = Unit {0}
+belowIn N b entry line k inside = inside
+belowIn N b expr line k inside = copiesBelow N b line k inside
+belowIn N b (inPlan p) line k inside = Unit {0}
+
+unfoldable mutual
+  pub Below : Notes → ℕ → {s : Sort} → Tree s → Type 0
+  Below N b (node s line k f kids) = belowIn N b s line k (BelowIn N b kids)
+
+  pub BelowOf : Notes → ℕ → {s : Sort} {n : ℕ} → Trees s n → Type 0
+  BelowOf N b []ᵗ = Unit {0}
+  BelowOf N b (t ∷ᵗ ts) = Below N b t × BelowOf N b ts
+
+  pub BelowIn : Notes → ℕ → {gs : List Group} → Forest gs → Type 0
+  BelowIn N b end = Unit {0}
+  BelowIn N b (ts ▸ f) = BelowOf N b ts × BelowIn N b f
+
+-- ── pattern elements ──
+
+abbrev pub lineOf : {s : Sort} → Tree s → ℕ
+lineOf (node s line k f kids) = line
+
+-- the forest of a tree, rendered
+unfoldable pub kidsRecs : Notes → Ops → {s : Sort} → Tree s → Recs
+kidsRecs N A (node s line k f kids) = renderIn N A kids
+
+unfoldable pub KidsBelow : Notes → ℕ → {s : Sort} → Tree s → Type 0
+KidsBelow N b (node s line k f kids) = BelowIn N b kids
+
+-- `rel` without variable or span, and `to`
+unfoldable pub specRec : (k : PatternElement) → Fields (elementForms k) → Rec
+specRec PatternElement.Node (bind, (n, (p, _))) = rec (inPlan nodeSpec) tt (n, (p, tt))
+specRec PatternElement.Rel (bind, (n, (direction, (length, (p, _))))) = rec (inPlan relSpec) tt (n, (direction, (length, (p, tt))))
+
+unfoldable pub specRecs : Notes → Ops → Tree patternElement → Recs
+specRecs N A (node patternElement line k f kids) = specRec k f ∷ renderIn N A kids
+
+-- the numbers of a path: every node's, and a rel's where a node stands before it and the next element is a node
+unfoldable pub keptRel : Notes → Bool → Option ℕ → List ℕ
+keptRel N seen none = []
+keptRel N false (some line) = []
+keptRel N true (some line) = N line ∷ []
+
+unfoldable pub keptFrom : Notes → Bool → Option ℕ → {n : ℕ} → Trees patternElement n → List ℕ
+keptFrom N seen waits []ᵗ = []
+keptFrom N seen waits (node patternElement line PatternElement.Node f kids ∷ᵗ ts) = keptRel N seen waits ++ (N line ∷ keptFrom N true none ts)
+keptFrom N seen waits (node patternElement line PatternElement.Rel f kids ∷ᵗ ts) = keptFrom N seen (some line) ts

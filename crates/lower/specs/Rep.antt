@@ -1,0 +1,109 @@
+-- How the tables stand for a state of the lowering, now and whatever is written behind. Assumes nothing: these are definitions.
+use mathlib.Core.Path.{_≡_}
+use Prim.Native.Nat.{ℕ, zero, suc, _+_, _*_, _≤_, _<_}
+use mathlib.Core.List.{List, [], _∷_, _++_}
+use mathlib.Core.Logic.{_⊎_}
+use lib.ListN.{length, getD, drop}
+use Rattle.model.specs.Text.{Bytes}
+use Rattle.model.specs.Lower.{Recs, Lowering, at}
+use Rattle.model.specs.Lower
+use Rattle.context.specs.Tables.{stateOf, opAt, varsAt, maxStored}
+use Rattle.context.specs.declared.LowerCtx.{LowerCtx}
+use Rattle.lower.specs.Render.{Notes, Ops}
+use Rattle.lower.specs.Shows.{Shows, shift}
+
+abbrev pub State : Type 0
+State = Lower.LowerCtx
+
+-- what the lowering works on
+pub record Mem : Type 0 where
+  pub ctx : LowerCtx
+  pub ops : List ℕ
+  pub rest : List ℕ
+
+abbrev pub mem : LowerCtx → List ℕ → List ℕ → Mem
+mem c os rs = record { ctx = c; ops = os; rest = rs }
+
+abbrev pub notes : Mem → Notes
+notes m q = getD (m .rest) q 0
+
+-- ── what is written ──
+
+-- the notes that are written, by ranges
+abbrev pub Written : Type 0
+Written = List (ℕ × ℕ)
+
+abbrev pub In : Written → ℕ → Type 0
+In [] q = ⊥
+In (w ∷ W) q = ((w .0 ≤ q) × (q < w .1)) ⊎ In W q
+
+pub record Sub (W W′ : Written) : Type 0 where
+  pub at : (q : ℕ) → In W q → In W′ q
+
+pub record Blank (W : Written) (lo hi : ℕ) : Type 0 where
+  pub at : (q : ℕ) → lo ≤ q → q < hi → In W q → ⊥
+
+-- the written notes are the same
+pub record Agree (W : Written) (N N′ : Notes) : Type 0 where
+  pub at : (q : ℕ) → q < varsAt → In W q → N′ q ≡ N q
+
+-- ── the state ──
+
+-- notes and operators as they may be later: what is written stays
+pub record Future (W : Written) (s : State) (m : Mem) (N : Notes) (A : Ops) : Type 0 where
+  pub notes : Agree W (notes m) N
+  pub ops : (k : ℕ) → k < m .ctx .ops → A k ≡ at (s .ops) k
+
+-- the counts are exact, also past the table's end; those operators that it has room for are stored
+pub record Rep (sheet : Bytes) (a b : List ℕ) (W : Written) (s : State) (m : Mem) : Type 0 where
+  pub count : m .ctx .ops ≡ length (s .ops)
+  pub state : stateOf (s .ops) (m .ctx) (drop varsAt (m .rest)) ≡ s
+  pub shows : (k : ℕ) → k < m .ctx .ops → k < maxStored → (N : Notes) (A : Ops) → Future W s m N A → Shows sheet a b N A k (opAt (m .ops) k) (at (s .ops) k)
+
+-- the state s in m has become s′ in m′
+pub record To (sheet : Bytes) (a b : List ℕ) (W W′ : Written) (s s′ : State) (m m′ : Mem) : Type 0 where
+  pub rep : Rep sheet a b W′ s′ m′
+  pub sub : Sub W W′
+  pub kept : Agree W (notes m) (notes m′)
+  pub old : (k : ℕ) → k < m .ctx .ops → at (s′ .ops) k ≡ at (s .ops) k
+  pub grow : m .ctx .ops ≤ m′ .ctx .ops
+
+-- ── what is lowered to records ──
+
+pub record Piece : Type 1 where
+  pub lower : Lowering Recs
+  pub render : Notes → Ops → Recs
+  pub below : Notes → ℕ → Type 0
+
+-- a piece is lowered, whose notes are those from line lo to hi of the pass at base
+pub record Ran (sheet : Bytes) (a b : List ℕ) (W : Written) (P : Piece) (base lo hi : ℕ) (s : State) (m m′ : Mem) : Type 0 where
+  pub to : To sheet a b W ((base + lo, base + hi) ∷ W) s (P .lower s .1) m m′
+  pub shown : (N : Notes) (A : Ops) → Future ((base + lo, base + hi) ∷ W) (P .lower s .1) m′ N A → P .render (shift N base) A ≡ P .lower s .0
+  pub below : (N : Notes) (A : Ops) → Future ((base + lo, base + hi) ∷ W) (P .lower s .1) m′ N A → P .below (shift N base) (m′ .ctx .ops)
+
+-- an operator is pushed in the end, whose number is k
+pub record Rooted (sheet : Bytes) (a b : List ℕ) (W : Written) (L : Lowering ℕ) (k base lo hi : ℕ) (s : State) (m m′ : Mem) : Type 0 where
+  pub to : To sheet a b W ((base + lo, base + hi) ∷ W) s (L s .1) m m′
+  pub root : k ≡ L s .0
+  pub low : k < m′ .ctx .ops
+
+-- ── safety ──
+
+-- there is room at record i, for what is at most d deep
+pub record Good (d i : ℕ) (m : Mem) : Type 0 where
+  pub few : m .ctx .ops + d ≤ 30000 + 2 * i
+  pub low : m .ctx .next + d ≤ 30000 + i
+  pub met : m .ctx .mapped + d ≤ 2200 + i
+  pub here : i ≤ 2048
+  pub in-ops : 16384 ≤ length (m .ops)
+  pub in-rest : 16384 ≤ length (m .rest)
+
+-- what the lowering of records i to e does whatever the state
+pub record Moved (i e : ℕ) (m m′ : Mem) : Type 0 where
+  pub up : i ≤ e
+  pub here : e ≤ 2048
+  pub few : m′ .ctx .ops + 2 * i ≤ m .ctx .ops + 2 * e
+  pub low : m′ .ctx .next + i ≤ m .ctx .next + e
+  pub met : m′ .ctx .mapped + i ≤ m .ctx .mapped + e
+  pub in-ops : length (m′ .ops) ≡ length (m .ops)
+  pub in-rest : length (m′ .rest) ≡ length (m .rest)
