@@ -206,7 +206,7 @@ module _ {a b : List ℕ} (d base : ℕ) (ch : Chain) {e k place : ℕ} {os rest
 
 -- ── a node behind a rel ──
 
-rel-kind : {a b : List ℕ} (room : Roomy a b) (sheet : Bytes) (d i : ℕ) (t : Tree patternElement) (r : RelStep) → Held sheet a b t d i → stepOf t ≡ ofRel r → cell a b i 0 ≡ 13
+pub rel-kind : {a b : List ℕ} (room : Roomy a b) (sheet : Bytes) (d i : ℕ) (t : Tree patternElement) (r : RelStep) → Held sheet a b t d i → stepOf t ≡ ofRel r → cell a b i 0 ≡ 13
 unfolding Held elementNumber fold made elementStep
 rel-kind room sheet d i (node patternElement line PatternElement.Node (bind, (n, (p, (span, u)))) (names ▸ props ▸ end)) r hd e = absurd (step-apart e)
 rel-kind room sheet d i (node patternElement line PatternElement.Rel f kids) r hd e = element-number room (hd .1)

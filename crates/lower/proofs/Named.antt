@@ -196,3 +196,7 @@ module _ {a b : List ℕ} {n d base i e k place : ℕ} {rest′ : List ℕ} {m m
 
 pub pattern-some : {a b : List ℕ} {n d i : ℕ} → ((sheet : Bytes) (t : Tree expr) → Held sheet a b t d i → Matched sheet a b d i t) → n ≡ cell a b i 2 → SomeTree a b expr d i → SomeTrees a b patternPart n (d - 1) (i + 1)
 pattern-some see en x = let o = see (x .sheet) (x .tree) (x .held) in rw (en ∙ o .total) (record { sheet = x .sheet; trees = o .parts; held = o .held })
+
+pub count-none : (a b : List ℕ) (i : ℕ) → cell a b i 0 ≡ 32 → 0 ≡ countAt a b i
+unfolding countBy
+count-none a b i e = rw e

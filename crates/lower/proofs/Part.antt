@@ -137,3 +137,13 @@ starts {d = d} x = record { sheet = x .sheet; sort = patternElement; depth = d; 
 
 pub low-at : {a b : List ℕ} {d i : ℕ} → SomeTree a b patternElement d i → i < 2048
 low-at {a} {b} {d} {i} x = let f = tree-fits (x .sheet) a b (x .tree) d i (x .held) in omega arith
+
+-- the first of three elements
+pub first-some : {a b : List ℕ} (d i : ℕ) (room : Roomy a b) → cell a b i 6 ≡ 3 → SomeTree a b patternPart d i → SomeTree a b patternElement (d - 1) (i + 1)
+first-some {a} {b} d i room k6 x =
+    let v = a-part room (x .tree) (x .held) in
+    let th = three (v .elements) (v .many ∙ k6) in
+    record { sheet = x .sheet; tree = th .first; held = th .held (x .sheet) a b (d - 1) (i + 1) (v .held) .0 }
+
+pub one-of : {n : ℕ} → n ≤ 1 → ((n ≡ 0) → ⊥) → n ≡ 1
+one-of l h = omega arith

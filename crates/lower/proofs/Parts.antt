@@ -152,3 +152,11 @@ module _ {a b : List ℕ} {d base : ℕ} {Done : ℕ → ℕ → Mem → Type 0}
 
   pub done : {k i root : ℕ} {m : Mem} → k ≡ 0 → Left a b d base Done k i root m → Done i root m
   done {k} {i} {root} {m} h p = p .rest i root m (rw h (from-nil a b d base i root m (p .good .here) (p .low)))
+
+-- the first part and the loop behind it
+pub first-done : {a b : List ℕ} {n d base j e k₁ k : ℕ} {m m₁ m₂ : Mem} (i : ℕ) → ((n ≡ 0) → ⊥) → LowersPart a b d base (i + 1) j k₁ m m₁ → LowersFrom a b (n - 1) d base j e k₁ k m₁ m₂ → LowersParts a b n d base i e k m m₂
+first-done {n = zero} i h p q = absurd (h refl)
+first-done {n = suc n} i h p q = let z : suc n - 1 ≡ n = omega arith in first-law i p (rw z at q)
+
+pub from-left : {a b : List ℕ} {n d base j k₁ : ℕ} {m m₁ : Mem} (i : ℕ) → ((n ≡ 0) → ⊥) → SomeTrees a b patternPart n d (i + 1) → Good d (i + 1) m → LowersPart a b d base (i + 1) j k₁ m m₁ → Left a b d base (λ e k m′. LowersFrom a b (n - 1) d base j e k₁ k m₁ m′) (n - 1) j k₁ m₁
+from-left i h x g p = record { some = some-behind h x p; good = good-after (p .moved) g; low = p .low; rest = λ e k m′ q. q }

@@ -1,0 +1,54 @@
+-- The signed number of two words, from the arithmetic that the code makes on 64 bits. Assumes nothing: every law is proved.
+use mathlib.Core.Path.{_≡_, refl, sym, ap, _∙_}
+use Prim.Native.Nat.{ℕ, zero, suc, _+_, _*_, _-_, _<_, _≤_}
+use native.Mathlib.Nat.{zero-add}
+use native.Mathlib.Omega.{arith}
+use borrow.Author.Tests.{lt-ltb, le-ltb}
+use lib.IntN.{ℤ, pos, negsuc, _-ℤ_}
+use lib.Signed.{mag}
+use mir.Syntax.{w64}
+use mir.Val.{Fits, SFits, toZ, ofZ}
+use mir.Facts.{toZ-ofZ, toZ-pos}
+use mathlib.Core.List.{_∷_}
+use Rattle.model.specs.Text.{signed}
+use Rattle.output.specs.Page.{Page, Puts}
+use Rattle.words.specs.Words.{intOf}
+
+minus-one : (n : ℕ) → negsuc 0 -ℤ pos n ≡ negsuc n
+minus-one zero = refl
+minus-one (suc n) = rw zero-add
+
+-- the code's number: 64 bits, read again
+pub put-held : (z v : ℤ) {g g′ : Page} → mag z < 9223372036854775808 → z ≡ v → Puts (9 ∷ signed (toZ w64 (ofZ w64 z))) g g′ → Puts (9 ∷ signed v) g g′
+put-held z v f e h = let k : SFits w64 z = record { sfits = f } in rw (toZ-ofZ k, e) at h
+
+module _ (low high n : ℕ) (l : low < 4294967296) where
+  -- the high word's top bit is not set
+  module _ (h : high < 2147483648) (e : n ≡ high * 4294967296 + low) where
+    small : n < 9223372036854775808
+    small = omega arith
+
+    pub plain-fits : SFits w64 (pos n)
+    plain-fits = record { sfits = small }
+
+    pub plain-is : toZ w64 n ≡ intOf low high
+    unfolding intOf
+    plain-is = toZ-pos w64 {n = n} small ∙ rw (lt-ltb high 2147483648 h, e)
+
+  -- it is set
+  module _ (h : 2147483648 ≤ high) (k : high < 4294967296) (e : n ≡ (high - 2147483648) * 4294967296 + low) where
+    less : n < 9223372036854775808
+    less = omega arith
+
+    pub rest-fits : SFits w64 (pos n)
+    rest-fits = record { sfits = less }
+
+    down : negsuc 0 -ℤ toZ w64 n ≡ negsuc n
+    down = rw (toZ-pos w64 {n = n} less) (minus-one n)
+
+    pub below-fits : SFits w64 (negsuc 0 -ℤ toZ w64 n)
+    below-fits = rw down (record { sfits = less })
+
+    pub below-is : toZ w64 (ofZ w64 (negsuc 0 -ℤ toZ w64 n)) ≡ intOf low high
+    unfolding intOf
+    below-is = toZ-ofZ below-fits ∙ down ∙ rw (le-ltb high 2147483648 h, e)
