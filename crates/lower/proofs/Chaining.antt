@@ -20,7 +20,7 @@ use Rattle.words.specs.Held.{Held, HeldOf, size, sizeOf}
 use Rattle.context.specs.Tables.{Op, Pushed, Numbers}
 use Rattle.context.specs.declared.LowerCtx.{LowerCtx}
 use Rattle.context.specs.declared.Numbered.{Numbered}
-use Rattle.lower.specs.Cells.{shown}
+use Rattle.words.specs.Cells.{shown}
 use Rattle.lower.specs.Render.{Notes, Ops, keptFrom}
 use Rattle.lower.specs.Shows.{shift, Shows, shows-all, shows-path}
 use Rattle.lower.specs.Rep.{State, Mem, mem, Written, Sub, Blank, Future, Rep, To, Rooted, Good, Moved}

@@ -16,7 +16,7 @@ use Rattle.model.specs.Tree.{Tree, Trees, Forest, node, []ᵗ, _∷ᵗ_, end, _
 use Rattle.model.specs.Lower.{Recs, Lowering, Lowered, made, _>>=_, ret, elementStep, propsOf, lowerProps, lowerExpr, has, Props, Step, NodeStep, RelStep, ofNode, ofRel}
 use Rattle.words.specs.Words.{Roomy, cell, fieldsOf, fieldOf, optionOf}
 use Rattle.words.specs.Held.{Held, HeldOf, HeldIn, RecordAt, size, sizeOf, sizeIn}
-use Rattle.lower.specs.Cells.{cells, Shown, shown}
+use Rattle.words.specs.Cells.{cells, Shown, shown}
 use Rattle.lower.specs.Render.{Notes, Ops, render, renderOf, renderIn, recsOver, Below, BelowOf, BelowIn, belowIn, specRecs, specRec, KidsBelow}
 use Rattle.lower.specs.Rep.{State}
 use Rattle.lower.specs.Pieces.{Carried, []ᶜ, _∷ᶜ_, lowerC, renderC, BelowC, sizeC, HeldC}

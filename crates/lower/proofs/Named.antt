@@ -20,7 +20,7 @@ use Rattle.words.specs.Held.{Held, HeldOf, HeldIn, RecordAt, size, sizeOf, size
 use Rattle.context.specs.Tables.{Numbers, Notes, varsAt}
 use Rattle.context.specs.declared.LowerCtx.{LowerCtx}
 use Rattle.context.specs.declared.Numbered.{Numbered}
-use Rattle.lower.specs.Cells.{cells, Shown, shown}
+use Rattle.words.specs.Cells.{cells, Shown, shown}
 use Rattle.lower.specs.Count.{Inner, countAt, countBy}
 use Rattle.lower.specs.Render.{Ops, render, renderOf, renderIn, recsOver, exprRecs, Below, BelowOf, BelowIn, belowIn, copiesBelow}
 use Rattle.lower.specs.Render

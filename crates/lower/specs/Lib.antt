@@ -1,4 +1,3 @@
-pub mod Cells
 pub mod Count
 pub mod Render
 pub mod Shows

@@ -15,7 +15,7 @@ use Rattle.model.specs.Check.{Verdict, noSpan, ofRecord, precheckStatement}
 use Rattle.words.specs.Words.{Roomy, cell, kindOf, firstKind, nth, fieldsOf, fieldOf}
 use Rattle.precheck.specs.Answer.{spanOf}
 use Rattle.precheck.specs.Steps.{Some, Then, Walks, Run}
-use Rattle.precheck.specs.Cells.{flag-word, cells}
+use Rattle.words.specs.Cells.{flag-word, cells}
 use Rattle.precheck.specs.Numbers.{Others, clauseNumber, clause-number}
 use Rattle.precheck.specs.Stands.{At, Exprs, Spans, spanIn, spanWord, Projected, Called}
 use Rattle.precheck.specs.declared.HirSpan.{HirSpan}

@@ -11,7 +11,7 @@ use Rattle.model.specs.Check.{Verdict, violated, andThen, check, ofRecord, ofEx
 use Rattle.words.specs.Words.{Roomy, cell, fieldsOf, fieldOf}
 use Rattle.words.specs.Held.{Held, size}
 use Rattle.precheck.specs.Steps.{Run}
-use Rattle.precheck.specs.Cells.{cells}
+use Rattle.words.specs.Cells.{cells}
 use Rattle.precheck.specs.Numbers.{sameNumber, exprNumber, same-low}
 use Rattle.precheck.specs.Stands.{At, countOf}
 use Rattle.precheck.proofs.Laws.{just, last-of, run-none}

@@ -14,7 +14,7 @@ use Rattle.model.specs.Check.{Verdict, fine, andThen, check, checkOf, checkIn, 
 use Rattle.words.specs.Words.{Roomy, cell, kindOf, fieldsOf, maxRecords}
 use Rattle.words.specs.Held.{Held, HeldOf, HeldIn, Flags, size, sizeOf, sizeIn, roomIn}
 use Rattle.precheck.specs.Steps.{Then, Run, no-more, one-more}
-use Rattle.precheck.specs.Cells.{cells, Shown, shown}
+use Rattle.words.specs.Cells.{cells, Shown, shown}
 use Rattle.precheck.specs.Stands.{At}
 use Rattle.precheck.proofs.Laws.{End}
 

@@ -17,7 +17,7 @@ use Rattle.words.specs.Words.{Roomy, cell, fieldsOf, fieldOf}
 use Rattle.words.specs.Held.{Held, HeldOf, HeldIn, Flags, size, sizeOf, sizeIn}
 use Rattle.precheck.specs.Answer.{spanOf}
 use Rattle.precheck.specs.Steps.{Stage, Then, Run, no-more, one-more}
-use Rattle.precheck.specs.Cells.{flag-word, cells, shown}
+use Rattle.words.specs.Cells.{flag-word, cells, shown}
 use Rattle.precheck.specs.Numbers.{elementNumber, element-number}
 use Rattle.precheck.specs.Stands.{At, Exprs, SomeAt, Spans, Inside, Begins, spanIn}
 use Rattle.precheck.specs.declared.HirSpan.{HirSpan}

@@ -15,7 +15,7 @@ use Rattle.words.specs.Words.{cell, kindOf, fieldsOf}
 use Rattle.words.specs.Held.{Held, Flags, size}
 use Rattle.precheck.specs.Answer.{spanOf}
 use Rattle.precheck.specs.Steps.{Stage, Some, Then, Run}
-use Rattle.precheck.specs.Cells.{cells}
+use Rattle.words.specs.Cells.{cells}
 use Rattle.precheck.specs.declared.HirSpan.{HirSpan}
 use Rattle.precheck.specs.declared.Props.{Props}
 
