@@ -1,0 +1,73 @@
+// The sizing call on a list of sheets. For each a line: its label, and the number, line, start, end, kind and length of the answer.
+ghost use Prim.Native.Nat.{_≤_, _<_};
+ghost use lib.ListN.{length};
+
+mod build;
+mod list;
+mod show;
+
+use build::build_sheet;
+use build::next;
+use list::LIST;
+use show::show;
+use show::show_with;
+
+// The label and the sheet that begin at `at`; and where the next ones do.
+fn show_case(
+    list: &[u8],
+    at: usize,
+    page: &mut [u8],
+    a: &mut [u32],
+    b: &mut [u32],
+    c: &mut [u32],
+    d: &mut [u32],
+) -> usize
+    requires { ⌜ (at < length (now list)) × (length (now list) ≤ 32768) ⌝ }
+    ensures { λ r. ⌜ at < r ⌝ }
+{
+    let label = next(list, at, b'|');
+    let end = next(list, label + 1, b'|');
+    if end >= list.len() {
+        return end + 1;
+    }
+    let n = build_sheet(&list[label + 1..end], page);
+    show(&list[at..label], &page[0..n], a, b, c, d);
+    end + 1
+}
+
+// All of a list, with a page for a sheet and the work slices.
+fn show_list(
+    list: &[u8],
+    page: &mut [u8],
+    a: &mut [u32],
+    b: &mut [u32],
+    c: &mut [u32],
+    d: &mut [u32],
+)
+    requires { ⌜ length (now list) ≤ 32768 ⌝ }
+{
+    let mut at = 0;
+    while at < list.len() {
+        at = show_case(list, at, page, a, b, c, d);
+    }
+}
+
+// Each of the four work slices one word short in turn; a long sheet with a short slice; a bad one with no words at all.
+fn show_short() {
+    show_with(b"short-1", b"stmt\t0\t0\n", 16383, 16384, 16384, 16384);
+    show_with(b"short-2", b"stmt\t0\t0\n", 16384, 16383, 16384, 16384);
+    show_with(b"short-3", b"stmt\t0\t0\n", 16384, 16384, 16383, 16384);
+    show_with(b"short-4", b"stmt\t0\t0\n", 16384, 16384, 16384, 16383);
+    show_with(b"short-long", &[b'x'; 32769], 16384, 16384, 16384, 16383);
+    show_with(b"short-bad", b"", 0, 0, 0, 0);
+}
+
+fn main() {
+    show_short();
+    let mut page = [0u8; 65536];
+    let mut a = [0u32; 16384];
+    let mut b = [0u32; 16384];
+    let mut c = [0u32; 16384];
+    let mut d = [0u32; 16384];
+    show_list(&LIST, &mut page, &mut a, &mut b, &mut c, &mut d);
+}
