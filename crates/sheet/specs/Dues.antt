@@ -87,16 +87,18 @@ push-is w m s n d h =
     record {
       same = length-set y (m * 3 + 2) d ∙ ly;
       is =
-        rw (getD-set-same y (m * 3 + 2) d 0 (omega arith),
-          getD-set-other y (m * 3 + 2) (m * 3 + 1) d 0 (omega arith),
-          getD-set-same x (m * 3 + 1) n 0 (omega arith),
-          getD-set-other y (m * 3 + 2) (m * 3) d 0 (omega arith),
-          getD-set-other x (m * 3 + 1) (m * 3) n 0 (omega arith),
-          getD-set-same w (m * 3) s 0 (omega arith))
-        (ap (λ l. due (sortOf s) n d ∷ l) (dues-same w (set y (m * 3 + 2) d) m (λ j l. getD-set-other y (m * 3 + 2) j d 0 (omega arith) ∙ getD-set-other x (m * 3 + 1) j n 0 (omega arith) ∙ getD-set-other w (m * 3) j s 0 (omega arith))));
+          rw (
+            getD-set-same y (m * 3 + 2) d 0 (omega arith),
+            getD-set-other y (m * 3 + 2) (m * 3 + 1) d 0 (omega arith),
+            getD-set-same x (m * 3 + 1) n 0 (omega arith),
+            getD-set-other y (m * 3 + 2) (m * 3) d 0 (omega arith),
+            getD-set-other x (m * 3 + 1) (m * 3) n 0 (omega arith),
+            getD-set-same w (m * 3) s 0 (omega arith),
+          )
+          (ap (λ l. due (sortOf s) n d ∷ l) (dues-same w (set y (m * 3 + 2) d) m (λ j l. getD-set-other y (m * 3 + 2) j d 0 (omega arith) ∙ getD-set-other x (m * 3 + 1) j n 0 (omega arith) ∙ getD-set-other w (m * 3) j s 0 (omega arith))));
       sorted = sorted-more w (set y (m * 3 + 2) d) m s
-        (λ j l. getD-set-other y (m * 3 + 2) (j * 3) d 0 (omega arith) ∙ getD-set-other x (m * 3 + 1) (j * 3) n 0 (omega arith) ∙ getD-set-other w (m * 3) (j * 3) s 0 (omega arith))
-        (getD-set-other y (m * 3 + 2) (m * 3) d 0 (omega arith) ∙ getD-set-other x (m * 3 + 1) (m * 3) n 0 (omega arith) ∙ getD-set-same w (m * 3) s 0 (omega arith));
+          (λ j l. getD-set-other y (m * 3 + 2) (j * 3) d 0 (omega arith) ∙ getD-set-other x (m * 3 + 1) (j * 3) n 0 (omega arith) ∙ getD-set-other w (m * 3) (j * 3) s 0 (omega arith))
+          (getD-set-other y (m * 3 + 2) (m * 3) d 0 (omega arith) ∙ getD-set-other x (m * 3 + 1) (m * 3) n 0 (omega arith) ∙ getD-set-same w (m * 3) s 0 (omega arith));
     }
 
 -- ── popping ──
@@ -114,9 +116,11 @@ pop-dues w m h room =
     let long = room .long in
     let few = room .few in
     let n = getD w (m * 3 + 1) 0 - 1 in
-    rw (getD-set-same w (m * 3 + 1) n 0 (omega arith),
+    rw (
+      getD-set-same w (m * 3 + 1) n 0 (omega arith),
       getD-set-other w (m * 3 + 1) (m * 3) n 0 (omega arith),
-      getD-set-other w (m * 3 + 1) (m * 3 + 2) n 0 (omega arith))
+      getD-set-other w (m * 3 + 1) (m * 3 + 2) n 0 (omega arith),
+    )
     (ap (λ l. due (sortOf (getD w (m * 3) 0)) n (getD w (m * 3 + 2) 0) ∷ l) (dues-same w (set w (m * 3 + 1) n) m (λ j l. getD-set-other w (m * 3 + 1) j n 0 (omega arith))))
 
 pop-fit : (w : List ℕ) (m : ℕ) → 1 < getD w (m * 3 + 1) 0 → Fit (dues w (suc m)) → Fit (due (group w m .sort) (group w m .count - 1) (group w m .room) ∷ dues w m)

@@ -50,10 +50,10 @@ split-at s d st b zero = record { reads = λ p. ap (λ n. readDue (due s n d ∷
 split-at s d st b (suc a) =
     record {
       reads = λ p.
-        ap (λ n. readDue (due s n d ∷ st) p) (omega arith)
-        ∙ step s (a + b) d st p
-        ∙ next-same (readLine s (isZero d) p) _ _ (λ x q. ap (mapped (λ rs. rec s (x .0) (x .1) ∷ rs)) (alike-behind (dueOf (roomBelow s d) (children s (x .0) (x .1))) (split-at s d st b a) .reads q))
-        ∙ sym (step s a d (due s b d ∷ st) p);
+          ap (λ n. readDue (due s n d ∷ st) p) (omega arith)
+          ∙ step s (a + b) d st p
+          ∙ next-same (readLine s (isZero d) p) _ _ (λ x q. ap (mapped (λ rs. rec s (x .0) (x .1) ∷ rs)) (alike-behind (dueOf (roomBelow s d) (children s (x .0) (x .1))) (split-at s d st b a) .reads q))
+          ∙ sym (step s a d (due s b d ∷ st) p);
     }
 
 -- a group is two of its sort

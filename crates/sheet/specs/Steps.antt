@@ -80,7 +80,6 @@ writes-eight m h n k e = kind-row (sortOf m) (λ n k. writes (sortOf m) k ≡ eq
 
 -- ── room for the groups ──
 
-
 slack-low : (s : Sort) → slack s ≤ 6
 slack-low s = at (beside s)
   where

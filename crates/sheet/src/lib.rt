@@ -1,3 +1,3 @@
 // The reader of a statement sheet: lines into records of words, with a stack of what is due.
-mod stack;
 pub mod reader;
+mod stack;

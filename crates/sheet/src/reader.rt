@@ -7,9 +7,11 @@ ghost use Rattle.line.specs.Table.{sortOf};
 ghost use Rattle.sheet.specs.Due.{roomBelow};
 ghost use Rattle.sheet.specs.Reader.{Reads, SoFar, Ends};
 ghost use Rattle.sheet.specs.Next.{Next, Wrote};
-
-use crate::stack::{pop, push, push_groups};
-use line::read::{Line, read_into};
+use crate::stack::pop;
+use crate::stack::push;
+use crate::stack::push_groups;
+use line::read::Line;
+use line::read::read_into;
 use record::piece::piece_end;
 
 // The number of records, or a refusal with its line.
@@ -66,7 +68,16 @@ fn write_line(kind: u32, write: u32, i: usize) -> u32
 }
 
 // The line at pos, as a record of the group on top of `top` others.
-fn read_next(sheet: &[u8], a: &mut [u32], b: &mut [u32], stack: &mut [u32], i: usize, pos: usize, top: usize, write: u32) -> Step
+fn read_next(
+    sheet: &[u8],
+    a: &mut [u32],
+    b: &mut [u32],
+    stack: &mut [u32],
+    i: usize,
+    pos: usize,
+    top: usize,
+    write: u32,
+) -> Step
     requires { ⌜ length (now sheet) ≤ 32768 ⌝ }
     requires { ⌜ SoFar (now sheet) (now a) (now b) (now stack) i pos (top + 1) write ⌝ }
     ensures { λ r. ⌜ Next (now (sheet .entry)) (now (a .exit)) (now (b .exit)) (now (stack .exit)) i r ⌝ }

@@ -5,8 +5,8 @@ ghost use lib.ListN.{length, getD};
 ghost use Rattle.words.specs.Words.{Roomy, part};
 ghost use Rattle.line.specs.Table.{groupSort, groupSource, countOf};
 ghost use Rattle.sheet.specs.Dues.{Pushed, Popped, Room, Grouped, Groups, Space};
-
-use line::group::{group_count, group_sort};
+use line::group::group_count;
+use line::group::group_sort;
 
 // A group on top of m others.
 pub fn push(stack: &mut [u32], m: usize, sort: u32, count: u32, room: u32)
@@ -35,7 +35,16 @@ pub fn pop(stack: &mut [u32], top: usize) -> usize
 }
 
 // Group g of record i on top, unless it is a group of none. How many groups there are now.
-fn push_group(a: &[u32], b: &[u32], stack: &mut [u32], m: usize, i: usize, kind: u32, g: usize, room: u32) -> usize
+fn push_group(
+    a: &[u32],
+    b: &[u32],
+    stack: &mut [u32],
+    m: usize,
+    i: usize,
+    kind: u32,
+    g: usize,
+    room: u32,
+) -> usize
     requires { ⌜ (kind < 39) × (g < 5) ⌝ }
     requires { ⌜ i < 2048 ⌝ }
     requires { ⌜ Roomy (now a) (now b) ⌝ }
@@ -52,7 +61,15 @@ fn push_group(a: &[u32], b: &[u32], stack: &mut [u32], m: usize, i: usize, kind:
 }
 
 // The groups of record i on top of m others, its first group topmost. How many groups there are now.
-pub fn push_groups(a: &[u32], b: &[u32], stack: &mut [u32], m: usize, i: usize, kind: u32, room: u32) -> usize
+pub fn push_groups(
+    a: &[u32],
+    b: &[u32],
+    stack: &mut [u32],
+    m: usize,
+    i: usize,
+    kind: u32,
+    room: u32,
+) -> usize
     requires { ⌜ kind < 39 ⌝ }
     requires { ⌜ i < 2048 ⌝ }
     requires { ⌜ Roomy (now a) (now b) ⌝ }

@@ -12,9 +12,11 @@ ghost use Rattle.model.specs.Call.{SizeCall, Sized, short, testCheck, recordCou
 ghost use Rattle.words.specs.Words.{Roomy};
 ghost use Rattle.words.specs.Held.{Held, HeldSome};
 ghost use Rattle.statement.specs.Answer.{answerOf, Long};
-
-use precheck::{Checked, PlanLowerError, precheck_statement};
-use sheet::reader::{Read, read_sheet};
+use precheck::Checked;
+use precheck::PlanLowerError;
+use precheck::precheck_statement;
+use sheet::reader::Read;
+use sheet::reader::read_sheet;
 
 // What a call answers: accepted with a length or figure, or a refusal with what document 01's table gives it.
 pub enum Answer {
@@ -77,7 +79,13 @@ fn size_read(sheet: &[u8], a: &mut [u32], b: &mut [u32], c: &mut [u32]) -> Answe
 }
 
 // The sizing call: tests 1 to 8, and a figure that is at least the plan's operator count and at most four times the record count.
-pub fn size_statement(sheet: &[u8], a: &mut [u32], b: &mut [u32], c: &mut [u32], d: &mut [u32]) -> Answer
+pub fn size_statement(
+    sheet: &[u8],
+    a: &mut [u32],
+    b: &mut [u32],
+    c: &mut [u32],
+    d: &mut [u32],
+) -> Answer
     ensures { λ r. ⌜ SizeCall (length (now (a .entry)) ∷ length (now (b .entry)) ∷ length (now (c .entry)) ∷ length (now (d .entry)) ∷ []) (now (sheet .entry)) (answerOf r) ⌝ }
 {
     if long_enough(a, b, c, d) {
