@@ -27,11 +27,11 @@ use Rattle.lower.specs.Render
 use Rattle.lower.specs.Shows.{shift}
 use Rattle.lower.specs.Rep.{State, Mem, mem, notes, Written, In, Sub, Blank, Agree, Future, Rep, To, Piece, Ran, Rooted, Good, Moved}
 use Rattle.lower.specs.Pieces.{exprPiece, Carried, []ᶜ, _∷ᶜ_, lowerC, renderC, BelowC, sizeC, HeldC, carriedPiece, SomeTree, SomeCarried, LowersExpr, LowersExprs}
-use Rattle.lower.proofs.State.{sub-refl, sub-then, sub-more, sub-within, blank-within, blank-before, blank-behind, back, rep-wider, to-refl, to-then, to-wider, Given, number-to, note-to}
-use Rattle.lower.proofs.Fits.{tree-fits}
+use Rattle.lower.specs.State.{sub-refl, sub-then, sub-more, sub-within, blank-within, blank-before, blank-behind, back, rep-wider, to-refl, to-then, to-wider, Given, number-to, note-to}
+use Rattle.lower.specs.Fits.{tree-fits}
 use Rattle.lower.proofs.Counting.{exprNumber, sameNumber, innerNumber, inner-number, counted}
-use Rattle.lower.proofs.Exprs.{moved-within, narrow}
-use Rattle.lower.proofs.Carry.{plainC, plain-lower, plain-size, plain-held, plain-render, plain-below, entriesC, entries-lower, entries-size, entries-held, entries-render, entries-below}
+use Rattle.lower.specs.Exprs.{moved-within, narrow}
+use Rattle.lower.specs.Carry.{plainC, plain-lower, plain-size, plain-held, plain-render, plain-below, entriesC, entries-lower, entries-size, entries-held, entries-render, entries-below}
 
 -- ── the number of the kind ──
 

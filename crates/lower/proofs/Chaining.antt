@@ -28,10 +28,10 @@ use Rattle.lower.specs.Pieces.{SomeTree}
 use Rattle.lower.specs.Patterns.{SomeTrees}
 use Rattle.lower.specs.Chains.{givenIf, seenIf, stepsOf, Waiting, no-rel, Linked, Sturdy, Anchored, passed, ChainedAll, LowersElements, Sourced, OrSource, chainL, LowersChain, startChain}
 use Rattle.lower.specs.declared.Chain.{Chain}
-use Rattle.lower.proofs.State.{sub-more, sub-within, blank-within, blank-before, blank-behind, back, to-refl, to-then, to-wider, push-to, Given, number-to, upcoming-number}
-use Rattle.lower.proofs.Fits.{tree-fits, trees-fits}
-use Rattle.lower.proofs.Exprs.{moved-within, narrow}
-use Rattle.lower.proofs.Parts.{allOp}
+use Rattle.lower.specs.State.{sub-more, sub-within, blank-within, blank-before, blank-behind, back, to-refl, to-then, to-wider, push-to, Given, number-to, upcoming-number}
+use Rattle.lower.specs.Fits.{tree-fits, trees-fits, tree-low}
+use Rattle.lower.specs.Exprs.{moved-within, narrow}
+use Rattle.lower.proofs.Parts.{allOp, all-sane}
 
 -- ── the operator before, or a source of everything ──
 
@@ -58,7 +58,7 @@ source-new has last m c os h p lo = record {
   rest = refl;
   in-ops = lo;
   low = omega (arith, p .count);
-  run = λ sheet a b W s r. rw (none-given has last h) (record { to = push-to m c os (allOp (m .ctx .next)) (source (s .next) []) r p (λ N A f. shows-all refl (ap (λ (x : ℕ). source x []) (sym (upcoming-number m r)))); root = r .count });
+  run = λ sheet a b W s r. rw (none-given has last h) (record { to = push-to m c os (allOp (m .ctx .next)) (source (s .next) []) r p (λ N A f. record { sane = all-sane (m .ctx .next); shows = shows-all refl (ap (λ (x : ℕ). source x []) (sym (upcoming-number m r))) }); root = r .count });
 }
 
 -- ── a part, opened ──
@@ -166,7 +166,7 @@ module _ {a b : List ℕ} {n base : ℕ} {c : LowerCtx} {ch : Chain} {os os₁ r
           run = unnamed-run;
         }
 
-  module _ {place : ℕ} {r₃ : Numbered} {rest₃ os₄ : List ℕ} {c₄ : LowerCtx} (k2 : (cell a b i 2 ≡ 0) → ⊥) (ep : place ≡ base + (i + 1)) (nm : Numbers (mapVar (cell a b i 3)) place (m₂ .ctx) (m₂ .rest) rest₃ r₃) (lr : length rest₃ ≡ length (m₂ .rest)) (pp : Pushed (r₃ .ctx) c₄ (m₂ .ops) os₄ (pathOp i k (ch .kept) (r₃ .number) d base)) (lo : length os₄ ≡ length (m₂ .ops)) where
+  module _ {place : ℕ} {r₃ : Numbered} {rest₃ os₄ : List ℕ} {c₄ : LowerCtx} (sh : d ≤ 64) (k2 : (cell a b i 2 ≡ 0) → ⊥) (ep : place ≡ base + (i + 1)) (nm : Numbers (mapVar (cell a b i 3)) place (m₂ .ctx) (m₂ .rest) rest₃ r₃) (lr : length rest₃ ≡ length (m₂ .rest)) (pp : Pushed (r₃ .ctx) c₄ (m₂ .ops) os₄ (pathOp i k (ch .kept) (r₃ .number) d base)) (lo : length os₄ ≡ length (m₂ .ops)) where
     named-run : (sheet : Bytes) (t : Tree patternPart) → Held sheet a b t d i → (W : Written) (s : State) → Rep sheet a b W s (mem c os rs) → Blank W (base + suc i) (base + suc (ch .next)) → Rooted sheet a b W (chainL t) (r₃ .ctx .ops) base (suc i) (suc (ch .next)) s (mem c os rs) (mem c₄ os₄ rest₃)
     unfolding bindPath _>>=_ push optionOf seenIf
     named-run sheet t hd W s r bl =
@@ -183,13 +183,16 @@ module _ {a b : List ℕ} {n base : ℕ} {c : LowerCtx} {ch : Chain} {os os₁ r
         let g : Given sheet a b W₁ s₂ (mapVar id) (base + suc i) m₂ rest₃ r₃ = number-to (mapVar id) (base + suc i) m₂ rest₃ r₃ (x .src .to .rep) (rw ep′ at nm) (blank-before (omega arith) (blank-within (le-refl _) (omega arith) bl)) in
         let recs : Recs = op ReadOp.BindPath (k, (mapVar id s₂ .0, (length path, tt))) ∷ pathElements path in
         let y = push-to (mem (r₃ .ctx) (m₂ .ops) rest₃) c₄ os₄ (pathOp i k (ch .kept) (r₃ .number) d base) recs (g .to .rep) pp
-        (λ N A fu. shows-path refl (record {
-          count = v .n;
-          elements = v .elements;
-          counted = v .many;
-          held = v .held;
-          is = path-is k (mapVar id s₂ .0) (r₃ .number) (length path) (ch .kept) path _ (sym (g .number)) (x .all .linked .kept) (x .all .path N A (back (x .src .to) (back (g .to) fu)));
-        })) in
+        (λ N A fu. record {
+          sane = record { shallow = omega arith; near = lb; low = tree-low sheet a b t d i hd; far = λ e. absurd (omega arith); flagged = λ e. absurd (omega arith) };
+          shows = shows-path refl (record {
+            count = v .n;
+            elements = v .elements;
+            counted = v .many;
+            held = v .held;
+            is = path-is k (mapVar id s₂ .0) (r₃ .number) (length path) (ch .kept) path _ (sym (g .number)) (x .all .linked .kept) (x .all .path N A (back (x .src .to) (back (g .to) fu)));
+          });
+        }) in
         let u : Sub ((base + suc i, base + suc i + 1) ∷ W₁) ((base + suc i, base + suc (ch .next)) ∷ W) = sub-within (le-refl _) (omega arith) (sub-within (omega arith) (omega arith) (sub-more (base + suc i, base + suc (ch .next)) W)) in
         record { to = rw D (to-wider u (to-then (x .all .to) (to-then (x .src .to) (to-then (g .to) y)))); root = rw D (g .to .rep .count); low = let e : c₄ .ops ≡ r₃ .ctx .ops + 1 = pp .count in omega arith }
 

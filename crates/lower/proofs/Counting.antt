@@ -17,7 +17,7 @@ use Rattle.model.specs.Tree.{Tree, Trees, Forest, node, []ᵗ, _∷ᵗ_, end, _
 use Rattle.words.specs.Words.{Roomy, cell, kindOf, firstKind, fieldsOf, fieldOf, maxRecords}
 use Rattle.words.specs.Held.{Held, HeldOf, HeldIn, RecordAt, Flags, size, sizeOf, sizeIn, roomIn}
 use Rattle.words.specs.Cells.{cells, Shown, shown, numbered, number-of}
-use Rattle.lower.proofs.Fits.{tree-fits}
+use Rattle.lower.specs.Fits.{tree-fits}
 use Rattle.lower.specs.Count.{Inner, total, kidsOf, countBy, countAt, Due, none-due, one-due, Starts, Ends}
 
 -- ── by the words ──

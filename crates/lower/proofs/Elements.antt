@@ -22,7 +22,7 @@ use Rattle.lower.specs.Rep.{State}
 use Rattle.lower.specs.Pieces.{Carried, []ᶜ, _∷ᶜ_, lowerC, renderC, BelowC, sizeC, HeldC}
 use Rattle.lower.specs.Chains.{stepOf}
 use Rattle.lower.proofs.Counting.{elementNumber, innerNumber, inner-number, flag-one}
-use Rattle.lower.proofs.Carry.{plainC, plain-lower, plain-size, plain-held, plain-render, plain-below}
+use Rattle.lower.specs.Carry.{plainC, plain-lower, plain-size, plain-held, plain-render, plain-below}
 
 -- ── names ──
 

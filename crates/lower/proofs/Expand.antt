@@ -20,15 +20,15 @@ use Rattle.context.specs.Tables.{Op, Pushed, Numbers, varsAt}
 use Rattle.context.specs.declared.LowerCtx.{LowerCtx}
 use Rattle.context.specs.declared.Numbered.{Numbered}
 use Rattle.lower.specs.Render.{Notes, Ops, renderOf, specRecs, BelowOf}
-use Rattle.lower.specs.Shows.{shift, Shows, shows-expand}
+use Rattle.lower.specs.Shows.{shift, Sane, Shows, shows-expand}
 use Rattle.lower.specs.Rep.{State, Mem, mem, notes, Written, In, Sub, Blank, Future, Rep, To, Ran, Rooted, Good, Moved}
 use Rattle.lower.specs.Pieces.{Carried, lowerC, renderC, HeldC, sizeC, carriedPiece, SomeTree, SomeCarried, LowersExprs}
 use Rattle.lower.specs.Chains.{stepOf}
-use Rattle.lower.proofs.State.{sub-refl, sub-then, sub-more, sub-within, blank-within, blank-before, blank-behind, back, rep-wider, to-refl, to-then, to-wider, push-to, Given, number-to}
-use Rattle.lower.proofs.Fits.{tree-fits}
-use Rattle.lower.proofs.Below.{carried-more}
-use Rattle.lower.proofs.Exprs.{moved-within, narrow}
-use Rattle.lower.proofs.Carry.{plainC, plain-size, plain-held, plain-render, plain-below}
+use Rattle.lower.specs.State.{sub-refl, sub-then, sub-more, sub-within, blank-within, blank-before, blank-behind, back, rep-wider, to-refl, to-then, to-wider, push-to, Given, number-to}
+use Rattle.lower.specs.Fits.{tree-fits, tree-low}
+use Rattle.lower.specs.Below.{carried-more}
+use Rattle.lower.specs.Exprs.{moved-within, narrow}
+use Rattle.lower.specs.Carry.{plainC, plain-size, plain-held, plain-render, plain-below}
 use Rattle.lower.proofs.Elements
 use Rattle.lower.proofs.Elements.{names-render, names-count, props-lower, props-has, IsElement, IsNode, IsRel, a-node, a-rel}
 
@@ -92,7 +92,10 @@ place-at p B i e = omega arith
 recs-are : (N : Notes) (A : Ops) (t tr : Tree patternElement) {n n′ : ℕ} (names : Trees name n) (types : Trees name n′) (p p′ : Bool) (props : Trees expr (one p)) (props′ : Trees expr (one p′)) (h h′ : Rec) (x y input origin x′ y′ : ℕ) (q q′ : Recs) → x ≡ x′ → y ≡ y′ → specRecs N A tr ≡ h′ ∷ (renderOf N A types ++ renderOf N A props′) → specRecs N A t ≡ h ∷ (renderOf N A names ++ renderOf N A props) → renderC N A (plainC props′) ≡ q′ → renderC N A (plainC props) ≡ q → op ReadOp.Expand (input, (origin, (x′, (y′, tt)))) ∷ ((h′ ∷ (toList n′ (foldOf Lowered made types) ++ q′)) ++ (h ∷ (toList n (foldOf Lowered made names) ++ q))) ≡ op ReadOp.Expand (input, (origin, (x, (y, tt)))) ∷ (specRecs N A tr ++ specRecs N A t)
 recs-are N A t tr names types p p′ props props′ h h′ x y input origin x′ y′ q q′ ex ey et′ et eq′ eq = rw (ex, ey, et′, et, plain-render N A props′, plain-render N A props, eq′, eq, names-render N A types, names-render N A names)
 
-module _ {a b : List ℕ} (d base far rel : ℕ) {e₁ e₂ n₁ n₂ input origin p₁ p₂ : ℕ} {c₀ : LowerCtx} {os rest rest₁ rest₂ : List ℕ} {r₁ r₂ : Numbered} {m₃ m₄ : Mem} {c₅ : LowerCtx} {os₅ : List ℕ} (room : Roomy a b) (k12 : cell a b far 0 ≡ 12) (k13 : cell a b rel 0 ≡ 13) (lb : base ≤ 2048) (la : far < 2048) (ep₁ : p₁ ≡ base + (far + 1)) (nm₁ : Numbers (endpointVar (optionOf (cell a b far 2) (cell a b far 3))) p₁ c₀ rest rest₁ r₁) (ep₂ : p₂ ≡ base + (rel + 1)) (nm₂ : Numbers (endpointVar (optionOf (cell a b rel 2) (cell a b rel 3))) p₂ (r₁ .ctx) rest₁ rest₂ r₂) (en₁ : n₁ ≡ cell a b rel 10) (x₁ : LowersExprs a b n₁ 0 (d - 1) base (rel + 1 + cell a b rel 4) e₁ (mem (r₂ .ctx) os rest₂) m₃) (en₂ : n₂ ≡ cell a b far 6) (x₂ : LowersExprs a b n₂ 0 (d - 1) base (far + 1 + cell a b far 4) e₂ m₃ m₄) (pe : Pushed (m₄ .ctx) c₅ (m₄ .ops) os₅ (expandOp rel input origin far d base)) where
+expand-sane : (rel input origin far d base : ℕ) → d ≤ 64 → base ≤ 2048 → rel < 2048 → Sane (expandOp rel input origin far d base)
+expand-sane rel input origin far d base sh lb l = record { shallow = sh; near = lb; low = l; far = λ e. absurd (omega arith); flagged = λ e. absurd (omega arith) }
+
+module _ {a b : List ℕ} (d base far rel : ℕ) {e₁ e₂ n₁ n₂ input origin p₁ p₂ : ℕ} {c₀ : LowerCtx} {os rest rest₁ rest₂ : List ℕ} {r₁ r₂ : Numbered} {m₃ m₄ : Mem} {c₅ : LowerCtx} {os₅ : List ℕ} (room : Roomy a b) (k12 : cell a b far 0 ≡ 12) (k13 : cell a b rel 0 ≡ 13) (lb : base ≤ 2048) (sh : d ≤ 64) (la : far < 2048) (ep₁ : p₁ ≡ base + (far + 1)) (nm₁ : Numbers (endpointVar (optionOf (cell a b far 2) (cell a b far 3))) p₁ c₀ rest rest₁ r₁) (ep₂ : p₂ ≡ base + (rel + 1)) (nm₂ : Numbers (endpointVar (optionOf (cell a b rel 2) (cell a b rel 3))) p₂ (r₁ .ctx) rest₁ rest₂ r₂) (en₁ : n₁ ≡ cell a b rel 10) (x₁ : LowersExprs a b n₁ 0 (d - 1) base (rel + 1 + cell a b rel 4) e₁ (mem (r₂ .ctx) os rest₂) m₃) (en₂ : n₂ ≡ cell a b far 6) (x₂ : LowersExprs a b n₂ 0 (d - 1) base (far + 1 + cell a b far 4) e₂ m₃ m₄) (pe : Pushed (m₄ .ctx) c₅ (m₄ .ops) os₅ (expandOp rel input origin far d base)) where
   -- what an expand has done
   pub record Expanded (sheet : Bytes) (W : Written) (s : State) (c : Lower.Chain) (n : NodeStep) : Type 0 where
     pub to : To sheet a b W ((base + suc rel, base + suc e₂) ∷ W) s (lowerElement c (ofNode n) s .1) (mem c₀ os rest) (mem c₅ os₅ (m₄ .rest))
@@ -157,17 +160,20 @@ module _ {a b : List ℕ} (d base far rel : ℕ) {e₁ e₂ n₁ n₂ input orig
         back (g₂ .to) f₂ .notes .at (base + suc far) (P .low-far) (inl (P .at-far)) ∙ g₁ .noted ∙ g₁ .number,
       )) in
       let y₃ = push-to m₄ c₅ os₅ (expandOp rel input origin far d base) recs (y₂ .to .rep) pe
-      (λ N A f. shows-expand refl (record {
-        rel = tr;
-        far = t;
-        held-rel = hr;
-        held-far = hd;
-        is-rel = k13;
-        is-far = k12;
-        below-rel = vr .el .below (shift N base) (m₄ .ctx .ops) (plain-below (shift N base) (m₄ .ctx .ops) (vr .el .props) (carried-more (shift N base) (m₃ .ctx .ops) (m₄ .ctx .ops) (y₂ .to .grow) (plainC (vr .el .props)) (y₁ .below N A (back (y₂ .to) f))));
-        below-far = vn .el .below (shift N base) (m₄ .ctx .ops) (plain-below (shift N base) (m₄ .ctx .ops) (vn .el .props) (y₂ .below N A f));
-        is = recs-are (shift N base) A t tr (vn .el .names) (vr .el .names) (vn .el .p) (vr .el .p) (vn .el .props) (vr .el .props) _ _ _ _ input origin _ _ _ _ (noted N A f .0) (noted N A f .1) (vr .el .spec (shift N base) A ∙ ap (λ (h : Rec). h ∷ (renderOf (shift N base) A (vr .el .names) ++ renderOf (shift N base) A (vr .el .props))) (vr .head)) (vn .el .spec (shift N base) A ∙ ap (λ (h : Rec). h ∷ (renderOf (shift N base) A (vn .el .names) ++ renderOf (shift N base) A (vn .el .props))) (vn .head)) (y₁ .shown N A (back (y₂ .to) f)) (y₂ .shown N A f);
-      })) in
+      (λ N A f. record {
+        sane = expand-sane rel input origin far d base sh lb (tree-low sheet a b tr d rel hr);
+        shows = shows-expand refl (record {
+          rel = tr;
+          far = t;
+          held-rel = hr;
+          held-far = hd;
+          is-rel = k13;
+          is-far = k12;
+          below-rel = vr .el .below (shift N base) (m₄ .ctx .ops) (plain-below (shift N base) (m₄ .ctx .ops) (vr .el .props) (carried-more (shift N base) (m₃ .ctx .ops) (m₄ .ctx .ops) (y₂ .to .grow) (plainC (vr .el .props)) (y₁ .below N A (back (y₂ .to) f))));
+          below-far = vn .el .below (shift N base) (m₄ .ctx .ops) (plain-below (shift N base) (m₄ .ctx .ops) (vn .el .props) (y₂ .below N A f));
+          is = recs-are (shift N base) A t tr (vn .el .names) (vr .el .names) (vn .el .p) (vr .el .p) (vn .el .props) (vr .el .props) _ _ _ _ input origin _ _ _ _ (noted N A f .0) (noted N A f .1) (vr .el .spec (shift N base) A ∙ ap (λ (h : Rec). h ∷ (renderOf (shift N base) A (vr .el .names) ++ renderOf (shift N base) A (vr .el .props))) (vr .head)) (vn .el .spec (shift N base) A ∙ ap (λ (h : Rec). h ∷ (renderOf (shift N base) A (vn .el .names) ++ renderOf (shift N base) A (vn .el .props))) (vn .head)) (y₁ .shown N A (back (y₂ .to) f)) (y₂ .shown N A f);
+        });
+      }) in
       let u : Sub W₄ ((base + suc rel, base + suc e₂) ∷ W) = sub-within (P .rl) (le-refl _) (sub-within (P .rt) (P .ee) (sub-within (le-refl _) (P .r1e) (sub-within (P .rf) (P .fe) (sub-more (base + suc rel, base + suc e₂) W)))) in
       subst (λ (z : NodeStep). Expanded sheet W s c z) (sym en₀)
       (record {

@@ -1,9 +1,4 @@
-pub mod Fits
 pub mod Counting
-pub mod State
-pub mod Below
-pub mod Exprs
-pub mod Carry
 pub mod Arms
 pub mod Named
 pub mod Elements

@@ -26,10 +26,10 @@ use Rattle.lower.specs.Rep.{State, Mem, mem, notes, Written, In, Sub, Bl
 use Rattle.lower.specs.Pieces.{SomeTree, LowersExprs}
 use Rattle.lower.specs.Chains.{givenIf, seenIf, stepOf, Waiting, no-rel, a-rel, Linked, Sturdy, Anchored, passed, Chained, LowersElement, startL, LowersStart, Starts}
 use Rattle.lower.specs.declared.Chain.{Chain}
-use Rattle.lower.proofs.State.{sub-refl, sub-then, sub-more, sub-within, blank-within, blank-before, blank-behind, back, rep-wider, to-refl, to-then, to-wider, Given, number-to}
-use Rattle.lower.proofs.Fits.{tree-fits}
+use Rattle.lower.specs.State.{sub-refl, sub-then, sub-more, sub-within, blank-within, blank-before, blank-behind, back, rep-wider, to-refl, to-then, to-wider, Given, number-to}
+use Rattle.lower.specs.Fits.{tree-fits}
 use Rattle.lower.proofs.Counting.{elementNumber}
-use Rattle.lower.proofs.Exprs.{moved-refl, moved-within, narrow}
+use Rattle.lower.specs.Exprs.{moved-refl, moved-within, narrow}
 use Rattle.lower.proofs.Elements.{IsElement, IsNode, IsRel, a-node, element-number}
 use Rattle.lower.proofs.Elements
 use Rattle.lower.proofs.Expand.{expandOp, Expanded, expand-run, far-end, rel-end}
@@ -211,7 +211,7 @@ unfolding Held elementNumber fold made elementStep
 rel-kind room sheet d i (node patternElement line PatternElement.Node (bind, (n, (p, (span, u)))) (names ▸ props ▸ end)) r hd e = absurd (step-apart e)
 rel-kind room sheet d i (node patternElement line PatternElement.Rel f kids) r hd e = element-number room (hd .1)
 
-module _ {a b : List ℕ} (d base : ℕ) (ch : Chain) {e₁ e₂ n₁ n₂ p₁ p₂ : ℕ} {os rest rest₁ rest₂ : List ℕ} {r₁ r₂ : Numbered} {m₃ m₄ : Mem} {c₅ : LowerCtx} {os₅ : List ℕ} (room : Roomy a b) (lb : base ≤ 2048) (st : Sturdy ch) (w1 : ch .waits ≡ 1) (h1 : ch .has ≡ 1) (k12 : cell a b (ch .next) 0 ≡ 12) (la : ch .next < 2048) (ep₁ : p₁ ≡ base + (ch .next + 1)) (nm₁ : Numbers (endpointVar (optionOf (cell a b (ch .next) 2) (cell a b (ch .next) 3))) p₁ (ch .ctx) rest rest₁ r₁) (lr₁ : length rest₁ ≡ length rest) (ep₂ : p₂ ≡ base + (ch .from + 1)) (nm₂ : Numbers (endpointVar (optionOf (cell a b (ch .from) 2) (cell a b (ch .from) 3))) p₂ (r₁ .ctx) rest₁ rest₂ r₂) (lr₂ : length rest₂ ≡ length rest₁) (en₁ : n₁ ≡ cell a b (ch .from) 10) (x₁ : LowersExprs a b n₁ 0 (d - 1) base (ch .from + 1 + cell a b (ch .from) 4) e₁ (mem (r₂ .ctx) os rest₂) m₃) (en₂ : n₂ ≡ cell a b (ch .next) 6) (x₂ : LowersExprs a b n₂ 0 (d - 1) base (ch .next + 1 + cell a b (ch .next) 4) e₂ m₃ m₄) (pe : Pushed (m₄ .ctx) c₅ (m₄ .ops) os₅ (expandOp (ch .from) (ch .last) (ch .origin) (ch .next) d base)) (lo : length os₅ ≡ length (m₄ .ops)) where
+module _ {a b : List ℕ} (d base : ℕ) (ch : Chain) {e₁ e₂ n₁ n₂ p₁ p₂ : ℕ} {os rest rest₁ rest₂ : List ℕ} {r₁ r₂ : Numbered} {m₃ m₄ : Mem} {c₅ : LowerCtx} {os₅ : List ℕ} (room : Roomy a b) (lb : base ≤ 2048) (sh : d ≤ 64) (st : Sturdy ch) (w1 : ch .waits ≡ 1) (h1 : ch .has ≡ 1) (k12 : cell a b (ch .next) 0 ≡ 12) (la : ch .next < 2048) (ep₁ : p₁ ≡ base + (ch .next + 1)) (nm₁ : Numbers (endpointVar (optionOf (cell a b (ch .next) 2) (cell a b (ch .next) 3))) p₁ (ch .ctx) rest rest₁ r₁) (lr₁ : length rest₁ ≡ length rest) (ep₂ : p₂ ≡ base + (ch .from + 1)) (nm₂ : Numbers (endpointVar (optionOf (cell a b (ch .from) 2) (cell a b (ch .from) 3))) p₂ (r₁ .ctx) rest₁ rest₂ r₂) (lr₂ : length rest₂ ≡ length rest₁) (en₁ : n₁ ≡ cell a b (ch .from) 10) (x₁ : LowersExprs a b n₁ 0 (d - 1) base (ch .from + 1 + cell a b (ch .from) 4) e₁ (mem (r₂ .ctx) os rest₂) m₃) (en₂ : n₂ ≡ cell a b (ch .next) 6) (x₂ : LowersExprs a b n₂ 0 (d - 1) base (ch .next + 1 + cell a b (ch .next) 4) e₂ m₃ m₄) (pe : Pushed (m₄ .ctx) c₅ (m₄ .ops) os₅ (expandOp (ch .from) (ch .last) (ch .origin) (ch .next) d base)) (lo : length os₅ ≡ length (m₄ .ops)) where
   abbrev ch″ : Chain
   ch″ = nodeChain ch e₂ c₅ (m₄ .ctx .ops) (r₁ .number) 2
 
@@ -222,7 +222,7 @@ module _ {a b : List ℕ} (d base : ℕ) (ch : Chain) {e₁ e₂ n₁ n₂ p₁ 
 
   expand-end : {sheet : Bytes} {o : Option RelStep} → Waiting sheet a b d ch o → e₁ ≡ ch .next
   expand-end (no-rel w f e) = absurd (omega arith)
-  expand-end {sheet} (a-rel w t r hd sr nx e) = rel-end d base (ch .next) (ch .from) room k12 (rel-kind room sheet d (ch .from) t r hd sr) lb la ep₁ nm₁ ep₂ nm₂ en₁ x₁ en₂ x₂ pe sheet t hd ∙ sym nx
+  expand-end {sheet} (a-rel w t r hd sr nx e) = rel-end d base (ch .next) (ch .from) room k12 (rel-kind room sheet d (ch .from) t r hd sr) lb sh la ep₁ nm₁ ep₂ nm₂ en₁ x₁ en₂ x₂ pe sheet t hd ∙ sym nx
 
   expand-moved : e₁ ≡ ch .next → Moved (ch .from) e₂ (mem (ch .ctx) os rest) (mem c₅ os₅ (m₄ .rest))
   expand-moved E =
@@ -246,7 +246,7 @@ module _ {a b : List ℕ} (d base : ℕ) (ch : Chain) {e₁ e₂ n₁ n₂ p₁ 
   expanded-run sheet t hd W s c rp l (a-rel w tr r hr sr nx e) bl =
       let v = a-node room t hd k12 in
       let k13 = rel-kind room sheet d (ch .from) tr r hr sr in
-      let x = expand-run d base (ch .next) (ch .from) room k12 k13 lb la ep₁ nm₁ ep₂ nm₂ en₁ x₁ en₂ x₂ pe sheet t tr _ r hd hr (v .step) sr nx W s c e (l .last ∙ ap (λ (z : ℕ). givenIf z (ch .last, ch .origin)) h1) rp bl in
+      let x = expand-run d base (ch .next) (ch .from) room k12 k13 lb sh la ep₁ nm₁ ep₂ nm₂ en₁ x₁ en₂ x₂ pe sheet t tr _ r hd hr (v .step) sr nx W s c e (l .last ∙ ap (λ (z : ℕ). givenIf z (ch .last, ch .origin)) h1) rp bl in
       subst (λ (z : Lower.Step). Chained sheet a b W d base ch ch″ t z c s (mem (ch .ctx) os rest) (mem c₅ os₅ (m₄ .rest))) (sym (v .step))
       (record {
         to = x .to;
@@ -265,6 +265,6 @@ module _ {a b : List ℕ} (d base : ℕ) (ch : Chain) {e₁ e₂ n₁ n₂ p₁ 
         sturdy = record { has = omega arith; waits = omega arith; from = omega arith; next = mv .here; last = omega (arith, pe .count); below = λ h. omega (arith, pe .count); kept = let q = st .kept in omega arith };
         anchored = record { sheet = x .sheet; pending = none; waiting = no-rel refl refl refl };
         ahead = omega arith;
-        next = λ sheet t hd. far-end d base (ch .next) (ch .from) room k12 (waiting-kind (y .waiting)) lb la ep₁ nm₁ ep₂ nm₂ en₁ x₁ en₂ x₂ pe sheet t hd;
+        next = λ sheet t hd. far-end d base (ch .next) (ch .from) room k12 (waiting-kind (y .waiting)) lb sh la ep₁ nm₁ ep₂ nm₂ en₁ x₁ en₂ x₂ pe sheet t hd;
         run = λ sheet t hd W s c r l bl. expanded-run sheet t hd W s c r l (l .waiting) bl;
       }

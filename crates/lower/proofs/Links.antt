@@ -19,8 +19,8 @@ use Rattle.lower.specs.Pieces.{SomeTree}
 use Rattle.lower.specs.Patterns.{SomeTrees}
 use Rattle.lower.specs.Chains.{seenIf, stepOf, stepsOf, Linked, Sturdy, Anchored, passed, Chained, ChainedAll, LowersElement, LowersElements}
 use Rattle.lower.specs.declared.Chain.{Chain}
-use Rattle.lower.proofs.State.{sub-more, sub-within, blank-within, blank-behind, back, to-refl, to-then, to-wider}
-use Rattle.lower.proofs.Exprs.{moved-refl, moved-then, good-after, narrow}
+use Rattle.lower.specs.State.{sub-more, sub-within, blank-within, blank-behind, back, to-refl, to-then, to-wider}
+use Rattle.lower.specs.Exprs.{moved-refl, moved-then, good-after, narrow}
 
 none-size : (ch : Chain) (ts : Trees patternElement 0) → ch .next ≡ ch .next + sizeOf ts
 unfolding size

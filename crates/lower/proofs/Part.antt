@@ -19,7 +19,7 @@ use Rattle.lower.specs.Patterns.{partL, LowersPart}
 use Rattle.lower.specs.Chains.{stepOf, stepsOf, chainL, LowersChain, elementOf}
 use Rattle.lower.specs.declared.Element.{Element}
 use Rattle.lower.specs.declared.Element.the-variants.{Node, Rel}
-use Rattle.lower.proofs.Fits.{tree-fits}
+use Rattle.lower.specs.Fits.{tree-fits}
 use Rattle.lower.proofs.Elements.{IsNode, IsRel, a-node, a-rel, other-element}
 use Rattle.lower.proofs.Chaining.{IsPart, a-part}
 use Rattle.lower.proofs.Shortest.{Three, three, plain-part, other-part, shape-not-three, steps-length}

@@ -10,8 +10,8 @@ use mathlib.Core.Bool.{Bool, true, false}
 use mathlib.Core.Logic.{_⊎_, inl, inr}
 use lib.Dec.{eqb}
 use borrow.Author.Tests.{eqb-true, eqb-false}
-use Rattle.lower.proofs.Fits.{tree-fits}
-use Rattle.lower.proofs.Carry.{plainC, plain-held, plain-size}
+use Rattle.lower.specs.Fits.{tree-fits}
+use Rattle.lower.specs.Carry.{plainC, plain-held, plain-size}
 use Rattle.lower.proofs.Elements.{a-node, other-element}
 use Rattle.lower.proofs.Elements
 use Rattle.lower.proofs.Linking.{rel-kind}

@@ -25,10 +25,10 @@ use Rattle.lower.specs.Shows.{shift, Shows, shows-short}
 use Rattle.lower.specs.Rep.{State, Mem, mem, Written, Sub, Blank, Future, Rep, To, Rooted, Good, Moved}
 use Rattle.lower.specs.Pieces.{lowerC, renderC, SomeTree, LowersExprs}
 use Rattle.lower.specs.Chains.{stepOf, stepsOf, startL, LowersStart, LowersRel}
-use Rattle.lower.proofs.State.{sub-more, sub-within, blank-within, blank-before, blank-behind, back, to-refl, to-then, to-wider, push-to, Given, number-to}
-use Rattle.lower.proofs.Below.{carried-more}
-use Rattle.lower.proofs.Exprs.{narrow}
-use Rattle.lower.proofs.Carry.{plainC, plain-held, plain-size, plain-render, plain-below}
+use Rattle.lower.specs.State.{sub-more, sub-within, blank-within, blank-before, blank-behind, back, to-refl, to-then, to-wider, push-to, Given, number-to}
+use Rattle.lower.specs.Below.{carried-more}
+use Rattle.lower.specs.Exprs.{narrow}
+use Rattle.lower.specs.Carry.{plainC, plain-held, plain-size, plain-render, plain-below}
 use Rattle.lower.proofs.Elements.{names-render, names-count, props-lower, props-has, IsElement, IsNode, IsRel, a-node, a-rel}
 use Rattle.lower.proofs.Elements
 use Rattle.lower.proofs.Expand.{Places}

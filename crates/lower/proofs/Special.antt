@@ -22,16 +22,16 @@ use Rattle.context.specs.declared.LowerCtx.{LowerCtx}
 use Rattle.context.specs.declared.Numbered.{Numbered}
 use Rattle.lower.specs.Count.{Ends}
 use Rattle.lower.specs.Render.{Notes, Ops, renderOf}
-use Rattle.lower.specs.Shows.{shift, Shows, shows-short}
+use Rattle.lower.specs.Shows.{shift, Sane, Shows, shows-short}
 use Rattle.lower.specs.Rep.{State, Mem, mem, Written, Sub, Blank, Future, Rep, To, Rooted, Moved}
 use Rattle.lower.specs.Pieces.{lowerC, SomeTree, LowersExprs}
 use Rattle.lower.specs.Patterns.{partL, LowersPart}
 use Rattle.lower.specs.Chains.{stepOf, stepsOf, startL, LowersStart, LowersRel}
-use Rattle.lower.proofs.State.{sub-more, sub-within, blank-within, blank-before, blank-behind, back, to-refl, to-then, to-wider, push-to, Given, number-to}
-use Rattle.lower.proofs.Below.{carried-more}
-use Rattle.lower.proofs.Fits.{tree-fits}
-use Rattle.lower.proofs.Exprs.{narrow}
-use Rattle.lower.proofs.Carry.{plainC, plain-held, plain-size, plain-below}
+use Rattle.lower.specs.State.{sub-more, sub-within, blank-within, blank-before, blank-behind, back, to-refl, to-then, to-wider, push-to, Given, number-to}
+use Rattle.lower.specs.Below.{carried-more}
+use Rattle.lower.specs.Fits.{tree-fits, tree-low}
+use Rattle.lower.specs.Exprs.{narrow}
+use Rattle.lower.specs.Carry.{plainC, plain-held, plain-size, plain-below}
 use Rattle.lower.proofs.Elements.{IsElement, IsNode, IsRel, a-node, a-rel}
 use Rattle.lower.proofs.Elements
 use Rattle.lower.proofs.Chaining.{IsPart, a-part}
@@ -44,7 +44,10 @@ shape-three : (ss : List Step) (x y z : Step) (n b : NodeStep) (r : RelStep) →
 unfolding shapeOf
 shape-three ss x y z n b r e ex ey ez = rw (e, ex, ey, ez)
 
-module _ {a b : List ℕ} (d base i rel far e : ℕ) {p₁ p₃ p₄ e₁ e₂ k₁ : ℕ} {c₀ : LowerCtx} {os rest rest₁ rest₄ rest₅ os₆ : List ℕ} {r₁ r₃ r₄ : Numbered} {m₂ m₃ : Mem} {c₆ : LowerCtx} (room : Roomy a b) (lb : base ≤ 2048) (k4 : (cell a b i 4 ≡ 0) → ⊥) (k6 : cell a b i 6 ≡ 3) (ka : cell a b (i + 1) 0 ≡ 12) (kr : cell a b rel 0 ≡ 13) (kf : cell a b far 0 ≡ 12) (na : Ends a b (i + 1) rel) (nr : Ends a b rel far) (nf : Ends a b far e)
+short-sane : (i input rel far d base : ℕ) → d ≤ 64 → base ≤ 2048 → i < 2048 → far < 2048 → Sane (shortOp i input rel far (d - 1) base)
+short-sane i input rel far d base sh lb l h = record { shallow = omega arith; near = lb; low = l; far = λ e. h; flagged = λ e. absurd (omega arith) }
+
+module _ {a b : List ℕ} (d base i rel far e : ℕ) {p₁ p₃ p₄ e₁ e₂ k₁ : ℕ} {c₀ : LowerCtx} {os rest rest₁ rest₄ rest₅ os₆ : List ℕ} {r₁ r₃ r₄ : Numbered} {m₂ m₃ : Mem} {c₆ : LowerCtx} (room : Roomy a b) (lb : base ≤ 2048) (sh : d ≤ 64) (k4 : (cell a b i 4 ≡ 0) → ⊥) (k6 : cell a b i 6 ≡ 3) (ka : cell a b (i + 1) 0 ≡ 12) (kr : cell a b rel 0 ≡ 13) (kf : cell a b far 0 ≡ 12) (na : Ends a b (i + 1) rel) (nr : Ends a b rel far) (nf : Ends a b far e)
     (ep₁ : p₁ ≡ base + (i + 1 + 1)) (nm₁ : Numbers (endpointVar (optionOf (cell a b (i + 1) 2) (cell a b (i + 1) 3))) p₁ c₀ rest rest₁ r₁) (lr₁ : length rest₁ ≡ length rest) (ls : LowersStart a b (d - 1) base (i + 1) (r₁ .number) e₁ k₁ (mem (r₁ .ctx) os rest₁) m₂) (lr : LowersRel a b (d - 1) base rel e₂ (m₂ .ctx) (m₂ .ops) (m₂ .rest) m₃)
     (ep₃ : p₃ ≡ base + (far + 1)) (nm₃ : Numbers (endpointVar (optionOf (cell a b far 2) (cell a b far 3))) p₃ (m₃ .ctx) (m₃ .rest) rest₄ r₃) (lr₃ : length rest₄ ≡ length (m₃ .rest)) (ep₄ : p₄ ≡ base + (i + 1)) (nm₄ : Numbers (endpointVar (optionOf (cell a b i 2) (cell a b i 3))) p₄ (r₃ .ctx) rest₄ rest₅ r₄) (lr₄ : length rest₅ ≡ length rest₄) (pp : Pushed (r₄ .ctx) c₆ (m₃ .ops) os₆ (shortOp i k₁ rel far (d - 1) base)) (lo : length os₆ ≡ length (m₃ .ops)) where
   -- the three elements, and where they end
@@ -150,15 +153,18 @@ module _ {a b : List ℕ} (d base i rel far e : ℕ) {p₁ p₃ p₄ e₁ e₂ k
       let f₄ = back (g₅ .to) f₅ in
       let f₁ = back (y₂ .to) (back (g₃ .to) (back (y₄ .to) f₄)) in
       let l₃ : m₃ .ctx .ops ≤ r₄ .ctx .ops = le-trans (g₅ .to .grow) (g₆ .to .grow) in
-      shows-short refl (record {
-        rel = S .trees .rel;
-        held-rel = S .held-rel;
-        is-rel = kr;
-        below-rel = vr .el .below (shift N base) (r₄ .ctx .ops) (plain-below (shift N base) (r₄ .ctx .ops) (vr .el .props) (carried-more (shift N base) (m₃ .ctx .ops) (r₄ .ctx .ops) l₃ (plainC (vr .el .props)) (y₄ .below N A f₄)));
-        all = all;
-        is-all = refl;
-        is = short-is (shift N base) A (S .trees .rel) (vr .el .names) (vr .el .p) (vr .el .props) _ _ _ _ _ _ _ _ _ all _ (y₂ .root) (f₁ .notes .at (base + suc (i + 1)) (P .low-j) (inl (at-place (base + suc (i + 1)))) ∙ g₁ .noted ∙ g₁ .number) (f₅ .notes .at (base + suc far) (P .low-f) (inl (at-place (base + suc far))) ∙ g₅ .noted ∙ g₅ .number) (f .notes .at (base + suc i) (P .low-i) (inl (at-place (base + suc i))) ∙ g₆ .noted ∙ g₆ .number) (vr .el .spec (shift N base) A ∙ ap (λ (h : Rec). h ∷ (renderOf (shift N base) A (vr .el .names) ++ renderOf (shift N base) A (vr .el .props))) (vr .head)) (y₄ .shown N A f₄);
-      })) in
+      record {
+        sane = short-sane i k₁ rel far d base sh lb (tree-low sheet a b t d i hd) (tree-low sheet a b (S .trees .far) (d - 1) far (S .held-far));
+        shows = shows-short refl (record {
+          rel = S .trees .rel;
+          held-rel = S .held-rel;
+          is-rel = kr;
+          below-rel = vr .el .below (shift N base) (r₄ .ctx .ops) (plain-below (shift N base) (r₄ .ctx .ops) (vr .el .props) (carried-more (shift N base) (m₃ .ctx .ops) (r₄ .ctx .ops) l₃ (plainC (vr .el .props)) (y₄ .below N A f₄)));
+          all = all;
+          is-all = refl;
+          is = short-is (shift N base) A (S .trees .rel) (vr .el .names) (vr .el .p) (vr .el .props) _ _ _ _ _ _ _ _ _ all _ (y₂ .root) (f₁ .notes .at (base + suc (i + 1)) (P .low-j) (inl (at-place (base + suc (i + 1)))) ∙ g₁ .noted ∙ g₁ .number) (f₅ .notes .at (base + suc far) (P .low-f) (inl (at-place (base + suc far))) ∙ g₅ .noted ∙ g₅ .number) (f .notes .at (base + suc i) (P .low-i) (inl (at-place (base + suc i))) ∙ g₆ .noted ∙ g₆ .number) (vr .el .spec (shift N base) A ∙ ap (λ (h : Rec). h ∷ (renderOf (shift N base) A (vr .el .names) ++ renderOf (shift N base) A (vr .el .props))) (vr .head)) (y₄ .shown N A f₄);
+        });
+      }) in
       let u : Sub W₆ ((base + suc i, base + suc e) ∷ W) = sub-within (le-refl _) (P .i1e) (sub-within (P .if) (P .f1e) (sub-within (P .it) (P .fe) (sub-within (P .ir) (P .r1e) (sub-within (P .ij1) (P .re) (sub-within (P .ij) (P .j1e) (sub-more (base + suc i, base + suc e) W)))))) in
       record { to = rw D (to-wider u (to-then (g₁ .to) (to-then (y₂ .to) (to-then (g₃ .to) (to-then (y₄ .to) (to-then (g₅ .to) (to-then (g₆ .to) y₇))))))); root = rw D (g₆ .to .rep .count); low = one-more (pp .count) }
 

@@ -21,9 +21,9 @@ use Rattle.lower.specs.Shows.{shift, Shows, shows-source, shows-filter}
 use Rattle.lower.specs.Rep.{State, Mem, mem, Written, Sub, Blank, Future, Rep, To, Ran, Rooted, Good, Moved}
 use Rattle.lower.specs.Pieces.{exprPiece, SomeTree, LowersExpr}
 use Rattle.lower.specs.Chains.{stepOf, startL, LowersStart}
-use Rattle.lower.proofs.State.{sub-refl, sub-then, sub-more, sub-within, blank-within, blank-before, blank-behind, back, rep-wider, to-refl, to-then, to-wider, push-to}
-use Rattle.lower.proofs.Fits.{tree-fits}
-use Rattle.lower.proofs.Exprs.{moved-within, narrow}
+use Rattle.lower.specs.State.{sub-refl, sub-then, sub-more, sub-within, blank-within, blank-before, blank-behind, back, rep-wider, to-refl, to-then, to-wider, push-to}
+use Rattle.lower.specs.Fits.{tree-fits, tree-low}
+use Rattle.lower.specs.Exprs.{moved-within, narrow}
 use Rattle.lower.proofs.Elements.{names-render, names-size, IsElement, IsNode, a-node, OneProp, one-prop, no-prop, same-node}
 
 abbrev pub sourceOp : (i number d base : ℕ) → Op
@@ -68,20 +68,23 @@ filter-is : (k k′ : ℕ) (rs rs′ : Recs) → k ≡ k′ → rs ≡ rs′ →
 unfolding filter
 filter-is k k′ rs rs′ e e′ = rw (e, e′)
 
-module _ {a b : List ℕ} {base number : ℕ} {c : LowerCtx} {os′ : List ℕ} {m : Mem} (d i : ℕ) (room : Roomy a b) (k12 : cell a b i 0 ≡ 12) (ps : Pushed (m .ctx) c (m .ops) os′ (sourceOp i number d base)) (lo : length os′ ≡ length (m .ops)) where
+module _ {a b : List ℕ} {base number : ℕ} {c : LowerCtx} {os′ : List ℕ} {m : Mem} (d i : ℕ) (room : Roomy a b) (k12 : cell a b i 0 ≡ 12) (sh : (d ≤ 64) × (base ≤ 2048)) (ps : Pushed (m .ctx) c (m .ops) os′ (sourceOp i number d base)) (lo : length os′ ≡ length (m .ops)) where
   -- the source
   source-to : (sheet : Bytes) (t : Tree patternElement) (n : NodeStep) → Held sheet a b t d i → stepOf t ≡ ofNode n → (W : Written) (s : State) → Rep sheet a b W s m → To sheet a b W W s (push (source number (n .labels)) s .1) m (mem c os′ (m .rest))
   source-to sheet t n hd st W s r =
       let v = a-node room t hd k12 in
       let e : n ≡ record { bind = optionOf (cell a b i 2) (cell a b i 3); labels = toList (v .el .n) (foldOf Lowered made (v .el .names)); props = propsOf (v .el .p) (foldOf Lowered made (v .el .props)) } = same-node (sym st ∙ v .step) in
       push-to m c os′ (sourceOp i number d base) (source number (n .labels)) r ps
-      (λ N A f. shows-source refl (record {
-        count = v .el .n;
-        labels = v .el .names;
-        counted = v .el .many;
-        held = v .el .held-names;
-        is = ap (λ (x : Recs). source number x) (ap (λ (x : NodeStep). x .labels) e ∙ sym (names-render (shift N base) A (v .el .names)));
-      }))
+      (λ N A f. record {
+        sane = record { shallow = let z = sh .0 in omega arith; near = sh .1; low = tree-low sheet a b t d i hd; far = λ e. absurd (omega arith); flagged = λ e. absurd (omega arith) };
+        shows = shows-source refl (record {
+          count = v .el .n;
+          labels = v .el .names;
+          counted = v .el .many;
+          held = v .el .held-names;
+          is = ap (λ (x : Recs). source number x) (ap (λ (x : NodeStep). x .labels) e ∙ sym (names-render (shift N base) A (v .el .names)));
+        });
+      })
 
   module _ (k6 : cell a b i 6 ≡ 0) where
     bare-run : (sheet : Bytes) (t : Tree patternElement) (n : NodeStep) → Held sheet a b t d i → stepOf t ≡ ofNode n → (W : Written) (s : State) → Rep sheet a b W s m → Rooted sheet a b W (startL number n) (m .ctx .ops) base (suc (i + 1)) (suc (i + 1 + cell a b i 4)) s m (mem c os′ (m .rest))
@@ -124,12 +127,15 @@ module _ {a b : List ℕ} {base number : ℕ} {c : LowerCtx} {os′ : List ℕ} 
         let a₂ = ex .run sheet (o .tree) (prop-held sheet t hd) W (sourced number n s) (a₁ .rep) (blank-within (omega arith) (le-refl _) bl) in
         let s₂ : State = lowerExpr (o .tree) (sourced number n s) .1 in
         let a₃ = push-to m₂ c₃ os₃ (filterOp j (m .ctx .ops) d base) (filter (length (s .ops)) (lowerExpr (o .tree) (sourced number n s) .0)) (a₂ .to .rep) pf
-        (λ N A f. shows-filter refl (record {
-          tree = o .tree;
-          held = prop-held sheet t hd;
-          below = a₂ .below N A f;
-          is = filter-is (m .ctx .ops) (length (s .ops)) _ _ (r .count) (a₂ .shown N A f);
-        })) in
+        (λ N A f. record {
+          sane = record { shallow = let y = sh .0 in omega arith; near = sh .1; low = tree-low sheet a b (o .tree) (d - 1) j (prop-held sheet t hd); far = λ e. absurd (omega arith); flagged = λ e. absurd (omega arith) };
+          shows = shows-filter refl (record {
+            tree = o .tree;
+            held = prop-held sheet t hd;
+            below = a₂ .below N A f;
+            is = filter-is (m .ctx .ops) (length (s .ops)) _ _ (r .count) (a₂ .shown N A f);
+          });
+        }) in
         record {
           to = rw z (to-wider (sub-within (omega arith) (le-refl _) (sub-more (base + suc (i + 1), base + suc e) W)) (to-then a₁ (to-then (a₂ .to) a₃)));
           root = rw z (a₂ .to .rep .count);

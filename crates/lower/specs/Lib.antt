@@ -5,3 +5,9 @@ pub mod Rep
 pub mod Pieces
 pub mod Patterns
 pub mod Chains
+pub mod Fits
+pub mod Below
+pub mod State
+pub mod Exprs
+pub mod Carry
+pub mod Clauses

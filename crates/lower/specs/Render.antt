@@ -1,7 +1,7 @@
 -- What trees come to in the plan, read off the numbers that are noted at their records: a note is kept by the record's line, and a pattern's copy is of the operator noted at it. Assumes nothing: these are definitions.
 use mathlib.Core.Path.{_≡_}
 use Prim.Native.Nat.{ℕ, zero, suc, _+_, _<_}
-use mathlib.Core.Bool.{Bool, true, false}
+use mathlib.Core.Bool.{Bool, true, false, cond}
 use mathlib.Core.List.{List, [], _∷_, _++_}
 use mathlib.Core.Option.{Option, none, some}
 use Rattle.model.specs.Text.{Bytes}
@@ -11,7 +11,7 @@ use Rattle.model.specs.Kind.{statement, unionArm, clause, projection, orderItem
 use Rattle.model.specs.Kind.{readOp, relSpec, nodeSpec, planProjection, aggExpr, orderKey, pathElement, planEntry, planExpr}
 use Rattle.model.specs.Record.{Rec, rec, Group, one, forms, exprForms, elementForms, children, elementChildren}
 use Rattle.model.specs.Tree.{Tree, Trees, Forest, node, []ᵗ, _∷ᵗ_, end, _▸_}
-use Rattle.model.specs.Lower.{Recs, planned, op, item, aliasOr, synthesiseAlias}
+use Rattle.model.specs.Lower.{Recs, planned, op, item, aliasOr, synthesiseAlias, isAggregateFunc}
 
 -- what is noted at a line: the number issued at its record, or a pattern's root operator
 abbrev pub Notes : Type 0
@@ -130,3 +130,38 @@ unfoldable pub keptFrom : Notes → Bool → Option ℕ → {n : ℕ} → Trees 
 keptFrom N seen waits []ᵗ = []
 keptFrom N seen waits (node patternElement line PatternElement.Node f kids ∷ᵗ ts) = keptRel N seen waits ++ (N line ∷ keptFrom N true none ts)
 keptFrom N seen waits (node patternElement line PatternElement.Rel f kids ∷ᵗ ts) = keptFrom N seen (some line) ts
+
+-- ── the items of a `return`, parted into keys and aggregates ──
+
+abbrev pub itemExpr : Tree projection → Tree expr
+itemExpr (node projection line k f ((e ∷ᵗ []ᵗ) ▸ end)) = e
+
+-- a call of an aggregating function
+unfoldable pub isAggregate : Tree expr → Bool
+isAggregate (node expr line (Expr.Over h) f kids) = false
+isAggregate (node expr line Expr.Var f kids) = false
+isAggregate (node expr line Expr.Map f kids) = false
+isAggregate (node expr line Expr.Call (func, _) kids) = isAggregateFunc func
+isAggregate (node expr line Expr.PatternPredicate f kids) = false
+isAggregate (node expr line Expr.ListPredicate f kids) = false
+isAggregate (node expr line Expr.Unresolved f kids) = false
+isAggregate (node expr line Expr.Undesugared f kids) = false
+
+-- an aggregate, whose arguments alone are expressions
+unfoldable pub aggOf : Notes → Ops → Tree expr → Recs
+aggOf N A (node expr line (Expr.Over h) f kids) = []
+aggOf N A (node expr line Expr.Var f kids) = []
+aggOf N A (node expr line Expr.Map f kids) = []
+aggOf N A (node expr line Expr.Call (func, (n, (distinct, _))) (args ▸ end)) = rec (inPlan aggExpr) tt (func, (n, (distinct, tt))) ∷ renderOf N A args
+aggOf N A (node expr line Expr.PatternPredicate f kids) = []
+aggOf N A (node expr line Expr.ListPredicate f kids) = []
+aggOf N A (node expr line Expr.Unresolved f kids) = []
+aggOf N A (node expr line Expr.Undesugared f kids) = []
+
+unfoldable pub keyRecs : Notes → Ops → {n : ℕ} → Trees projection n → Recs
+keyRecs N A []ᵗ = []
+keyRecs N A (p ∷ᵗ ps) = cond (isAggregate (itemExpr p)) [] (render N A (itemExpr p)) ++ keyRecs N A ps
+
+unfoldable pub aggRecs : Notes → Ops → {n : ℕ} → Trees projection n → Recs
+aggRecs N A []ᵗ = []
+aggRecs N A (p ∷ᵗ ps) = cond (isAggregate (itemExpr p)) (aggOf N A (itemExpr p)) [] ++ aggRecs N A ps

@@ -10,7 +10,7 @@ use Rattle.model.specs.Lower
 use Rattle.context.specs.Tables.{stateOf, opAt, varsAt, maxStored}
 use Rattle.context.specs.declared.LowerCtx.{LowerCtx}
 use Rattle.lower.specs.Render.{Notes, Ops}
-use Rattle.lower.specs.Shows.{Shows, shift}
+use Rattle.lower.specs.Shows.{Stored, shift}
 
 abbrev pub State : Type 0
 State = Lower.LowerCtx
@@ -58,7 +58,7 @@ pub record Future (W : Written) (s : State) (m : Mem) (N : Notes) (A : Ops) : Ty
 pub record Rep (sheet : Bytes) (a b : List ℕ) (W : Written) (s : State) (m : Mem) : Type 0 where
   pub count : m .ctx .ops ≡ length (s .ops)
   pub state : stateOf (s .ops) (m .ctx) (drop varsAt (m .rest)) ≡ s
-  pub shows : (k : ℕ) → k < m .ctx .ops → k < maxStored → (N : Notes) (A : Ops) → Future W s m N A → Shows sheet a b N A k (opAt (m .ops) k) (at (s .ops) k)
+  pub shows : (k : ℕ) → k < m .ctx .ops → k < maxStored → (N : Notes) (A : Ops) → Future W s m N A → Stored sheet a b N A k (opAt (m .ops) k) (at (s .ops) k)
 
 -- the state s in m has become s′ in m′
 pub record To (sheet : Bytes) (a b : List ℕ) (W W′ : Written) (s s′ : State) (m m′ : Mem) : Type 0 where

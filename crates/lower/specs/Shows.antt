@@ -1,24 +1,33 @@
 -- What the words of a stored operator stand for: its kind tells the records, over trees that the words hold and the notes of one pass. Assumes nothing: these are definitions.
 use mathlib.Core.Path.{_≡_}
-use Prim.Native.Nat.{ℕ, zero, suc, _+_, _<_}
+use Prim.Native.Nat.{ℕ, zero, suc, _+_, _≤_, _<_}
 use mathlib.Core.Bool.{Bool, true, false}
 use mathlib.Core.List.{List, [], _∷_, _++_}
 use mathlib.Core.Option.{Option, none, some}
 use lib.ListN.{length}
 use lib.Dec.{eqb}
 use Rattle.model.specs.Text.{Bytes}
-use Rattle.model.specs.Kind.{Sort, PatternElement, ReadOp, patternPart, patternElement, name, expr}
-use Rattle.model.specs.Record.{Rec, Group}
+use Rattle.model.specs.Field.{Fields}
+use Rattle.model.specs.Kind.{Sort, Clause, PatternElement, ReadOp, clause, projection, orderItem, patternPart, patternElement, name, yieldItem, expr}
+use Rattle.model.specs.Record.{Rec, Group, one, forms}
 use Rattle.model.specs.Tree.{Tree, Trees, Forest, node}
 use Rattle.model.specs.Lower.{Recs, op, source, pathElements}
-use Rattle.words.specs.Words.{cell}
-use Rattle.words.specs.Held.{Held, HeldOf, HeldIn}
+use Rattle.words.specs.Words.{cell, optionOf}
+use Rattle.words.specs.Held.{Held, HeldOf, HeldIn, RecordAt, sizeOf}
 use Rattle.context.specs.Tables.{Op}
-use Rattle.lower.specs.Render.{Notes, Ops, render, renderOf, Below, BelowOf, specRecs, KidsBelow, lineOf, keptFrom}
+use Rattle.lower.specs.Render.{Notes, Ops, render, renderOf, Below, BelowOf, specRecs, KidsBelow, lineOf, keptFrom, keyRecs, aggRecs}
 
 -- the notes of a pass stand from b on
 abbrev pub shift : Notes → ℕ → Notes
 shift N b line = N (b + line)
+
+-- what the words of every operator keep to: the depth left, the pass, and the records
+pub record Sane (o : Op) : Type 0 where
+  pub shallow : o .left ≤ 64
+  pub near : o .base ≤ 2048
+  pub low : o .idx < 2048
+  pub far : o .kind ≡ 4 → o .y < 2048
+  pub flagged : o .kind ≡ 15 → o .y ≤ 1
 
 module _ (sheet : Bytes) (a b : List ℕ) (N : Notes) (A : Ops) (k : ℕ) (o : Op) where
   -- a record over one expression
@@ -66,6 +75,56 @@ module _ (sheet : Bytes) (a b : List ℕ) (N : Notes) (A : Ops) (k : ℕ) (o : O
     pub is-all : all ≡ eqb (cell a b (o .idx) 4) 2
     pub is : recs ≡ op ReadOp.ShortestPath (o .input, (N (o .base + suc (o .idx + 1)), (N (o .base + suc (o .y)), (N (o .base + suc (o .idx)), (all, tt))))) ∷ specRecs (shift N (o .base)) A rel
 
+  -- a `with`, at its clause: its items, and its predicate if it has one
+  pub record ByWith (recs : Recs) : Type 0 where
+    pub count : ℕ
+    pub filtered : Bool
+    pub items : Trees projection count
+    pub predicate : Trees expr (one filtered)
+    pub counted : count ≡ cell a b (o .idx) 2
+    pub flagged : one filtered ≡ cell a b (o .idx) 4
+    pub held-items : HeldOf sheet a b items (o .left) (o .idx + 1)
+    pub held-predicate : HeldOf sheet a b predicate (o .left) (o .idx + 1 + sizeOf items)
+    pub below-items : BelowOf (shift N (o .base)) k items
+    pub below-predicate : BelowOf (shift N (o .base)) k predicate
+    pub is : recs ≡ op ReadOp.With (o .input, (count, (filtered, tt))) ∷ (renderOf (shift N (o .base)) A items ++ renderOf (shift N (o .base)) A predicate)
+
+  -- a `return`, at its clause
+  pub record ByItems (recs : Recs) : Type 0 where
+    pub count : ℕ
+    pub items : Trees projection count
+    pub counted : count ≡ cell a b (o .idx) 2
+    pub held : HeldOf sheet a b items (o .left) (o .idx + 1)
+    pub below : BelowOf (shift N (o .base)) k items
+    pub is : recs ≡ op ReadOp.Project (o .input, (count, tt)) ∷ renderOf (shift N (o .base)) A items
+
+  -- so many keys and so many aggregates of a `return`, at its clause
+  pub record ByParted (recs : Recs) : Type 0 where
+    pub count : ℕ
+    pub items : Trees projection count
+    pub counted : count ≡ cell a b (o .idx) 2
+    pub held : HeldOf sheet a b items (o .left) (o .idx + 1)
+    pub below : BelowOf (shift N (o .base)) k items
+    pub is : recs ≡ op ReadOp.Aggregate (o .input, (o .x, (o .y, tt))) ∷ (keyRecs (shift N (o .base)) A items ++ aggRecs (shift N (o .base)) A items)
+
+  -- so many sort keys, from their first on
+  pub record ByKeys (recs : Recs) : Type 0 where
+    pub keys : Trees orderItem (o .x)
+    pub held : HeldOf sheet a b keys (o .left) (o .idx)
+    pub below : BelowOf (shift N (o .base)) k keys
+    pub is : recs ≡ op ReadOp.OrderBy (o .input, (o .x, tt)) ∷ renderOf (shift N (o .base)) A keys
+
+  -- a `call`, at its clause, behind an operator or none
+  pub record ByCall (recs : Recs) : Type 0 where
+    pub fields : Fields (forms clause Clause.Call)
+    pub at : RecordAt sheet a b (o .idx) clause Clause.Call fields
+    pub args : Trees expr (fields .1 .0)
+    pub yields : Trees yieldItem (fields .1 .1 .0)
+    pub held-args : HeldOf sheet a b args (o .left) (o .idx + 1)
+    pub held-yields : HeldOf sheet a b yields (o .left) (o .idx + 1 + sizeOf args)
+    pub below : BelowOf (shift N (o .base)) k args
+    pub is : recs ≡ op ReadOp.ProcedureCall (optionOf (o .x) (o .input), (fields .0, (fields .1 .0, (fields .1 .1 .0, (fields .1 .1 .1 .0, tt))))) ∷ (renderOf (shift N (o .base)) A args ++ renderOf (shift N (o .base)) A yields)
+
   -- operator k
   pub data Shows (recs : Recs) : Type 0 where
     shows-all : o .kind ≡ 0 → recs ≡ source (o .x) [] → Shows recs
@@ -74,3 +133,19 @@ module _ (sheet : Bytes) (a b : List ℕ) (N : Notes) (A : Ops) (k : ℕ) (o : O
     shows-expand : o .kind ≡ 3 → ByRel recs → Shows recs
     shows-short : o .kind ≡ 4 → ByShortest recs → Shows recs
     shows-path : o .kind ≡ 5 → ByPath recs → Shows recs
+    shows-optional : o .kind ≡ 6 → o .x < k → recs ≡ op ReadOp.OptionalJoin (o .input, tt) ∷ A (o .x) → Shows recs
+    shows-with : o .kind ≡ 7 → ByWith recs → Shows recs
+    shows-project : o .kind ≡ 8 → ByItems recs → Shows recs
+    shows-aggregate : o .kind ≡ 9 → ByParted recs → Shows recs
+    shows-order : o .kind ≡ 10 → ByKeys recs → Shows recs
+    shows-skip : o .kind ≡ 11 → OverExpr (op ReadOp.Skip (o .input, tt)) recs → Shows recs
+    shows-limit : o .kind ≡ 12 → OverExpr (op ReadOp.Limit (o .input, tt)) recs → Shows recs
+    shows-distinct : o .kind ≡ 13 → recs ≡ op ReadOp.Distinct (o .input, tt) ∷ [] → Shows recs
+    shows-unwind : o .kind ≡ 14 → OverExpr (op ReadOp.Unwind (o .input, (o .x, tt))) recs → Shows recs
+    shows-union : o .kind ≡ 15 → recs ≡ op ReadOp.Union (o .input, (o .x, (eqb (o .y) 1, tt))) ∷ [] → Shows recs
+    shows-call : o .kind ≡ 16 → ByCall recs → Shows recs
+
+  -- operator k, as it is stored
+  pub record Stored (recs : Recs) : Type 0 where
+    pub sane : Sane o
+    pub shows : Shows recs

@@ -12,7 +12,7 @@ ghost use Rattle.lower.specs.Patterns.{SomeTrees, LowersPart, LowersPart
 ghost use Rattle.lower.specs.Chains.{givenIf, Sturdy, Anchored, LowersElement, LowersElements, LowersStart, LowersRel, OrSource, LowersChain, elementOf, startChain, Special, Starts};
 use context::LowerCtx;
 
-mod records;
+pub mod records;
 
 // Elements of a part, so far: the next one's record; whether there is an operator, the last one and its node's number; whether a rel waits for its far node; the record from which nothing is lowered yet, which is the rel that waits; how many numbers the path has.
 pub struct Chain {
@@ -58,7 +58,7 @@ fn read_element(a: &[u32], b: &[u32], i: usize) -> Element
 }
 
 // The operator before, or a source of everything, which names the next number and does not take it.
-fn or_source_all(ops: &mut [u32], ctx: LowerCtx, has: u32, last: usize, next: usize) -> Root
+pub fn or_source_all(ops: &mut [u32], ctx: LowerCtx, has: u32, last: usize, next: usize) -> Root
     requires { ⌜ (ctx .ops < 65535) × (16384 ≤ length (now ops)) ⌝ }
     requires { ⌜ ((has ≡ 0 → ⊥) → last < ctx .ops) ⌝ }
     ensures { λ r. ⌜ (r .next ≡ next) × ((rest : List ℕ) → OrSource (orSourceAll (givenIf has last)) (r .op) (mem ctx (now (ops .entry)) rest) (mem (r .ctx) (now (ops .exit)) rest)) ⌝ }
@@ -97,7 +97,7 @@ fn lower_no_parts(ops: &mut [u32], ctx: LowerCtx, next: usize) -> Root
 }
 
 // The expression at record i.
-fn lower_expr(
+pub fn lower_expr(
     a: &[u32],
     b: &[u32],
     ops: &mut [u32],
@@ -148,7 +148,7 @@ fn lower_expr(
 }
 
 // n expressions from record i on, each so many records behind the one before it.
-fn lower_exprs(
+pub fn lower_exprs(
     a: &[u32],
     b: &[u32],
     ops: &mut [u32],
@@ -179,7 +179,7 @@ fn lower_exprs(
 }
 
 // The n parts behind record i.
-fn lower_parts(
+pub fn lower_parts(
     a: &[u32],
     b: &[u32],
     ops: &mut [u32],

@@ -17,7 +17,7 @@ use Rattle.lower.proofs.Start
 use Rattle.lower.proofs.Elements
 use Rattle.lower.proofs.Named
 use Rattle.lower.proofs.Arms
-use Rattle.lower.proofs.Exprs
+use Rattle.lower.specs.Exprs
 use Rattle.lower.proofs.Room
 use mathlib.Core.Path.{_≡_, refl, sym, ap, _∙_}
 use native.Mathlib.Omega.{arith}
@@ -318,7 +318,7 @@ pub +expand-to+lower-chain+lower-element+lower-elements+lower-expr+lower-exprs+l
     (λ c. (let q = ((c .before .before .before .before .before .before .before .before .before .before .before .before .before .before .before .before .before .before .before .before .before .before .before .before .before .before .before .before .before .before .before .before .before .before .before .before .pre .1 .1 .1 .1 .0 .0)) .kept in let q′ = ((c .before .before .before .before .before .before .before .before .before .before .before .before .before .before .before .before .before .before .before .before .before .before .before .before .before .before .before .before .before .before .before .before .before .before .before .before .pre .1 .1 .1 .1 .0 .0)) .next in omega arith))
     (λ c. (c .before .before .before .push .kept .1 .0) ∙ (c .before .before .before .before .before .before .before .before .before .before .before .lower-exprs .kept .1 .1 .0) ∙ (c .before .before .before .before .before .before .before .before .before .before .before .before .before .before .before .before .before .before .before .before .before .lower-rel-element .kept .1 .1 .0))
     (λ c. (c .before .before .before .before .before .before .before .before .before .before .before .lower-exprs .kept .1 .1 .1 .0) ∙ (c .before .before .before .before .before .before .before .before .before .before .before .before .before .before .before .before .before .before .before .before .before .lower-rel-element .kept .1 .1 .1 .0) ∙ (c .before .before .before .before .before .before .before .before .before .before .before .before .before .before .before .before .before .before .before .before .before .before .before .before .before .before .before .endpoint-var .kept .1 .0))
-    (λ c. Linking.expand-law _ _ _ ((c .before .before .before .before .before .before .before .before .before .before .before .before .before .before .before .before .before .before .before .before .before .before .before .before .before .before .before .before .before .before .before .before .before .before .before .before .pre .1 .0)) ((c .before .before .before .before .before .before .before .before .before .before .before .before .before .before .before .before .before .before .before .before .before .before .before .before .before .before .before .before .before .before .before .before .before .before .before .before .pre .1 .1 .1 .0 .2)) ((c .before .before .before .before .before .before .before .before .before .before .before .before .before .before .before .before .before .before .before .before .before .before .before .before .before .before .before .before .before .before .before .before .before .before .before .before .pre .1 .1 .1 .1 .0 .0)) ((c .before .before .before .before .before .before .before .before .before .before .before .before .before .before .before .before .before .before .before .before .before .before .before .before .before .before .before .before .before .before .before .before .before .before .before .before .pre .1 .1 .1 .1 .1 .1)) ((c .before .before .before .before .before .before .before .before .before .before .before .before .before .before .before .before .before .before .before .before .before .before .before .before .before .before .before .before .before .before .before .before .before .before .before .before .pre .1 .1 .1 .1 .1 .2)) ((c .before .before .before .before .before .before .before .before .before .before .before .before .before .before .before .before .before .before .before .before .before .before .before .before .before .before .before .before .before .before .before .before .before .before .before .before .pre .1 .1 .1 .1 .1 .0)) (Room.low ((c .before .before .before .before .before .before .before .before .before .before .before .before .before .before .before .before .before .before .before .before .before .before .before .before .before .before .before .before .before .before .before .before .before .before .before .before .pre .1 .1 .0))) refl (rw ((c .before .before .before .before .before .before .before .before .before .before .before .before .before .before .before .before .before .before .before .before .before .before .before .before .before .before .before .before .before .before .before .word .ensures), (c .before .before .before .before .before .before .before .before .before .before .before .before .before .before .before .before .before .before .before .before .before .before .before .before .before .before .before .before .before .before .word2 .ensures)) at ((c .before .before .before .before .before .before .before .before .before .before .before .before .before .before .before .before .before .before .before .before .before .before .before .before .before .before .before .endpoint-var .ensures))) ((c .before .before .before .before .before .before .before .before .before .before .before .before .before .before .before .before .before .before .before .before .before .before .before .before .before .before .before .endpoint-var .kept .1 .0)) refl ((c .before .before .before .before .before .before .before .before .before .before .before .before .before .before .before .before .before .before .before .before .before .lower-rel-element .ensures .noted)) ((c .before .before .before .before .before .before .before .before .before .before .before .before .before .before .before .before .before .before .before .before .before .lower-rel-element .ensures .kept)) refl ((c .before .before .before .before .before .before .before .before .before .before .before .before .before .before .before .before .before .before .before .before .before .lower-rel-element .ensures .props)) ((c .before .before .before .before .before .before .before .before .before .before .before .before .before .before .before .count2 .ensures .0)) (rw (ap (λ z. ((c .before .before .before .before .before .before .before .before .before .before .before .before .before .before .before .before .before .before .before .before .before .before .before .before .before .before .before .before .before .before .before .before .before .before .before .before .args .ch .next)) + 1 + z) ((c .before .before .before .before .before .before .before .before .before .before .before .before .before .before .before .before .count .ensures .0))) at ((c .before .before .before .before .before .before .before .before .before .before .before .lower-exprs .ensures))) ((c .before .before .before .push .ensures)) ((c .before .before .before .push .kept .1 .0)) ((c .before .before .before .before .before .before .before .before .before .before .before .before .before .before .before .before .before .before .before .before .before .before .before .before .before .before .before .before .before .before .before .before .before .before .before .before .pre .1 .1 .0)) ((c .before .before .before .before .before .before .before .before .before .before .before .before .before .before .before .before .before .before .before .before .before .before .before .before .before .before .before .before .before .before .before .before .before .before .before .before .pre .1 .1 .1 .1 .0 .1))))
+    (λ c. Linking.expand-law _ _ _ ((c .before .before .before .before .before .before .before .before .before .before .before .before .before .before .before .before .before .before .before .before .before .before .before .before .before .before .before .before .before .before .before .before .before .before .before .before .pre .1 .0)) ((c .before .before .before .before .before .before .before .before .before .before .before .before .before .before .before .before .before .before .before .before .before .before .before .before .before .before .before .before .before .before .before .before .before .before .before .before .pre .1 .1 .1 .0 .2)) ((c .before .before .before .before .before .before .before .before .before .before .before .before .before .before .before .before .before .before .before .before .before .before .before .before .before .before .before .before .before .before .before .before .before .before .before .before .pre .1 .1 .1 .0 .1)) ((c .before .before .before .before .before .before .before .before .before .before .before .before .before .before .before .before .before .before .before .before .before .before .before .before .before .before .before .before .before .before .before .before .before .before .before .before .pre .1 .1 .1 .1 .0 .0)) ((c .before .before .before .before .before .before .before .before .before .before .before .before .before .before .before .before .before .before .before .before .before .before .before .before .before .before .before .before .before .before .before .before .before .before .before .before .pre .1 .1 .1 .1 .1 .1)) ((c .before .before .before .before .before .before .before .before .before .before .before .before .before .before .before .before .before .before .before .before .before .before .before .before .before .before .before .before .before .before .before .before .before .before .before .before .pre .1 .1 .1 .1 .1 .2)) ((c .before .before .before .before .before .before .before .before .before .before .before .before .before .before .before .before .before .before .before .before .before .before .before .before .before .before .before .before .before .before .before .before .before .before .before .before .pre .1 .1 .1 .1 .1 .0)) (Room.low ((c .before .before .before .before .before .before .before .before .before .before .before .before .before .before .before .before .before .before .before .before .before .before .before .before .before .before .before .before .before .before .before .before .before .before .before .before .pre .1 .1 .0))) refl (rw ((c .before .before .before .before .before .before .before .before .before .before .before .before .before .before .before .before .before .before .before .before .before .before .before .before .before .before .before .before .before .before .before .word .ensures), (c .before .before .before .before .before .before .before .before .before .before .before .before .before .before .before .before .before .before .before .before .before .before .before .before .before .before .before .before .before .before .word2 .ensures)) at ((c .before .before .before .before .before .before .before .before .before .before .before .before .before .before .before .before .before .before .before .before .before .before .before .before .before .before .before .endpoint-var .ensures))) ((c .before .before .before .before .before .before .before .before .before .before .before .before .before .before .before .before .before .before .before .before .before .before .before .before .before .before .before .endpoint-var .kept .1 .0)) refl ((c .before .before .before .before .before .before .before .before .before .before .before .before .before .before .before .before .before .before .before .before .before .lower-rel-element .ensures .noted)) ((c .before .before .before .before .before .before .before .before .before .before .before .before .before .before .before .before .before .before .before .before .before .lower-rel-element .ensures .kept)) refl ((c .before .before .before .before .before .before .before .before .before .before .before .before .before .before .before .before .before .before .before .before .before .lower-rel-element .ensures .props)) ((c .before .before .before .before .before .before .before .before .before .before .before .before .before .before .before .count2 .ensures .0)) (rw (ap (λ z. ((c .before .before .before .before .before .before .before .before .before .before .before .before .before .before .before .before .before .before .before .before .before .before .before .before .before .before .before .before .before .before .before .before .before .before .before .before .args .ch .next)) + 1 + z) ((c .before .before .before .before .before .before .before .before .before .before .before .before .before .before .before .before .count .ensures .0))) at ((c .before .before .before .before .before .before .before .before .before .before .before .lower-exprs .ensures))) ((c .before .before .before .push .ensures)) ((c .before .before .before .push .kept .1 .0)) ((c .before .before .before .before .before .before .before .before .before .before .before .before .before .before .before .before .before .before .before .before .before .before .before .before .before .before .before .before .before .before .before .before .before .before .before .before .pre .1 .1 .0)) ((c .before .before .before .before .before .before .before .before .before .before .before .before .before .before .before .before .before .before .before .before .before .before .before .before .before .before .before .before .before .before .before .before .before .before .before .before .pre .1 .1 .1 .1 .0 .1))))
     (λ t. lower-chain-lts.spec (
       count-reads.Asked,
       count-reads.Learnt,
@@ -354,7 +354,7 @@ pub +expand-to+lower-chain+lower-element+lower-elements+lower-expr+lower-exprs+l
     (λ c κs. (let x = Room.source-few (Exprs.good-after ((c .before .before .before .before .before .before .before .before .before .before .before .before .before .before .before .before .before .before .before .before .lower-elements .ensures .moved)) (Exprs.good-from {d′ = ((c .before .before .before .before .before .before .before .before .before .before .before .before .before .before .before .before .before .before .before .before .before .before .before .before .before .before .before .before .args .left)) - 1} {j = ((c .before .before .before .before .before .before .before .before .before .before .before .before .before .before .before .before .before .before .before .before .before .before .before .before .before .before .before .before .args .i)) + 1} (let l₀ = (Room.low ((c .before .before .before .before .before .before .before .before .before .before .before .before .before .before .before .before .before .before .before .before .before .before .before .before .before .before .before .before .pre .1 .1 .0))) in let l₁ = (Room.deep ((c .before .before .before .before .before .before .before .before .before .before .before .before .before .before .before .before .before .before .before .before .before .before .before .before .before .before .before .before .pre .1 .1 .0))) in let l₂ = ((c .before .before .before .before .before .before .before .before .before .before .before .before .before .before .before .before .before .before .before .before .before .before .before .before .before .before .before .before .pre .1 .1 .1 .1)) in let l₃ = ((c .before .before .before .before .before .before .before .before .before .before .before .before .before .before .before .before .before .before .before .before .before .before .before .before .before .before .before .before .pre .1 .1 .1 .2)) in omega arith) (let l₀ = (Room.low ((c .before .before .before .before .before .before .before .before .before .before .before .before .before .before .before .before .before .before .before .before .before .before .before .before .before .before .before .before .pre .1 .1 .0))) in let l₁ = (Room.deep ((c .before .before .before .before .before .before .before .before .before .before .before .before .before .before .before .before .before .before .before .before .before .before .before .before .before .before .before .before .pre .1 .1 .0))) in let l₂ = ((c .before .before .before .before .before .before .before .before .before .before .before .before .before .before .before .before .before .before .before .before .before .before .before .before .before .before .before .before .pre .1 .1 .1 .1)) in let l₃ = ((c .before .before .before .before .before .before .before .before .before .before .before .before .before .before .before .before .before .before .before .before .before .before .before .before .before .before .before .before .pre .1 .1 .1 .2)) in omega arith) (let l₀ = (Room.low ((c .before .before .before .before .before .before .before .before .before .before .before .before .before .before .before .before .before .before .before .before .before .before .before .before .before .before .before .before .pre .1 .1 .0))) in let l₁ = (Room.deep ((c .before .before .before .before .before .before .before .before .before .before .before .before .before .before .before .before .before .before .before .before .before .before .before .before .before .before .before .before .pre .1 .1 .0))) in let l₂ = ((c .before .before .before .before .before .before .before .before .before .before .before .before .before .before .before .before .before .before .before .before .before .before .before .before .before .before .before .before .pre .1 .1 .1 .1)) in let l₃ = ((c .before .before .before .before .before .before .before .before .before .before .before .before .before .before .before .before .before .before .before .before .before .before .before .before .before .before .before .before .pre .1 .1 .1 .2)) in omega arith) ((c .before .before .before .before .before .before .before .before .before .before .before .before .before .before .before .before .before .before .before .before .before .before .before .before .before .before .before .before .pre .1 .1 .1 .0)))) ((c .before .before .before .before .before .before .before .before .before .before .before .before .before .or-source-all .ensures .1) _) .0 in let y = (c .before .before .before .before .before .number .ensures .issued .ops) in omega arith, rw ((c .before .before .before .before .before .before .before .before .before .before .before .before .before .or-source-all .kept .0)) ((Exprs.good-after ((c .before .before .before .before .before .before .before .before .before .before .before .before .before .before .before .before .before .before .before .before .lower-elements .ensures .moved)) (Exprs.good-from {d′ = ((c .before .before .before .before .before .before .before .before .before .before .before .before .before .before .before .before .before .before .before .before .before .before .before .before .before .before .before .before .args .left)) - 1} {j = ((c .before .before .before .before .before .before .before .before .before .before .before .before .before .before .before .before .before .before .before .before .before .before .before .before .before .before .before .before .args .i)) + 1} (let l₀ = (Room.low ((c .before .before .before .before .before .before .before .before .before .before .before .before .before .before .before .before .before .before .before .before .before .before .before .before .before .before .before .before .pre .1 .1 .0))) in let l₁ = (Room.deep ((c .before .before .before .before .before .before .before .before .before .before .before .before .before .before .before .before .before .before .before .before .before .before .before .before .before .before .before .before .pre .1 .1 .0))) in let l₂ = ((c .before .before .before .before .before .before .before .before .before .before .before .before .before .before .before .before .before .before .before .before .before .before .before .before .before .before .before .before .pre .1 .1 .1 .1)) in let l₃ = ((c .before .before .before .before .before .before .before .before .before .before .before .before .before .before .before .before .before .before .before .before .before .before .before .before .before .before .before .before .pre .1 .1 .1 .2)) in omega arith) (let l₀ = (Room.low ((c .before .before .before .before .before .before .before .before .before .before .before .before .before .before .before .before .before .before .before .before .before .before .before .before .before .before .before .before .pre .1 .1 .0))) in let l₁ = (Room.deep ((c .before .before .before .before .before .before .before .before .before .before .before .before .before .before .before .before .before .before .before .before .before .before .before .before .before .before .before .before .pre .1 .1 .0))) in let l₂ = ((c .before .before .before .before .before .before .before .before .before .before .before .before .before .before .before .before .before .before .before .before .before .before .before .before .before .before .before .before .pre .1 .1 .1 .1)) in let l₃ = ((c .before .before .before .before .before .before .before .before .before .before .before .before .before .before .before .before .before .before .before .before .before .before .before .before .before .before .before .before .pre .1 .1 .1 .2)) in omega arith) (let l₀ = (Room.low ((c .before .before .before .before .before .before .before .before .before .before .before .before .before .before .before .before .before .before .before .before .before .before .before .before .before .before .before .before .pre .1 .1 .0))) in let l₁ = (Room.deep ((c .before .before .before .before .before .before .before .before .before .before .before .before .before .before .before .before .before .before .before .before .before .before .before .before .before .before .before .before .pre .1 .1 .0))) in let l₂ = ((c .before .before .before .before .before .before .before .before .before .before .before .before .before .before .before .before .before .before .before .before .before .before .before .before .before .before .before .before .pre .1 .1 .1 .1)) in let l₃ = ((c .before .before .before .before .before .before .before .before .before .before .before .before .before .before .before .before .before .before .before .before .before .before .before .before .before .before .before .before .pre .1 .1 .1 .2)) in omega arith) ((c .before .before .before .before .before .before .before .before .before .before .before .before .before .before .before .before .before .before .before .before .before .before .before .before .before .before .before .before .pre .1 .1 .1 .0)))) .in-ops)))
     (λ c. (c .before .before .push .kept .1 .0) ∙ (c .before .before .before .before .before .before .before .before .before .before .before .before .before .before .before .before .or-source-all .kept .0) ∙ (c .before .before .before .before .before .before .before .before .before .before .before .before .before .before .before .before .before .before .before .before .before .before .before .lower-elements .kept .1 .1 .0))
     (λ c. (c .before .before .before .before .before .before .before .before .number .kept .1 .0) ∙ (c .before .before .before .before .before .before .before .before .before .before .before .before .before .before .before .before .before .before .before .before .before .before .before .lower-elements .kept .1 .1 .1 .0))
-    (λ c. rw ((c .before .before .before .before .before .before .before .before .before .before .before .before .before .before .before .before .or-source-all .ensures .0)) (Chaining.named-law _ _ ((c .before .before .before .before .before .before .before .before .before .before .before .before .before .before .before .before .before .before .before .before .before .before .before .before .before .before .before .before .before .before .before .pre .1 .0)) ((c .before .before .before .before .before .before .before .before .before .before .before .before .before .before .before .before .before .before .before .before .before .before .before .before .before .before .before .before .before .before .before .pre .1 .1 .1 .2)) ((c .before .before .before .before .before .before .before .before .before .before .before .before .before .before .before .before .before .before .before .before .before .before .before .before .before .before .count .ensures .0)) ((c .before .before .before .before .before .before .before .before .before .before .before .before .before .before .before .before .before .before .before .before .before .before .before .lower-elements .ensures)) ((c .before .before .before .before .before .before .before .before .before .before .before .before .before .before .before .before .or-source-all .ensures .1) _) (λ e. (c .before .before .before .before .before .before .before .before .before .before .before .before .if1 .left) ((c .before .before .before .before .before .before .before .before .before .before .before .before .before .word .ensures) ∙ e)) refl (rw ((c .before .before .before .before .before .before .before .before .before .before .before .word2 .ensures)) at ((c .before .before .before .before .before .before .before .before .number .ensures))) ((c .before .before .before .before .before .before .before .before .number .kept .1 .0)) ((c .before .before .push .ensures)) ((c .before .before .push .kept .1 .0)))))
+    (λ c. rw ((c .before .before .before .before .before .before .before .before .before .before .before .before .before .before .before .before .or-source-all .ensures .0)) (Chaining.named-law _ _ ((c .before .before .before .before .before .before .before .before .before .before .before .before .before .before .before .before .before .before .before .before .before .before .before .before .before .before .before .before .before .before .before .pre .1 .0)) ((c .before .before .before .before .before .before .before .before .before .before .before .before .before .before .before .before .before .before .before .before .before .before .before .before .before .before .before .before .before .before .before .pre .1 .1 .1 .2)) ((c .before .before .before .before .before .before .before .before .before .before .before .before .before .before .before .before .before .before .before .before .before .before .before .before .before .before .count .ensures .0)) ((c .before .before .before .before .before .before .before .before .before .before .before .before .before .before .before .before .before .before .before .before .before .before .before .lower-elements .ensures)) ((c .before .before .before .before .before .before .before .before .before .before .before .before .before .before .before .before .or-source-all .ensures .1) _) ((c .before .before .before .before .before .before .before .before .before .before .before .before .before .before .before .before .before .before .before .before .before .before .before .before .before .before .before .before .before .before .before .pre .1 .1 .1 .1)) (λ e. (c .before .before .before .before .before .before .before .before .before .before .before .before .if1 .left) ((c .before .before .before .before .before .before .before .before .before .before .before .before .before .word .ensures) ∙ e)) refl (rw ((c .before .before .before .before .before .before .before .before .before .before .before .word2 .ensures)) at ((c .before .before .before .before .before .before .before .before .number .ensures))) ((c .before .before .before .before .before .before .before .before .number .kept .1 .0)) ((c .before .before .push .ensures)) ((c .before .before .push .kept .1 .0)))))
     (λ t. lower-element-lts.spec (
       read-element-reads.Asked,
       read-element-reads.Learnt,
@@ -611,7 +611,7 @@ pub +expand-to+lower-chain+lower-element+lower-elements+lower-expr+lower-exprs+l
     (λ c κs. (((c .before .before .before .before .before .before .before .before .before .before .before .before .before .before .before .before .before .before .before .before .before .before .before .before .before .before .before .before .before .before .before .before .before .before .before .before .before .before .before .before .before .before .before .before .before .before .pre .1 .0)), Part.starts (Part.some-third _ _ ((c .before .before .before .before .before .before .before .before .before .before .before .before .before .before .before .before .before .before .before .before .before .before .before .before .before .before .before .before .before .before .before .before .before .before .before .before .before .before .before .before .before .before .before .before .before .before .pre .1 .0)) ((c .before .before .before .before .before .before .before .before .before .before .before .before .before .before .before .before .before .before .before .before .before .before .before .before .before .before .before .before .before .before .before .before .before .before .before .before .before .before .before .before .before .before .before .before .before .before .pre .1 .1 .1 .1 .three)) ((c .before .before .before .before .before .before .before .before .before .before .before .before .before .before .before .before .before .before .before .before .before .before .before .before .before .before .before .before .before .before .before .before .before .before .before .before .before .before .before .before .before .before .before .before .before .before .pre .1 .1 .1 .1 .first-end)) ((c .before .before .before .before .before .before .before .before .before .before .before .before .before .before .before .before .before .before .before .before .before .before .before .before .before .before .before .before .before .before .before .before .before .before .before .before .before .before .before .before .before .before .before .before .before .before .pre .1 .1 .1 .1 .second-end)) ((c .before .before .before .before .before .before .before .before .before .before .before .before .before .before .before .before .before .before .before .before .before .before .before .before .before .before .before .before .before .before .before .before .before .before .before .before .before .before .before .before .before .before .before .before .before .before .pre .1 .1 .0)))))
     (λ c. (c .before .before .before .push .kept .1 .0) ∙ (c .before .before .before .before .before .before .before .before .before .before .before .before .before .before .before .before .before .before .before .before .before .before .before .before .before .lower-rel-element .kept .1 .1 .0) ∙ (c .before .before .before .before .before .before .before .before .before .before .before .before .before .before .before .before .before .before .before .before .before .before .before .before .before .before .before .before .before .before .before .before .before .start-node .kept .1 .1 .0))
     (λ c. (c .before .before .before .before .before .before .before .before .before .endpoint-var3 .kept .1 .0) ∙ (c .before .before .before .before .before .before .before .before .before .before .before .before .before .before .before .before .endpoint-var2 .kept .1 .0) ∙ (c .before .before .before .before .before .before .before .before .before .before .before .before .before .before .before .before .before .before .before .before .before .before .before .before .before .lower-rel-element .kept .1 .1 .1 .0) ∙ (c .before .before .before .before .before .before .before .before .before .before .before .before .before .before .before .before .before .before .before .before .before .before .before .before .before .before .before .before .before .before .before .before .before .start-node .kept .1 .1 .1 .0) ∙ (c .before .before .before .before .before .before .before .before .before .before .before .before .before .before .before .before .before .before .before .before .before .before .before .before .before .before .before .before .before .before .before .before .before .before .before .before .before .before .before .endpoint-var .kept .1 .0))
-    (λ c. Special.special-law _ _ _ _ _ _ ((c .before .before .before .before .before .before .before .before .before .before .before .before .before .before .before .before .before .before .before .before .before .before .before .before .before .before .before .before .before .before .before .before .before .before .before .before .before .before .before .before .before .before .before .before .before .before .before .pre .1 .0)) ((c .before .before .before .before .before .before .before .before .before .before .before .before .before .before .before .before .before .before .before .before .before .before .before .before .before .before .before .before .before .before .before .before .before .before .before .before .before .before .before .before .before .before .before .before .before .before .before .pre .1 .1 .1 .0 .2)) ((c .before .before .before .before .before .before .before .before .before .before .before .before .before .before .before .before .before .before .before .before .before .before .before .before .before .before .before .before .before .before .before .before .before .before .before .before .before .before .before .before .before .before .before .before .before .before .before .pre .1 .1 .1 .1 .shortest)) ((c .before .before .before .before .before .before .before .before .before .before .before .before .before .before .before .before .before .before .before .before .before .before .before .before .before .before .before .before .before .before .before .before .before .before .before .before .before .before .before .before .before .before .before .before .before .before .before .pre .1 .1 .1 .1 .three)) ((c .before .before .before .before .before .before .before .before .before .before .before .before .before .before .before .before .before .before .before .before .before .before .before .before .before .before .before .before .before .before .before .before .before .before .before .before .before .before .before .before .before .before .before .before .before .before .before .pre .1 .1 .1 .1 .first)) ((c .before .before .before .before .before .before .before .before .before .before .before .before .before .before .before .before .before .before .before .before .before .before .before .before .before .before .before .before .before .before .before .before .before .before .before .before .before .before .before .before .before .before .before .before .before .before .before .pre .1 .1 .1 .1 .second)) ((c .before .before .before .before .before .before .before .before .before .before .before .before .before .before .before .before .before .before .before .before .before .before .before .before .before .before .before .before .before .before .before .before .before .before .before .before .before .before .before .before .before .before .before .before .before .before .before .pre .1 .1 .1 .1 .third)) ((c .before .before .before .before .before .before .before .before .before .before .before .before .before .before .before .before .before .before .before .before .before .before .before .before .before .before .before .before .before .before .before .before .before .before .before .before .before .before .before .before .before .before .before .before .before .before .before .pre .1 .1 .1 .1 .first-end)) ((c .before .before .before .before .before .before .before .before .before .before .before .before .before .before .before .before .before .before .before .before .before .before .before .before .before .before .before .before .before .before .before .before .before .before .before .before .before .before .before .before .before .before .before .before .before .before .before .pre .1 .1 .1 .1 .second-end)) ((c .skip .ensures)) refl (rw ((c .before .before .before .before .before .before .before .before .before .before .before .before .before .before .before .before .before .before .before .before .before .before .before .before .before .before .before .before .before .before .before .before .before .before .before .before .before .before .before .before .before .before .word .ensures), (c .before .before .before .before .before .before .before .before .before .before .before .before .before .before .before .before .before .before .before .before .before .before .before .before .before .before .before .before .before .before .before .before .before .before .before .before .before .before .before .before .before .word2 .ensures)) at ((c .before .before .before .before .before .before .before .before .before .before .before .before .before .before .before .before .before .before .before .before .before .before .before .before .before .before .before .before .before .before .before .before .before .before .before .before .before .before .before .endpoint-var .ensures))) ((c .before .before .before .before .before .before .before .before .before .before .before .before .before .before .before .before .before .before .before .before .before .before .before .before .before .before .before .before .before .before .before .before .before .before .before .before .before .before .before .endpoint-var .kept .1 .0)) ((c .before .before .before .before .before .before .before .before .before .before .before .before .before .before .before .before .before .before .before .before .before .before .before .before .before .before .before .before .before .before .before .before .before .start-node .ensures)) ((c .before .before .before .before .before .before .before .before .before .before .before .before .before .before .before .before .before .before .before .before .before .before .before .before .before .lower-rel-element .ensures)) refl (rw ((c .before .before .before .before .before .before .before .before .before .before .before .before .before .before .before .before .before .before .before .before .word3 .ensures), (c .before .before .before .before .before .before .before .before .before .before .before .before .before .before .before .before .before .before .before .word4 .ensures)) at ((c .before .before .before .before .before .before .before .before .before .before .before .before .before .before .before .before .endpoint-var2 .ensures))) ((c .before .before .before .before .before .before .before .before .before .before .before .before .before .before .before .before .endpoint-var2 .kept .1 .0)) refl (rw ((c .before .before .before .before .before .before .before .before .before .before .before .before .before .word5 .ensures), (c .before .before .before .before .before .before .before .before .before .before .before .before .word6 .ensures)) at ((c .before .before .before .before .before .before .before .before .before .endpoint-var3 .ensures))) ((c .before .before .before .before .before .before .before .before .before .endpoint-var3 .kept .1 .0)) ((c .before .before .before .push .ensures)) ((c .before .before .before .push .kept .1 .0)) ((c .before .before .before .before .before .before .before .before .before .before .before .before .before .before .before .before .before .before .before .before .before .before .before .before .before .before .before .before .before .before .before .before .before .before .before .before .before .before .before .before .before .before .before .before .before .before .before .pre .1 .1 .0))))
+    (λ c. Special.special-law _ _ _ _ _ _ ((c .before .before .before .before .before .before .before .before .before .before .before .before .before .before .before .before .before .before .before .before .before .before .before .before .before .before .before .before .before .before .before .before .before .before .before .before .before .before .before .before .before .before .before .before .before .before .before .pre .1 .0)) ((c .before .before .before .before .before .before .before .before .before .before .before .before .before .before .before .before .before .before .before .before .before .before .before .before .before .before .before .before .before .before .before .before .before .before .before .before .before .before .before .before .before .before .before .before .before .before .before .pre .1 .1 .1 .0 .2)) ((c .before .before .before .before .before .before .before .before .before .before .before .before .before .before .before .before .before .before .before .before .before .before .before .before .before .before .before .before .before .before .before .before .before .before .before .before .before .before .before .before .before .before .before .before .before .before .before .pre .1 .1 .1 .0 .1)) ((c .before .before .before .before .before .before .before .before .before .before .before .before .before .before .before .before .before .before .before .before .before .before .before .before .before .before .before .before .before .before .before .before .before .before .before .before .before .before .before .before .before .before .before .before .before .before .before .pre .1 .1 .1 .1 .shortest)) ((c .before .before .before .before .before .before .before .before .before .before .before .before .before .before .before .before .before .before .before .before .before .before .before .before .before .before .before .before .before .before .before .before .before .before .before .before .before .before .before .before .before .before .before .before .before .before .before .pre .1 .1 .1 .1 .three)) ((c .before .before .before .before .before .before .before .before .before .before .before .before .before .before .before .before .before .before .before .before .before .before .before .before .before .before .before .before .before .before .before .before .before .before .before .before .before .before .before .before .before .before .before .before .before .before .before .pre .1 .1 .1 .1 .first)) ((c .before .before .before .before .before .before .before .before .before .before .before .before .before .before .before .before .before .before .before .before .before .before .before .before .before .before .before .before .before .before .before .before .before .before .before .before .before .before .before .before .before .before .before .before .before .before .before .pre .1 .1 .1 .1 .second)) ((c .before .before .before .before .before .before .before .before .before .before .before .before .before .before .before .before .before .before .before .before .before .before .before .before .before .before .before .before .before .before .before .before .before .before .before .before .before .before .before .before .before .before .before .before .before .before .before .pre .1 .1 .1 .1 .third)) ((c .before .before .before .before .before .before .before .before .before .before .before .before .before .before .before .before .before .before .before .before .before .before .before .before .before .before .before .before .before .before .before .before .before .before .before .before .before .before .before .before .before .before .before .before .before .before .before .pre .1 .1 .1 .1 .first-end)) ((c .before .before .before .before .before .before .before .before .before .before .before .before .before .before .before .before .before .before .before .before .before .before .before .before .before .before .before .before .before .before .before .before .before .before .before .before .before .before .before .before .before .before .before .before .before .before .before .pre .1 .1 .1 .1 .second-end)) ((c .skip .ensures)) refl (rw ((c .before .before .before .before .before .before .before .before .before .before .before .before .before .before .before .before .before .before .before .before .before .before .before .before .before .before .before .before .before .before .before .before .before .before .before .before .before .before .before .before .before .before .word .ensures), (c .before .before .before .before .before .before .before .before .before .before .before .before .before .before .before .before .before .before .before .before .before .before .before .before .before .before .before .before .before .before .before .before .before .before .before .before .before .before .before .before .before .word2 .ensures)) at ((c .before .before .before .before .before .before .before .before .before .before .before .before .before .before .before .before .before .before .before .before .before .before .before .before .before .before .before .before .before .before .before .before .before .before .before .before .before .before .before .endpoint-var .ensures))) ((c .before .before .before .before .before .before .before .before .before .before .before .before .before .before .before .before .before .before .before .before .before .before .before .before .before .before .before .before .before .before .before .before .before .before .before .before .before .before .before .endpoint-var .kept .1 .0)) ((c .before .before .before .before .before .before .before .before .before .before .before .before .before .before .before .before .before .before .before .before .before .before .before .before .before .before .before .before .before .before .before .before .before .start-node .ensures)) ((c .before .before .before .before .before .before .before .before .before .before .before .before .before .before .before .before .before .before .before .before .before .before .before .before .before .lower-rel-element .ensures)) refl (rw ((c .before .before .before .before .before .before .before .before .before .before .before .before .before .before .before .before .before .before .before .before .word3 .ensures), (c .before .before .before .before .before .before .before .before .before .before .before .before .before .before .before .before .before .before .before .word4 .ensures)) at ((c .before .before .before .before .before .before .before .before .before .before .before .before .before .before .before .before .endpoint-var2 .ensures))) ((c .before .before .before .before .before .before .before .before .before .before .before .before .before .before .before .before .endpoint-var2 .kept .1 .0)) refl (rw ((c .before .before .before .before .before .before .before .before .before .before .before .before .before .word5 .ensures), (c .before .before .before .before .before .before .before .before .before .before .before .before .word6 .ensures)) at ((c .before .before .before .before .before .before .before .before .before .endpoint-var3 .ensures))) ((c .before .before .before .before .before .before .before .before .before .endpoint-var3 .kept .1 .0)) ((c .before .before .before .push .ensures)) ((c .before .before .before .push .kept .1 .0)) ((c .before .before .before .before .before .before .before .before .before .before .before .before .before .before .before .before .before .before .before .before .before .before .before .before .before .before .before .before .before .before .before .before .before .before .before .before .before .before .before .before .before .before .before .before .before .before .before .pre .1 .1 .0))))
     (λ t. start-chain-lts.spec (
       word-reads.Asked,
       word-reads.Learnt,
@@ -654,7 +654,7 @@ pub +expand-to+lower-chain+lower-element+lower-elements+lower-expr+lower-exprs+l
     (λ c. (let l₀ = (Room.low ((c .before .before .before .before .before .before .before .pre .1 .1 .0 .0))) in let l₁ = ((c .before .before .before .before .before .before .before .pre .1 .1 .1 .3)) in let l₂ = ((c .before .before .before .before .before .before .before .pre .1 .1 .1 .1)) in let l₃ = ((c .before .before .before .before .before .before .before .pre .1 .1 .1 .2)) in omega arith))
     (λ c κs. Room.can-push ((c .before .before .before .before .before .before .before .pre .1 .1 .1 .0)))
     (λ c. (c .before .before .before .push .kept .1 .0))
-    (λ c. rw (ap (λ z. ((c .before .before .before .before .before .before .before .before .before .before .before .args .i)) + 1 + z) ((c .before .before .before .before .before .before .count .ensures .0))) (Start.bare-law _ _ ((c .before .before .before .before .before .before .before .before .before .before .before .pre .1 .0)) ((c .before .before .before .before .before .before .before .before .before .before .before .pre .1 .1 .0 .1)) ((c .before .before .before .push .ensures)) ((c .before .before .before .push .kept .1 .0)) (sym ((c .before .before .before .before .before .word .ensures)) ∙ (c .if1 .taken)) ((c .before .before .before .before .before .before .before .before .before .before .before .pre .1 .1 .0 .0))))
+    (λ c. rw (ap (λ z. ((c .before .before .before .before .before .before .before .before .before .before .before .args .i)) + 1 + z) ((c .before .before .before .before .before .before .count .ensures .0))) (Start.bare-law _ _ ((c .before .before .before .before .before .before .before .before .before .before .before .pre .1 .0)) ((c .before .before .before .before .before .before .before .before .before .before .before .pre .1 .1 .0 .1)) ((c .before .before .before .before .before .before .before .before .before .before .before .pre .1 .1 .1 .1), (c .before .before .before .before .before .before .before .before .before .before .before .pre .1 .1 .1 .2)) ((c .before .before .before .push .ensures)) ((c .before .before .before .push .kept .1 .0)) (sym ((c .before .before .before .before .before .word .ensures)) ∙ (c .if1 .taken)) ((c .before .before .before .before .before .before .before .before .before .before .before .pre .1 .1 .0 .0))))
     (λ c κs. ((let l₀ = (Room.low ((c .before .before .before .before .before .before .before .before .before .before .before .before .before .pre .1 .1 .0 .0))) in let l₁ = ((c .before .before .before .before .before .before .before .before .before .before .before .before .before .pre .1 .1 .1 .3)) in let l₂ = ((c .before .before .before .before .before .before .before .before .before .before .before .before .before .pre .1 .1 .1 .1)) in let l₃ = ((c .before .before .before .before .before .before .before .before .before .before .before .before .before .pre .1 .1 .1 .2)) in omega arith), (((c .before .before .before .before .before .before .before .before .before .before .before .before .before .pre .1 .0)), (rw (ap (λ z. ((c .before .before .before .before .before .before .before .before .before .before .before .before .before .args .i)) + 1 + z) ((c .before .before .before .before .before .before .before .before .count .ensures .0))) (Start.some-prop _ _ ((c .before .before .before .before .before .before .before .before .before .before .before .before .before .pre .1 .0)) ((c .before .before .before .before .before .before .before .before .before .before .before .before .before .pre .1 .1 .0 .1)) ((c .before .before .before .before .before .before .before .before .before .before .before .before .before .pre .1 .1 .0 .0)) (λ e. (c .before .before .if1 .left) ((c .before .before .before .before .before .before .before .word .ensures) ∙ e))), ((Room.pushed-on ((c .before .before .before .before .before .before .before .before .before .before .before .before .before .pre .1 .1 .1 .0)) _ _ ((c .before .before .before .before .before .push .ensures)) ((c .before .before .before .before .before .push .kept .1 .0)) (le-refl _) (let l₀ = (Room.names-low ((c .before .before .before .before .before .before .before .before .before .before .before .before .before .pre .1 .0)) ((c .before .before .before .before .before .before .before .before .before .before .before .before .before .pre .1 .1 .0 .0))) in let l₁ = ((c .before .before .before .before .before .before .before .before .before .before .before .before .before .pre .1 .1 .1 .3)) in let l₂ = ((c .before .before .before .before .before .before .before .before .before .before .before .before .before .pre .1 .1 .1 .1)) in let l₃ = ((c .before .before .before .before .before .before .before .before .before .before .before .before .before .pre .1 .1 .1 .2)) in let n₀ = (c .before .before .before .before .before .before .before .before .count .ensures .0) in omega arith) (let l₀ = (Room.names-low ((c .before .before .before .before .before .before .before .before .before .before .before .before .before .pre .1 .0)) ((c .before .before .before .before .before .before .before .before .before .before .before .before .before .pre .1 .1 .0 .0))) in let l₁ = ((c .before .before .before .before .before .before .before .before .before .before .before .before .before .pre .1 .1 .1 .3)) in let l₂ = ((c .before .before .before .before .before .before .before .before .before .before .before .before .before .pre .1 .1 .1 .1)) in let l₃ = ((c .before .before .before .before .before .before .before .before .before .before .before .before .before .pre .1 .1 .1 .2)) in let n₀ = (c .before .before .before .before .before .before .before .before .count .ensures .0) in omega arith)), (let l₀ = (Room.low ((c .before .before .before .before .before .before .before .before .before .before .before .before .before .pre .1 .1 .0 .0))) in let l₁ = ((c .before .before .before .before .before .before .before .before .before .before .before .before .before .pre .1 .1 .1 .3)) in let l₂ = ((c .before .before .before .before .before .before .before .before .before .before .before .before .before .pre .1 .1 .1 .1)) in let l₃ = ((c .before .before .before .before .before .before .before .before .before .before .before .before .before .pre .1 .1 .1 .2)) in omega arith), ((c .before .before .before .before .before .before .before .before .before .before .before .before .before .pre .1 .1 .1 .2)))))))
     (λ c. (let l₀ = (Room.names-low ((c .before .before .before .before .before .before .before .before .before .before .before .before .before .before .before .before .before .before .before .before .pre .1 .0)) ((c .before .before .before .before .before .before .before .before .before .before .before .before .before .before .before .before .before .before .before .before .pre .1 .1 .0 .0))) in let l₁ = ((c .before .before .before .before .before .before .before .before .before .before .before .before .before .before .before .before .before .before .before .before .pre .1 .1 .1 .3)) in let l₂ = ((c .before .before .before .before .before .before .before .before .before .before .before .before .before .before .before .before .before .before .before .before .pre .1 .1 .1 .1)) in let l₃ = ((c .before .before .before .before .before .before .before .before .before .before .before .before .before .before .before .before .before .before .before .before .pre .1 .1 .1 .2)) in let n₀ = (c .before .before .before .before .before .before .before .before .before .before .before .before .before .before .before .count .ensures .0) in omega arith))
     (λ c. (let g = Room.few-ops ((c .before .before .before .before .before .before .before .before .before .before .before .before .before .before .before .before .before .before .before .before .pre .1 .1 .1 .0)) in omega arith))
@@ -663,4 +663,4 @@ pub +expand-to+lower-chain+lower-element+lower-elements+lower-expr+lower-exprs+l
     (λ c κs. Room.can-push (Exprs.good-after ((c .before .before .before .before .before .before .lower-expr .ensures .moved)) (Room.pushed-on ((c .before .before .before .before .before .before .before .before .before .before .before .before .before .before .before .before .before .before .before .before .pre .1 .1 .1 .0)) _ _ ((c .before .before .before .before .before .before .before .before .before .before .before .before .push .ensures)) ((c .before .before .before .before .before .before .before .before .before .before .before .before .push .kept .1 .0)) (le-refl _) (let l₀ = (Room.names-low ((c .before .before .before .before .before .before .before .before .before .before .before .before .before .before .before .before .before .before .before .before .pre .1 .0)) ((c .before .before .before .before .before .before .before .before .before .before .before .before .before .before .before .before .before .before .before .before .pre .1 .1 .0 .0))) in let l₁ = ((c .before .before .before .before .before .before .before .before .before .before .before .before .before .before .before .before .before .before .before .before .pre .1 .1 .1 .3)) in let l₂ = ((c .before .before .before .before .before .before .before .before .before .before .before .before .before .before .before .before .before .before .before .before .pre .1 .1 .1 .1)) in let l₃ = ((c .before .before .before .before .before .before .before .before .before .before .before .before .before .before .before .before .before .before .before .before .pre .1 .1 .1 .2)) in let n₀ = (c .before .before .before .before .before .before .before .before .before .before .before .before .before .before .before .count .ensures .0) in omega arith) (let l₀ = (Room.names-low ((c .before .before .before .before .before .before .before .before .before .before .before .before .before .before .before .before .before .before .before .before .pre .1 .0)) ((c .before .before .before .before .before .before .before .before .before .before .before .before .before .before .before .before .before .before .before .before .pre .1 .1 .0 .0))) in let l₁ = ((c .before .before .before .before .before .before .before .before .before .before .before .before .before .before .before .before .before .before .before .before .pre .1 .1 .1 .3)) in let l₂ = ((c .before .before .before .before .before .before .before .before .before .before .before .before .before .before .before .before .before .before .before .before .pre .1 .1 .1 .1)) in let l₃ = ((c .before .before .before .before .before .before .before .before .before .before .before .before .before .before .before .before .before .before .before .before .pre .1 .1 .1 .2)) in let n₀ = (c .before .before .before .before .before .before .before .before .before .before .before .before .before .before .before .count .ensures .0) in omega arith))))
     (λ c. (c .before .before .push2 .kept .1 .0) ∙ (c .before .before .before .before .before .before .before .before .before .lower-expr .kept .1 .1 .0) ∙ (c .before .before .before .before .before .before .before .before .before .before .before .before .before .before .before .push .kept .1 .0))
     (λ c. (c .before .before .before .before .before .before .before .before .before .lower-expr .kept .1 .1 .1 .0))
-    (λ c. Start.filtered-law _ _ ((c .before .before .before .before .before .before .before .before .before .before .before .before .before .before .before .before .before .before .before .before .before .before .before .pre .1 .0)) ((c .before .before .before .before .before .before .before .before .before .before .before .before .before .before .before .before .before .before .before .before .before .before .before .pre .1 .1 .0 .1)) ((c .before .before .before .before .before .before .before .before .before .before .before .before .before .before .before .push .ensures)) ((c .before .before .before .before .before .before .before .before .before .before .before .before .before .before .before .push .kept .1 .0)) (λ e. (c .before .before .before .before .before .before .before .before .before .before .before .before .if1 .left) ((c .before .before .before .before .before .before .before .before .before .before .before .before .before .before .before .before .before .word .ensures) ∙ e)) (rw (ap (λ z. ((c .before .before .before .before .before .before .before .before .before .before .before .before .before .before .before .before .before .before .before .before .before .before .before .args .i)) + 1 + z) ((c .before .before .before .before .before .before .before .before .before .before .before .before .before .before .before .before .before .before .count .ensures .0))) at ((c .before .before .before .before .before .before .before .before .before .lower-expr .ensures))) (rw (ap (λ z. ((c .before .before .before .before .before .before .before .before .before .before .before .before .before .before .before .before .before .before .before .before .before .before .before .args .i)) + 1 + z) ((c .before .before .before .before .before .before .before .before .before .before .before .before .before .before .before .before .before .before .count .ensures .0))) at ((c .before .before .push2 .ensures))) ((c .before .before .push2 .kept .1 .0)))
+    (λ c. Start.filtered-law _ _ ((c .before .before .before .before .before .before .before .before .before .before .before .before .before .before .before .before .before .before .before .before .before .before .before .pre .1 .0)) ((c .before .before .before .before .before .before .before .before .before .before .before .before .before .before .before .before .before .before .before .before .before .before .before .pre .1 .1 .0 .1)) ((c .before .before .before .before .before .before .before .before .before .before .before .before .before .before .before .before .before .before .before .before .before .before .before .pre .1 .1 .1 .1), (c .before .before .before .before .before .before .before .before .before .before .before .before .before .before .before .before .before .before .before .before .before .before .before .pre .1 .1 .1 .2)) ((c .before .before .before .before .before .before .before .before .before .before .before .before .before .before .before .push .ensures)) ((c .before .before .before .before .before .before .before .before .before .before .before .before .before .before .before .push .kept .1 .0)) (λ e. (c .before .before .before .before .before .before .before .before .before .before .before .before .if1 .left) ((c .before .before .before .before .before .before .before .before .before .before .before .before .before .before .before .before .before .word .ensures) ∙ e)) (rw (ap (λ z. ((c .before .before .before .before .before .before .before .before .before .before .before .before .before .before .before .before .before .before .before .before .before .before .before .args .i)) + 1 + z) ((c .before .before .before .before .before .before .before .before .before .before .before .before .before .before .before .before .before .before .count .ensures .0))) at ((c .before .before .before .before .before .before .before .before .before .lower-expr .ensures))) (rw (ap (λ z. ((c .before .before .before .before .before .before .before .before .before .before .before .before .before .before .before .before .before .before .before .before .before .before .before .args .i)) + 1 + z) ((c .before .before .before .before .before .before .before .before .before .before .before .before .before .before .before .before .before .before .count .ensures .0))) at ((c .before .before .push2 .ensures))) ((c .before .before .push2 .kept .1 .0)))

@@ -16,9 +16,9 @@ use Rattle.lower.specs.Render.{Notes, Ops, render, Below}
 use Rattle.lower.specs.Shows.{shift}
 use Rattle.lower.specs.Rep.{State, Mem, Written, In, Sub, Blank, Future, Rep, To, Piece, Ran, Good, Moved}
 use Rattle.lower.specs.Pieces.{exprPiece, Carried, []ᶜ, _∷ᶜ_, lowerC, renderC, BelowC, sizeC, HeldC, carriedPiece, SomeTree, SomeCarried, LowersExpr, LowersExprs}
-use Rattle.lower.proofs.State.{sub-refl, sub-then, sub-more, sub-within, blank-within, blank-before, blank-behind, back, rep-wider, to-refl, to-then, to-wider}
-use Rattle.lower.proofs.Fits.{tree-fits}
-use Rattle.lower.proofs.Below.{below-more}
+use Rattle.lower.specs.State.{sub-refl, sub-then, sub-more, sub-within, blank-within, blank-before, blank-behind, back, rep-wider, to-refl, to-then, to-wider}
+use Rattle.lower.specs.Fits.{tree-fits}
+use Rattle.lower.specs.Below.{below-more}
 
 -- ── what moves ──
 

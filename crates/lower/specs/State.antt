@@ -18,7 +18,7 @@ use Rattle.context.specs.declared.LowerCtx.{LowerCtx}
 use Rattle.context.specs.declared.Numbered.{Numbered}
 use Rattle.lower.specs.Render.{Ops}
 use Rattle.lower.specs.Render
-use Rattle.lower.specs.Shows.{Shows, shift}
+use Rattle.lower.specs.Shows.{Stored, shift}
 use Rattle.lower.specs.Rep.{State, Mem, mem, notes, Written, In, Sub, Blank, Agree, Future, Rep, To}
 
 -- ── ranges ──
@@ -102,7 +102,7 @@ pub record Given (sheet : Bytes) (a b : List ℕ) (W : Written) (s : State) (ste
 
 module _ {sheet : Bytes} {a b : List ℕ} {W : Written} {s : State} where
   -- an operator
-  pub push-to : (m : Mem) (c : LowerCtx) (o′ : List ℕ) (x : Op) (recs : Recs) → Rep sheet a b W s m → Pushed (m .ctx) c (m .ops) o′ x → ((N : Render.Notes) (A : Ops) → Future W s m N A → Shows sheet a b N A (m .ctx .ops) x recs) → To sheet a b W W s (push recs s .1) m (mem c o′ (m .rest))
+  pub push-to : (m : Mem) (c : LowerCtx) (o′ : List ℕ) (x : Op) (recs : Recs) → Rep sheet a b W s m → Pushed (m .ctx) c (m .ops) o′ x → ((N : Render.Notes) (A : Ops) → Future W s m N A → Stored sheet a b N A (m .ctx .ops) x recs) → To sheet a b W W s (push recs s .1) m (mem c o′ (m .rest))
   unfolding push
   push-to m c o′ x recs r p sx =
       let s′ : State = push recs s .1 in

@@ -32,3 +32,6 @@ module _ (sheet : Bytes) (a b : List ℕ) where
         let p = trees-fits ts d i l (h .0) in
         let q = forest-fits f d (i + sizeOf ts) (p .1) (h .1) in
         omega arith
+
+  pub tree-low : {s : Sort} (t : Tree s) (d i : ℕ) → Held sheet a b t d i → i < 2048
+  tree-low t d i h = let p = tree-fits t d i h in omega (arith, p .0, p .1)
