@@ -7,7 +7,7 @@ use mathlib.Core.Bool.{Bool, true, false}
 use mathlib.Core.List.{List, [], _∷_}
 use Rattle.model.specs.Field.{Span}
 use Rattle.model.specs.Kind.{Sort, expr, patternPart, patternElement}
-use Rattle.model.specs.Check.{Verdict, fine, noSpan}
+use Rattle.model.specs.Check.{Verdict, fine, noSpan, andThen}
 use Rattle.words.specs.Words.{Roomy, cell}
 use Rattle.precheck.specs.Answer.{spanOf, errorOf}
 use Rattle.precheck.specs.Steps.{Stage, Some, Ends, Walks, Run}
@@ -113,10 +113,12 @@ module _ {a b : List ℕ} (room : Roomy a b) {i c n : ℕ} (kind : c ≡ cell a 
 -- ── a part ──
 
 pub as-empty : {a b : List ℕ} {i : ℕ} {t : Bool} {d : ℕ} {span : HirSpan} → Begins a b i t → t ≡ false → Walks (Refused (EmptyPatternPart (i + 1) span)) (At a b patternPart d (spanOf span) i)
-as-empty {span = span} h t = record { each = λ v e p. rw add-one (rw t at h .each _ (spanOf span) v e p) }
+unfolding andThen
+as-empty {i = i} {t} {d} {span} h t′ = record { each = λ v e p. (let q = rw t′ at h .each d (spanOf span) v e p in rw add-one (q .both)) }
 
 pub as-elements : {a b : List ℕ} {i n : ℕ} {t : Bool} {d : ℕ} {span : Span} → Begins a b i t → t ≡ true → n ≡ cell a b i 6 → Turns (At a b patternPart d span i) (Run (At a b patternElement (d - 1) noSpan) n (i + 1))
-as-elements {d = d} {span = span} h t e = record { to = λ v x p. rw e (map-run any-span (rw t at h .each d span v x p)) }
+unfolding andThen
+as-elements {d = d} {span = span} h t e = record { to = λ v x p. (let q = rw t at h .each d span v x p in rw (e, q .both) (map-run any-span (q .elements))) }
 
 pub as-props : {a b : List ℕ} {i : ℕ} {p : Props} {d : ℕ} {span : Span} → Inside a b i p → Turns (At a b patternElement d span i) (Exprs a b 0 (d - 1) (spanOf (p .span)) (p .n) (p .first))
 as-props {d = d} {span = span} h = record { to = λ v e q. h .each d span v e q }

@@ -5,14 +5,14 @@ use native.Mathlib.Numerals.{sub-one}
 use native.Mathlib.Omega.{arith}
 use Rattle.model.specs.Check.{Verdict, fine, violated, andThen}
 use Rattle.precheck.specs.Answer.{errorOf}
-use Rattle.precheck.specs.Steps.{Stage, Some, Ends, Walks, Then, Run, no-more, one-more}
+use Rattle.precheck.specs.Steps.{Stage, Some, Ends, firstOf, Walks, Then, Run, no-more, one-more}
 use Rattle.precheck.specs.declared.PlanLowerError.{PlanLowerError}
 use Rattle.precheck.specs.declared.PlanLowerError.the-variants.{UnresolvedName, UndesugaredExpr, EmptyPatternPart}
 use Rattle.precheck.specs.declared.Walk.{Walk}
 use Rattle.precheck.specs.declared.Walk.the-variants.{Go, Refused}
 
 -- what comes after a violation does not count
-pub first-met : (x : PlanLowerError) (w : Verdict) → andThen (errorOf x) w ≡ errorOf x
+pub first-met : (x : PlanLowerError) (w : Verdict) → firstOf (errorOf x) w ≡ errorOf x
 unfolding andThen
 first-met (UnresolvedName l s) w = refl
 first-met (UndesugaredExpr l s k) w = refl

@@ -16,10 +16,10 @@ use Rattle.model.specs.Check.{Verdict, fine, violated, andThen, check, checkOf,
 use Rattle.words.specs.Words.{Roomy, cell, fieldsOf, fieldOf}
 use Rattle.words.specs.Held.{Held, HeldOf, HeldIn, Flags, size, sizeOf, sizeIn}
 use Rattle.precheck.specs.Answer.{spanOf}
-use Rattle.precheck.specs.Steps.{Stage, Then, Run, no-more, one-more}
+use Rattle.precheck.specs.Steps.{firstOf, Stage, Then, Run, no-more, one-more}
 use Rattle.words.specs.Cells.{flag-word, cells, shown}
 use Rattle.precheck.specs.Numbers.{elementNumber, element-number}
-use Rattle.precheck.specs.Stands.{At, Exprs, SomeAt, Spans, Inside, Begins, spanIn}
+use Rattle.precheck.specs.Stands.{At, Exprs, SomeAt, Spans, Inside, ownVerdict, Begins, spanIn}
 use Rattle.precheck.specs.declared.HirSpan.{HirSpan}
 use Rattle.precheck.proofs.Laws.{End, none-after, last-of, map-run}
 use Rattle.precheck.proofs.Opened.{kids-of, trees, Body, open-at}
@@ -100,28 +100,39 @@ any-span {s = s} {t = t} i v e h = record { sheet = h .sheet; tree = h .tree; he
 
 -- what the check sees of a part with n elements
 pub record InPart (a b : List ℕ) (d : ℕ) (span : Span) (i n : ℕ) (v : Verdict) (e : ℕ) : Type 0 where
-  pub empty : n ≡ 0 → v ≡ violated 8 (suc i) span 0
+  pub inner : Verdict
+  pub elements : Run (At a b patternElement (d - 1) span) n (i + 1) inner e
   pub low : (n ≡ 0 → ⊥) → i + 1 < 2048
-  pub node : (n ≡ 0 → ⊥) → cell a b (i + 1) 0 ≡ 12 → Run (At a b patternElement (d - 1) span) n (i + 1) v e
-  pub rel : (n ≡ 0 → ⊥) → (cell a b (i + 1) 0 ≡ 12 → ⊥) → v ≡ violated 8 (suc i) span 0
+  pub empty : n ≡ 0 → v ≡ firstOf (ownVerdict false i span) inner
+  pub node : (n ≡ 0 → ⊥) → cell a b (i + 1) 0 ≡ 12 → v ≡ firstOf (ownVerdict true i span) inner
+  pub rel : (n ≡ 0 → ⊥) → (cell a b (i + 1) 0 ≡ 12 → ⊥) → v ≡ firstOf (ownVerdict false i span) inner
+
+-- a part that has a verdict of its own is refused for that, whatever its elements have
+own-first : (i : ℕ) (span : Span) (v w : Verdict) → v ≡ violated 8 (suc i) span 0 → v ≡ firstOf (ownVerdict false i span) w
+unfolding andThen
+own-first i span v w h = h
 
 module _ {a b : List ℕ} (room : Roomy a b) {d : ℕ} {span : Span} {i : ℕ} {v : Verdict} {e : ℕ} where
   by-elements : (sheet : Bytes) (n : ℕ) (ts : Trees patternElement n) → HeldOf sheet a b ts (d - 1) (i + 1) → v ≡ andThen (ofElements (suc i) ts span) (checkOf ts span) → e ≡ i + 1 + sizeOf ts → InPart a b d span i n v e
   unfolding ofElements andThen Held elementNumber
-  by-elements sheet n []ᵗ h hv he = record { empty = λ z. hv; low = λ z. absurd (z refl); node = λ z. absurd (z refl); rel = λ z. absurd (z refl) }
+  by-elements sheet n []ᵗ h hv he = record { inner = checkOf {s = patternElement} []ᵗ span; elements = rw he (trees a b (d - 1) span sheet []ᵗ (i + 1) h); empty = λ z. own-first i span v (checkOf {s = patternElement} []ᵗ span) hv; low = λ z. absurd (z refl); node = λ z. absurd (z refl); rel = λ z. absurd (z refl) }
   by-elements sheet n (_∷ᵗ_ {n = m} (node patternElement line PatternElement.Node f kids) ts) h hv he =
       record {
+        inner = checkOf (node patternElement line PatternElement.Node f kids ∷ᵗ ts) span;
+        elements = rw he (trees a b (d - 1) span sheet (node patternElement line PatternElement.Node f kids ∷ᵗ ts) (i + 1) h);
         empty = λ z. absurd (omega arith);
         low = λ z. h .0 .1 .low;
-        node = λ z c. rw (hv, he) (trees a b (d - 1) span sheet (node patternElement line PatternElement.Node f kids ∷ᵗ ts) (i + 1) h);
+        node = λ z c. hv;
         rel = λ z c. absurd (c (element-number _ _ (shown room (h .0 .1) .kind)));
       }
   by-elements sheet n (_∷ᵗ_ {n = m} (node patternElement line PatternElement.Rel f kids) ts) h hv he =
       record {
+        inner = checkOf (node patternElement line PatternElement.Rel f kids ∷ᵗ ts) span;
+        elements = rw he (trees a b (d - 1) span sheet (node patternElement line PatternElement.Rel f kids ∷ᵗ ts) (i + 1) h);
         empty = λ z. absurd (omega arith);
         low = λ z. h .0 .1 .low;
         node = λ z c. let k : cell a b (i + 1) 0 ≡ 13 = element-number _ _ (shown room (h .0 .1) .kind) in absurd (omega arith);
-        rel = λ z c. hv;
+        rel = λ z c. own-first i span v (checkOf (node patternElement line PatternElement.Rel f kids ∷ᵗ ts) span) hv;
       }
 
   by-forest : (sheet : Bytes) (n : ℕ) (f : Forest ((patternElement, n) ∷ [])) → HeldIn sheet a b f (d - 1) (i + 1) → v ≡ andThen (ofPart (suc i) f span) (checkIn f span) → e ≡ i + 1 + sizeIn f → InPart a b d span i n v e
@@ -133,15 +144,15 @@ module _ {a b : List ℕ} (room : Roomy a b) {d : ℕ} {span : Span} {i : ℕ} {
   in-part h = let o = open-at room h in by-forest (o .sheet) (cell a b i 6) (o .body .forest) (o .body .held) (o .body .verdict) (o .body .next)
 
 module _ {a b : List ℕ} (room : Roomy a b) {i n : ℕ} (elements : n ≡ cell a b i 6) where
-  pub begins-not : n ≡ 0 → Begins a b i false
-  begins-not h = record { each = λ d span v e p. in-part room p .empty (sym elements ∙ h) }
-
   module _ (some : (n ≡ 0) → ⊥) where
+    pub begins-rel : {c : ℕ} → c ≡ cell a b (i + 1) 0 → (c ≡ 12 → ⊥) → Begins a b i false
+    begins-rel kind h = record { each = λ d span v e p. record { inner = in-part room p .inner; elements = in-part room p .elements; both = in-part room p .rel (λ z. some (elements ∙ z)) (λ z. h (kind ∙ z)) } }
+
     pub begins-low : SomeAt a b patternPart i → i + 1 < 2048
     begins-low h = in-part room (h .is) .low (λ z. some (elements ∙ z))
 
     pub begins-node : {c : ℕ} → c ≡ cell a b (i + 1) 0 → c ≡ 12 → Begins a b i true
-    begins-node kind h = record { each = λ d span v e p. in-part room p .node (λ z. some (elements ∙ z)) (sym kind ∙ h) }
+    begins-node kind h = record { each = λ d span v e p. record { inner = in-part room p .inner; elements = in-part room p .elements; both = in-part room p .node (λ z. some (elements ∙ z)) (sym kind ∙ h) } }
 
-    pub begins-rel : {c : ℕ} → c ≡ cell a b (i + 1) 0 → (c ≡ 12 → ⊥) → Begins a b i false
-    begins-rel kind h = record { each = λ d span v e p. in-part room p .rel (λ z. some (elements ∙ z)) (λ z. h (kind ∙ z)) }
+  pub begins-not : n ≡ 0 → Begins a b i false
+  begins-not h = record { each = λ d span v e p. record { inner = in-part room p .inner; elements = in-part room p .elements; both = in-part room p .empty (sym elements ∙ h) } }

@@ -14,7 +14,7 @@ use Rattle.model.specs.Check.{Verdict, fine, violated, check}
 use Rattle.words.specs.Words.{cell, kindOf, fieldsOf}
 use Rattle.words.specs.Held.{Held, Flags, size}
 use Rattle.precheck.specs.Answer.{spanOf}
-use Rattle.precheck.specs.Steps.{Stage, Some, Then, Run}
+use Rattle.precheck.specs.Steps.{Stage, Some, firstOf, Then, Run}
 use Rattle.words.specs.Cells.{cells}
 use Rattle.precheck.specs.declared.HirSpan.{HirSpan}
 use Rattle.precheck.specs.declared.Props.{Props}
@@ -68,10 +68,16 @@ pub record SomeAt (a b : List ℕ) (s : Sort) (i : ℕ) : Type 0 where
 pub record Inside (a b : List ℕ) (i : ℕ) (p : Props) : Type 0 where
   pub each : (d : ℕ) (around : Span) (v : Verdict) (e : ℕ) → At a b patternElement d around i v e → Exprs a b 0 (d - 1) (spanOf (p .span)) (p .n) (p .first) v e
 
--- a part that begins with a node is refused only for its elements; another for itself
-abbrev pub BeginsAs : Bool → (a b : List ℕ) (i d : ℕ) (span : Span) (v : Verdict) (e : ℕ) → Type 0
-BeginsAs true a b i d span v e = Run (At a b patternElement (d - 1) span) (cell a b i 6) (i + 1) v e
-BeginsAs false a b i d span v e = v ≡ violated 8 (suc i) span 0
+-- what a part is refused for itself, whether it begins with a node or not
+abbrev pub ownVerdict : Bool → ℕ → Span → Verdict
+ownVerdict true i span = fine
+ownVerdict false i span = violated 8 (suc i) span 0
+
+-- a part is refused for itself, and behind that for its elements
+pub record BeginsAs (t : Bool) (a b : List ℕ) (i d : ℕ) (span : Span) (v : Verdict) (e : ℕ) : Type 0 where
+  pub inner : Verdict
+  pub elements : Run (At a b patternElement (d - 1) span) (cell a b i 6) (i + 1) inner e
+  pub both : v ≡ firstOf (ownVerdict t i span) inner
 
 pub record Begins (a b : List ℕ) (i : ℕ) (t : Bool) : Type 0 where
   pub each : (d : ℕ) (span : Span) (v : Verdict) (e : ℕ) → At a b patternPart d span i v e → BeginsAs t a b i d span v e

@@ -23,6 +23,10 @@ Ends (Refused x) v e = v ≡ errorOf x
 pub record Walks (r : Walk) (P : Stage) : Type 0 where
   pub each : (v : Verdict) (e : ℕ) → P v e → Ends r v e
 
+-- of two verdicts one after another the first violation counts
+abbrev pub firstOf : Verdict → Verdict → Verdict
+firstOf u w = andThen u w
+
 -- one stage, then another from the record behind it
 pub record Then (P : Stage) (Q : ℕ → Stage) (v : Verdict) (e : ℕ) : Type 0 where
   pub verdict : Verdict
@@ -30,9 +34,9 @@ pub record Then (P : Stage) (Q : ℕ → Stage) (v : Verdict) (e : ℕ) : Type 0
   pub first : P verdict next
   pub later : Verdict
   pub rest : Q next later e
-  pub both : v ≡ andThen verdict later
+  pub both : v ≡ firstOf verdict later
 
 -- n of a kind, one after another from record i on
 pub data Run (P : ℕ → Stage) : (n i : ℕ) → Verdict → ℕ → Type 0 where
   no-more : {i : ℕ} → Run P zero i fine i
-  one-more : {n i : ℕ} {u v w : Verdict} {j e : ℕ} → P i u j → Run P n j w e → v ≡ andThen u w → Run P (suc n) i v e
+  one-more : {n i : ℕ} {u v w : Verdict} {j e : ℕ} → P i u j → Run P n j w e → v ≡ firstOf u w → Run P (suc n) i v e
