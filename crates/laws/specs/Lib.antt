@@ -1,3 +1,4 @@
+pub mod PartLaws
 pub mod TextLaws
 pub mod NumberLaws
 pub mod FieldLaws

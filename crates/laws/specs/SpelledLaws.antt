@@ -48,7 +48,8 @@ beside-once entry e k f = refl each∷ each[]
 beside-once expr e k f = absurd (false≢true e)
 beside-once (inPlan p) e k f = plan-beside p e k f
 
-next-same : {A B : Type 0} (m : Reading A) (k l : A → Place → Reading B) → ((a : A) (p : Place) → k a p ≡ l a p) → next m k ≡ next m l
+-- what follows may be anything that reads the same
+pub next-same : {A B : Type 0} (m : Reading A) (k l : A → Place → Reading B) → ((a : A) (p : Place) → k a p ≡ l a p) → next m k ≡ next m l
 unfolding next
 next-same (got a p) k l h = h a p
 next-same (refused n i) k l h = refl

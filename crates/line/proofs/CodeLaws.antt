@@ -16,7 +16,8 @@ use Rattle.line.specs.Place.{PieceAt}
 use Rattle.line.specs.FieldRead.{WordsOf, FieldAt}
 use Rattle.line.specs.declared.field.Words.{Words}
 use Rattle.line.specs.declared.form.FieldRead.{FieldRead}
-use Rattle.line.proofs.PlaceLaws.{part-is, none-left}
+use Rattle.laws.specs.PartLaws.{part-is}
+use Rattle.line.proofs.PlaceLaws.{none-left}
 use Rattle.line.proofs.FormLaws.{few, one-is, one-not}
 
 -- ── numbers with a limit ──

@@ -19,7 +19,8 @@ use Rattle.line.specs.Place.{piecesAt, PieceAt}
 use Rattle.line.specs.FieldRead.{WordsOf, wordsValue, FieldAt}
 use Rattle.line.specs.declared.field.Words.{Words}
 use Rattle.line.specs.declared.form.FieldRead.{FieldRead}
-use Rattle.line.proofs.PlaceLaws.{part-is, pieces-from, none-left, some-left}
+use Rattle.laws.specs.PartLaws.{part-is}
+use Rattle.line.proofs.PlaceLaws.{pieces-from, none-left, some-left}
 use Rattle.line.proofs.SpanLaws.{too-few, span-none, span-other, span-some, span-back}
 
 -- no field where the pieces are too few

@@ -14,7 +14,7 @@ use Rattle.model.specs.Kind.{Sort}
 use Rattle.words.specs.Words.{Roomy, part}
 use Rattle.line.specs.LineRead.{LineRead, IntoRead}
 use Rattle.line.specs.declared.read.Line.{Line}
-use Rattle.line.proofs.PlaceLaws.{part-is}
+use Rattle.laws.specs.PartLaws.{part-is}
 
 -- ── sixteen words in a list ──
 

@@ -19,7 +19,8 @@ use Rattle.line.specs.Place.{piecesAt, PieceAt}
 use Rattle.line.specs.LineRead.{FieldsRead, LineRead}
 use Rattle.line.specs.declared.kind.KindFound.{KindFound}
 use Rattle.line.specs.declared.read.Line.{Line}
-use Rattle.line.proofs.PlaceLaws.{part-is, pieces-from, some-left}
+use Rattle.laws.specs.PartLaws.{part-is}
+use Rattle.line.proofs.PlaceLaws.{pieces-from, some-left}
 
 -- a line read by its pieces
 by-pieces : (s : Sort) (l a : Bytes) (ms : List Bytes) → piecesOf l ≡ a ∷ ms → readRec s l ≡ readAs s ms (kindNamed s a (kinds s))

@@ -21,7 +21,8 @@ use Rattle.words.specs.Words
 use Rattle.words.specs.Held.{PlaceAt}
 use Rattle.line.specs.FieldRead.{WordsOf}
 use Rattle.line.specs.declared.field.Words.{Words}
-use Rattle.line.proofs.PlaceLaws.{part-is, pieces-last}
+use Rattle.laws.specs.PartLaws.{part-is}
+use Rattle.line.proofs.PlaceLaws.{pieces-last}
 
 -- a name that the sheet spells
 name-at : (sheet : Bytes) (x y : ℕ) → x ≤ y → y ≤ length sheet → escape (unescape (slice x y sheet)) ≡ slice x y sheet → PlaceAt text sheet x y

@@ -16,13 +16,6 @@ use Rattle.record.specs.Piece.{Piece}
 use Rattle.words.specs.Words.{piecesOf}
 use Rattle.line.specs.Place.{piecesAt, PieceAt}
 
--- a part of a slice, as the code has it
-pub part-is : {A : Type 0} (p r : ℕ) (s : List A) → take (r - p) (drop p s) ≡ slice p r s
-part-is zero r s = rw (sub-zero r)
-part-is (suc p) zero s = rw (zero-sub (suc p))
-part-is (suc p) (suc r) [] = rw (take-nil (suc r - suc p))
-part-is (suc p) (suc r) (b ∷ s) = rw (suc-sub-suc r p) (part-is p r s)
-
 slice-take : (p r e : ℕ) (s : Bytes) → r ≤ e → slice p r (take e s) ≡ slice p r s
 slice-take p r e s h = ap (drop p) (take-take r e s h)
 

@@ -10,6 +10,7 @@ use lib.ListN.{length, take, drop, getD, drop-of-length-le}
 use lib.Seq.{slice, slice-empty, drop-cons, take-suc, drop-append-le, take-nil, length-take-le}
 use Rattle.model.specs.Text.{Bytes, split}
 use Rattle.record.specs.Piece.{Piece}
+use Rattle.laws.specs.PartLaws.{part-is}
 
 -- no separator between p and i
 pub record Scan (sep : ℕ) (s : Bytes) (p i : ℕ) : Type 0 where
@@ -21,13 +22,6 @@ pub record Scan (sep : ℕ) (s : Bytes) (p i : ℕ) : Type 0 where
 pub slice-snoc : {A : Type 0} (f i : ℕ) (l : List A) (d : A) → f ≤ i → i < length l → slice f (i + 1) l ≡ slice f i l ++ (getD l i d ∷ [])
 slice-snoc f i l d h k =
     rw (add-one i, take-suc l i d k) (drop-append-le f (take i l) (getD l i d ∷ []) (rw (length-take-le i l (omega arith)) h))
-
--- a part of a text, in the two ways that it is written
-pub part-slice : {A : Type 0} (f t : ℕ) (l : List A) → f ≤ t → take (t - f) (drop f l) ≡ slice f t l
-part-slice zero t l h = rw (sub-zero t)
-part-slice (suc f) zero l h = absurd (omega arith)
-part-slice (suc f) (suc t) [] h = take-nil (suc t - suc f)
-part-slice (suc f) (suc t) (x ∷ l) h = let e : suc t - suc f ≡ t - f = omega arith in rw e (part-slice f t l (omega arith))
 
 -- what is split off at one place
 module _ (sep : ℕ) (s : Bytes) (i : ℕ) where
@@ -60,7 +54,7 @@ module _ (sep : ℕ) (s : Bytes) (p : ℕ) where
           from = inv .from;
           within = inv .within;
           first = ended h;
-          part = part-slice p i s (inv .from) ∙ ended h;
+          part = part-is p i s ∙ ended h;
           more = λ k. absurd (omega arith);
           last = λ _. sym (rw (split-end sep s i h) at (inv .more));
         }
@@ -75,7 +69,7 @@ module _ (sep : ℕ) (s : Bytes) (p : ℕ) where
             from = inv .from;
             within = inv .within;
             first = parted e;
-            part = part-slice p i s (inv .from) ∙ parted e;
+            part = part-is p i s ∙ parted e;
             more = λ _. sym (rw (split-at sep s i h e) at (inv .more));
             last = λ k. absurd (omega arith);
           }

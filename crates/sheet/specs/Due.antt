@@ -12,6 +12,7 @@ use Rattle.model.specs.Tree.{Tree, Trees, Forest, node, []ᵗ, _∷ᵗ_, end, _
 use Rattle.model.specs.Text.{Bytes}
 use Rattle.model.specs.Field.{Fields}
 use Rattle.model.specs.Sheet.{lineAt, Place, Reading, got, refused, next, Reader, readLine, readMany, readGroups, readNode, readTree}
+use Rattle.laws.specs.SpelledLaws.{next-same}
 
 -- a value mapped
 unfoldable pub mapped : {A B : Type 0} → (A → B) → Reading A → Reading B
@@ -61,11 +62,6 @@ unfolding mapped
 mapped-mapped h f (got a p) = refl
 mapped-mapped h f (refused n l) = refl
 
-next-ext : {A B : Type 0} (r : Reading A) (f g : A → Place → Reading B) → ((a : A) (p : Place) → f a p ≡ g a p) → next r f ≡ next r g
-unfolding next
-next-ext (got a p) f g h = h a p
-next-ext (refused n l) f g h = refl
-
 pub mapped-ext : {A B : Type 0} (r : Reading A) (f g : A → B) → ((a : A) → f a ≡ g a) → mapped f r ≡ mapped g r
 unfolding mapped
 mapped-ext (got a p) f g h = ap (λ b. got b p) (h a)
@@ -90,14 +86,14 @@ module _ (d : ℕ) (r : (s : Sort) → Reader (Tree s)) where
   many-same : (s : Sort) (n : ℕ) → ((q : Place) → r s q ≡ readTree d s q) → (p : Place) → readMany (λ q. r s q) n p ≡ readMany (λ q. readTree d s q) n p
   unfolding readMany
   many-same s zero h p = refl
-  many-same s (suc n) h p = rw (h p) (next-ext (readTree d s p) _ _ (λ t q. rw (many-same s n h q)))
+  many-same s (suc n) h p = rw (h p) (next-same (readTree d s p) _ _ (λ t q. rw (many-same s n h q)))
 
   -- a group, then those behind it
   group-then : {s : Sort} {n : ℕ} (ts : Trees s n) (st : List Due) (gs : List Group) (p : Place) → next (readGroups r gs p) (λ f q. mapped (λ rs. recordsIn f ++ rs) (readDue st q)) ≡ readDue (dueOf d gs ++ st) p → next (next (readGroups r gs p) (λ f q. got (ts ▸ f) q)) (λ f q. mapped (λ rs. recordsIn f ++ rs) (readDue st q)) ≡ mapped (λ rs. recordsOf ts ++ rs) (readDue (dueOf d gs ++ st) p)
   unfolding recordsIn next
   group-then ts st gs p e =
       next-assoc (readGroups r gs p) _ _
-      ∙ next-ext (readGroups r gs p) _ (λ f q. mapped (λ rs. recordsOf ts ++ rs) (mapped (λ rs. recordsIn f ++ rs) (readDue st q))) (λ f q. mapped-ext (readDue st q) _ _ (λ rs. append-assoc (recordsOf ts) (recordsIn f) rs) ∙ sym (mapped-mapped _ _ (readDue st q)))
+      ∙ next-same (readGroups r gs p) _ (λ f q. mapped (λ rs. recordsOf ts ++ rs) (mapped (λ rs. recordsIn f ++ rs) (readDue st q))) (λ f q. mapped-ext (readDue st q) _ _ (λ rs. append-assoc (recordsOf ts) (recordsIn f) rs) ∙ sym (mapped-mapped _ _ (readDue st q)))
       ∙ sym (mapped-next _ (readGroups r gs p) _)
       ∙ ap (mapped (λ rs. recordsOf ts ++ rs)) e
 
@@ -107,7 +103,7 @@ module _ (d : ℕ) (r : (s : Sort) → Reader (Tree s)) where
   groups-due st (g ∷ gs) h p =
       rw (many-same (g .0) (g .1) (h .0) p)
       (next-assoc (readMany (λ q. readTree d (g .0) q) (g .1) p) _ _
-      ∙ next-ext (readMany (λ q. readTree d (g .0) q) (g .1) p) _ _ (λ ts q. group-then ts st gs q (groups-due st gs (h .1) q)))
+      ∙ next-same (readMany (λ q. readTree d (g .0) q) (g .1) p) _ _ (λ ts q. group-then ts st gs q (groups-due st gs (h .1) q)))
 
 -- a record that is too deep is not got
 too-deep : {A : Type 0} (s : Sort) (p : Place) (f g : RecOf s → Place → Reading A) → next (readLine s true p) f ≡ next (readLine s true p) g
@@ -172,7 +168,7 @@ module _ (s : Sort) (n d e : ℕ) (st : List Due) (line : ℕ) (r : (c : Sort) �
   unfolding records readDue next
   forest-then k f h p =
       next-assoc (readGroups r (children s k f) p) _ _
-      ∙ next-ext (readGroups r (children s k f) p) _ (λ kids q. mapped (λ rs. rec s k f ∷ rs) (mapped (λ rs. recordsIn kids ++ rs) (readDue (due s n d ∷ st) q))) (λ kids q. next-assoc (readMany (λ z. readTree d s z) n q) _ _ ∙ put-before-next (readMany (λ z. readTree d s z) n q) (λ ts. recordsOf ts) (λ z. readDue st z) (rec s k f) (recordsIn kids))
+      ∙ next-same (readGroups r (children s k f) p) _ (λ kids q. mapped (λ rs. rec s k f ∷ rs) (mapped (λ rs. recordsIn kids ++ rs) (readDue (due s n d ∷ st) q))) (λ kids q. next-assoc (readMany (λ z. readTree d s z) n q) _ _ ∙ put-before-next (readMany (λ z. readTree d s z) n q) (λ ts. recordsOf ts) (λ z. readDue st z) (rec s k f) (recordsIn kids))
       ∙ sym (mapped-next (λ rs. rec s k f ∷ rs) (readGroups r (children s k f) p) (λ kids q. mapped (λ rs. recordsIn kids ++ rs) (readDue (due s n d ∷ st) q)))
       ∙ ap (mapped (λ rs. rec s k f ∷ rs)) (groups-due e r (due s n d ∷ st) (children s k f) h p)
 
@@ -192,7 +188,7 @@ step s n zero st p = next-assoc (next (readLine s true p) _) _ _ ∙ next-assoc 
 step s n (suc d) st p =
     next-assoc (next (readLine s false p) _) _ _
     ∙ next-assoc (readLine s false p) _ _
-    ∙ next-ext (readLine s false p) _ _ (λ x q. forest-then s n (suc d) (cond (beside s) (suc d) d) st (p .line) (below d (beside s)) (x .0) (x .1) (below-reads d s (x .0) (x .1) (beside s) refl) q)
+    ∙ next-same (readLine s false p) _ _ (λ x q. forest-then s n (suc d) (cond (beside s) (suc d) d) st (p .line) (below d (beside s)) (x .0) (x .1) (below-reads d s (x .0) (x .1) (beside s) refl) q)
 
 -- a group of none is not due
 pub none-due : (s : Sort) (d : ℕ) (st : List Due) (p : Place) → readDue (due s zero d ∷ st) p ≡ readDue st p

@@ -23,7 +23,7 @@ use Rattle.sheet.specs.declared.reader.Read.{Read}
 use Rattle.sheet.specs.declared.reader.Read.the-variants.{Records, BadLine, BigTree, WriteClause}
 use Rattle.sheet.specs.Due.{Due, due, dueOf, mapped, mapped-mapped, mapped-ext, roomBelow, isZero}
 use Rattle.sheet.specs.Standing.{Standing, standing-both, stands-held}
-use Rattle.sheet.specs.Writes.{writes, writeAmong, first-write}
+use Rattle.sheet.specs.Writes.{writes, writeAmong, first-write, orElse-none}
 use Rattle.sheet.specs.Progress.{placeAt, rest, whole, at-start, line-got, line-refused, at-the-end, not-the-end}
 use Rattle.sheet.specs.Stack.{Alike, rest-alike, Fit}
 use Rattle.sheet.specs.Dues.{dues, group, Sorted, Pushed}
@@ -94,11 +94,6 @@ record Ended (sheet : Bytes) (a b : List ℕ) (i wr : ℕ) : Type 0 where
   count : recordCount tree ≡ i
   write : firstWrite tree ≡ writeOf wr
   is : Held sheet a b tree 64 0
-
-orElse-none : (v : Option ℕ) → orElse v none ≡ v
-unfolding orElse
-orElse-none none = refl
-orElse-none (some a) = refl
 
 passed : (t : Tree statement) (wr : ℕ) → wr ≡ 0 → testWrite t (writeOf wr) ≡ pass t
 unfolding testWrite writeOf

@@ -12,6 +12,7 @@ use Rattle.model.specs.Sheet.{Place, Reading, got, refused, next, readLine, rea
 use Rattle.line.specs.GroupLaws.{sortsOf}
 use Rattle.sheet.specs.Due.{Due, due, dueOf, mapped, readDue, isZero, roomBelow, step, none-due}
 use Rattle.sheet.specs.Progress.{rest}
+use Rattle.laws.specs.SpelledLaws.{next-same}
 
 -- ── lists of groups that read the same ──
 
@@ -23,11 +24,6 @@ alike-refl st = record { reads = λ p. refl }
 
 pub alike-trans : {st st′ st″ : List Due} → Alike st st′ → Alike st′ st″ → Alike st st″
 alike-trans h g = record { reads = λ p. h .reads p ∙ g .reads p }
-
-next-same : {A B : Type 0} (r : Reading A) (f g : A → Place → Reading B) → ((a : A) (p : Place) → f a p ≡ g a p) → next r f ≡ next r g
-unfolding next
-next-same (got a p) f g h = h a p
-next-same (refused n l) f g h = refl
 
 pub alike-under : (g : Due) {st st′ : List Due} → Alike st st′ → Alike (g ∷ st) (g ∷ st′)
 unfolding readDue

@@ -175,7 +175,7 @@ unfolding records numbered writeIn
 seen-clauses []ᵗ n = seen-none n
 seen-clauses (c ∷ᵗ cs) n = seen-both (records c) (recordsOf cs) n (isWrite (numbered c n)) (writeIn (numberedOf cs (n + length (records c)))) (seen-clause c n) (seen-clauses cs (n + length (records c)))
 
-orElse-none : {A : Type 0} (v : Option A) → orElse v none ≡ v
+pub orElse-none : {A : Type 0} (v : Option A) → orElse v none ≡ v
 unfolding orElse
 orElse-none none = refl
 orElse-none (some a) = refl
