@@ -19,6 +19,7 @@ use Rattle.words.specs.Held.{Held, HeldOf, HeldIn, RecordAt, Flags, size, sizeO
 use Rattle.words.specs.Cells.{cells, Shown, shown, numbered, number-of}
 use Rattle.lower.specs.Fits.{tree-fits}
 use Rattle.lower.specs.Count.{Inner, total, kidsOf, countBy, countAt, Due, none-due, one-due, Starts, Ends}
+use Rattle.words.specs.Numbers.{sameNumber, exprNumber, elementNumber}
 
 -- ── by the words ──
 
@@ -34,37 +35,6 @@ unfolding countBy
 none-left kind x y z u h = rw (ne-eqb kind 11 (h .0 .0 .0 .0 .0 .0 .0 .0 .0 .0 .0 .0 .0 .0 .0 .0 .1), ne-eqb kind 12 (h .0 .0 .0 .0 .0 .0 .0 .0 .0 .0 .0 .0 .0 .0 .0 .1), ne-eqb kind 13 (h .0 .0 .0 .0 .0 .0 .0 .0 .0 .0 .0 .0 .0 .0 .1), ne-eqb kind 16 (h .0 .0 .0 .0 .0 .0 .0 .0 .0 .0 .0 .0 .0 .1), ne-eqb kind 23 (h .0 .0 .0 .0 .0 .0 .0 .0 .0 .0 .0 .0 .1), ne-eqb kind 24 (h .0 .0 .0 .0 .0 .0 .0 .0 .0 .0 .0 .1), ne-eqb kind 25 (h .0 .0 .0 .0 .0 .0 .0 .0 .0 .0 .1), ne-eqb kind 26 (h .0 .0 .0 .0 .0 .0 .0 .0 .0 .1), ne-eqb kind 27 (h .0 .0 .0 .0 .0 .0 .0 .0 .1), ne-eqb kind 28 (h .0 .0 .0 .0 .0 .0 .0 .1), ne-eqb kind 29 (h .0 .0 .0 .0 .0 .0 .1), ne-eqb kind 30 (h .0 .0 .0 .0 .0 .1), ne-eqb kind 31 (h .0 .0 .0 .0 .1), ne-eqb kind 33 (h .0 .0 .0 .1), ne-eqb kind 34 (h .0 .0 .1), ne-eqb kind 35 (h .0 .1), ne-eqb kind 36 (h .1))
 
 -- ── by the kind ──
-
-unfoldable pub sameNumber : Same → ℕ
-sameNumber Same.Null = 17
-sameNumber Same.Bool = 18
-sameNumber Same.Int = 19
-sameNumber Same.Float = 20
-sameNumber Same.String = 21
-sameNumber Same.Param = 22
-sameNumber Same.Prop = 23
-sameNumber Same.Index = 24
-sameNumber Same.Slice = 25
-sameNumber Same.List = 26
-sameNumber Same.BinOp = 27
-sameNumber Same.UnaryOp = 28
-sameNumber Same.Case = 29
-sameNumber Same.IsNull = 30
-sameNumber Same.InList = 31
-
-unfoldable pub exprNumber : Expr → ℕ
-exprNumber (Expr.Over h) = sameNumber h
-exprNumber Expr.Var = 32
-exprNumber Expr.Map = 33
-exprNumber Expr.Call = 34
-exprNumber Expr.PatternPredicate = 35
-exprNumber Expr.ListPredicate = 36
-exprNumber Expr.Unresolved = 37
-exprNumber Expr.Undesugared = 38
-
-unfoldable pub elementNumber : PatternElement → ℕ
-elementNumber PatternElement.Node = 12
-elementNumber PatternElement.Rel = 13
 
 -- the number of a kind of a pattern or an expression
 unfoldable pub innerNumber : (s : Sort) → Kind s → ℕ

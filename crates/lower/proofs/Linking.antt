@@ -28,7 +28,7 @@ use Rattle.lower.specs.Chains.{givenIf, seenIf, stepOf, Waiting, no-rel,
 use Rattle.lower.specs.declared.Chain.{Chain}
 use Rattle.lower.specs.State.{sub-refl, sub-then, sub-more, sub-within, blank-within, blank-before, blank-behind, back, rep-wider, to-refl, to-then, to-wider, Given, number-to}
 use Rattle.lower.specs.Fits.{tree-fits}
-use Rattle.lower.proofs.Counting.{elementNumber}
+use Rattle.words.specs.Numbers.{elementNumber}
 use Rattle.lower.specs.Exprs.{moved-refl, moved-within, narrow}
 use Rattle.lower.proofs.Elements.{IsElement, IsNode, IsRel, a-node, element-number}
 use Rattle.lower.proofs.Elements

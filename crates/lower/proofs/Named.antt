@@ -30,7 +30,8 @@ use Rattle.lower.specs.Pieces.{exprPiece, Carried, []ᶜ, _∷ᶜ_, lowe
 use Rattle.lower.specs.Patterns.{partsL, SomeTrees, LowersParts}
 use Rattle.lower.specs.State.{sub-refl, sub-then, sub-more, sub-within, blank-within, blank-before, blank-behind, back, rep-wider, to-refl, to-then, to-wider, Given, number-to, note-to}
 use Rattle.lower.specs.Fits.{tree-fits}
-use Rattle.lower.proofs.Counting.{exprNumber, sameNumber, counted}
+use Rattle.words.specs.Numbers.{exprNumber, sameNumber}
+use Rattle.lower.proofs.Counting.{counted}
 use Rattle.lower.specs.Exprs.{moved-within, narrow}
 use Rattle.lower.specs.Carry.{plainC, plain-lower, plain-size, plain-held, plain-render, plain-below}
 use Rattle.lower.proofs.Arms.{number-at, same-low}

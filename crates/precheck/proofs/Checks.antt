@@ -11,7 +11,7 @@ use Rattle.model.specs.Check.{Verdict, fine, noSpan, andThen}
 use Rattle.words.specs.Words.{Roomy, cell}
 use Rattle.precheck.specs.Answer.{spanOf, errorOf}
 use Rattle.precheck.specs.Steps.{Stage, Some, Ends, Walks, Run}
-use Rattle.precheck.specs.Numbers.{Others, expr-number}
+use Rattle.words.specs.Numbers.{Others, expr-number}
 use Rattle.precheck.specs.Stands.{At, Standing, SomeAt, Exprs, Counts, Begins, Inside}
 use Rattle.precheck.specs.declared.HirSpan.{HirSpan}
 use Rattle.precheck.specs.declared.PlanLowerError.{PlanLowerError}

@@ -16,7 +16,7 @@ use Rattle.words.specs.Words.{Roomy, cell, kindOf, firstKind, nth, fieldsOf, fi
 use Rattle.precheck.specs.Answer.{spanOf}
 use Rattle.precheck.specs.Steps.{Some, Then, Walks, Run}
 use Rattle.words.specs.Cells.{flag-word, cells}
-use Rattle.precheck.specs.Numbers.{Others, clauseNumber, clause-number}
+use Rattle.words.specs.Numbers.{Others, clauseNumber, clause-number}
 use Rattle.precheck.specs.Stands.{At, Exprs, Spans, spanIn, spanWord, Projected, Called}
 use Rattle.precheck.specs.declared.HirSpan.{HirSpan}
 use Rattle.precheck.specs.declared.Walk.the-variants.{Go}

@@ -11,7 +11,7 @@ use Rattle.model.specs.Record.{exprForms, exprChildren}
 use Rattle.words.specs.Words.{cell, kindOf, fieldsOf, fieldOf}
 use Rattle.words.specs.Held.{Flags}
 use Rattle.words.specs.Cells.{flag-word, cells}
-use Rattle.precheck.specs.Numbers.{Others, sameNumber, exprNumber, expr-number}
+use Rattle.words.specs.Numbers.{Others, sameNumber, exprNumber, expr-number}
 use Rattle.precheck.specs.Stands.{countOf, Counts}
 
 unfoldable pub sameArity : Same → (x y z : ℕ) → ℕ

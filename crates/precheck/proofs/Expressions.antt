@@ -12,7 +12,7 @@ use Rattle.words.specs.Words.{Roomy, cell, fieldsOf, fieldOf}
 use Rattle.words.specs.Held.{Held, size}
 use Rattle.precheck.specs.Steps.{Run}
 use Rattle.words.specs.Cells.{cells}
-use Rattle.precheck.specs.Numbers.{sameNumber, exprNumber, same-low}
+use Rattle.words.specs.Numbers.{sameNumber, exprNumber, same-low}
 use Rattle.precheck.specs.Stands.{At, countOf}
 use Rattle.precheck.proofs.Laws.{just, last-of, run-none}
 use Rattle.precheck.proofs.Opened.{kids-of, Body, open-at}

@@ -18,7 +18,7 @@ use Rattle.words.specs.Held.{Held, HeldOf, HeldIn, Flags, size, sizeOf, sizeIn}
 use Rattle.precheck.specs.Answer.{spanOf}
 use Rattle.precheck.specs.Steps.{firstOf, Stage, Then, Run, no-more, one-more}
 use Rattle.words.specs.Cells.{flag-word, cells, shown}
-use Rattle.precheck.specs.Numbers.{elementNumber, element-number}
+use Rattle.words.specs.Numbers.{elementNumber, element-number}
 use Rattle.precheck.specs.Stands.{At, Exprs, SomeAt, Spans, Inside, ownVerdict, Begins, spanIn}
 use Rattle.precheck.specs.declared.HirSpan.{HirSpan}
 use Rattle.precheck.proofs.Laws.{End, none-after, last-of, map-run}

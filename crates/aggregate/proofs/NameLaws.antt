@@ -1,0 +1,109 @@
+-- Names compared byte by byte, and the names one after another. Assumes nothing: every law is proved.
+use mathlib.Core.Path.{_≡_, refl, ap}
+use Prim.Native.Nat.{ℕ, zero, suc, _+_, _-_, _≤_, _<_}
+use native.Mathlib.Nat.{sub-zero, zero-sub, suc-sub-suc}
+use native.Mathlib.Numerals.{add-one}
+use native.Mathlib.Omega.{arith}
+use mathlib.Core.Bool.{Bool, true, false, _&&_, _||_, and-false}
+use mathlib.Core.List.{List, [], _∷_, map}
+use lib.Dec.{eqb, leb}
+use lib.ListN.{length, getD, take, drop, drop-of-length-le}
+use lib.Seq.{slice, drop-cons, take-nil}
+use borrow.Author.Tests.{eq-eqb, ne-eqb, lt-leb, le-leb, leb-true}
+use Rattle.model.specs.Text.{Bytes, bytes, bytesFrom, same, sameBy}
+use Rattle.model.specs.Lower.{lowercase, among, aggregates}
+use Rattle.laws.specs.TextLaws.{and-left, and-right}
+use Rattle.aggregate.specs.Names.{letters, starts, aggregate}
+
+abbrev pub lowered : Bytes → Bytes
+lowered s = map (λ b. lowercase b) s
+
+-- ── a name ──
+
+pub other-long : (s name : Bytes) → (length s ≡ length name → ⊥) → false ≡ same (lowered s) name
+unfolding same sameBy
+other-long [] [] h = absurd (h refl)
+other-long [] (c ∷ name) h = refl
+other-long (b ∷ s) [] h = refl
+other-long (b ∷ s) (c ∷ name) h = rw (← (other-long s name (λ e. h (ap suc e))), and-false (eqb (lowercase b) c))
+
+module _ (s name : Bytes) (i : ℕ) (g : Bool) (l : length s ≡ length name) (inv : same (lowered (drop i s)) (drop i name) ≡ g) where
+  pub ended : length s ≤ i → true ≡ g
+  unfolding same sameBy
+  ended h = let k : length name ≤ i = omega arith in rw (drop-of-length-le s h, drop-of-length-le name k) at inv
+
+  module _ (h : i < length s) (r : ℕ) (e : r ≡ lowercase (getD s i 0)) where
+    stepped : (eqb r (getD name i 0) && same (lowered (drop (i + 1) s)) (drop (i + 1) name)) ≡ g
+    unfolding same sameBy
+    stepped = let k : i < length name = omega arith in rw (add-one i, e) (rw (drop-cons s i 0 h, drop-cons name i 0 k) at inv)
+
+    pub other : (r ≡ getD name i 0 → ⊥) → false ≡ g
+    other n = rw (ne-eqb r (getD name i 0) n) at stepped
+
+    pub alike : r ≡ getD name i 0 → same (lowered (drop (i + 1) s)) (drop (i + 1) name) ≡ g
+    alike q = rw (eq-eqb r (getD name i 0) q) at stepped
+
+-- ── the names ──
+
+-- n names from name k on
+unfoldable pub from : ℕ → ℕ → List Bytes
+from zero k = []
+from (suc n) k = aggregate k ∷ from n (suc k)
+
+pub all-names : from 10 0 ≡ aggregates
+unfolding from aggregate letters aggregates bytes bytesFrom
+all-names = refl
+
+module _ (t : Bytes) (k : ℕ) (inv : among t (from (10 - k) k) ≡ among t aggregates) where
+  pub tried : 10 ≤ k → false ≡ among t aggregates
+  unfolding among from
+  tried h = let e : 10 - k ≡ 0 = omega arith in rw e at inv
+
+  module _ (h : k < 10) (r : Bool) (q : r ≡ same t (aggregate k)) where
+    stepped-on : (r || among t (from (10 - (k + 1)) (k + 1))) ≡ among t aggregates
+    unfolding among from
+    stepped-on = let e : 10 - k ≡ suc (10 - (k + 1)) = omega arith in rw (q, add-one k) (rw (e, add-one k) at inv)
+
+    pub found : r ≡ true → true ≡ among t aggregates
+    found e = rw e at stepped-on
+
+    pub on : r ≡ false → among t (from (10 - (k + 1)) (k + 1)) ≡ among t aggregates
+    on e = rw e at stepped-on
+
+-- ── where the names stand ──
+
+pub record Within (m x y : ℕ) : Type 0 where
+  pub from : x ≤ y
+  pub to : y ≤ m
+
+-- a test that the first n numbers pass
+unfoldable all : (ℕ → Bool) → ℕ → Bool
+all test zero = true
+all test (suc n) = test 0 && all (λ k. test (suc k)) n
+
+passes : (test : ℕ → Bool) (n k : ℕ) → all test n ≡ true → k < n → test k ≡ true
+unfolding all
+passes test zero k e h = absurd (omega arith)
+passes test (suc n) zero e h = and-left _ _ e
+passes test (suc n) (suc k) e h = passes (λ x. test (suc x)) n k (and-right (test 0) _ e) (omega arith)
+
+pub name-within : (k : ℕ) → k < 10 → Within 63 (getD starts k 0) (getD starts (suc k) 0)
+unfolding all
+name-within k h =
+    let p : (leb (getD starts k 0) (getD starts (suc k) 0) && leb (getD starts (suc k) 0) 63) ≡ true = passes (λ x. leb (getD starts x 0) (getD starts (suc x) 0) && leb (getD starts (suc x) 0) 63) 10 k refl h in
+    record { from = leb-true _ _ (and-left _ _ p); to = leb-true _ _ (and-right (leb (getD starts k 0) (getD starts (suc k) 0)) _ p) }
+
+-- ── letters ──
+
+module _ (b : ℕ) where
+  pub below-capitals : b < 65 → b ≡ lowercase b
+  unfolding lowercase
+  below-capitals h = rw (lt-leb 65 b h)
+
+  pub above-capitals : 90 < b → b ≡ lowercase b
+  unfolding lowercase
+  above-capitals h = let k : 65 ≤ b = omega arith in rw (le-leb 65 b k, lt-leb b 90 h)
+
+  pub capital : 65 ≤ b → b ≤ 90 → b + 32 ≡ lowercase b
+  unfolding lowercase
+  capital h k = rw (le-leb 65 b h, le-leb b 90 k)
