@@ -27,7 +27,7 @@ use Rattle.lower.specs.Rep.{State, Mem, mem, Written, Sub, Blank, Future
 use Rattle.lower.specs.Pieces.{SomeTree}
 use Rattle.lower.specs.Patterns.{SomeTrees}
 use Rattle.lower.specs.Chains.{givenIf, seenIf, stepsOf, Waiting, no-rel, Linked, Sturdy, Anchored, passed, ChainedAll, LowersElements, Sourced, OrSource, chainL, LowersChain, startChain}
-use Rattle.lower.specs.declared.chain.Chain.{Chain}
+use Rattle.lower.specs.declared.Chain.{Chain}
 use Rattle.lower.specs.State.{sub-more, sub-within, blank-within, blank-before, blank-behind, back, to-refl, to-then, to-wider, push-to, Given, number-to, upcoming-number}
 use Rattle.lower.specs.Fits.{tree-fits, trees-fits, tree-low}
 use Rattle.lower.specs.Exprs.{moved-within, narrow}

@@ -25,7 +25,7 @@ use Rattle.lower.specs.Shows.{shift}
 use Rattle.lower.specs.Rep.{State, Mem, mem, notes, Written, In, Sub, Blank, Future, Rep, To, Ran, Rooted, Good, Moved}
 use Rattle.lower.specs.Pieces.{SomeTree, LowersExprs}
 use Rattle.lower.specs.Chains.{givenIf, seenIf, stepOf, Waiting, no-rel, a-rel, Linked, Sturdy, Anchored, passed, Chained, LowersElement, startL, LowersStart, Starts}
-use Rattle.lower.specs.declared.chain.Chain.{Chain}
+use Rattle.lower.specs.declared.Chain.{Chain}
 use Rattle.lower.specs.State.{sub-refl, sub-then, sub-more, sub-within, blank-within, blank-before, blank-behind, back, rep-wider, to-refl, to-then, to-wider, Given, number-to}
 use Rattle.lower.specs.Fits.{tree-fits}
 use Rattle.words.specs.Numbers.{elementNumber}

@@ -18,7 +18,7 @@ use Rattle.lower.specs.Rep.{State, Mem, mem, Written, Sub, Blank, Future
 use Rattle.lower.specs.Pieces.{SomeTree}
 use Rattle.lower.specs.Patterns.{SomeTrees}
 use Rattle.lower.specs.Chains.{seenIf, stepOf, stepsOf, Linked, Sturdy, Anchored, passed, Chained, ChainedAll, LowersElement, LowersElements}
-use Rattle.lower.specs.declared.chain.Chain.{Chain}
+use Rattle.lower.specs.declared.Chain.{Chain}
 use Rattle.lower.specs.State.{sub-more, sub-within, blank-within, blank-behind, back, to-refl, to-then, to-wider}
 use Rattle.lower.specs.Exprs.{moved-refl, moved-then, good-after, narrow}
 

@@ -17,8 +17,8 @@ use Rattle.lower.specs.Rep.{State, Mem, Rooted, Good, Moved}
 use Rattle.lower.specs.Pieces.{SomeTree}
 use Rattle.lower.specs.Patterns.{partL, LowersPart}
 use Rattle.lower.specs.Chains.{stepOf, stepsOf, chainL, LowersChain, elementOf}
-use Rattle.lower.specs.declared.element.Element.{Element}
-use Rattle.lower.specs.declared.element.Element.the-variants.{Node, Rel}
+use Rattle.lower.specs.declared.Element.{Element}
+use Rattle.lower.specs.declared.Element.the-variants.{Node, Rel}
 use Rattle.lower.specs.Fits.{tree-fits}
 use Rattle.lower.proofs.Elements.{IsNode, IsRel, a-node, a-rel, other-element}
 use Rattle.lower.proofs.Chaining.{IsPart, a-part}

@@ -20,7 +20,7 @@ use Rattle.model.specs.Lower.{RelStep}
 use Rattle.model.specs.Record.{one}
 use Rattle.lower.specs.Count.{Ends}
 use Rattle.lower.specs.Chains.{LowersRel, LowersStart, OrSource, Waiting, no-rel, a-rel, Anchored}
-use Rattle.lower.specs.declared.chain.Chain.{Chain}
+use Rattle.lower.specs.declared.Chain.{Chain}
 use Rattle.model.specs.Tree.{Tree, node}
 use Rattle.words.specs.Words.{cell, Roomy, optionOf}
 use Rattle.words.specs.Held.{Held, size}

@@ -21,9 +21,9 @@ use Rattle.lower.specs.Pieces.{LowersExprs}
 use Rattle.context.specs.Tables.{Numbers}
 use Rattle.context.specs.declared.LowerCtx.{LowerCtx}
 use Rattle.context.specs.declared.Numbered.{Numbered}
-use Rattle.lower.specs.declared.chain.Chain.{Chain}
-use Rattle.lower.specs.declared.element.Element.{Element}
-use Rattle.lower.specs.declared.element.Element.the-variants.{Node, Rel}
+use Rattle.lower.specs.declared.Chain.{Chain}
+use Rattle.lower.specs.declared.Element.{Element}
+use Rattle.lower.specs.declared.Element.the-variants.{Node, Rel}
 use lib.Dec.{eqb}
 
 -- something, by a word that is 0 for nothing

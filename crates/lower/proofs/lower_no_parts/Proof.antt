@@ -1,10 +1,10 @@
 use Rattle.lower.proofs.Parts
 use mathlib.Core.Path.{refl}
 use borrow.Author.Needs.{needs}
-use Rattle.lower.proofs.source.lower_no_parts.Statement.{statement}
-use Rattle.lower.proofs.source.lower_no_parts.Tie as tie
-use Rattle.lower.proofs.source.lower_no_parts.Reads as reads
-use Rattle.lower.proofs.source.lower_no_parts.Lts as lts
+use Rattle.lower.proofs.lower_no_parts.Statement.{statement}
+use Rattle.lower.proofs.lower_no_parts.Tie as tie
+use Rattle.lower.proofs.lower_no_parts.Reads as reads
+use Rattle.lower.proofs.lower_no_parts.Lts as lts
 use Rattle.context.proofs.LowerCtx.fresh.Reads as fresh-reads
 use Rattle.context.proofs.LowerCtx.push.Reads as push-reads
 

@@ -1,10 +1,10 @@
 use borrow.Author.Tests.{eq-eqb, ne-eqb}
 use mathlib.Core.Path.{sym, _∙_}
 use borrow.Author.Needs.{needs}
-use Rattle.lower.proofs.element.read_element.Statement.{statement}
-use Rattle.lower.proofs.element.read_element.Tie as tie
-use Rattle.lower.proofs.element.read_element.Reads as reads
-use Rattle.lower.proofs.element.read_element.Lts as lts
+use Rattle.lower.proofs.read_element.Statement.{statement}
+use Rattle.lower.proofs.read_element.Tie as tie
+use Rattle.lower.proofs.read_element.Reads as reads
+use Rattle.lower.proofs.read_element.Lts as lts
 use Rattle.words.proofs.word.Reads as word-reads
 
 -- src/lib.rt:53:9

@@ -1,10 +1,10 @@
 use Rattle.lower.proofs.Chaining
 use mathlib.Core.Path.{refl}
 use borrow.Author.Needs.{needs}
-use Rattle.lower.proofs.source.or_source_all.Statement.{statement}
-use Rattle.lower.proofs.source.or_source_all.Tie as tie
-use Rattle.lower.proofs.source.or_source_all.Reads as reads
-use Rattle.lower.proofs.source.or_source_all.Lts as lts
+use Rattle.lower.proofs.or_source_all.Statement.{statement}
+use Rattle.lower.proofs.or_source_all.Tie as tie
+use Rattle.lower.proofs.or_source_all.Reads as reads
+use Rattle.lower.proofs.or_source_all.Lts as lts
 use Rattle.context.proofs.LowerCtx.push.Reads as push-reads
 
 -- src/lib.rt:67:9
