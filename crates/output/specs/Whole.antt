@@ -36,7 +36,7 @@ module _ (b : ℕ) (g : Page) where
 -- ── a text, from any cursor ──
 
 -- the cursor goes on by the text's length, and no further than one behind the slice's end
-put-at : (t : Bytes) (g : Page) → g .out .at ≤ length (g .bytes) + 1 → put t g .out .at ≡ min (g .out .at + length t) (length (g .bytes) + 1)
+pub put-at : (t : Bytes) (g : Page) → g .out .at ≤ length (g .bytes) + 1 → put t g .out .at ≡ min (g .out .at + length t) (length (g .bytes) + 1)
 unfolding put
 put-at [] g h = omega arith
 put-at (b ∷ t) g h =

@@ -2,67 +2,22 @@
 ghost use Prim.Native.Nat.{_≤_, _<_};
 ghost use lib.ListN.{length};
 
-mod build;
 mod list;
 
-use build::build_sheet;
-use build::next;
+use cases::answer::values_of;
+use cases::say::say_values;
+use cases::text::build_sheet;
+use cases::text::next;
 use libc::STDOUT_FILENO;
 use list::LIST;
-use precheck::HirSpan;
-use precheck::PlanLowerError;
-use statement::Answer;
 use statement::size_statement;
-
-// A blank and a number.
-fn say_number(n: u64) {
-    io::write_all(STDOUT_FILENO, b" ");
-    io::print_decimal(STDOUT_FILENO, n);
-}
-
-// The number, the line, the span, the kind and the length, and the end of the line.
-fn say(number: u64, line: u32, span: HirSpan, kind: u32, length: usize) {
-    say_number(number);
-    say_number(line as u64);
-    say_number(span.start as u64);
-    say_number(span.end as u64);
-    say_number(kind as u64);
-    say_number(length as u64);
-    io::write_all(STDOUT_FILENO, b"\n");
-}
-
-// A refusal with at most a line.
-fn say_line(number: u64, line: u32) {
-    say(number, line, HirSpan { start: 0, end: 0 }, 0, 0);
-}
-
-// A refusal of the check.
-fn say_error(e: PlanLowerError) {
-    match e {
-        PlanLowerError::UnresolvedName { line, span } => say(6, line, span, 0, 0),
-        PlanLowerError::UndesugaredExpr { line, span, kind } => say(7, line, span, kind, 0),
-        PlanLowerError::EmptyPatternPart { line, span } => say(8, line, span, 0, 0),
-    }
-}
-
-// The six values of an answer.
-fn say_answer(answer: Answer) {
-    match answer {
-        Answer::Accepted(figure) => say(0, 0, HirSpan { start: 0, end: 0 }, 0, figure),
-        Answer::ShortWork => say_line(1, 0),
-        Answer::LongSheet => say_line(2, 0),
-        Answer::BadLine(line) => say_line(3, line),
-        Answer::BigTree(line) => say_line(4, line),
-        Answer::WriteClause(line) => say_line(5, line),
-        Answer::Refused(e) => say_error(e),
-    }
-}
 
 // The answer to a sheet, with four work slices.
 fn show(label: &[u8], sheet: &[u8], a: &mut [u32], b: &mut [u32], c: &mut [u32], d: &mut [u32]) {
     let answer = size_statement(sheet, a, b, c, d);
     io::write_all(STDOUT_FILENO, label);
-    say_answer(answer);
+    say_values(b" ", values_of(answer));
+    io::write_all(STDOUT_FILENO, b"\n");
 }
 
 // The same, with slices of so many words.

@@ -24,6 +24,8 @@ answerOf (Answer.BadLine l) = lineRefusal 3 l
 answerOf (Answer.BigTree l) = lineRefusal 4 l
 answerOf (Answer.WriteClause l) = lineRefusal 5 l
 answerOf (Answer.Refused x) = errorAnswer x
+answerOf Answer.PlanFull = plainRefusal 9
+answerOf Answer.NoRoom = plainRefusal 10
 
 -- whether four slices are long enough
 abbrev pub Long : List ℕ → List ℕ → List ℕ → List ℕ → Bool → Type 0

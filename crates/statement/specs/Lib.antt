@@ -1,2 +1,4 @@
 pub mod Answer
 pub mod Sizing
+pub mod Lowering
+pub mod Fits

@@ -27,6 +27,8 @@ pub enum Answer {
     BigTree(u32),
     WriteClause(u32),
     Refused(PlanLowerError),
+    PlanFull,
+    NoRoom,
 }
 
 // Each work slice has at least 16,384 words.

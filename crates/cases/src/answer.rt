@@ -1,0 +1,79 @@
+// The six values that document 01 gives an answer, for printing.
+ghost use mathlib.Core.Path.{_≡_};
+ghost use Rattle.model.specs.Call.{lineRefusal, treeRefusal};
+ghost use Rattle.precheck.specs.Answer.{spanOf};
+ghost use Rattle.statement.specs.Answer.{answerOf, errorAnswer};
+ghost use Rattle.cases.specs.Values.{told};
+use precheck::HirSpan;
+use precheck::PlanLowerError;
+use statement::Answer;
+
+pub struct Values {
+    pub number: u32,
+    pub line: u32,
+    pub start: u32,
+    pub end: u32,
+    pub kind: u32,
+    pub length: usize,
+}
+
+// A refusal with a line, or with 0 for none.
+fn at_line(number: u32, line: u32) -> Values
+    ensures { λ r. ⌜ told r ≡ lineRefusal number line ⌝ }
+{
+    Values {
+        number,
+        line,
+        start: 0,
+        end: 0,
+        kind: 0,
+        length: 0,
+    }
+}
+
+// A refusal of the check.
+fn in_tree(number: u32, line: u32, span: HirSpan, kind: u32) -> Values
+    ensures { λ r. ⌜ told r ≡ treeRefusal number line (spanOf span) kind ⌝ }
+{
+    Values {
+        number,
+        line,
+        start: span.start,
+        end: span.end,
+        kind,
+        length: 0,
+    }
+}
+
+fn error_values(e: PlanLowerError) -> Values
+    ensures { λ r. ⌜ told r ≡ errorAnswer e ⌝ }
+{
+    match e {
+        PlanLowerError::UnresolvedName { line, span } => in_tree(6, line, span, 0),
+        PlanLowerError::UndesugaredExpr { line, span, kind } => in_tree(7, line, span, kind),
+        PlanLowerError::EmptyPatternPart { line, span } => in_tree(8, line, span, 0),
+    }
+}
+
+pub fn values_of(answer: Answer) -> Values
+    ensures { λ r. ⌜ told r ≡ answerOf answer ⌝ }
+{
+    match answer {
+        Answer::Accepted(n) => Values {
+            number: 0,
+            line: 0,
+            start: 0,
+            end: 0,
+            kind: 0,
+            length: n,
+        },
+        Answer::ShortWork => at_line(1, 0),
+        Answer::LongSheet => at_line(2, 0),
+        Answer::BadLine(line) => at_line(3, line),
+        Answer::BigTree(line) => at_line(4, line),
+        Answer::WriteClause(line) => at_line(5, line),
+        Answer::Refused(e) => error_values(e),
+        Answer::PlanFull => at_line(9, 0),
+        Answer::NoRoom => at_line(10, 0),
+    }
+}

@@ -1,0 +1,7 @@
+pub mod Room
+pub mod TrailerLaws
+pub mod Opened
+pub mod WithLaws
+pub mod PartLaws
+pub mod PassLaws
+pub mod ReturnLaws

@@ -1,0 +1,180 @@
+-- A `with` and a `return`, opened: what their words say of their children, and the lowering of each as its steps. Assumes nothing.
+use mathlib.Core.Path.{_≡_, ap}
+use Prim.Native.Nat.{ℕ, _+_, _-_, _≤_}
+use native.Mathlib.Omega.{arith}
+use mathlib.Core.Bool.{Bool}
+use mathlib.Core.List.{List, _∷_, _++_}
+use mathlib.Core.Option.{Option, some}
+use lib.Dec.{eqb}
+use lib.ListN.{length}
+use Rattle.model.specs.Text.{Bytes}
+use Rattle.model.specs.Field.{Fields}
+use Rattle.model.specs.Kind.{Clause, ReadOp, clause, projection, orderItem, expr}
+use Rattle.model.specs.Record.{one, clauseForms, kinds}
+use Rattle.model.specs.Tree.{Tree, Trees, node, end, _▸_}
+use Rattle.model.specs.Lower.{Recs, _>>=_, ret, push, op, orSourceAll, lowerTrailers, lowerClause}
+use Rattle.model.specs.Lower
+use Rattle.words.specs.Words.{Roomy, cell, kindOf, firstKind, nth, fieldsOf, fieldOf}
+use Rattle.words.specs.Held.{Held, HeldOf, size, sizeOf}
+use Rattle.words.specs.Cells.{shown, flag-word}
+use Rattle.lower.specs.Rep.{State}
+use Rattle.lower.specs.Pieces.{lowerC}
+use Rattle.lower.specs.Carry.{plainC}
+use Rattle.projections.specs.Items.{exprs-lower, itemsC, items-lower}
+use Rattle.projections.specs.Promises.{Tail, tailSize, firstL, secondL}
+
+-- ── the kinds ──
+
+kind-with : (n : ℕ) (k : Clause) → kindOf clause n ≡ some k → n ≡ 4 → Clause.With ≡ k
+unfolding kindOf firstKind nth kinds
+kind-with n k h e = let p : some Clause.With ≡ some k = rw e at h in cc
+
+kind-return : (n : ℕ) (k : Clause) → kindOf clause n ≡ some k → n ≡ 5 → Clause.Return ≡ k
+unfolding kindOf firstKind nth kinds
+kind-return n k h e = let p : some Clause.Return ≡ some k = rw e at h in cc
+
+flag-one : (p : Bool) (x : ℕ) → p ≡ eqb x 1 → x ≤ 1 → one p ≡ x
+flag-one p x e h = rw e (flag-word x h)
+
+-- ── with ──
+
+-- the state behind the items, and behind the predicate
+abbrev pub behindItems : {n : ℕ} → Trees projection n → State → State
+behindItems items s = lowerC (itemsC items) s .1
+
+abbrev pub behindExprs : {n : ℕ} → Trees expr n → State → State
+behindExprs es s = lowerC (plainC es) s .1
+
+abbrev pub withRecs : {n : ℕ} (filtered : Bool) → Trees projection n → Trees expr (one filtered) → (input : ℕ) → State → Recs
+withRecs {n} filtered items predicate input s = op ReadOp.With (input, (n, (filtered, tt))) ∷ (lowerC (itemsC items) s .0 ++ lowerC (plainC predicate) (behindItems items s) .0)
+
+abbrev pub leaving : ℕ × State → Option ℕ × State
+leaving r = (some (r .0), r .1)
+
+pub record IsWith (sheet : Bytes) (a b : List ℕ) (d i : ℕ) (t : Tree clause) : Type 0 where
+  pub n : ℕ
+  pub filtered : Bool
+  pub items : Trees projection n
+  pub predicate : Trees expr (one filtered)
+  pub tail : Tail sheet a b (d - 1) i (i + 1 + sizeOf items + sizeOf predicate)
+  pub counted : n ≡ cell a b i 2
+  pub flagged : one filtered ≡ cell a b i 4
+  pub held-items : HeldOf sheet a b items (d - 1) (i + 1)
+  pub held-predicate : HeldOf sheet a b predicate (d - 1) (i + 1 + sizeOf items)
+  pub sized : size t ≡ 1 + sizeOf items + sizeOf predicate + tailSize tail
+  pub def : (current : Option ℕ) (s : State) (input k : ℕ) → input ≡ orSourceAll current s .0 → k ≡ length (behindExprs predicate (behindItems items (orSourceAll current s .1)) .ops) → lowerClause t current s ≡ leaving (lowerTrailers k (tail .keys) (tail .skip) (tail .limit) (push (withRecs filtered items predicate input (orSourceAll current s .1)) (behindExprs predicate (behindItems items (orSourceAll current s .1))) .1))
+
+with-def : {n x y z : ℕ} (filtered : Bool) (items : Trees projection n) (predicate : Trees expr (one filtered)) (keys : Trees orderItem x) (skip : Trees expr y) (limit : Trees expr z) (current : Option ℕ) (s : State) (input k : ℕ) → input ≡ orSourceAll current s .0 → k ≡ length (behindExprs predicate (behindItems items (orSourceAll current s .1)) .ops) →
+    (do
+      input ← orSourceAll current
+      rs ← Lower.lowerProjections items
+      ss ← Lower.lowerExprs predicate
+      k ← push (op ReadOp.With (input, (n, (filtered, tt))) ∷ (rs ++ ss))
+      root ← lowerTrailers k keys skip limit
+      ret (some root)) s
+    ≡ leaving (lowerTrailers k keys skip limit (push (withRecs filtered items predicate input (orSourceAll current s .1)) (behindExprs predicate (behindItems items (orSourceAll current s .1))) .1))
+unfolding _>>=_ ret push
+with-def filtered items predicate keys skip limit current s input k e₁ e₂ = rw (items-lower items (orSourceAll current s .1), exprs-lower predicate (behindItems items (orSourceAll current s .1)), e₂, e₁)
+
+module _ {sheet : Bytes} {a b : List ℕ} {d i : ℕ} (room : Roomy a b) where
+  pub a-with : (t : Tree clause) → Held sheet a b t d i → cell a b i 0 ≡ 4 → IsWith sheet a b d i t
+  unfolding Held size lowerClause fieldsOf fieldOf
+  a-with (node clause line Clause.With (n, (filtered, (x, (y, (z, u))))) (items ▸ predicate ▸ keys ▸ skip ▸ limit ▸ end)) hd e =
+      let w = shown room (hd .1) in
+      let en : n ≡ cell a b i 2 = ap (λ (f : Fields (clauseForms Clause.With)). f .0) (w .fields) in
+      let ef : filtered ≡ eqb (cell a b i 4) 1 = ap (λ (f : Fields (clauseForms Clause.With)). f .1 .0) (w .fields) in
+      let ex : x ≡ cell a b i 6 = ap (λ (f : Fields (clauseForms Clause.With)). f .1 .1 .0) (w .fields) in
+      let ey : y ≡ eqb (cell a b i 8) 1 = ap (λ (f : Fields (clauseForms Clause.With)). f .1 .1 .1 .0) (w .fields) in
+      let ez : z ≡ eqb (cell a b i 10) 1 = ap (λ (f : Fields (clauseForms Clause.With)). f .1 .1 .1 .1 .0) (w .fields) in
+      let sy : one y ≡ cell a b i 8 = flag-one y (cell a b i 8) ey (w .flags .1 .1 .1 .0) in
+      let sz : one z ≡ cell a b i 10 = flag-one z (cell a b i 10) ez (w .flags .1 .1 .1 .1 .0) in
+      record {
+        n = n;
+        filtered = filtered;
+        items = items;
+        predicate = predicate;
+        tail = record {
+          keys-count = x;
+          skip-count = one y;
+          limit-count = one z;
+          keys = keys;
+          skip = skip;
+          limit = limit;
+          keys-counted = ex;
+          skip-counted = sy;
+          limit-counted = sz;
+          skip-one = rw sy (w .flags .1 .1 .1 .0);
+          limit-one = rw sz (w .flags .1 .1 .1 .1 .0);
+          held-keys = hd .3 .1 .1 .0;
+          held-skip = hd .3 .1 .1 .1 .0;
+          held-limit = hd .3 .1 .1 .1 .1 .0;
+        };
+        counted = en;
+        flagged = flag-one filtered (cell a b i 4) ef (w .flags .1 .0);
+        held-items = hd .3 .0;
+        held-predicate = hd .3 .1 .0;
+        sized = omega arith;
+        def = λ current s input k e₁ e₂. with-def filtered items predicate keys skip limit current s input k e₁ e₂;
+      }
+  a-with (node clause line Clause.Match f kids) hd e = let z = kind-with _ _ (shown room (hd .1) .kind) e in let y : _≡_ {A = ℕ} 0 1 = cc in absurd (omega arith)
+  a-with (node clause line Clause.Where f kids) hd e = let z = kind-with _ _ (shown room (hd .1) .kind) e in let y : _≡_ {A = ℕ} 0 1 = cc in absurd (omega arith)
+  a-with (node clause line Clause.Return f kids) hd e = let z = kind-with _ _ (shown room (hd .1) .kind) e in let y : _≡_ {A = ℕ} 0 1 = cc in absurd (omega arith)
+  a-with (node clause line Clause.Unwind f kids) hd e = let z = kind-with _ _ (shown room (hd .1) .kind) e in let y : _≡_ {A = ℕ} 0 1 = cc in absurd (omega arith)
+  a-with (node clause line Clause.Call f kids) hd e = let z = kind-with _ _ (shown room (hd .1) .kind) e in let y : _≡_ {A = ℕ} 0 1 = cc in absurd (omega arith)
+  a-with (node clause line Clause.Write f kids) hd e = let z = kind-with _ _ (shown room (hd .1) .kind) e in let y : _≡_ {A = ℕ} 0 1 = cc in absurd (omega arith)
+
+-- ── return ──
+
+pub record IsReturn (sheet : Bytes) (a b : List ℕ) (d i : ℕ) (t : Tree clause) : Type 0 where
+  pub n : ℕ
+  pub items : Trees projection n
+  pub tail : Tail sheet a b (d - 1) i (i + 1 + sizeOf items)
+  pub counted : n ≡ cell a b i 2
+  pub flag : cell a b i 4 ≤ 1
+  pub held-items : HeldOf sheet a b items (d - 1) (i + 1)
+  pub sized : size t ≡ 1 + sizeOf items + tailSize tail
+  pub def : (current : Option ℕ) (s : State) (k₁ k₂ : ℕ) → k₁ ≡ firstL n current items s .0 → k₂ ≡ secondL n (eqb (cell a b i 4) 1) k₁ items (firstL n current items s .1) .0 → lowerClause t current s ≡ leaving (lowerTrailers k₂ (tail .keys) (tail .skip) (tail .limit) (secondL n (eqb (cell a b i 4) 1) k₁ items (firstL n current items s .1) .1))
+
+module _ {sheet : Bytes} {a b : List ℕ} {d i : ℕ} (room : Roomy a b) where
+  pub a-return : (t : Tree clause) → Held sheet a b t d i → cell a b i 0 ≡ 5 → IsReturn sheet a b d i t
+  unfolding Held size lowerClause fieldsOf fieldOf _>>=_ ret
+  a-return (node clause line Clause.Return (n, (distinct, (x, (y, (z, u))))) (items ▸ keys ▸ skip ▸ limit ▸ end)) hd e =
+      let w = shown room (hd .1) in
+      let en : n ≡ cell a b i 2 = ap (λ (f : Fields (clauseForms Clause.Return)). f .0) (w .fields) in
+      let ef : distinct ≡ eqb (cell a b i 4) 1 = ap (λ (f : Fields (clauseForms Clause.Return)). f .1 .0) (w .fields) in
+      let ex : x ≡ cell a b i 6 = ap (λ (f : Fields (clauseForms Clause.Return)). f .1 .1 .0) (w .fields) in
+      let ey : y ≡ eqb (cell a b i 8) 1 = ap (λ (f : Fields (clauseForms Clause.Return)). f .1 .1 .1 .0) (w .fields) in
+      let ez : z ≡ eqb (cell a b i 10) 1 = ap (λ (f : Fields (clauseForms Clause.Return)). f .1 .1 .1 .1 .0) (w .fields) in
+      let sy : one y ≡ cell a b i 8 = flag-one y (cell a b i 8) ey (w .flags .1 .1 .1 .0) in
+      let sz : one z ≡ cell a b i 10 = flag-one z (cell a b i 10) ez (w .flags .1 .1 .1 .1 .0) in
+      record {
+        n = n;
+        items = items;
+        tail = record {
+          keys-count = x;
+          skip-count = one y;
+          limit-count = one z;
+          keys = keys;
+          skip = skip;
+          limit = limit;
+          keys-counted = ex;
+          skip-counted = sy;
+          limit-counted = sz;
+          skip-one = rw sy (w .flags .1 .1 .1 .0);
+          limit-one = rw sz (w .flags .1 .1 .1 .1 .0);
+          held-keys = hd .3 .1 .0;
+          held-skip = hd .3 .1 .1 .0;
+          held-limit = hd .3 .1 .1 .1 .0;
+        };
+        counted = en;
+        flag = w .flags .1 .0;
+        held-items = hd .3 .0;
+        sized = omega arith;
+        def = λ current s k₁ k₂ e₁ e₂. rw (e₂, e₁, ef);
+      }
+  a-return (node clause line Clause.Match f kids) hd e = let z = kind-return _ _ (shown room (hd .1) .kind) e in let y : _≡_ {A = ℕ} 0 1 = cc in absurd (omega arith)
+  a-return (node clause line Clause.Where f kids) hd e = let z = kind-return _ _ (shown room (hd .1) .kind) e in let y : _≡_ {A = ℕ} 0 1 = cc in absurd (omega arith)
+  a-return (node clause line Clause.With f kids) hd e = let z = kind-return _ _ (shown room (hd .1) .kind) e in let y : _≡_ {A = ℕ} 0 1 = cc in absurd (omega arith)
+  a-return (node clause line Clause.Unwind f kids) hd e = let z = kind-return _ _ (shown room (hd .1) .kind) e in let y : _≡_ {A = ℕ} 0 1 = cc in absurd (omega arith)
+  a-return (node clause line Clause.Call f kids) hd e = let z = kind-return _ _ (shown room (hd .1) .kind) e in let y : _≡_ {A = ℕ} 0 1 = cc in absurd (omega arith)
+  a-return (node clause line Clause.Write f kids) hd e = let z = kind-return _ _ (shown room (hd .1) .kind) e in let y : _≡_ {A = ℕ} 0 1 = cc in absurd (omega arith)

@@ -1,0 +1,115 @@
+-- What the steps of a `with` or a `return` promise. Assumes nothing: these are definitions.
+use mathlib.Core.Path.{_≡_}
+use Prim.Native.Nat.{ℕ, suc, _+_, _*_, _≤_, _<_}
+use mathlib.Core.Bool.{Bool, cond}
+use mathlib.Core.List.{List, _∷_}
+use mathlib.Core.Option.{Option}
+use lib.Dec.{eqb}
+use lib.ListN.{length}
+use Rattle.model.specs.Text.{Bytes}
+use Rattle.model.specs.Kind.{Sort, ReadOp, expr, orderItem, projection}
+use Rattle.model.specs.Record.{Rec}
+use Rattle.model.specs.Tree.{Trees}
+use Rattle.model.specs.Lower.{Lowering, _>>=_, push, op, orSourceAll, orderBy, overExpr, lowerTrailers, lowerProjections, splitProjectionsAgg, aggregateIf, distinctIf}
+use Rattle.words.specs.Words.{cell}
+use Rattle.words.specs.Held.{HeldOf, sizeOf}
+use Rattle.context.specs.Tables.{Op, Pushed}
+use Rattle.context.specs.declared.LowerCtx.{LowerCtx}
+use Rattle.lower.specs.Render.{Notes, Ops, BelowOf, keyRecs, aggRecs}
+use Rattle.lower.specs.Shows.{shift}
+use Rattle.lower.specs.Rep.{State, Mem, Written, Blank, Future, Rep, To, Rooted, Moved}
+use Rattle.lower.specs.Clauses.{MovedTwice}
+
+-- ── order, skip, limit ──
+
+-- n trees from record i on are lowered by L, and k is the operator that it leaves
+pub record LowersOver {sort : Sort} (a b : List ℕ) (n d i e k : ℕ) (L : Trees sort n → Lowering ℕ) (m m′ : Mem) : Type 0 where
+  pub moved : MovedTwice i e m m′
+  pub low : k < m′ .ctx .ops
+  pub next : (sheet : Bytes) (ts : Trees sort n) → HeldOf sheet a b ts d i → e ≡ i + sizeOf ts
+  pub run : (sheet : Bytes) (ts : Trees sort n) → HeldOf sheet a b ts d i → (W : Written) (s : State) → Rep sheet a b W s m → Blank W (0 + suc i) (0 + suc e) → Rooted sheet a b W (L ts) k 0 (suc i) (suc e) s m m′
+
+-- the record of a skip or a limit, by the number of the stored operator's kind
+abbrev pub headOf : ℕ → ℕ → Rec
+headOf kind input = cond (eqb kind 11) (op ReadOp.Skip (input, tt)) (op ReadOp.Limit (input, tt))
+
+abbrev pub orderL : (n input : ℕ) → Trees orderItem n → Lowering ℕ
+orderL n input ts = λ s. orderBy input ts s
+
+abbrev pub overL : (n kind input : ℕ) → Trees expr n → Lowering ℕ
+overL n kind input ts = λ s. overExpr (headOf kind input) input ts s
+
+-- the trailers of the clause at record i stand from record j on
+pub record Tail (sheet : Bytes) (a b : List ℕ) (d i j : ℕ) : Type 0 where
+  pub keys-count : ℕ
+  pub skip-count : ℕ
+  pub limit-count : ℕ
+  pub keys : Trees orderItem keys-count
+  pub skip : Trees expr skip-count
+  pub limit : Trees expr limit-count
+  pub keys-counted : keys-count ≡ cell a b i 6
+  pub skip-counted : skip-count ≡ cell a b i 8
+  pub limit-counted : limit-count ≡ cell a b i 10
+  pub skip-one : skip-count ≤ 1
+  pub limit-one : limit-count ≤ 1
+  pub held-keys : HeldOf sheet a b keys d j
+  pub held-skip : HeldOf sheet a b skip d (j + sizeOf keys)
+  pub held-limit : HeldOf sheet a b limit d (j + sizeOf keys + sizeOf skip)
+
+abbrev pub tailSize : {sheet : Bytes} {a b : List ℕ} {d i j : ℕ} → Tail sheet a b d i j → ℕ
+tailSize t = sizeOf (t .keys) + sizeOf (t .skip) + sizeOf (t .limit)
+
+pub record SomeTail (a b : List ℕ) (d i j : ℕ) : Type 0 where
+  pub sheet : Bytes
+  pub tail : Tail sheet a b d i j
+
+pub record LowersTail (a b : List ℕ) (d input i j e k : ℕ) (m m′ : Mem) : Type 0 where
+  pub moved : MovedTwice j e m m′
+  pub low : k < m′ .ctx .ops
+  pub next : (sheet : Bytes) (t : Tail sheet a b d i j) → e ≡ j + tailSize t
+  pub run : (sheet : Bytes) (t : Tail sheet a b d i j) → (W : Written) (s : State) → Rep sheet a b W s m → Blank W (0 + suc j) (0 + suc e) → Rooted sheet a b W (λ s. lowerTrailers input (t .keys) (t .skip) (t .limit) s) k 0 (suc j) (suc e) s m m′
+
+-- ── the items of a `return` ──
+
+-- the items are lowered for the first time, which parts them into keys and so many aggregates
+pub record Splits (sheet : Bytes) (a b : List ℕ) (W : Written) {n : ℕ} (items : Trees projection n) (aggs lo hi : ℕ) (s : State) (m m′ : Mem) : Type 0 where
+  pub to : To sheet a b W ((0 + lo, 0 + hi) ∷ W) s (splitProjectionsAgg items s .1) m m′
+  pub counted : splitProjectionsAgg items s .0 .aggs ≡ aggs
+  pub keys : (N : Notes) (A : Ops) → Future ((0 + lo, 0 + hi) ∷ W) (splitProjectionsAgg items s .1) m′ N A → keyRecs (shift N 0) A items ≡ splitProjectionsAgg items s .0 .keyRecs
+  pub aggregates : (N : Notes) (A : Ops) → Future ((0 + lo, 0 + hi) ∷ W) (splitProjectionsAgg items s .1) m′ N A → aggRecs (shift N 0) A items ≡ splitProjectionsAgg items s .0 .aggRecs
+  pub below : (N : Notes) (A : Ops) → Future ((0 + lo, 0 + hi) ∷ W) (splitProjectionsAgg items s .1) m′ N A → BelowOf (shift N 0) (m′ .ctx .ops) items
+
+-- so of n items from record i on, of the sheet that is passed
+pub record LowersSplit (sheet : Bytes) (a b : List ℕ) (n d i e aggs : ℕ) (m m′ : Mem) : Type 0 where
+  pub moved : Moved i e m m′
+  pub next : (items : Trees projection n) → HeldOf sheet a b items d i → e ≡ i + sizeOf items
+  pub run : (items : Trees projection n) → HeldOf sheet a b items d i → (W : Written) (s : State) → Rep sheet a b W s m → Blank W (0 + suc i) (0 + suc e) → Splits sheet a b W items aggs (suc i) (suc e) s m m′
+
+-- an operator x is pushed unless n is 0, and then the one before is left
+pub data PushedIf (n : ℕ) (x : Op) (input k : ℕ) (c c′ : LowerCtx) (o o′ : List ℕ) : Type 0 where
+  none-pushed : n ≡ 0 → k ≡ input → c′ ≡ c → o′ ≡ o → PushedIf n x input k c c′ o o′
+  one-pushed : ((n ≡ 0) → ⊥) → k ≡ c .ops → Pushed c c′ o o′ x → length o′ ≡ length o → PushedIf n x input k c c′ o o′
+
+-- one lowering of the items, with up to two operators of its own: the source and the aggregate, or the projection and its distinct
+pub record LowersPass (sheet : Bytes) (a b : List ℕ) (n d base i e k : ℕ) (L : Trees projection n → Lowering ℕ) (m m′ : Mem) : Type 0 where
+  pub up : i ≤ e
+  pub here : e ≤ 2048
+  pub few : m′ .ctx .ops + 2 * i ≤ m .ctx .ops + 2 + 2 * e
+  pub fresh : m′ .ctx .next + i ≤ m .ctx .next + e
+  pub met : m′ .ctx .mapped + i ≤ m .ctx .mapped + e
+  pub in-ops : length (m′ .ops) ≡ length (m .ops)
+  pub in-rest : length (m′ .rest) ≡ length (m .rest)
+  pub next : (items : Trees projection n) → HeldOf sheet a b items d i → e ≡ i + sizeOf items
+  pub run : (items : Trees projection n) → HeldOf sheet a b items d i → (W : Written) (s : State) → Rep sheet a b W s m → Blank W (base + suc i) (base + suc e) → Rooted sheet a b W (L items) k base (suc i) (suc e) s m m′
+
+abbrev pub firstL : (n : ℕ) → Option ℕ → Trees projection n → Lowering ℕ
+firstL n current items = λ s. (do
+  input ← orSourceAll current
+  first ← splitProjectionsAgg items
+  aggregateIf (first .aggs) input first) s
+
+abbrev pub secondL : (n : ℕ) → Bool → ℕ → Trees projection n → Lowering ℕ
+secondL n distinct input items = λ s. (do
+  rs ← lowerProjections items
+  k ← push (op ReadOp.Project (input, (n, tt)) ∷ rs)
+  distinctIf distinct k) s
