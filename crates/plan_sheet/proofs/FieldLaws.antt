@@ -1,18 +1,16 @@
 -- Fields by the code of their form, and the loop over a row of the table. Assumes nothing: every law is proved.
 use mathlib.Core.Path.{_≡_, refl, sym, ap, _∙_}
-use Prim.Native.Nat.{ℕ, zero, suc, _+_, _*_, _-_, _≤_, _<_}
-use native.Mathlib.Nat.{add-zero, add-suc}
+use Prim.Native.Nat.{ℕ, zero, suc, _+_, _*_, _≤_, _<_}
 use native.Mathlib.Numerals.{add-one}
 use native.Mathlib.Omega.{arith}
-use mathlib.Core.Bool.{Bool, true, false, cond, _&&_}
+use mathlib.Core.Bool.{true}
 use mathlib.Core.List.{List, [], _∷_, _++_, append-nil, append-assoc}
-use lib.Dec.{eqb, ltb}
+use lib.Dec.{eqb}
 use lib.ListN.{length, getD, drop}
 use lib.Seq.{slice, drop-cons}
-use lib.IntN.{ℤ, pos, negsuc}
-use borrow.Author.Tests.{lt-ltb, le-ltb}
-use Rattle.model.specs.Text.{Bytes, tab, lineFeed, behind, join, split, decimal, digits, signed, hexDigits}
-use Rattle.model.specs.Field.{Form, num, flag, var, varOrAbsent, numOrAbsent, int, float, text, alias, span, spell, spellFlag, spellFields}
+use borrow.Author.Tests.{le-ltb}
+use Rattle.model.specs.Text.{Bytes, tab, behind, join, decimal, digits, signed, hexDigits}
+use Rattle.model.specs.Field.{Form, flag, text, spell, spellFlag, spellFields}
 use Rattle.model.specs.Field
 use Rattle.laws.specs.TextLaws.{join-split, and-left, and-right}
 use Rattle.output.specs.Page.{Page, Puts}
@@ -20,7 +18,7 @@ use Rattle.output.specs.Writes.{_⨾_, stay, same}
 use Rattle.words.specs.Words.{fieldOf, fieldsOf, piecesOf, intOf, part}
 use Rattle.words.specs.Held.{Flag, Flags, Text, Texts, PlaceAt}
 use Rattle.line.specs.TableLaws.{code-row}
-use Rattle.line.specs.Table.{codes, codeAt, otherForms, limits, formOf, formsIn, formsFrom, formsAt}
+use Rattle.line.specs.Table.{codes, codeAt, otherForms, formOf, formsIn, formsFrom, formsAt}
 use Rattle.plan_sheet.specs.Field.{plain, allPlain, fieldText, fieldsText, Fielded}
 
 -- ── a field ──

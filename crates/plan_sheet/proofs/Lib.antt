@@ -3,3 +3,14 @@ pub mod FieldLaws
 pub mod WordLaws
 pub mod SignedLaws
 pub mod RowLaws
+pub mod HeadLaws
+pub mod ItemLaws
+pub mod DueLaws
+pub mod NameLaws
+pub mod PartLaws
+pub mod CycleLaws
+pub mod OpLaws
+pub mod BehindLaws
+pub mod PartedLaws
+pub mod WholeLaws
+pub mod PathLaws

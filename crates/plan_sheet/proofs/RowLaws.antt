@@ -1,18 +1,18 @@
 -- Records as lines of numbers and names. Assumes nothing: every law is proved.
 use mathlib.Core.Path.{_≡_, refl, sym, ap, _∙_}
-use Prim.Native.Nat.{ℕ, zero, suc, _+_, _-_, _≤_, _<_}
+use Prim.Native.Nat.{ℕ, zero, suc, _≤_}
 use native.Mathlib.Omega.{arith}
 use mathlib.Core.Bool.{Bool, true, false, cond}
 use mathlib.Core.List.{List, [], _∷_, _++_, map, tail, append-nil, append-assoc}
 use lib.Dec.{ltb}
-use lib.ListN.{length, take}
+use lib.ListN.{take}
 use lib.Seq.{slice}
 use Rattle.model.specs.Text.{Bytes, tab, lineFeed, behind, join, decimal, escape, unescape}
-use Rattle.model.specs.Field.{text, spell, spellFields}
+use Rattle.model.specs.Field.{text, spell, spellOption, spellFields}
 use Rattle.model.specs.Record.{Rec, forms, keyword, spellRec}
 use Rattle.output.specs.Page.{Page, Puts}
 use Rattle.output.specs.Writes.{_⨾_, stay}
-use Rattle.words.specs.Words.{fieldOf}
+use Rattle.words.specs.Words.{optionOf, fieldOf}
 use Rattle.words.specs.Held.{PlaceAt}
 use Rattle.plan_sheet.specs.Keywords.{word}
 use Rattle.plan_sheet.specs.Row.{numbersText, rowText, namedText}
@@ -53,6 +53,16 @@ put-five many x y z u v h p = rw (← five many x y z u v h) p
 pub put-name : (k : ℕ) (name : Bytes) (many x y : ℕ) {g g′ : Page} → many ≤ 2 → Puts (word k ++ ((9 ∷ name) ++ (cond (ltb 0 many) (9 ∷ decimal x) [] ++ (cond (ltb 1 many) (9 ∷ decimal y) [] ++ (10 ∷ []))))) g g′ → Puts (namedText k name (take many (x ∷ y ∷ []))) g g′
 unfolding opt namedText
 put-name k name many x y h p = rw (← two many x y (10 ∷ []) h) p
+
+-- an input that is there, or not
+pub input-none : (there input : ℕ) {g g′ g″ : Page} → there ≡ 0 → Puts (9 ∷ []) g g′ → Puts (45 ∷ []) g′ g″ → Puts (9 ∷ spellOption (optionOf there input)) g g″
+unfolding spellOption optionOf
+input-none there input e p q = rw e (p ⨾ q)
+
+pub input-there : (there input : ℕ) {g g′ : Page} → (there ≡ 0 → ⊥) → Puts (9 ∷ decimal input) g g′ → Puts (9 ∷ spellOption (optionOf there input)) g g′
+unfolding spellOption optionOf
+input-there zero input z p = absurd (z refl)
+input-there (suc n) input z p = p
 
 -- ── records ──
 

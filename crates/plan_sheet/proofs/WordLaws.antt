@@ -1,7 +1,6 @@
 -- A word of a record by its number, and a part of a slice as the code takes it. Assumes nothing: every law is proved.
-use mathlib.Core.Path.{_≡_, refl, sym, ap, _∙_}
-use Prim.Native.Nat.{ℕ, zero, suc, _+_, _*_, _-_, _≤_, _<_}
-use native.Mathlib.Nat.{sub-zero, zero-sub, suc-sub-suc}
+use mathlib.Core.Path.{_≡_, _∙_}
+use Prim.Native.Nat.{ℕ, zero, suc, _+_, _*_, _-_, _<_}
 use native.Mathlib.Omega.{arith}
 use mathlib.Core.Bool.{Bool, true, false, cond}
 use mathlib.Core.List.{List, [], _∷_}
@@ -20,10 +19,3 @@ in-half false a b x y c h = in-part b y c h
 pub part-at : (a b : List ℕ) (i c : ℕ) → c < 16 → getD (part a b i) c 0 ≡ cell a b i c
 unfolding part
 part-at a b i c h = in-half (ltb i 1024) a b (i * 16) ((i - 1024) * 16) c h
-
--- a part as the code takes it
-pub part-is : (f t : ℕ) (l : List ℕ) → take (t - f) (drop f l) ≡ slice f t l
-part-is zero t l = rw (sub-zero t)
-part-is (suc f) zero l = rw (zero-sub (suc f))
-part-is (suc f) (suc t) [] = rw (take-nil (suc t - suc f))
-part-is (suc f) (suc t) (x ∷ l) = rw (suc-sub-suc t f) (part-is f t l)

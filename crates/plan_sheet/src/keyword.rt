@@ -1,5 +1,4 @@
 // The keywords of the plan sheet.
-ghost use mathlib.Core.Path.{_≡_};
 ghost use Prim.Native.Nat.{_<_, _≤_};
 ghost use lib.ListN.{length};
 ghost use lib.Seq.{slice};

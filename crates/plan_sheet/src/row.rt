@@ -1,13 +1,11 @@
 // Lines of numbers, and lines of a name and numbers.
-ghost use mathlib.Core.Path.{_≡_};
 ghost use mathlib.Core.Bool.{cond};
-ghost use mathlib.Core.List.{[], _∷_, _++_};
+ghost use mathlib.Core.List.{[], _∷_};
 ghost use Prim.Native.Nat.{_<_, _≤_};
 ghost use lib.ListN.{length, take};
 ghost use lib.Seq.{slice};
 ghost use Rattle.model.specs.Text.{decimal};
 ghost use Rattle.output.specs.Page.{on, Puts};
-ghost use Rattle.plan_sheet.specs.Keywords.{word};
 ghost use Rattle.plan_sheet.specs.Row.{numbersText, rowText, namedText};
 use output::Out;
 
@@ -22,7 +20,7 @@ fn put_if(plan: &mut [u8], out: Out, there: bool, n: u32) -> Out
 }
 
 // The first of five numbers, as many as there are.
-fn put_numbers(
+pub fn put_numbers(
     plan: &mut [u8],
     out: Out,
     many: usize,

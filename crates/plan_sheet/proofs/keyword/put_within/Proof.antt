@@ -1,5 +1,5 @@
 -- `put_within` meets its contract. Assumes nothing.
-use Rattle.plan_sheet.proofs.WordLaws.{part-is}
+use Rattle.laws.specs.PartLaws.{part-is}
 use borrow.Author.Needs.{needs}
 use Rattle.plan_sheet.proofs.keyword.put_within.Statement.{statement}
 use Rattle.plan_sheet.proofs.keyword.put_within.Tie as tie

@@ -1,0 +1,12 @@
+pub mod Moves
+pub mod Room
+pub mod Opened
+pub mod Yields
+pub mod Matching
+pub mod Filtering
+pub mod Unwinding
+pub mod Calling
+pub mod Turning
+pub mod Clausing
+pub mod Joining
+pub mod Whole

@@ -1,0 +1,103 @@
+-- How the writers of expressions and elements call each other. Assumes nothing: every law is proved.
+use mathlib.Core.Path.{_≡_, sym, _∙_}
+use Prim.Native.Nat.{ℕ, suc, _+_, _-_, _<_}
+use native.Mathlib.Numerals.{add-one}
+use native.Mathlib.Omega.{arith}
+use mathlib.Core.Bool.{cond}
+use mathlib.Core.List.{List, _∷_}
+use lib.Dec.{eqb}
+use lib.ListN.{getD}
+use Rattle.model.specs.Text.{Bytes}
+use Rattle.model.specs.Kind.{expr}
+use Rattle.model.specs.Record.{spellRec, spellRecs}
+use Rattle.output.specs.Page.{Page, Puts}
+use Rattle.output.specs.Writes.{_⨾_}
+use Rattle.words.specs.Words.{Roomy, cell}
+use Rattle.words.specs.Held.{size}
+use Rattle.lower.specs.Render.{render, specRec}
+use Rattle.lower.specs.Shows.{shift}
+use Rattle.lower.specs.Count.{countAt, Starts, Ends}
+use Rattle.plan_sheet.specs.Due.{noted, Planned, SomePlan, exprHead, ExprAt, ElementAt, One, oneText, Many, Element, elementText, Names, namesRecs, carriedRecs, WroteMany, WroteOp}
+use Rattle.plan_sheet.proofs.DueLaws.{expr-of, planned-less, spell-append}
+use Rattle.plan_sheet.proofs.PartLaws.{Parts, parts, Copy, copied, deep, propsAt, ElementParts, element-parts}
+
+-- a note at a record, as the code finds its place
+note-at : (rest : List ℕ) (base i n : ℕ) → n ≡ getD rest (base + (i + 1)) 0 → shift (noted rest) base (suc i) ≡ n
+note-at rest base i n e = rw (← add-one i) (sym e)
+
+-- ── expressions ──
+
+module _ {sheet : Bytes} {a b os rest : List ℕ} {below base left i : ℕ} where
+  pub one-at : One sheet a b os rest below base left i → ExprAt sheet a b i
+  one-at h = expr-of left (h .tree) i (h .held)
+
+  pub one-low : One sheet a b os rest below base left i → i < 2048
+  one-low h = one-at h .at .low
+
+  pub one-deep : One sheet a b os rest below base left i → 0 < left
+  one-deep h = deep sheet a b left i (h .tree) (h .held)
+
+  pub starts : One sheet a b os rest below base left i → Starts a b i
+  starts h = record { sheet = sheet; sort = expr; depth = left; tree = h .tree; inner = tt; held = h .held }
+
+  -- a pattern: the operator that it copies
+  module _ (room : Roomy a b) {n : ℕ} (e : cell a b i 0 ≡ 35) (noted-is : n ≡ getD rest (base + (i + 1)) 0) (h : One sheet a b os rest below base left i) where
+    copy-of : Copy (shift (noted rest) base) below i (h .tree) (one-at h)
+    unfolding one-at
+    copy-of = copied (shift (noted rest) base) below left i room (h .tree) (h .held) (h .under) e
+
+    pub copy-low : n < below
+    copy-low = rw (note-at rest base i n noted-is) at (copy-of .low)
+
+    copy-planned : Planned sheet a b os rest (n + 1) (h .ops)
+    copy-planned = planned-less (omega (arith, copy-low)) (h .planned)
+
+    pub copy-plan : SomePlan sheet a b os rest (n + 1)
+    copy-plan = record { ops = h .ops; planned = copy-planned }
+
+    pub copy-wrote : {p q r : Page} {next : ℕ} → ((x : ExprAt sheet a b i) → Puts (spellRec (exprHead n (x .kind) (x .fields))) p q) → WroteOp sheet a b os rest n q r → Ends a b i next → (next ≡ i + size (h .tree)) × Puts (oneText h) p r
+    unfolding spellRecs
+    copy-wrote {p} {q} {r} {next} head op ends =
+        let recs : render (shift (noted rest) base) (h .ops) (h .tree) ≡ exprHead n (one-at h .kind) (one-at h .fields) ∷ h .ops n = rw (note-at rest base i n noted-is) at (copy-of .recs (h .ops)) in
+        (ends .each sheet expr left (h .tree) tt (h .held), rw recs (head (one-at h) ⨾ op (h .ops) copy-planned))
+
+  -- any other: what is below it
+  module _ (room : Roomy a b) {m : ℕ} (count : m ≡ countAt a b i) (z : cell a b i 0 ≡ 35 → ⊥) (h : One sheet a b os rest below base left i) where
+    kid-parts : Parts sheet a b (shift (noted rest) base) below left i m (h .tree) (one-at h)
+    unfolding one-at
+    kid-parts = parts (shift (noted rest) base) below left i m room count (h .tree) (h .held) (h .under) z
+
+    pub kids : Many sheet a b os rest below base (left - 1) m (i + 1)
+    kids = record { ops = h .ops; planned = h .planned; list = kid-parts .list }
+
+    pub kids-wrote : {n : ℕ} {p q r : Page} {next : ℕ} → n ≡ getD rest (base + (i + 1)) 0 → ((x : ExprAt sheet a b i) → Puts (spellRec (exprHead n (x .kind) (x .fields))) p q) → WroteMany sheet a b os rest below base (left - 1) m (i + 1) q next r → (next ≡ i + size (h .tree)) × Puts (oneText h) p r
+    unfolding kids spellRecs
+    kids-wrote {n} {p} {q} {r} {next} noted-is head many =
+        let k = kid-parts in
+        let recs : render (shift (noted rest) base) (h .ops) (h .tree) ≡ exprHead n (one-at h .kind) (one-at h .fields) ∷ carriedRecs (h .ops) (k .list) = rw (note-at rest base i n noted-is) at (k .recs (h .ops)) in
+        let w = many kids in
+        (w .0 ∙ k .stop, rw recs (head (one-at h) ⨾ w .1))
+
+-- ── elements ──
+
+module _ {sheet : Bytes} {a b os rest : List ℕ} {below base left i : ℕ} (room : Roomy a b) (h : Element sheet a b os rest below base left i) where
+  pub element-is : ElementParts sheet a b (shift (noted rest) base) below left i (h .tree)
+  element-is = element-parts (shift (noted rest) base) below left i room (h .tree) (h .held) (h .under)
+
+  pub element-names : {n : ℕ} → n ≡ cell a b i 4 → Names sheet a b n (i + 1)
+  element-names c = rw c (element-is .names)
+
+  module _ {kind n props : ℕ} (k : kind ≡ cell a b i 0) (c : n ≡ cell a b i 4) (e : props ≡ cond (eqb kind 12) (cell a b i 6) (cell a b i 10)) where
+    module _ {next : ℕ} {p q : Page} (names : (x : Names sheet a b n (i + 1)) → (next ≡ i + 1 + n) × Puts (spellRecs (namesRecs x)) p q) where
+      names-put : (next ≡ i + 1 + cell a b i 4) × Puts (spellRecs (namesRecs (element-is .names))) p q
+      names-put = let f : (x : Names sheet a b (cell a b i 4) (i + 1)) → (next ≡ i + 1 + cell a b i 4) × Puts (spellRecs (namesRecs x)) p q = rw c at names in f (element-is .names)
+
+      pub element-props : Many sheet a b os rest below base (left - 1) props next
+      element-props = rw (names-put .0, e, k) (record { ops = h .ops; planned = h .planned; list = element-is .list })
+
+      pub element-wrote : {start r : Page} {last : ℕ} → ((x : ElementAt sheet a b i) → Puts (spellRec (specRec (x .kind) (x .fields))) start p) → WroteMany sheet a b os rest below base (left - 1) props next q last r → Puts (elementText h) start r
+      unfolding spellRecs
+      element-wrote {start} {r} {last} head many =
+          let m : WroteMany sheet a b os rest below base (left - 1) (propsAt a b i) (i + 1 + cell a b i 4) q last r = rw (e, k, names-put .0) at many in
+          let w = m (record { ops = h .ops; planned = h .planned; list = element-is .list }) in
+          rw (element-is .recs (h .ops)) (head (element-is .at) ⨾ rw (spell-append (namesRecs (element-is .names)) (carriedRecs (h .ops) (element-is .list))) (names-put .1 ⨾ w .1))

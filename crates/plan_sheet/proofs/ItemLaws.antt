@@ -1,0 +1,157 @@
+-- The name of an item, off its record and its expression's. Assumes nothing: every law is proved.
+use mathlib.Core.Path.{_≡_, refl, sym, ap, _∙_}
+use Prim.Native.Nat.{ℕ, zero, suc, _+_, _/_, _%_, _≤_, _<_}
+use native.Mathlib.Omega.{arith}
+use mathlib.Core.Bool.{Bool, true, false, cond}
+use mathlib.Core.List.{List, [], _∷_, _++_, append-assoc}
+use mathlib.Core.Option.{none, some}
+use borrow.Author.Tests.{ne-eqb, ltb-true}
+use lib.Dec.{ltb}
+use lib.ListN.{length}
+use lib.Seq.{slice}
+use Rattle.model.specs.Text.{Bytes, behind, decimal, digits, bytes, bytesFrom, escapeByte, escape, unescape}
+use Rattle.model.specs.Field.{Fields, text, spell, spellFields}
+use Rattle.model.specs.Kind.{Same, Expr, projection, expr}
+use Rattle.model.specs.Record.{forms, sameForms, exprForms, kinds, sames, keyword, planKeyword, spellRec}
+use Rattle.model.specs.Lower.{sameAlias, aliasOr}
+use Rattle.output.specs.Page.{Page, Puts}
+use Rattle.output.specs.Writes.{_⨾_}
+use Rattle.words.specs.Words.{Roomy, cell, kindOf, firstKind, nth, aliasOf, fieldOf, fieldsOf}
+use Rattle.words.specs.Held.{RecordAt, PlaceAt}
+use Rattle.words.specs.Cells.{shown}
+use Rattle.words.specs.Numbers.{sameNumber, exprNumber}
+use Rattle.plan_sheet.specs.Keywords.{word, letters}
+use Rattle.plan_sheet.specs.Row.{numbersText, namedText}
+use Rattle.plan_sheet.specs.Due.{ExprAt, nameBy, ItemAt, namedRec, itemName}
+use Rattle.plan_sheet.proofs.RowLaws.{named-rec, place-escape}
+use Rattle.plan_sheet.proofs.HeadLaws.{at-kind, texts-at, number-is, kind-is, call-place}
+
+-- ── digits are not escaped ──
+
+digit-plain : (d : ℕ) → d < 10 → escapeByte (48 + d) ≡ (48 + d) ∷ []
+unfolding escapeByte
+digit-plain d h = rw (ne-eqb (48 + d) 9 (λ e. omega arith), ne-eqb (48 + d) 10 (λ e. omega arith), ne-eqb (48 + d) 92 (λ e. omega arith))
+
+escape-append : (s t : Bytes) → escape (s ++ t) ≡ escape s ++ escape t
+unfolding escape
+escape-append [] t = refl
+escape-append (b ∷ s) t = ap (λ (u : Bytes). escapeByte b ++ u) (escape-append s t) ∙ sym (append-assoc (escapeByte b) (escape s) (escape t))
+
+digit-escape : (d : ℕ) → d < 10 → escape ((48 + d) ∷ []) ≡ (48 + d) ∷ []
+unfolding escape
+digit-escape d h = rw (digit-plain d h)
+
+more-escape : (s : Bytes) (n : ℕ) → escape s ≡ s → (t : Bool) → ltb n 10 ≡ t → escape (cond t ((48 + n) ∷ []) (s ++ ((48 + n % 10) ∷ []))) ≡ cond t ((48 + n) ∷ []) (s ++ ((48 + n % 10) ∷ []))
+more-escape s n h true e = digit-escape n (ltb-true n 10 e)
+more-escape s n h false e = escape-append s ((48 + n % 10) ∷ []) ∙ rw (h, digit-escape (n % 10) (omega arith))
+
+digits-escape : (k n : ℕ) → escape (digits k n) ≡ digits k n
+unfolding digits escape
+digits-escape zero n = refl
+digits-escape (suc k) n = more-escape (digits k (n / 10)) n (digits-escape k (n / 10)) (ltb n 10) refl
+
+-- ── names ──
+
+named-is : (t name : Bytes) → escape t ≡ name → spellRec (namedRec t) ≡ namedText 39 name []
+unfolding keyword planKeyword word letters bytes bytesFrom spellFields spell
+named-is t name e = named-rec (namedRec t) 39 name [] refl (rw e)
+
+id-escape : (id : ℕ) → escape (bytes "_v" ++ decimal id) ≡ 95 ∷ 118 ∷ decimal id
+unfolding escape escapeByte bytes bytesFrom decimal
+id-escape id = rw (digits-escape 20 id)
+
+no-escape : escape (bytes "_") ≡ 95 ∷ []
+unfolding escape escapeByte bytes bytesFrom
+no-escape = refl
+
+pub id-put : (id : ℕ) {p q r s t u v : Page} → Puts (word 39) p q → Puts (9 ∷ []) q r → Puts (95 ∷ []) r s → Puts (118 ∷ []) s t → Puts (decimal id) t u → Puts (10 ∷ []) u v → Puts (namedText 39 (95 ∷ 118 ∷ decimal id) []) p v
+unfolding namedText numbersText behind
+id-put id a b c d e f = a ⨾ b ⨾ c ⨾ d ⨾ e ⨾ f
+
+pub no-put : {p q r s t : Page} → Puts (word 39) p q → Puts (9 ∷ []) q r → Puts (95 ∷ []) r s → Puts (10 ∷ []) s t → Puts (namedText 39 (95 ∷ []) []) p t
+unfolding namedText numbersText behind
+no-put a b c d = a ⨾ b ⨾ c ⨾ d
+
+same-none : (h : Same) → (sameNumber h ≡ 23 → ⊥) → (f : Fields (sameForms h)) → sameAlias h f ≡ bytes "_"
+unfolding sameAlias sameNumber
+same-none Same.Null z f = refl
+same-none Same.Bool z f = refl
+same-none Same.Int z f = refl
+same-none Same.Float z f = refl
+same-none Same.String z f = refl
+same-none Same.Param z f = refl
+same-none Same.Prop z f = absurd (z refl)
+same-none Same.Index z f = refl
+same-none Same.Slice z f = refl
+same-none Same.List z f = refl
+same-none Same.BinOp z f = refl
+same-none Same.UnaryOp z f = refl
+same-none Same.Case z f = refl
+same-none Same.IsNull z f = refl
+same-none Same.InList z f = refl
+
+kind-none : (k : Expr) → (exprNumber k ≡ 23 → ⊥) → (exprNumber k ≡ 32 → ⊥) → (exprNumber k ≡ 34 → ⊥) → (f : Fields (exprForms k)) → nameBy k f ≡ bytes "_"
+unfolding nameBy exprNumber
+kind-none (Expr.Over h) x y z f = same-none h x f
+kind-none Expr.Var x y z f = absurd (y refl)
+kind-none Expr.Map x y z f = refl
+kind-none Expr.Call x y z f = absurd (z refl)
+kind-none Expr.PatternPredicate x y z f = refl
+kind-none Expr.ListPredicate x y z f = refl
+kind-none Expr.Unresolved x y z f = refl
+kind-none Expr.Undesugared x y z f = refl
+
+-- ── an item without an alias ──
+
+module _ {sheet : Bytes} {a b : List ℕ} {i : ℕ} (room : Roomy a b) (h : ExprAt sheet a b i) where
+  prop-place : cell a b i 0 ≡ 23 → PlaceAt text sheet (cell a b i 2) (cell a b i 3)
+  unfolding kindOf firstKind nth kinds sames
+  prop-place e = at-kind (Expr.Over Same.Prop) (h .kind) (λ k f. RecordAt sheet a b i expr k f → PlaceAt text sheet (cell a b i 2) (cell a b i 3)) (kind-is room h 23 (Expr.Over Same.Prop) e refl) (λ f at. texts-at room at .0) (h .fields) (h .at)
+
+  pub prop-in : cell a b i 0 ≡ 23 → (cell a b i 2 ≤ cell a b i 3) × (cell a b i 3 ≤ length sheet)
+  prop-in e = let p = prop-place e in (p .from, p .to)
+
+  pub prop-named : cell a b i 0 ≡ 23 → spellRec (namedRec (nameBy (h .kind) (h .fields))) ≡ namedText 39 (slice (cell a b i 2) (cell a b i 3) sheet) []
+  unfolding kindOf firstKind nth kinds sames nameBy sameAlias fieldsOf fieldOf
+  prop-named e = named-is _ _ (at-kind (Expr.Over Same.Prop) (h .kind) (λ k f. RecordAt sheet a b i expr k f → escape (nameBy k f) ≡ slice (cell a b i 2) (cell a b i 3) sheet) (kind-is room h 23 (Expr.Over Same.Prop) e refl) (λ f at. rw (shown room at .fields) (place-escape (prop-place e))) (h .fields) (h .at))
+
+  pub call-named : cell a b i 0 ≡ 34 → spellRec (namedRec (nameBy (h .kind) (h .fields))) ≡ namedText 39 (slice (cell a b i 2) (cell a b i 3) sheet) []
+  unfolding kindOf firstKind nth kinds sames nameBy fieldsOf fieldOf
+  call-named e = named-is _ _ (at-kind Expr.Call (h .kind) (λ k f. RecordAt sheet a b i expr k f → escape (nameBy k f) ≡ slice (cell a b i 2) (cell a b i 3) sheet) (kind-is room h 34 Expr.Call e refl) (λ f at. rw (shown room at .fields) (place-escape (call-place room 0 h e))) (h .fields) (h .at))
+
+  pub id-named : cell a b i 0 ≡ 32 → spellRec (namedRec (nameBy (h .kind) (h .fields))) ≡ namedText 39 (95 ∷ 118 ∷ decimal (cell a b i 2)) []
+  unfolding kindOf firstKind nth kinds sames nameBy fieldsOf fieldOf
+  id-named e = named-is _ _ (at-kind Expr.Var (h .kind) (λ k f. RecordAt sheet a b i expr k f → escape (nameBy k f) ≡ 95 ∷ 118 ∷ decimal (cell a b i 2)) (kind-is room h 32 Expr.Var e refl) (λ f at. rw (shown room at .fields) (id-escape (cell a b i 2))) (h .fields) (h .at))
+
+  pub none-named : (cell a b i 0 ≡ 23 → ⊥) → (cell a b i 0 ≡ 32 → ⊥) → (cell a b i 0 ≡ 34 → ⊥) → spellRec (namedRec (nameBy (h .kind) (h .fields))) ≡ namedText 39 (95 ∷ []) []
+  none-named x y z = let n = number-is room h in named-is _ _ (rw (kind-none (h .kind) (λ e. x (n ∙ e)) (λ e. y (n ∙ e)) (λ e. z (n ∙ e)) (h .fields)) no-escape)
+
+-- ── an item ──
+
+alias-some : (sheet : Bytes) (x y : ℕ) → (x ≡ 0 → ⊥) → aliasOf sheet x y ≡ some (unescape (slice x y sheet))
+unfolding aliasOf
+alias-some sheet zero y z = absurd (z refl)
+alias-some sheet (suc x) y z = refl
+
+alias-none : (sheet : Bytes) (x y : ℕ) → x ≡ 0 → aliasOf sheet x y ≡ none
+unfolding aliasOf
+alias-none sheet x y e = rw e
+
+module _ {sheet : Bytes} {a b : List ℕ} {i : ℕ} (room : Roomy a b) (h : ItemAt sheet a b i) where
+  alias-is : h .fields .0 ≡ aliasOf sheet (cell a b i 2) (cell a b i 3)
+  unfolding fieldsOf fieldOf
+  alias-is = ap (λ (f : Fields (forms projection tt)). f .0) (shown room (h .at) .fields)
+
+  alias-place : (cell a b i 2 ≡ 0 → ⊥) → PlaceAt text sheet (cell a b i 2) (cell a b i 3)
+  alias-place z = texts-at room (h .at) .0 (omega arith)
+
+  pub alias-in : (cell a b i 2 ≡ 0 → ⊥) → (cell a b i 2 ≤ cell a b i 3) × (cell a b i 3 ≤ length sheet)
+  alias-in z = let p = alias-place z in (p .from, p .to)
+
+  pub alias-named : (cell a b i 2 ≡ 0 → ⊥) → spellRec (namedRec (itemName h)) ≡ namedText 39 (slice (cell a b i 2) (cell a b i 3) sheet) []
+  unfolding aliasOr
+  alias-named z = named-is _ _ (rw (alias-is, alias-some sheet (cell a b i 2) (cell a b i 3) z) (place-escape (alias-place z)))
+
+  pub plain-named : cell a b i 2 ≡ 0 → itemName h ≡ nameBy (h .expr .kind) (h .expr .fields)
+  unfolding aliasOr
+  plain-named z = rw (alias-is, alias-none sheet (cell a b i 2) (cell a b i 3) z)

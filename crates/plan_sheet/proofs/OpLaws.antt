@@ -1,0 +1,311 @@
+-- Operators by their words: what each kind comes to, and its first line. Assumes nothing: every law is proved.
+use mathlib.Core.Path.{_≡_, refl, sym, ap, subst, _∙_}
+use Prim.Native.Nat.{ℕ, zero, suc, _+_, _≤_, _<_}
+use native.Mathlib.Nat.{add-suc}
+use native.Mathlib.Numerals.{add-one}
+use native.Mathlib.Omega.{arith}
+use mathlib.Core.List.{List, [], _∷_, _++_, append-nil, append-assoc}
+use lib.ListN.{length, getD, take}
+use mathlib.Core.Bool.{Bool, true, false}
+use mathlib.Core.Option.{none}
+use lib.Dec.{eqb}
+use lib.Seq.{slice}
+use Rattle.model.specs.Text.{Bytes, tab, lineFeed, behind, bytes, bytesFrom, decimal, digits, escape}
+use Rattle.model.specs.Field.{Fields, text, spell, spellFlag, spellOption, spellFields}
+use Rattle.model.specs.Kind.{ReadOp, Clause, clause, patternElement}
+use Rattle.model.specs.Record.{Rec, one, forms, keyword, planKeyword, opKeyword, spellRec, spellRecs}
+use Rattle.model.specs.Tree.{Tree, node}
+use Rattle.model.specs.Lower.{Recs, op, source}
+use Rattle.output.specs.Page.{Page, Puts}
+use Rattle.output.specs.Writes.{_⨾_}
+use Rattle.words.specs.Words.{Roomy, cell, optionOf, fieldOf, fieldsOf}
+use Rattle.words.specs.Held.{Held, PlaceAt}
+use Rattle.words.specs.Cells.{shown}
+use Rattle.context.specs.Tables.{Op, opAt}
+use Rattle.lower.specs.Render.{Notes, Ops, specRecs}
+use Rattle.lower.specs.Shows.{shift, Sane, Shows, OverExpr, ByLabels, ByRel, ByShortest, ByPath, ByWith, ByItems, ByParted, ByKeys, ByCall, shows-all, shows-source, shows-filter, shows-expand, shows-short, shows-path, shows-optional, shows-with, shows-project, shows-aggregate, shows-order, shows-skip, shows-limit, shows-distinct, shows-unwind, shows-union, shows-call}
+use Rattle.plan_sheet.specs.Keywords.{word, letters}
+use Rattle.plan_sheet.specs.Row.{numbersText, rowText, callText}
+use Rattle.plan_sheet.specs.Due.{noted, Planned, SomePlan, OpShown, WroteFirst, Element, WroteElement, WroteOp}
+use Rattle.plan_sheet.proofs.FieldLaws.{flag-decimal}
+use Rattle.plan_sheet.proofs.RowLaws.{record-line, row-rec, place-escape}
+use Rattle.plan_sheet.proofs.HeadLaws.{texts-at}
+use Rattle.plan_sheet.proofs.DueLaws.{planned-less, spell-append}
+use Rattle.plan_sheet.proofs.NameLaws.{names-made}
+
+-- ── by kind ──
+
+-- types by number
+pub data Types : Type 1 where
+  only : Type 0 → Types
+  _or_ : Type 0 → Types → Types
+
+infixr 50 _or_
+abbrev pub typeAt : Types → ℕ → Type 0
+typeAt (only t) n = t
+typeAt (t or ts) zero = t
+typeAt (t or ts) (suc n) = typeAt ts n
+
+module _ (sheet : Bytes) (a b : List ℕ) (N : Notes) (A : Ops) (k : ℕ) (o : Op) (recs : Recs) where
+  -- what an operator of kind n stands for
+  abbrev pub byKind : Types
+  byKind =
+      (recs ≡ source (o .x) []) or
+      (ByLabels sheet a b N A k o recs) or
+      (OverExpr sheet a b N A k o (op ReadOp.Filter (o .input, tt)) recs) or
+      (ByRel sheet a b N A k o recs) or
+      (ByShortest sheet a b N A k o recs) or
+      (ByPath sheet a b N A k o recs) or
+      ((o .x < k) × (recs ≡ op ReadOp.OptionalJoin (o .input, tt) ∷ A (o .x))) or
+      (ByWith sheet a b N A k o recs) or
+      (ByItems sheet a b N A k o recs) or
+      (ByParted sheet a b N A k o recs) or
+      (ByKeys sheet a b N A k o recs) or
+      (OverExpr sheet a b N A k o (op ReadOp.Skip (o .input, tt)) recs) or
+      (OverExpr sheet a b N A k o (op ReadOp.Limit (o .input, tt)) recs) or
+      (recs ≡ op ReadOp.Distinct (o .input, tt) ∷ []) or
+      (OverExpr sheet a b N A k o (op ReadOp.Unwind (o .input, (o .x, tt))) recs) or
+      (recs ≡ op ReadOp.Union (o .input, (o .x, (eqb (o .y) 1, tt))) ∷ []) or
+      only (ByCall sheet a b N A k o recs)
+
+module _ {sheet : Bytes} {a b : List ℕ} {N : Notes} {A : Ops} {k : ℕ} {o : Op} {recs : Recs} where
+  told : Shows sheet a b N A k o recs → typeAt (byKind sheet a b N A k o recs) (o .kind)
+  told (shows-all q r) = subst (λ (n : ℕ). typeAt (byKind sheet a b N A k o recs) n) (sym q) r
+  told (shows-source q r) = subst (λ (n : ℕ). typeAt (byKind sheet a b N A k o recs) n) (sym q) r
+  told (shows-filter q r) = subst (λ (n : ℕ). typeAt (byKind sheet a b N A k o recs) n) (sym q) r
+  told (shows-expand q r) = subst (λ (n : ℕ). typeAt (byKind sheet a b N A k o recs) n) (sym q) r
+  told (shows-short q r) = subst (λ (n : ℕ). typeAt (byKind sheet a b N A k o recs) n) (sym q) r
+  told (shows-path q r) = subst (λ (n : ℕ). typeAt (byKind sheet a b N A k o recs) n) (sym q) r
+  told (shows-optional q l r) = subst (λ (n : ℕ). typeAt (byKind sheet a b N A k o recs) n) (sym q) (l, r)
+  told (shows-with q r) = subst (λ (n : ℕ). typeAt (byKind sheet a b N A k o recs) n) (sym q) r
+  told (shows-project q r) = subst (λ (n : ℕ). typeAt (byKind sheet a b N A k o recs) n) (sym q) r
+  told (shows-aggregate q r) = subst (λ (n : ℕ). typeAt (byKind sheet a b N A k o recs) n) (sym q) r
+  told (shows-order q r) = subst (λ (n : ℕ). typeAt (byKind sheet a b N A k o recs) n) (sym q) r
+  told (shows-skip q r) = subst (λ (n : ℕ). typeAt (byKind sheet a b N A k o recs) n) (sym q) r
+  told (shows-limit q r) = subst (λ (n : ℕ). typeAt (byKind sheet a b N A k o recs) n) (sym q) r
+  told (shows-distinct q r) = subst (λ (n : ℕ). typeAt (byKind sheet a b N A k o recs) n) (sym q) r
+  told (shows-unwind q r) = subst (λ (n : ℕ). typeAt (byKind sheet a b N A k o recs) n) (sym q) r
+  told (shows-union q r) = subst (λ (n : ℕ). typeAt (byKind sheet a b N A k o recs) n) (sym q) r
+  told (shows-call q r) = subst (λ (n : ℕ). typeAt (byKind sheet a b N A k o recs) n) (sym q) r
+
+  pub of-kind : (n : ℕ) → o .kind ≡ n → Shows sheet a b N A k o recs → typeAt (byKind sheet a b N A k o recs) n
+  of-kind n e h = subst (λ (x : ℕ). typeAt (byKind sheet a b N A k o recs) x) e (told h)
+
+  last-kind : Shows sheet a b N A k o recs → 15 < o .kind → o .kind ≡ 16
+  last-kind (shows-all q r) l = absurd (omega arith)
+  last-kind (shows-source q r) l = absurd (omega arith)
+  last-kind (shows-filter q r) l = absurd (omega arith)
+  last-kind (shows-expand q r) l = absurd (omega arith)
+  last-kind (shows-short q r) l = absurd (omega arith)
+  last-kind (shows-path q r) l = absurd (omega arith)
+  last-kind (shows-optional q x r) l = absurd (omega arith)
+  last-kind (shows-with q r) l = absurd (omega arith)
+  last-kind (shows-project q r) l = absurd (omega arith)
+  last-kind (shows-aggregate q r) l = absurd (omega arith)
+  last-kind (shows-order q r) l = absurd (omega arith)
+  last-kind (shows-skip q r) l = absurd (omega arith)
+  last-kind (shows-limit q r) l = absurd (omega arith)
+  last-kind (shows-distinct q r) l = absurd (omega arith)
+  last-kind (shows-unwind q r) l = absurd (omega arith)
+  last-kind (shows-union q r) l = absurd (omega arith)
+  last-kind (shows-call q r) l = q
+
+-- what is none of the first kinds
+past : (m n : ℕ) → m ≤ n → (n ≡ m → ⊥) → suc m ≤ n
+past m n l z = omega arith
+
+pub above-five : (n : ℕ) → (n ≡ 0 → ⊥) → (n ≡ 1 → ⊥) → (n ≡ 2 → ⊥) → (n ≡ 3 → ⊥) → (n ≡ 4 → ⊥) → (n ≡ 5 → ⊥) → 5 < n
+above-five n a b c d e f = past 5 n (past 4 n (past 3 n (past 2 n (past 1 n (past 0 n (omega arith) a) b) c) d) e) f
+
+pub above-fifteen : (n : ℕ) → 5 < n → (n ≡ 6 → ⊥) → (n ≡ 7 → ⊥) → (n ≡ 8 → ⊥) → (n ≡ 9 → ⊥) → (n ≡ 10 → ⊥) → (n ≡ 11 → ⊥) → (n ≡ 12 → ⊥) → (n ≡ 13 → ⊥) → (n ≡ 14 → ⊥) → (n ≡ 15 → ⊥) → 15 < n
+above-fifteen n l a b c d e f g h i j = past 15 n (past 14 n (past 13 n (past 12 n (past 11 n (past 10 n (past 9 n (past 8 n (past 7 n (past 6 n l a) b) c) d) e) f) g) h) i) j
+
+-- ── the first line ──
+
+first-rec : {r : Rec} {rs recs : Recs} → recs ≡ r ∷ rs → spellRecs (take 1 recs) ≡ spellRec r
+unfolding spellRecs
+first-rec {r} e = rw e (append-nil (spellRec r))
+
+-- the first record, and the others
+pub first-more : {r : Rec} {rs recs : Recs} → recs ≡ r ∷ rs → spellRecs recs ≡ spellRecs (take 1 recs) ++ spellRecs rs
+first-more {r} {rs} e = rw e (spell-append (r ∷ []) rs)
+
+element-low : (sheet : Bytes) (a b : List ℕ) (d i : ℕ) (t : Tree patternElement) → Held sheet a b t d i → i < 2048
+unfolding Held
+element-low sheet a b d i (node patternElement line k f kids) h = h .1 .low
+
+bool-decimal : (t : Bool) → spellFlag t ≡ decimal (one t)
+unfolding spellFlag decimal digits
+bool-decimal false = refl
+bool-decimal true = refl
+
+module _ {sheet : Bytes} {a b rest : List ℕ} {o : Op} (h : OpShown sheet a b rest o) where
+  pub all-line : o .kind ≡ 0 → spellRecs (take 1 (h .recs)) ≡ rowText 20 (o .x ∷ 0 ∷ [])
+  unfolding source keyword planKeyword opKeyword word letters bytes bytesFrom spellFields spell
+  all-line e = first-rec (of-kind 0 e (h .stored .shows)) ∙ row-rec _ 20 (o .x ∷ 0 ∷ []) refl refl
+
+  pub source-line : o .kind ≡ 1 → spellRecs (take 1 (h .recs)) ≡ rowText 20 (o .x ∷ cell a b (o .idx) 4 ∷ [])
+  unfolding source keyword planKeyword opKeyword word letters bytes bytesFrom spellFields spell
+  source-line e =
+      let s = of-kind 1 e (h .stored .shows) in
+      let m = names-made (shift (noted rest) (o .base)) (h .ops) (o .left) (s .labels) (o .idx + 1) (s .held) in
+      first-rec (s .is) ∙ row-rec _ 20 (o .x ∷ cell a b (o .idx) 4 ∷ []) refl (rw (m .count, s .counted))
+
+  pub filter-line : o .kind ≡ 2 → spellRecs (take 1 (h .recs)) ≡ rowText 22 (o .input ∷ [])
+  unfolding keyword planKeyword opKeyword word letters bytes bytesFrom spellFields spell
+  filter-line e = first-rec (of-kind 2 e (h .stored .shows) .is) ∙ row-rec _ 22 (o .input ∷ []) refl refl
+
+  module _ (c : o .kind ≡ 3) where
+    pub expand-low : (o .idx < 2048) × (o .y < 2048)
+    expand-low = let s = of-kind 3 c (h .stored .shows) in (element-low sheet a b (o .left) (o .idx) (s .rel) (s .held-rel), element-low sheet a b (o .left) (o .y) (s .far) (s .held-far))
+
+    pub expand-line : spellRecs (take 1 (h .recs)) ≡ rowText 21 (o .input ∷ o .x ∷ getD rest (o .base + o .idx + 1) 0 ∷ getD rest (o .base + o .y + 1) 0 ∷ [])
+    unfolding keyword planKeyword opKeyword word letters bytes bytesFrom spellFields spell
+    expand-line =
+        let s = of-kind 3 c (h .stored .shows) in
+        first-rec (s .is) ∙ rw (add-one, add-one, ← add-suc, ← add-suc) (row-rec _ 21 (o .input ∷ o .x ∷ getD rest (o .base + suc (o .idx)) 0 ∷ getD rest (o .base + suc (o .y)) 0 ∷ []) refl refl)
+
+  pub short-line : o .kind ≡ 4 → spellRecs (take 1 (h .recs)) ≡ rowText 33 (o .input ∷ getD rest (o .base + o .idx + 2) 0 ∷ getD rest (o .base + o .y + 1) 0 ∷ getD rest (o .base + o .idx + 1) 0 ∷ one (eqb (cell a b (o .idx) 4) 2) ∷ [])
+  unfolding keyword planKeyword opKeyword word letters bytes bytesFrom spellFields spell
+  short-line c =
+      let s = of-kind 4 c (h .stored .shows) in
+      let p : o .base + o .idx + 2 ≡ o .base + suc (o .idx + 1) = omega arith in
+      let q : o .base + o .y + 1 ≡ o .base + suc (o .y) = omega arith in
+      let r : o .base + o .idx + 1 ≡ o .base + suc (o .idx) = omega arith in
+      first-rec (s .is) ∙ rw (p, q, r) (row-rec _ 33 (o .input ∷ getD rest (o .base + suc (o .idx + 1)) 0 ∷ getD rest (o .base + suc (o .y)) 0 ∷ getD rest (o .base + suc (o .idx)) 0 ∷ one (eqb (cell a b (o .idx) 4) 2) ∷ []) refl (rw (s .is-all) (rw (bool-decimal (eqb (cell a b (o .idx) 4) 2)))))
+
+  pub path-line : o .kind ≡ 5 → spellRecs (take 1 (h .recs)) ≡ rowText 34 (o .input ∷ o .y ∷ o .x ∷ [])
+  unfolding keyword planKeyword opKeyword word letters bytes bytesFrom spellFields spell
+  path-line e = first-rec (of-kind 5 e (h .stored .shows) .is) ∙ row-rec _ 34 (o .input ∷ o .y ∷ o .x ∷ []) refl refl
+
+  -- ── of a clause ──
+
+  pub optional-line : o .kind ≡ 6 → spellRecs (take 1 (h .recs)) ≡ rowText 32 (o .input ∷ [])
+  unfolding keyword planKeyword opKeyword word letters bytes bytesFrom spellFields spell
+  optional-line e = first-rec (of-kind 6 e (h .stored .shows) .1) ∙ row-rec _ 32 (o .input ∷ []) refl refl
+
+  pub with-line : o .kind ≡ 7 → spellRecs (take 1 (h .recs)) ≡ rowText 31 (o .input ∷ cell a b (o .idx) 2 ∷ cell a b (o .idx) 4 ∷ [])
+  unfolding keyword planKeyword opKeyword word letters bytes bytesFrom spellFields spell
+  with-line e =
+      let s = of-kind 7 e (h .stored .shows) in
+      first-rec (s .is) ∙ row-rec _ 31 (o .input ∷ cell a b (o .idx) 2 ∷ cell a b (o .idx) 4 ∷ []) refl (rw (s .counted, bool-decimal (s .filtered), s .flagged))
+
+  pub project-line : o .kind ≡ 8 → spellRecs (take 1 (h .recs)) ≡ rowText 23 (o .input ∷ cell a b (o .idx) 2 ∷ [])
+  unfolding keyword planKeyword opKeyword word letters bytes bytesFrom spellFields spell
+  project-line e =
+      let s = of-kind 8 e (h .stored .shows) in
+      first-rec (s .is) ∙ row-rec _ 23 (o .input ∷ cell a b (o .idx) 2 ∷ []) refl (rw (s .counted))
+
+  pub aggregate-line : o .kind ≡ 9 → spellRecs (take 1 (h .recs)) ≡ rowText 24 (o .input ∷ o .x ∷ o .y ∷ [])
+  unfolding keyword planKeyword opKeyword word letters bytes bytesFrom spellFields spell
+  aggregate-line e = first-rec (of-kind 9 e (h .stored .shows) .is) ∙ row-rec _ 24 (o .input ∷ o .x ∷ o .y ∷ []) refl refl
+
+  pub order-line : o .kind ≡ 10 → spellRecs (take 1 (h .recs)) ≡ rowText 25 (o .input ∷ o .x ∷ [])
+  unfolding keyword planKeyword opKeyword word letters bytes bytesFrom spellFields spell
+  order-line e = first-rec (of-kind 10 e (h .stored .shows) .is) ∙ row-rec _ 25 (o .input ∷ o .x ∷ []) refl refl
+
+  pub skip-line : o .kind ≡ 11 → spellRecs (take 1 (h .recs)) ≡ rowText 26 (o .input ∷ [])
+  unfolding keyword planKeyword opKeyword word letters bytes bytesFrom spellFields spell
+  skip-line e = first-rec (of-kind 11 e (h .stored .shows) .is) ∙ row-rec _ 26 (o .input ∷ []) refl refl
+
+  pub limit-line : o .kind ≡ 12 → spellRecs (take 1 (h .recs)) ≡ rowText 27 (o .input ∷ [])
+  unfolding keyword planKeyword opKeyword word letters bytes bytesFrom spellFields spell
+  limit-line e = first-rec (of-kind 12 e (h .stored .shows) .is) ∙ row-rec _ 27 (o .input ∷ []) refl refl
+
+  pub distinct-line : o .kind ≡ 13 → spellRecs (take 1 (h .recs)) ≡ rowText 28 (o .input ∷ [])
+  unfolding keyword planKeyword opKeyword word letters bytes bytesFrom spellFields spell
+  distinct-line e = first-rec (of-kind 13 e (h .stored .shows)) ∙ row-rec _ 28 (o .input ∷ []) refl refl
+
+  pub unwind-line : o .kind ≡ 14 → spellRecs (take 1 (h .recs)) ≡ rowText 29 (o .input ∷ o .x ∷ [])
+  unfolding keyword planKeyword opKeyword word letters bytes bytesFrom spellFields spell
+  unwind-line e = first-rec (of-kind 14 e (h .stored .shows) .is) ∙ row-rec _ 29 (o .input ∷ o .x ∷ []) refl refl
+
+  pub union-line : o .kind ≡ 15 → spellRecs (take 1 (h .recs)) ≡ rowText 30 (o .input ∷ o .x ∷ o .y ∷ [])
+  unfolding keyword planKeyword opKeyword word letters bytes bytesFrom spellFields spell
+  union-line e = first-rec (of-kind 15 e (h .stored .shows)) ∙ row-rec _ 30 (o .input ∷ o .x ∷ o .y ∷ []) refl (rw (flag-decimal (o .y) (h .stored .sane .flagged e)))
+
+  -- the last kind
+  pub is-call : 15 < o .kind → o .kind ≡ 16
+  is-call l = last-kind (h .stored .shows) l
+
+-- ── a call ──
+
+two-behind : (p q : Bytes) (ps : List Bytes) (t : Bytes) → behind tab (p ∷ q ∷ ps) ++ t ≡ (tab ∷ p) ++ ((tab ∷ q) ++ (behind tab ps ++ t))
+unfolding behind
+two-behind p q ps t = ap (λ (s : Bytes). tab ∷ s) (append-assoc p (tab ∷ (q ++ behind tab ps)) t ∙ ap (λ (s : Bytes). p ++ (tab ∷ s)) (append-assoc q (behind tab ps) t))
+
+module _ {sheet : Bytes} {a b rest : List ℕ} {o : Op} (room : Roomy a b) (h : OpShown sheet a b rest o) (e : o .kind ≡ 16) where
+  call-text : PlaceAt text sheet (cell a b (o .idx) 2) (cell a b (o .idx) 3)
+  call-text = texts-at room (of-kind 16 e (h .stored .shows) .at) .0
+
+  pub procedure-in : (cell a b (o .idx) 2 ≤ cell a b (o .idx) 3) × (cell a b (o .idx) 3 ≤ length sheet)
+  procedure-in = (call-text .from, call-text .to)
+
+  pub call-line : spellRecs (take 1 (h .recs)) ≡ callText (optionOf (o .x) (o .input)) (slice (cell a b (o .idx) 2) (cell a b (o .idx) 3) sheet) (cell a b (o .idx) 4) (cell a b (o .idx) 6) (cell a b (o .idx) 8)
+  unfolding spellRec keyword planKeyword opKeyword word letters bytes bytesFrom spellFields spell fieldsOf fieldOf callText numbersText
+  call-line =
+      let s = of-kind 16 e (h .stored .shows) in
+      let r = shown room (s .at) in
+      let name : escape (s .fields .0) ≡ slice (cell a b (o .idx) 2) (cell a b (o .idx) 3) sheet = rw (r .fields) (place-escape call-text) in
+      let args : s .fields .1 .0 ≡ cell a b (o .idx) 4 = ap (λ (f : Fields (forms clause Clause.Call)). f .1 .0) (r .fields) in
+      let yields : s .fields .1 .1 .0 ≡ cell a b (o .idx) 6 = ap (λ (f : Fields (forms clause Clause.Call)). f .1 .1 .0) (r .fields) in
+      let optional : spellFlag (s .fields .1 .1 .1 .0) ≡ decimal (cell a b (o .idx) 8) = rw (r .fields) (flag-decimal (cell a b (o .idx) 8) (r .flags .1 .1 .1 .0)) in
+      first-rec (s .is)
+      ∙ record-line (word 35) _
+      ∙ ap (λ (t : Bytes). word 35 ++ t) (rw (name, args, yields, optional) (two-behind (spellOption (optionOf (o .x) (o .input))) (slice (cell a b (o .idx) 2) (cell a b (o .idx) 3) sheet) (decimal (cell a b (o .idx) 4) ∷ decimal (cell a b (o .idx) 6) ∷ decimal (cell a b (o .idx) 8) ∷ []) (lineFeed ∷ [])))
+
+-- ── a whole operator ──
+
+module _ (k : ℕ) {sheet : Bytes} {a b os rest : List ℕ} {A : Ops} {o : Op} (p : Planned sheet a b os rest (k + 1) A) (e : o ≡ opAt os k) where
+  pub op-low : k < 2048
+  op-low = omega (arith, p .few)
+
+  unfoldable pub shown-at : OpShown sheet a b rest o
+  shown-at = record { ops = A; number = k; recs = A k; stored = rw e (p .stored k (omega arith)) }
+
+  pub sane-at : Sane o
+  sane-at = rw e (p .stored k (omega arith) .sane)
+
+  pub here : Shows sheet a b (noted rest) A k o (A k)
+  here = rw e (p .stored k (omega arith) .shows)
+
+  pub planned-below : Planned sheet a b os rest k A
+  planned-below = planned-less (omega arith) p
+
+  -- an expand
+  module _ (c : o .kind ≡ 3) where
+    pub rel-of : Element sheet a b os rest k (o .base) (o .left) (o .idx)
+    rel-of = let s = of-kind 3 c here in record { ops = A; planned = planned-below; tree = s .rel; held = s .held-rel; under = s .below-rel }
+
+    pub far-of : Element sheet a b os rest k (o .base) (o .left) (o .y)
+    far-of = let s = of-kind 3 c here in record { ops = A; planned = planned-below; tree = s .far; held = s .held-far; under = s .below-far }
+
+    pub expand-wrote : {g g′ g″ g‴ : Page} → WroteFirst sheet a b rest o g g′ → WroteElement sheet a b os rest k (o .base) (o .left) (o .idx) g′ g″ → WroteElement sheet a b os rest k (o .base) (o .left) (o .y) g″ g‴ → Puts (spellRecs (A k)) g g‴
+    unfolding shown-at rel-of far-of
+    expand-wrote w v u =
+        let s = of-kind 3 c here in
+        rw (first-more (s .is)) (w shown-at ⨾ rw (spell-append (specRecs (shift (noted rest) (o .base)) A (s .rel)) (specRecs (shift (noted rest) (o .base)) A (s .far))) (v rel-of ⨾ u far-of))
+
+  -- a shortest part
+  module _ (c : o .kind ≡ 4) where
+    pub short-rel : Element sheet a b os rest k (o .base) (o .left) (o .x)
+    short-rel = let s = of-kind 4 c here in record { ops = A; planned = planned-below; tree = s .rel; held = s .held-rel; under = s .below-rel }
+
+    pub short-wrote : {g g′ g″ : Page} → WroteFirst sheet a b rest o g g′ → WroteElement sheet a b os rest k (o .base) (o .left) (o .x) g′ g″ → Puts (spellRecs (A k)) g g″
+    unfolding shown-at short-rel
+    short-wrote w v = rw (first-more (of-kind 4 c here .is)) (w shown-at ⨾ v short-rel)
+
+  -- an optional, which copies an operator below it
+  module _ (c : o .kind ≡ 6) where
+    pub optional-low : o .x < k
+    optional-low = of-kind 6 c here .0
+
+    optional-planned : Planned sheet a b os rest (o .x + 1) A
+    optional-planned = planned-less (omega (arith, optional-low)) p
+
+    pub optional-plan : SomePlan sheet a b os rest (o .x + 1)
+    optional-plan = record { ops = A; planned = optional-planned }
+
+    pub optional-wrote : {g g′ g″ : Page} → WroteFirst sheet a b rest o g g′ → WroteOp sheet a b os rest (o .x) g′ g″ → Puts (spellRecs (A k)) g g″
+    unfolding shown-at
+    optional-wrote w v = rw (first-more (of-kind 6 c here .1)) (w shown-at ⨾ v A optional-planned)

@@ -1,0 +1,47 @@
+-- `first_of` meets its contract. Assumes nothing.
+use Rattle.plan_sheet.specs.Behind.{firstBy, manyBy}
+use Rattle.plan_sheet.proofs.BehindLaws
+use mathlib.Core.Path.{_≡_, refl, sym, ap, _∙_}
+use native.Mathlib.Omega.{arith}
+use borrow.Author.Needs.{needs}
+use Rattle.plan_sheet.proofs.behind.first_of.Statement.{statement}
+use Rattle.plan_sheet.proofs.behind.first_of.Tie as tie
+use Rattle.plan_sheet.proofs.behind.first_of.Reads as reads
+use Rattle.plan_sheet.proofs.behind.first_of.Lts as lts
+
+-- src/behind.rt:48:14
+add-result : tie.Need-add-result
+add-result c = search needs
+
+-- src/behind.rt:36:1
+returns : tie.Need-returns
+unfolding firstBy
+returns c = rw ((c .match .keys1))
+
+-- src/behind.rt:36:1
+returns-2 : tie.Need-returns-2
+unfolding firstBy
+returns-2 c = rw ((c .match .keys2))
+
+-- src/behind.rt:36:1
+returns-3 : tie.Need-returns-3
+unfolding firstBy
+returns-3 c = rw ((c .match .keys3))
+
+-- src/behind.rt:36:1
+returns-4 : tie.Need-returns-4
+unfolding firstBy
+returns-4 c = rw ((c .match .keys4))
+
+-- src/behind.rt:36:1
+returns-5 : tie.Need-returns-5
+unfolding firstBy
+returns-5 c = rw ((c .match .keys5))
+
+-- src/behind.rt:36:1
+returns-6 : tie.Need-returns-6
+returns-6 c = let r = (c .match .rest) in BehindLaws.next-at _ _ (r .0 .0 .0 .0 .1) (r .0 .0 .0 .1) (r .0 .0 .1) (r .0 .1) (r .1)
+
+pub first-of-spec : {M : Type 1} → statement M
+first-of-spec =
+    tie.close (tie.spec add-result returns returns-2 returns-3 returns-4 returns-5 returns-6)

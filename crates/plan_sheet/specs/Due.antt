@@ -1,0 +1,179 @@
+-- What is due to be written: expressions that the words hold, each behind a line of its own or not, over operators that the tables show. Assumes nothing: these are definitions.
+use mathlib.Core.Path.{_≡_}
+use Prim.Native.Nat.{ℕ, zero, suc, _+_, _≤_, _<_}
+use mathlib.Core.List.{List, [], _∷_, _++_}
+use lib.ListN.{length, getD, take}
+use Rattle.model.specs.Text.{Bytes, bytes, decimal}
+use Rattle.model.specs.Field.{Fields}
+use Rattle.model.specs.Kind.{Same, Expr, PatternElement, PlanExpr, projection, orderItem, patternElement, name, entry, expr, inPlan, planProjection, orderKey, planEntry}
+use Rattle.model.specs.Record.{Rec, rec, forms, exprForms, elementForms, spellRecs}
+use Rattle.model.specs.Tree.{Tree}
+use Rattle.model.specs.Lower.{Recs, planned, sameAlias, aliasOr}
+use Rattle.output.specs.Page.{Page, Puts}
+use Rattle.words.specs.Words.{Roomy}
+use Rattle.words.specs.Held.{Held, RecordAt, size}
+use Rattle.context.specs.Tables.{Op, opAt}
+use Rattle.lower.specs.Render.{Notes, Ops, render, Below, specRecs, KidsBelow}
+use Rattle.lower.specs.Shows.{Stored, shift}
+use Rattle.plan_sheet.specs.declared.op.OpWords.{OpWords}
+
+-- what is noted
+abbrev pub noted : List ℕ → Notes
+noted rest q = getD rest q 0
+
+-- the slices are long enough
+pub record Room (a b os rest : List ℕ) : Type 0 where
+  pub records : Roomy a b
+  pub in-ops : 16384 ≤ length os
+  pub in-rest : 16384 ≤ length rest
+
+-- A has the operators below n, as the tables show them
+pub record Planned (sheet : Bytes) (a b os rest : List ℕ) (n : ℕ) (A : Ops) : Type 0 where
+  pub few : n ≤ 2048
+  pub stored : (k : ℕ) → k < n → Stored sheet a b (noted rest) A k (opAt os k) (A k)
+
+-- the first record of an expression in the plan; n is what is noted at it
+unfoldable pub exprHead : ℕ → (k : Expr) → Fields (exprForms k) → Rec
+exprHead n (Expr.Over h) f = planned (PlanExpr.Over h) f
+exprHead n Expr.Var f = planned PlanExpr.Var (n, tt)
+exprHead n Expr.Map (m, _) = planned PlanExpr.Map (m, tt)
+exprHead n Expr.Call (func, (m, _)) = planned PlanExpr.Call (func, (m, tt))
+exprHead n Expr.PatternPredicate f = planned PlanExpr.Exists tt
+exprHead n Expr.ListPredicate (kind, (id, (pred, _))) = planned PlanExpr.ListPredicate (kind, (n, (pred, tt)))
+exprHead n Expr.Unresolved f = planned (PlanExpr.Over Same.Null) tt
+exprHead n Expr.Undesugared f = planned (PlanExpr.Over Same.Null) tt
+
+-- some expression begins at record i
+pub record ExprAt (sheet : Bytes) (a b : List ℕ) (i : ℕ) : Type 0 where
+  pub kind : Expr
+  pub fields : Fields (exprForms kind)
+  pub at : RecordAt sheet a b i expr kind fields
+
+-- the name of an item without an alias, by its expression's first record
+unfoldable pub nameBy : (k : Expr) → Fields (exprForms k) → Bytes
+nameBy (Expr.Over h) f = sameAlias h f
+nameBy Expr.Var (id, _) = bytes "_v" ++ decimal id
+nameBy Expr.Map f = bytes "_"
+nameBy Expr.Call (func, _) = func
+nameBy Expr.PatternPredicate f = bytes "_"
+nameBy Expr.ListPredicate f = bytes "_"
+nameBy Expr.Unresolved f = bytes "_"
+nameBy Expr.Undesugared f = bytes "_"
+
+-- an item begins at record i, with its expression behind it
+pub record ItemAt (sheet : Bytes) (a b : List ℕ) (i : ℕ) : Type 0 where
+  pub fields : Fields (forms projection tt)
+  pub at : RecordAt sheet a b i projection tt fields
+  pub expr : ExprAt sheet a b (i + 1)
+
+abbrev pub namedRec : Bytes → Rec
+namedRec alias = rec (inPlan planProjection) tt (alias, tt)
+
+abbrev pub itemName : {sheet : Bytes} {a b : List ℕ} {i : ℕ} → ItemAt sheet a b i → Bytes
+itemName h = aliasOr (h .fields .0) (nameBy (h .expr .kind) (h .expr .fields))
+
+-- the line that stands before an expression, and the record behind it
+pub data Line (sheet : Bytes) (a b : List ℕ) (i : ℕ) : Recs → ℕ → Type 0 where
+  bare : ExprAt sheet a b i → Line sheet a b i [] i
+  named : {f : Fields (forms entry tt)} → RecordAt sheet a b i entry tt f → Line sheet a b i (rec (inPlan planEntry) tt f ∷ []) (i + 1)
+  keyed : {f : Fields (forms orderItem tt)} → RecordAt sheet a b i orderItem tt f → Line sheet a b i (rec (inPlan orderKey) tt f ∷ []) (i + 1)
+  aliased : (h : ItemAt sheet a b i) → Line sheet a b i (namedRec (itemName h) ∷ []) (i + 1)
+
+pub record SomeLine (sheet : Bytes) (a b : List ℕ) (i : ℕ) : Type 0 where
+  pub recs : Recs
+  pub behind : ℕ
+  pub line : Line sheet a b i recs behind
+
+-- one expression
+pub record One (sheet : Bytes) (a b os rest : List ℕ) (below base left i : ℕ) : Type 0 where
+  pub ops : Ops
+  pub planned : Planned sheet a b os rest below ops
+  pub tree : Tree expr
+  pub held : Held sheet a b tree left i
+  pub under : Below (shift (noted rest) base) below tree
+
+abbrev pub oneText : {sheet : Bytes} {a b os rest : List ℕ} {below base left i : ℕ} → One sheet a b os rest below base left i → Bytes
+oneText {rest = rest} {base = base} h = spellRecs (render (shift (noted rest) base) (h .ops) (h .tree))
+
+-- n expressions one after another, from record i on
+pub data Carried (sheet : Bytes) (a b : List ℕ) (N : Notes) (below left : ℕ) : ℕ → ℕ → Type 0 where
+  none : {i : ℕ} → Carried sheet a b N below left zero i
+  more : {n i : ℕ} (recs : Recs) (j : ℕ) → Line sheet a b i recs j → (t : Tree expr) → Held sheet a b t left j → Below N below t → Carried sheet a b N below left n (j + size t) → Carried sheet a b N below left (suc n) i
+
+unfoldable pub carriedRecs : {sheet : Bytes} {a b : List ℕ} {N : Notes} {below left n i : ℕ} → Ops → Carried sheet a b N below left n i → Recs
+carriedRecs A none = []
+carriedRecs {N = N} A (more recs j l t h u c) = recs ++ (render N A t ++ carriedRecs A c)
+
+unfoldable pub carriedEnd : {sheet : Bytes} {a b : List ℕ} {N : Notes} {below left n i : ℕ} → Carried sheet a b N below left n i → ℕ
+carriedEnd {i = i} none = i
+carriedEnd (more recs j l t h u c) = carriedEnd c
+
+pub record Many (sheet : Bytes) (a b os rest : List ℕ) (below base left n i : ℕ) : Type 0 where
+  pub ops : Ops
+  pub planned : Planned sheet a b os rest below ops
+  pub list : Carried sheet a b (shift (noted rest) base) below left n i
+
+abbrev pub manyText : {sheet : Bytes} {a b os rest : List ℕ} {below base left n i : ℕ} → Many sheet a b os rest below base left n i → Bytes
+manyText h = spellRecs (carriedRecs (h .ops) (h .list))
+
+-- n names one after another, from record i on
+pub data Names (sheet : Bytes) (a b : List ℕ) : ℕ → ℕ → Type 0 where
+  no-names : {i : ℕ} → Names sheet a b zero i
+  name-more : {n i : ℕ} (f : Fields (forms name tt)) → RecordAt sheet a b i name tt f → Names sheet a b n (i + 1) → Names sheet a b (suc n) i
+
+unfoldable pub namesRecs : {sheet : Bytes} {a b : List ℕ} {n i : ℕ} → Names sheet a b n i → Recs
+namesRecs no-names = []
+namesRecs (name-more f h c) = rec name tt f ∷ namesRecs c
+
+-- an element of a pattern, without its variable and its span
+pub record Element (sheet : Bytes) (a b os rest : List ℕ) (below base left i : ℕ) : Type 0 where
+  pub ops : Ops
+  pub planned : Planned sheet a b os rest below ops
+  pub tree : Tree patternElement
+  pub held : Held sheet a b tree left i
+  pub under : KidsBelow (shift (noted rest) base) below tree
+
+abbrev pub elementText : {sheet : Bytes} {a b os rest : List ℕ} {below base left i : ℕ} → Element sheet a b os rest below base left i → Bytes
+elementText {rest = rest} {base = base} h = spellRecs (specRecs (shift (noted rest) base) (h .ops) (h .tree))
+
+pub record ElementAt (sheet : Bytes) (a b : List ℕ) (i : ℕ) : Type 0 where
+  pub kind : PatternElement
+  pub fields : Fields (elementForms kind)
+  pub at : RecordAt sheet a b i patternElement kind fields
+
+-- operators that can be written
+pub record SomePlan (sheet : Bytes) (a b os rest : List ℕ) (n : ℕ) : Type 0 where
+  pub ops : Ops
+  pub planned : Planned sheet a b os rest n ops
+
+-- an operator's words
+abbrev pub wordsOf : OpWords → Op
+wordsOf w = record { kind = w .kind; idx = w .idx; input = w .input; x = w .x; y = w .y; left = w .left; base = w .base }
+
+-- what an operator of such words comes to
+pub record OpShown (sheet : Bytes) (a b rest : List ℕ) (o : Op) : Type 0 where
+  pub ops : Ops
+  pub number : ℕ
+  pub recs : Recs
+  pub stored : Stored sheet a b (noted rest) ops number o recs
+
+-- its first line is written
+abbrev pub WroteFirst : (sheet : Bytes) (a b rest : List ℕ) → Op → Page → Page → Type 0
+WroteFirst sheet a b rest o p q = (h : OpShown sheet a b rest o) → Puts (spellRecs (take 1 (h .recs))) p q
+
+-- ── what the writers promise ──
+
+abbrev pub WroteOne : (sheet : Bytes) (a b os rest : List ℕ) (below base left i : ℕ) → Page → ℕ → Page → Type 0
+WroteOne sheet a b os rest below base left i p next q = (h : One sheet a b os rest below base left i) → (next ≡ i + size (h .tree)) × Puts (oneText h) p q
+
+abbrev pub WroteMany : (sheet : Bytes) (a b os rest : List ℕ) (below base left n i : ℕ) → Page → ℕ → Page → Type 0
+WroteMany sheet a b os rest below base left n i p next q = (h : Many sheet a b os rest below base left n i) → (next ≡ carriedEnd (h .list)) × Puts (manyText h) p q
+
+abbrev pub WroteLine : (sheet : Bytes) (a b : List ℕ) (i : ℕ) → Page → ℕ → Page → Type 0
+WroteLine sheet a b i p next q = (recs : Recs) (j : ℕ) → Line sheet a b i recs j → (next ≡ j) × Puts (spellRecs recs) p q
+
+abbrev pub WroteElement : (sheet : Bytes) (a b os rest : List ℕ) (below base left i : ℕ) → Page → Page → Type 0
+WroteElement sheet a b os rest below base left i p q = (h : Element sheet a b os rest below base left i) → Puts (elementText h) p q
+
+abbrev pub WroteOp : (sheet : Bytes) (a b os rest : List ℕ) (k : ℕ) → Page → Page → Type 0
+WroteOp sheet a b os rest k p q = (A : Ops) → Planned sheet a b os rest (k + 1) A → Puts (spellRecs (A k)) p q

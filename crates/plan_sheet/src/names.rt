@@ -1,0 +1,91 @@
+// Names one after another, and the line of a pattern's element.
+ghost use mathlib.Core.Path.{_≡_};
+ghost use mathlib.Core.List.{[], _∷_};
+ghost use Prim.Native.Nat.{_+_, _<_, _≤_};
+ghost use lib.ListN.{length};
+ghost use lib.Seq.{slice};
+ghost use Rattle.model.specs.Record.{spellRec, spellRecs};
+ghost use Rattle.output.specs.Page.{on, Puts};
+ghost use Rattle.words.specs.Words.{Roomy, cell};
+ghost use Rattle.lower.specs.Render.{specRec};
+ghost use Rattle.plan_sheet.specs.Due.{Names, namesRecs, ElementAt};
+ghost use Rattle.plan_sheet.specs.Row.{rowText, relText};
+use crate::head::Wrote;
+use output::Out;
+
+// The n names from record i on.
+pub fn put_names(
+    plan: &mut [u8],
+    out: Out,
+    sheet: &[u8],
+    a: &[u32],
+    b: &[u32],
+    i: usize,
+    n: usize,
+) -> Wrote
+    requires { ⌜ Roomy (now a) (now b) ⌝ }
+    requires { ⌜ Names (now sheet) (now a) (now b) n i ⌝ }
+    ensures { λ r. ⌜ ((h : Names (now (sheet .entry)) (now (a .entry)) (now (b .entry)) n i) → (r .next ≡ i + n) × Puts (spellRecs (namesRecs h)) (on (now (plan .entry)) out) (on (now (plan .exit)) (r .out))) ⌝ }
+{
+    let mut at = i;
+    let mut left = n;
+    let mut o = out;
+    while left != 0 {
+        o = crate::field::put_line(plan, o, sheet, a, b, at, 14, 44);
+        at += 1;
+        left -= 1;
+    }
+    Wrote { next: at, out: o }
+}
+
+// A rel without its variable and its span.
+fn put_rel(plan: &mut [u8], out: Out, sheet: &[u8], a: &[u32], b: &[u32], i: usize) -> Out
+    requires { ⌜ Roomy (now a) (now b) ⌝ }
+    requires { ⌜ i < 2048 ⌝ }
+    requires { ⌜ (cell (now a) (now b) i 8 ≤ cell (now a) (now b) i 9) × (cell (now a) (now b) i 9 ≤ length (now sheet)) ⌝ }
+    ensures { λ r. ⌜ Puts (relText (cell (now (a .entry)) (now (b .entry)) i 4) (cell (now (a .entry)) (now (b .entry)) i 6) (slice (cell (now (a .entry)) (now (b .entry)) i 8) (cell (now (a .entry)) (now (b .entry)) i 9) (now (sheet .entry))) (cell (now (a .entry)) (now (b .entry)) i 10)) (on (now (plan .entry)) out) (on (now (plan .exit)) r) ⌝ }
+{
+    let types = words::word(a, b, i, 4);
+    let direction = words::word(a, b, i, 6);
+    let s = words::word(a, b, i, 8);
+    let e = words::word(a, b, i, 9);
+    let props = words::word(a, b, i, 10);
+    let o = crate::keyword::put_keyword(plan, out, 37);
+    let p = crate::field::put_number(plan, o, types);
+    let q = crate::field::put_number(plan, p, direction);
+    let r = crate::field::put_text(plan, q, sheet, s, e);
+    let t = crate::field::put_number(plan, r, props);
+    output::put_byte(plan, t, 10)
+}
+
+// A node without its variable and its span.
+fn put_node(plan: &mut [u8], out: Out, a: &[u32], b: &[u32], i: usize) -> Out
+    requires { ⌜ Roomy (now a) (now b) ⌝ }
+    requires { ⌜ i < 2048 ⌝ }
+    ensures { λ r. ⌜ Puts (rowText 38 (cell (now (a .entry)) (now (b .entry)) i 4 ∷ cell (now (a .entry)) (now (b .entry)) i 6 ∷ [])) (on (now (plan .entry)) out) (on (now (plan .exit)) r) ⌝ }
+{
+    let labels = words::word(a, b, i, 4);
+    let props = words::word(a, b, i, 6);
+    crate::row::put_row(plan, out, 38, 2, labels, props, 0, 0, 0)
+}
+
+// The element at record i, a node if it is of kind 12.
+pub fn put_element(
+    plan: &mut [u8],
+    out: Out,
+    sheet: &[u8],
+    a: &[u32],
+    b: &[u32],
+    i: usize,
+    kind: u32,
+) -> Out
+    requires { ⌜ Roomy (now a) (now b) ⌝ }
+    requires { ⌜ ElementAt (now sheet) (now a) (now b) i ⌝ }
+    requires { ⌜ kind ≡ cell (now a) (now b) i 0 ⌝ }
+    ensures { λ r. ⌜ ((h : ElementAt (now (sheet .entry)) (now (a .entry)) (now (b .entry)) i) → Puts (spellRec (specRec (h .kind) (h .fields))) (on (now (plan .entry)) out) (on (now (plan .exit)) r)) ⌝ }
+{
+    if kind == 12 {
+        return put_node(plan, out, a, b, i);
+    }
+    put_rel(plan, out, sheet, a, b, i)
+}

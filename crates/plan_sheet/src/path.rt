@@ -1,0 +1,100 @@
+// The numbers of a path: every node's, and a rel's where a node stands before it and the next element is a node.
+ghost use Prim.Native.Nat.{_+_, _<_, _≤_};
+ghost use lib.ListN.{length};
+ghost use Rattle.model.specs.Record.{spellRecs};
+ghost use Rattle.model.specs.Lower.{pathElements};
+ghost use Rattle.output.specs.Page.{on, Puts};
+ghost use Rattle.words.specs.Words.{Roomy};
+ghost use Rattle.lower.specs.Render.{keptRel};
+ghost use Rattle.lower.specs.Shows.{shift};
+ghost use Rattle.plan_sheet.specs.Due.{noted};
+ghost use Rattle.plan_sheet.specs.Path.{waitsOf, Stepped, Elements, WrotePath};
+use output::Out;
+
+// So far: whether there was a node, the line of the rel that waits for its far node (0 for none), and the cursor.
+pub struct Path {
+    pub seen: bool,
+    pub waits: usize,
+    pub out: Out,
+}
+
+// The number of the rel that waits, if it is kept.
+fn put_kept(plan: &mut [u8], out: Out, rest: &[u32], base: usize, seen: bool, waits: usize) -> Out
+    requires { ⌜ (16384 ≤ length (now rest)) × (base ≤ 2048) × (waits ≤ 2048) ⌝ }
+    ensures { λ r. ⌜ Puts (spellRecs (pathElements (keptRel (shift (noted (now (rest .entry))) base) seen (waitsOf waits)))) (on (now (plan .entry)) out) (on (now (plan .exit)) r) ⌝ }
+{
+    if waits == 0 {
+        return out;
+    }
+    if seen {
+        let n = crate::head::note(rest, base + waits);
+        return crate::row::put_row(plan, out, 42, 1, n, 0, 0, 0, 0);
+    }
+    out
+}
+
+// The element at record i, a node if it is of kind 12.
+fn put_step(
+    plan: &mut [u8],
+    out: Out,
+    rest: &[u32],
+    base: usize,
+    i: usize,
+    kind: u32,
+    seen: bool,
+    waits: usize,
+) -> Path
+    requires { ⌜ (16384 ≤ length (now rest)) × (base ≤ 2048) × (waits ≤ 2048) × (i < 2048) ⌝ }
+    ensures { λ r. ⌜ Stepped (now (rest .entry)) base i kind seen waits (on (now (plan .entry)) out) (on (now (plan .exit)) (r .out)) (r .seen) (r .waits) ⌝ }
+{
+    let line = i + 1;
+    if kind == 12 {
+        let o = put_kept(plan, out, rest, base, seen, waits);
+        let n = crate::head::note(rest, base + line);
+        let p = crate::row::put_row(plan, o, 42, 1, n, 0, 0, 0, 0);
+        return Path {
+            seen: true,
+            waits: 0,
+            out: p,
+        };
+    }
+    Path {
+        seen,
+        waits: line,
+        out,
+    }
+}
+
+// The n elements from record i on.
+pub fn put_path(
+    plan: &mut [u8],
+    out: Out,
+    sheet: &[u8],
+    a: &[u32],
+    b: &[u32],
+    rest: &[u32],
+    base: usize,
+    i: usize,
+    n: usize,
+) -> Out
+    requires { ⌜ Roomy (now a) (now b) ⌝ }
+    requires { ⌜ (16384 ≤ length (now rest)) × (base ≤ 2048) ⌝ }
+    requires { ⌜ Elements (now sheet) (now a) (now b) n i ⌝ }
+    ensures { λ r. ⌜ WrotePath (now (sheet .entry)) (now (a .entry)) (now (b .entry)) (now (rest .entry)) base n i (on (now (plan .entry)) out) (on (now (plan .exit)) r) ⌝ }
+{
+    let mut at = i;
+    let mut due = n;
+    let mut seen = false;
+    let mut waits = 0;
+    let mut o = out;
+    while due != 0 {
+        let kind = words::word(a, b, at, 0);
+        let p = put_step(plan, o, rest, base, at, kind, seen, waits);
+        at = lower::records::skip(a, b, at);
+        o = p.out;
+        seen = p.seen;
+        waits = p.waits;
+        due -= 1;
+    }
+    o
+}
