@@ -2,3 +2,4 @@ pub mod Answer
 pub mod Sizing
 pub mod Lowering
 pub mod Fits
+pub mod Tables

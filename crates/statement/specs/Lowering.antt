@@ -13,7 +13,7 @@ use Rattle.model.specs.Check.{Verdict, fine, violated, precheckStatement}
 use Rattle.model.specs.Lower.{LowerCtx, lowerStatement}
 use Rattle.model.specs.Plan.{planSheet}
 use Rattle.model.specs.Call.{Test, refuse, pass, then, short, testCheck, testPlan, checked, planned, plainRefusal, lineRefusal, Outcome, outcome, written, lowerCall, maxBytes, maxDepth, maxPlan}
-use Rattle.words.specs.Held.{Held}
+use Rattle.words.specs.Held.{Held, HeldSome}
 use Rattle.precheck.specs.Answer.{verdictOf, errorOf}
 use Rattle.precheck.specs.declared.Checked.{Checked}
 use Rattle.precheck.specs.declared.PlanLowerError.{PlanLowerError}
@@ -84,6 +84,10 @@ module _ (work : List ℕ) (sheet slice : Bytes) (e : short work ≡ false) wher
     pub lower-tree : (slice′ : Bytes) (a b : List ℕ) (r : Read) (n : ℕ) (x : Answer) → r ≡ Read.Records n → Reads sheet a b r → ((t : Tree statement) → Held sheet a b t 64 0 → Gives slice slice′ x (behind t)) → Gives slice slice′ x (planned maxDepth work sheet)
     unfolding planned then
     lower-tree slice′ a b r n x z q f = let d = rw z at q in rw (read-third work sheet e h, d .1) (f (d .0) (d .3))
+
+-- a statement is held
+pub held-here : (sheet : Bytes) (a b : List ℕ) (r : Read) (n : ℕ) → r ≡ Read.Records n → Reads sheet a b r → HeldSome sheet a b statement 64 0
+held-here sheet a b r n z q = let d = rw z at q in record { tree = d .0; is = d .3 }
 
 -- ── test 1 ──
 

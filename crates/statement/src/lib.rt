@@ -12,6 +12,9 @@ ghost use Rattle.model.specs.Call.{SizeCall, Sized, short, testCheck, recordCou
 ghost use Rattle.words.specs.Words.{Roomy};
 ghost use Rattle.words.specs.Held.{Held, HeldSome};
 ghost use Rattle.statement.specs.Answer.{answerOf, Long};
+
+pub mod lowering;
+
 use precheck::Checked;
 use precheck::PlanLowerError;
 use precheck::precheck_statement;
@@ -32,7 +35,7 @@ pub enum Answer {
 }
 
 // Each work slice has at least 16,384 words.
-fn long_enough(a: &[u32], b: &[u32], c: &[u32], d: &[u32]) -> bool
+pub fn long_enough(a: &[u32], b: &[u32], c: &[u32], d: &[u32]) -> bool
     ensures { λ r. ⌜ Long (now (a .entry)) (now (b .entry)) (now (c .entry)) (now (d .entry)) r ⌝ }
 {
     if a.len() < 16384 {

@@ -1,0 +1,52 @@
+// The lowering call on a sheet from standard input: prints the plan sheet, or one line that says how the sheet is refused.
+ghost use Prim.Native.Nat.{_≤_};
+ghost use lib.ListN.{length};
+use cases::answer::Values;
+use cases::answer::values_of;
+use cases::say::say_refusal;
+use libc::STDIN_FILENO;
+use libc::STDOUT_FILENO;
+use statement::lowering::lower_statement;
+
+// The call with four work slices and a plan slice, within which the length lies.
+fn lower(
+    sheet: &[u8],
+    a: &mut [u32],
+    b: &mut [u32],
+    c: &mut [u32],
+    d: &mut [u32],
+    plan: &mut [u8],
+) -> Values
+    ensures { λ r. ⌜ r .length ≤ length (now (plan .exit)) ⌝ }
+{
+    values_of(lower_statement(sheet, a, b, c, d, plan))
+}
+
+// A refusal, parted as a sheet's fields are.
+fn say_refused(v: Values) {
+    io::write_all(STDOUT_FILENO, b"refused");
+    say_refusal(b"\t", v);
+    io::write_all(STDOUT_FILENO, b"\n");
+}
+
+fn show(sheet: &[u8], a: &mut [u32], b: &mut [u32], c: &mut [u32], d: &mut [u32], plan: &mut [u8]) {
+    let v = lower(sheet, a, b, c, d, plan);
+    if v.number != 0 {
+        say_refused(v);
+        return;
+    }
+    let n = v.length;
+    io::write_all(STDOUT_FILENO, &plan[0..n]);
+}
+
+// The sheet's array has room for one byte more than a sheet may have, so that a longer one is refused however long it is.
+fn main() {
+    let mut sheet = [0u8; 32769];
+    let mut a = [0u32; 16384];
+    let mut b = [0u32; 16384];
+    let mut c = [0u32; 16384];
+    let mut d = [0u32; 16384];
+    let mut plan = [0u8; 65536];
+    let n = io::read_full(STDIN_FILENO, &mut sheet);
+    show(&sheet[0..n], &mut a, &mut b, &mut c, &mut d, &mut plan);
+}
