@@ -1,4 +1,4 @@
-// What the programs share: the texts of a list of cases, the values of an answer, and printing them.
+// What the programs share: the texts of a list of cases, and the values of an answer, also as text.
 pub mod answer;
-pub mod say;
+pub mod line;
 pub mod text;

@@ -3,7 +3,7 @@ ghost use Prim.Native.Nat.{_≤_};
 ghost use lib.ListN.{length};
 use cases::answer::Values;
 use cases::answer::values_of;
-use cases::say::say_refusal;
+use cases::line::write_refusal;
 use libc::STDIN_FILENO;
 use libc::STDOUT_FILENO;
 use statement::lowering::lower_statement;
@@ -22,17 +22,14 @@ fn lower(
     values_of(lower_statement(sheet, a, b, c, d, plan))
 }
 
-// A refusal, parted as a sheet's fields are.
-fn say_refused(v: Values) {
-    io::write_all(STDOUT_FILENO, b"refused");
-    say_refusal(b"\t", v);
-    io::write_all(STDOUT_FILENO, b"\n");
-}
-
+// The plan, or a refusal, parted as a sheet's fields are; a refusal leaves the plan's slice free for its line.
 fn show(sheet: &[u8], a: &mut [u32], b: &mut [u32], c: &mut [u32], d: &mut [u32], plan: &mut [u8]) {
     let v = lower(sheet, a, b, c, d, plan);
     if v.number != 0 {
-        say_refused(v);
+        let n = write_refusal(plan, b'\t', v);
+        io::write_all(STDOUT_FILENO, b"refused");
+        io::write_all(STDOUT_FILENO, &plan[0..n]);
+        io::write_all(STDOUT_FILENO, b"\n");
         return;
     }
     let n = v.length;

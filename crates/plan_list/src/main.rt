@@ -5,7 +5,7 @@ ghost use lib.ListN.{length};
 mod list;
 
 use cases::answer::values_of;
-use cases::say::say_values;
+use cases::line::write_values;
 use cases::text::build_sheet;
 use cases::text::next;
 use cases::text::put_times;
@@ -39,7 +39,9 @@ fn show(
 ) {
     let answer = lower_statement(sheet, a, b, c, d, plan);
     io::write_all(STDOUT_FILENO, label);
-    say_values(b" ", values_of(answer));
+    let mut line = [0u8; 160];
+    let n = write_values(&mut line, b' ', values_of(answer));
+    io::write_all(STDOUT_FILENO, &line[0..n]);
     io::write_all(STDOUT_FILENO, b"\n");
     say_slice(plan);
 }

@@ -24,14 +24,14 @@ use Rattle.words.specs.Cells.{shown}
 use Rattle.context.specs.Tables.{Op, opAt}
 use Rattle.lower.specs.Render.{Notes, Ops, render, renderOf, recsOver, Below, keptFrom}
 use Rattle.lower.specs.Shows.{shift, Shows, OverExpr, ByLabels, ByPath, ByWith, ByCall, shows-all, shows-source, shows-filter, shows-expand, shows-short, shows-path, shows-optional, shows-with, shows-project, shows-aggregate, shows-order, shows-skip, shows-limit, shows-distinct, shows-unwind, shows-union, shows-call}
-use Rattle.plan_sheet.specs.Keywords.{word, letters}
-use Rattle.plan_sheet.specs.Row.{namedText}
+use Rattle.plan_line.specs.Keywords.{word, letters}
+use Rattle.plan_line.specs.Row.{namedText}
 use Rattle.plan_sheet.specs.Due.{noted, Planned, Names, namesRecs, Carried, carriedRecs, carriedEnd, Many, WroteMany, WroteFirst}
 use Rattle.plan_sheet.specs.Path.{Elements, WrotePath}
 use Rattle.plan_sheet.specs.Behind.{manyBy, manyOf, firstBy, firstOf, Yields, no-yields, yield-more, yieldsRecs, WroteYields, Tail, SomeTail, WroteTail}
 use Rattle.plan_sheet.specs.Due
 use Rattle.plan_sheet.specs.Behind
-use Rattle.plan_sheet.proofs.RowLaws.{named-rec, place-escape}
+use Rattle.plan_line.proofs.RowLaws.{named-rec, place-escape}
 use Rattle.plan_sheet.proofs.HeadLaws.{texts-at}
 use Rattle.plan_sheet.proofs.DueLaws.{Made, exprs-made, keys-made, items-made, joined, spell-append}
 use Rattle.plan_sheet.proofs.NameLaws.{names-made}

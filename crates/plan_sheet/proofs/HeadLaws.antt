@@ -23,12 +23,12 @@ use Rattle.line.specs.TableLaws.{Row, tabled, kind-row, code-row}
 use Rattle.words.specs.Cells.{cells, part-cells, shown, numbered, number-of}
 use Rattle.lower.proofs.Counting.{inner-number, innerNumber}
 use Rattle.words.specs.Numbers.{sameNumber, exprNumber}
-use Rattle.plan_sheet.specs.Keywords.{word, letters}
-use Rattle.plan_sheet.specs.Field.{plain, allPlain, fieldsText, Fielded, lineText}
-use Rattle.plan_sheet.specs.Row.{rowText, namedText}
+use Rattle.plan_line.specs.Keywords.{word, letters}
+use Rattle.plan_line.specs.Field.{plain, allPlain, fieldsText, Fielded, lineText}
+use Rattle.plan_line.specs.Row.{rowText, namedText}
 use Rattle.plan_sheet.specs.Due.{exprHead, ExprAt, ItemAt, namedRec, itemName, Line}
-use Rattle.plan_sheet.proofs.FieldLaws.{flag-decimal}
-use Rattle.plan_sheet.proofs.RowLaws.{record-line, row-rec, named-rec, place-escape}
+use Rattle.plan_line.proofs.FieldLaws.{flag-decimal}
+use Rattle.plan_line.proofs.RowLaws.{record-line, row-rec, named-rec, place-escape}
 
 -- ── a record by its row ──
 

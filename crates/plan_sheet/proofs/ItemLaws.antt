@@ -20,10 +20,10 @@ use Rattle.words.specs.Words.{Roomy, cell, kindOf, firstKind, nth, aliasOf, fie
 use Rattle.words.specs.Held.{RecordAt, PlaceAt}
 use Rattle.words.specs.Cells.{shown}
 use Rattle.words.specs.Numbers.{sameNumber, exprNumber}
-use Rattle.plan_sheet.specs.Keywords.{word, letters}
-use Rattle.plan_sheet.specs.Row.{numbersText, namedText}
+use Rattle.plan_line.specs.Keywords.{word, letters}
+use Rattle.plan_line.specs.Row.{numbersText, namedText}
 use Rattle.plan_sheet.specs.Due.{ExprAt, nameBy, ItemAt, namedRec, itemName}
-use Rattle.plan_sheet.proofs.RowLaws.{named-rec, place-escape}
+use Rattle.plan_line.proofs.RowLaws.{named-rec, place-escape}
 use Rattle.plan_sheet.proofs.HeadLaws.{at-kind, texts-at, number-is, kind-is, call-place}
 
 -- ── digits are not escaped ──

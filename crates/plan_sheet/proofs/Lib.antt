@@ -1,8 +1,3 @@
-pub mod KeywordLaws
-pub mod FieldLaws
-pub mod WordLaws
-pub mod SignedLaws
-pub mod RowLaws
 pub mod HeadLaws
 pub mod ItemLaws
 pub mod DueLaws
@@ -12,5 +7,4 @@ pub mod CycleLaws
 pub mod OpLaws
 pub mod BehindLaws
 pub mod PartedLaws
-pub mod WholeLaws
 pub mod PathLaws

@@ -21,12 +21,12 @@ use Rattle.words.specs.Cells.{shown}
 use Rattle.lower.specs.Render.{Notes, Ops, recsOver, render, renderOf, specRec}
 use Rattle.lower.proofs.Counting.{innerNumber, inner-number}
 use Rattle.words.specs.Numbers.{elementNumber}
-use Rattle.plan_sheet.specs.Keywords.{word, letters}
-use Rattle.plan_sheet.specs.Field.{plain, allPlain, fieldText, lineText}
-use Rattle.plan_sheet.specs.Row.{rowText, relText}
+use Rattle.plan_line.specs.Keywords.{word, letters}
+use Rattle.plan_line.specs.Field.{plain, allPlain, fieldText, lineText}
+use Rattle.plan_line.specs.Row.{rowText, relText}
 use Rattle.plan_sheet.specs.Due.{Names, no-names, name-more, namesRecs, ElementAt}
-use Rattle.plan_sheet.proofs.FieldLaws.{flag-decimal, behind-append, place-text}
-use Rattle.plan_sheet.proofs.RowLaws.{record-line, row-rec}
+use Rattle.plan_line.proofs.FieldLaws.{flag-decimal, behind-append, place-text}
+use Rattle.plan_line.proofs.RowLaws.{record-line, row-rec}
 use Rattle.plan_sheet.proofs.HeadLaws.{Lined, fielded, line-is, texts-at}
 
 -- ── names ──

@@ -24,11 +24,11 @@ use Rattle.words.specs.Cells.{shown}
 use Rattle.context.specs.Tables.{Op, opAt}
 use Rattle.lower.specs.Render.{Notes, Ops, specRecs}
 use Rattle.lower.specs.Shows.{shift, Sane, Shows, OverExpr, ByLabels, ByRel, ByShortest, ByPath, ByWith, ByItems, ByParted, ByKeys, ByCall, shows-all, shows-source, shows-filter, shows-expand, shows-short, shows-path, shows-optional, shows-with, shows-project, shows-aggregate, shows-order, shows-skip, shows-limit, shows-distinct, shows-unwind, shows-union, shows-call}
-use Rattle.plan_sheet.specs.Keywords.{word, letters}
-use Rattle.plan_sheet.specs.Row.{numbersText, rowText, callText}
+use Rattle.plan_line.specs.Keywords.{word, letters}
+use Rattle.plan_line.specs.Row.{numbersText, rowText, callText}
 use Rattle.plan_sheet.specs.Due.{noted, Planned, SomePlan, OpShown, WroteFirst, Element, WroteElement, WroteOp}
-use Rattle.plan_sheet.proofs.FieldLaws.{flag-decimal}
-use Rattle.plan_sheet.proofs.RowLaws.{record-line, row-rec, place-escape}
+use Rattle.plan_line.proofs.FieldLaws.{flag-decimal}
+use Rattle.plan_line.proofs.RowLaws.{record-line, row-rec, place-escape}
 use Rattle.plan_sheet.proofs.HeadLaws.{texts-at}
 use Rattle.plan_sheet.proofs.DueLaws.{planned-less, spell-append}
 use Rattle.plan_sheet.proofs.NameLaws.{names-made}

@@ -22,12 +22,12 @@ use Rattle.lower.specs.Render.{Notes, Ops, Below, BelowOf, belowIn, copiesBelow
 use Rattle.lower.specs.Shows.{shift}
 use Rattle.lower.specs.Count.{Ends}
 use Rattle.aggregate.specs.Names.{SomeExpr}
-use Rattle.plan_sheet.specs.Keywords.{word, letters}
-use Rattle.plan_sheet.specs.Row.{namedText}
+use Rattle.plan_line.specs.Keywords.{word, letters}
+use Rattle.plan_line.specs.Row.{namedText}
 use Rattle.plan_sheet.specs.Due.{noted, Planned, One, Carried, carriedRecs, carriedEnd, Many, WroteOne, WroteMany, WroteFirst}
 use Rattle.plan_sheet.specs.Parted.{partRecs, partsRecs, Items, WrotePart, WroteParts}
-use Rattle.plan_sheet.proofs.FieldLaws.{flag-decimal}
-use Rattle.plan_sheet.proofs.RowLaws.{named-rec, place-escape}
+use Rattle.plan_line.proofs.FieldLaws.{flag-decimal}
+use Rattle.plan_line.proofs.RowLaws.{named-rec, place-escape}
 use Rattle.plan_sheet.proofs.HeadLaws.{texts-at}
 use Rattle.plan_sheet.proofs.DueLaws.{Made, exprs-made, deeper, spell-append}
 use Rattle.plan_sheet.proofs.OpLaws.{of-kind, here, shown-at, planned-below, first-more}

@@ -21,11 +21,11 @@ use Rattle.lower.specs.Render.{Notes, keptRel, keptFrom}
 use Rattle.lower.specs.Shows.{shift}
 use Rattle.lower.specs.Count.{Starts, Ends}
 use Rattle.words.specs.Numbers.{elementNumber}
-use Rattle.plan_sheet.specs.Keywords.{word, letters}
-use Rattle.plan_sheet.specs.Row.{rowText}
+use Rattle.plan_line.specs.Keywords.{word, letters}
+use Rattle.plan_line.specs.Row.{rowText}
 use Rattle.plan_sheet.specs.Due.{noted, ElementAt}
 use Rattle.plan_sheet.specs.Path.{waitsOf, Stepped, Elements, WrotePath}
-use Rattle.plan_sheet.proofs.RowLaws.{row-rec}
+use Rattle.plan_line.proofs.RowLaws.{row-rec}
 use Rattle.plan_sheet.proofs.NameLaws.{element-number}
 
 -- ── a number ──

@@ -1,9 +1,4 @@
-pub mod Keywords
-pub mod Field
-pub mod Row
 pub mod Due
-pub mod Whole
 pub mod Path
 pub mod Behind
 pub mod Parted
-pub mod Promise

@@ -74,7 +74,7 @@ fn put_yields(
         let e = words::word(a, b, at, 3);
         at += 1;
         let number = crate::head::note(rest, base + at);
-        o = crate::row::put_named(plan, o, 45, sheet, s, e, 1, number, 0);
+        o = plan_line::row::put_named(plan, o, 45, sheet, s, e, 1, number, 0);
         left -= 1;
     }
     o

@@ -7,7 +7,7 @@ ghost use Rattle.model.specs.Field.{spellOption};
 ghost use Rattle.output.specs.Page.{on, Puts};
 ghost use Rattle.words.specs.Words.{Roomy, cell, optionOf};
 ghost use Rattle.plan_sheet.specs.Due.{wordsOf, OpShown, WroteFirst};
-ghost use Rattle.plan_sheet.specs.Row.{rowText, callText};
+ghost use Rattle.plan_line.specs.Row.{rowText, callText};
 use crate::op::OpWords;
 use output::Out;
 
@@ -19,7 +19,7 @@ fn put_with(plan: &mut [u8], out: Out, a: &[u32], b: &[u32], i: usize, input: u3
 {
     let items = words::word(a, b, i, 2);
     let filter = words::word(a, b, i, 4);
-    crate::row::put_row(plan, out, 31, 3, input, items, filter, 0, 0)
+    plan_line::row::put_row(plan, out, 31, 3, input, items, filter, 0, 0)
 }
 
 // A `return`: how many items it has.
@@ -29,7 +29,7 @@ fn put_project(plan: &mut [u8], out: Out, a: &[u32], b: &[u32], i: usize, input:
     ensures { λ r. ⌜ Puts (rowText 23 (input ∷ cell (now (a .entry)) (now (b .entry)) i 2 ∷ [])) (on (now (plan .entry)) out) (on (now (plan .exit)) r) ⌝ }
 {
     let items = words::word(a, b, i, 2);
-    crate::row::put_row(plan, out, 23, 2, input, items, 0, 0, 0)
+    plan_line::row::put_row(plan, out, 23, 2, input, items, 0, 0, 0)
 }
 
 // The input of a procedure, or that it has none.
@@ -40,7 +40,7 @@ fn put_input(plan: &mut [u8], out: Out, there: u32, input: u32) -> Out
         let o = output::put_byte(plan, out, 9);
         return output::put_byte(plan, o, 45);
     }
-    crate::field::put_number(plan, out, input)
+    plan_line::field::put_number(plan, out, input)
 }
 
 // A `call`: its input, its procedure's name, and the numbers of arguments and yields.
@@ -64,10 +64,10 @@ fn put_procedure(
     let args = words::word(a, b, i, 4);
     let yields = words::word(a, b, i, 6);
     let optional = words::word(a, b, i, 8);
-    let o = crate::keyword::put_keyword(plan, out, 35);
+    let o = plan_line::keyword::put_keyword(plan, out, 35);
     let p = put_input(plan, o, there, input);
-    let q = crate::field::put_text(plan, p, sheet, s, e);
-    let r = crate::row::put_numbers(plan, q, 3, args, yields, optional, 0, 0);
+    let q = plan_line::field::put_text(plan, p, sheet, s, e);
+    let r = plan_line::row::put_numbers(plan, q, 3, args, yields, optional, 0, 0);
     output::put_byte(plan, r, 10)
 }
 
@@ -90,16 +90,16 @@ pub fn put_clause_op(
     let idx = w.idx;
     let input = w.input;
     match kind {
-        6 => crate::row::put_row(plan, out, 32, 1, input, 0, 0, 0, 0),
+        6 => plan_line::row::put_row(plan, out, 32, 1, input, 0, 0, 0, 0),
         7 => put_with(plan, out, a, b, idx, input),
         8 => put_project(plan, out, a, b, idx, input),
-        9 => crate::row::put_row(plan, out, 24, 3, input, w.x, w.y, 0, 0),
-        10 => crate::row::put_row(plan, out, 25, 2, input, w.x, 0, 0, 0),
-        11 => crate::row::put_row(plan, out, 26, 1, input, 0, 0, 0, 0),
-        12 => crate::row::put_row(plan, out, 27, 1, input, 0, 0, 0, 0),
-        13 => crate::row::put_row(plan, out, 28, 1, input, 0, 0, 0, 0),
-        14 => crate::row::put_row(plan, out, 29, 2, input, w.x, 0, 0, 0),
-        15 => crate::row::put_row(plan, out, 30, 3, input, w.x, w.y, 0, 0),
+        9 => plan_line::row::put_row(plan, out, 24, 3, input, w.x, w.y, 0, 0),
+        10 => plan_line::row::put_row(plan, out, 25, 2, input, w.x, 0, 0, 0),
+        11 => plan_line::row::put_row(plan, out, 26, 1, input, 0, 0, 0, 0),
+        12 => plan_line::row::put_row(plan, out, 27, 1, input, 0, 0, 0, 0),
+        13 => plan_line::row::put_row(plan, out, 28, 1, input, 0, 0, 0, 0),
+        14 => plan_line::row::put_row(plan, out, 29, 2, input, w.x, 0, 0, 0),
+        15 => plan_line::row::put_row(plan, out, 30, 3, input, w.x, w.y, 0, 0),
         _ => put_procedure(plan, out, sheet, a, b, idx, w.x, input),
     }
 }

@@ -7,7 +7,7 @@ ghost use lib.Seq.{slice};
 ghost use Rattle.model.specs.Record.{spellRec};
 ghost use Rattle.output.specs.Page.{on, Puts};
 ghost use Rattle.words.specs.Words.{Roomy, cell};
-ghost use Rattle.plan_sheet.specs.Row.{rowText, namedText};
+ghost use Rattle.plan_line.specs.Row.{rowText, namedText};
 ghost use Rattle.plan_sheet.specs.Due.{exprHead, ExprAt, SomeLine, WroteLine};
 use output::Out;
 
@@ -35,7 +35,7 @@ fn put_call(plan: &mut [u8], out: Out, sheet: &[u8], a: &[u32], b: &[u32], i: us
     let s = words::word(a, b, i, 2);
     let e = words::word(a, b, i, 3);
     let n = words::word(a, b, i, 4);
-    crate::row::put_named(plan, out, 17, sheet, s, e, 1, n, 0)
+    plan_line::row::put_named(plan, out, 17, sheet, s, e, 1, n, 0)
 }
 
 // A list predicate, whose variable has the number n.
@@ -46,7 +46,7 @@ fn put_any(plan: &mut [u8], out: Out, a: &[u32], b: &[u32], i: usize, n: u32) ->
 {
     let x = words::word(a, b, i, 2);
     let z = words::word(a, b, i, 6);
-    crate::row::put_row(plan, out, 19, 3, x, n, z, 0, 0)
+    plan_line::row::put_row(plan, out, 19, 3, x, n, z, 0, 0)
 }
 
 // The first line of the expression at record i, at which the number n is noted.
@@ -66,16 +66,16 @@ pub fn put_expr(
     ensures { λ r. ⌜ ((h : ExprAt (now (sheet .entry)) (now (a .entry)) (now (b .entry)) i) → Puts (spellRec (exprHead n (h .kind) (h .fields))) (on (now (plan .entry)) out) (on (now (plan .exit)) r)) ⌝ }
 {
     match kind {
-        32 => crate::row::put_row(plan, out, 15, 1, n, 0, 0, 0, 0),
-        33 => crate::field::put_line(plan, out, sheet, a, b, i, 33, 16),
+        32 => plan_line::row::put_row(plan, out, 15, 1, n, 0, 0, 0, 0),
+        33 => plan_line::field::put_line(plan, out, sheet, a, b, i, 33, 16),
         34 => put_call(plan, out, sheet, a, b, i),
-        35 => crate::row::put_row(plan, out, 18, 0, 0, 0, 0, 0, 0),
+        35 => plan_line::row::put_row(plan, out, 18, 0, 0, 0, 0, 0, 0),
         36 => put_any(plan, out, a, b, i, n),
-        37 => crate::row::put_row(plan, out, 0, 0, 0, 0, 0, 0, 0),
-        38 => crate::row::put_row(plan, out, 0, 0, 0, 0, 0, 0, 0),
+        37 => plan_line::row::put_row(plan, out, 0, 0, 0, 0, 0, 0, 0),
+        38 => plan_line::row::put_row(plan, out, 0, 0, 0, 0, 0, 0, 0),
         _ => {
             let k = kind as usize;
-            crate::field::put_line(plan, out, sheet, a, b, i, k, k - 17)
+            plan_line::field::put_line(plan, out, sheet, a, b, i, k, k - 17)
         }
     }
 }
@@ -90,12 +90,12 @@ pub fn put_before(plan: &mut [u8], out: Out, sheet: &[u8], a: &[u32], b: &[u32],
     match kind {
         16 => {
             let next = i + 1;
-            let o = crate::field::put_line(plan, out, sheet, a, b, i, 16, 44);
+            let o = plan_line::field::put_line(plan, out, sheet, a, b, i, 16, 44);
             Wrote { next, out: o }
         }
         10 => {
             let next = i + 1;
-            let o = crate::field::put_line(plan, out, sheet, a, b, i, 10, 41);
+            let o = plan_line::field::put_line(plan, out, sheet, a, b, i, 10, 41);
             Wrote { next, out: o }
         }
         9 => {

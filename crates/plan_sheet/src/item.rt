@@ -7,7 +7,7 @@ ghost use Rattle.model.specs.Text.{decimal};
 ghost use Rattle.model.specs.Record.{spellRec};
 ghost use Rattle.output.specs.Page.{on, Puts};
 ghost use Rattle.words.specs.Words.{Roomy, cell};
-ghost use Rattle.plan_sheet.specs.Row.{namedText};
+ghost use Rattle.plan_line.specs.Row.{namedText};
 ghost use Rattle.plan_sheet.specs.Due.{ExprAt, nameBy, ItemAt, namedRec, itemName};
 use output::Out;
 
@@ -20,14 +20,14 @@ fn put_own_name(plan: &mut [u8], out: Out, sheet: &[u8], a: &[u32], b: &[u32], i
 {
     let s = words::word(a, b, i, 2);
     let e = words::word(a, b, i, 3);
-    crate::row::put_named(plan, out, 39, sheet, s, e, 0, 0, 0)
+    plan_line::row::put_named(plan, out, 39, sheet, s, e, 0, 0, 0)
 }
 
 // `_v` and a variable's id.
 fn put_id_name(plan: &mut [u8], out: Out, id: u32) -> Out
     ensures { λ r. ⌜ Puts (namedText 39 (95 ∷ 118 ∷ decimal id) []) (on (now (plan .entry)) out) (on (now (plan .exit)) r) ⌝ }
 {
-    let o = crate::keyword::put_keyword(plan, out, 39);
+    let o = plan_line::keyword::put_keyword(plan, out, 39);
     let p = output::put_byte(plan, o, 9);
     let q = output::put_byte(plan, p, 95);
     let r = output::put_byte(plan, q, 118);
@@ -39,7 +39,7 @@ fn put_id_name(plan: &mut [u8], out: Out, id: u32) -> Out
 fn put_no_name(plan: &mut [u8], out: Out) -> Out
     ensures { λ r. ⌜ Puts (namedText 39 (95 ∷ []) []) (on (now (plan .entry)) out) (on (now (plan .exit)) r) ⌝ }
 {
-    let o = crate::keyword::put_keyword(plan, out, 39);
+    let o = plan_line::keyword::put_keyword(plan, out, 39);
     let p = output::put_byte(plan, o, 9);
     let q = output::put_byte(plan, p, 95);
     output::put_byte(plan, q, 10)
@@ -85,5 +85,5 @@ pub fn put_agg(plan: &mut [u8], out: Out, sheet: &[u8], a: &[u32], b: &[u32], i:
     let e = words::word(a, b, i, 3);
     let args = words::word(a, b, i, 4);
     let distinct = words::word(a, b, i, 6);
-    crate::row::put_named(plan, out, 40, sheet, s, e, 2, args, distinct)
+    plan_line::row::put_named(plan, out, 40, sheet, s, e, 2, args, distinct)
 }

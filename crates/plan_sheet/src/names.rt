@@ -9,7 +9,7 @@ ghost use Rattle.output.specs.Page.{on, Puts};
 ghost use Rattle.words.specs.Words.{Roomy, cell};
 ghost use Rattle.lower.specs.Render.{specRec};
 ghost use Rattle.plan_sheet.specs.Due.{Names, namesRecs, ElementAt};
-ghost use Rattle.plan_sheet.specs.Row.{rowText, relText};
+ghost use Rattle.plan_line.specs.Row.{rowText, relText};
 use crate::head::Wrote;
 use output::Out;
 
@@ -31,7 +31,7 @@ pub fn put_names(
     let mut left = n;
     let mut o = out;
     while left != 0 {
-        o = crate::field::put_line(plan, o, sheet, a, b, at, 14, 44);
+        o = plan_line::field::put_line(plan, o, sheet, a, b, at, 14, 44);
         at += 1;
         left -= 1;
     }
@@ -50,11 +50,11 @@ fn put_rel(plan: &mut [u8], out: Out, sheet: &[u8], a: &[u32], b: &[u32], i: usi
     let s = words::word(a, b, i, 8);
     let e = words::word(a, b, i, 9);
     let props = words::word(a, b, i, 10);
-    let o = crate::keyword::put_keyword(plan, out, 37);
-    let p = crate::field::put_number(plan, o, types);
-    let q = crate::field::put_number(plan, p, direction);
-    let r = crate::field::put_text(plan, q, sheet, s, e);
-    let t = crate::field::put_number(plan, r, props);
+    let o = plan_line::keyword::put_keyword(plan, out, 37);
+    let p = plan_line::field::put_number(plan, o, types);
+    let q = plan_line::field::put_number(plan, p, direction);
+    let r = plan_line::field::put_text(plan, q, sheet, s, e);
+    let t = plan_line::field::put_number(plan, r, props);
     output::put_byte(plan, t, 10)
 }
 
@@ -66,7 +66,7 @@ fn put_node(plan: &mut [u8], out: Out, a: &[u32], b: &[u32], i: usize) -> Out
 {
     let labels = words::word(a, b, i, 4);
     let props = words::word(a, b, i, 6);
-    crate::row::put_row(plan, out, 38, 2, labels, props, 0, 0, 0)
+    plan_line::row::put_row(plan, out, 38, 2, labels, props, 0, 0, 0)
 }
 
 // The element at record i, a node if it is of kind 12.

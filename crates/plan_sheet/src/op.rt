@@ -10,7 +10,7 @@ ghost use Rattle.output.specs.Page.{on, Puts};
 ghost use Rattle.words.specs.Words.{Roomy, cell};
 ghost use Rattle.context.specs.Tables.{opAt};
 ghost use Rattle.plan_sheet.specs.Due.{wordsOf, OpShown, WroteFirst};
-ghost use Rattle.plan_sheet.specs.Row.{rowText};
+ghost use Rattle.plan_line.specs.Row.{rowText};
 use output::Out;
 
 // An operator's kind, record, input and two numbers, the depth left and the pass of its expressions.
@@ -83,7 +83,7 @@ fn put_expand(
 {
     let bind = crate::head::note(rest, rel);
     let to = crate::head::note(rest, far);
-    crate::row::put_row(plan, out, 21, 4, input, x, bind, to, 0)
+    plan_line::row::put_row(plan, out, 21, 4, input, x, bind, to, 0)
 }
 
 // Whether a word is 2: 0 or 1.
@@ -117,7 +117,7 @@ fn put_short(
     let to = crate::head::note(rest, base + y + 1);
     let path = crate::head::note(rest, base + i + 1);
     let all = is_two(words::word(a, b, i, 4));
-    crate::row::put_row(plan, out, 33, 5, input, from, to, path, all)
+    plan_line::row::put_row(plan, out, 33, 5, input, from, to, path, all)
 }
 
 // The first line of a source by labels.
@@ -127,7 +127,7 @@ fn put_source(plan: &mut [u8], out: Out, a: &[u32], b: &[u32], i: usize, x: u32)
     ensures { λ r. ⌜ Puts (rowText 20 (x ∷ cell (now (a .entry)) (now (b .entry)) i 4 ∷ [])) (on (now (plan .entry)) out) (on (now (plan .exit)) r) ⌝ }
 {
     let labels = words::word(a, b, i, 4);
-    crate::row::put_row(plan, out, 20, 2, x, labels, 0, 0, 0)
+    plan_line::row::put_row(plan, out, 20, 2, x, labels, 0, 0, 0)
 }
 
 // The first line of an operator: of a pattern's here, of a clause's there.
@@ -150,9 +150,9 @@ pub fn put_op(
     let input = w.input;
     let base = w.base;
     match kind {
-        0 => crate::row::put_row(plan, out, 20, 2, w.x, 0, 0, 0, 0),
+        0 => plan_line::row::put_row(plan, out, 20, 2, w.x, 0, 0, 0, 0),
         1 => put_source(plan, out, a, b, idx, w.x),
-        2 => crate::row::put_row(plan, out, 22, 1, input, 0, 0, 0, 0),
+        2 => plan_line::row::put_row(plan, out, 22, 1, input, 0, 0, 0, 0),
         3 => put_expand(
             plan,
             out,
@@ -163,7 +163,7 @@ pub fn put_op(
             base + w.y as usize + 1,
         ),
         4 => put_short(plan, out, a, b, rest, idx, input, w.y as usize, base),
-        5 => crate::row::put_row(plan, out, 34, 3, input, w.y, w.x, 0, 0),
+        5 => plan_line::row::put_row(plan, out, 34, 3, input, w.y, w.x, 0, 0),
         _ => crate::clause::put_clause_op(plan, out, sheet, a, b, rest, w),
     }
 }

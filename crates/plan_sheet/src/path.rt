@@ -28,7 +28,7 @@ fn put_kept(plan: &mut [u8], out: Out, rest: &[u32], base: usize, seen: bool, wa
     }
     if seen {
         let n = crate::head::note(rest, base + waits);
-        return crate::row::put_row(plan, out, 42, 1, n, 0, 0, 0, 0);
+        return plan_line::row::put_row(plan, out, 42, 1, n, 0, 0, 0, 0);
     }
     out
 }
@@ -51,7 +51,7 @@ fn put_step(
     if kind == 12 {
         let o = put_kept(plan, out, rest, base, seen, waits);
         let n = crate::head::note(rest, base + line);
-        let p = crate::row::put_row(plan, o, 42, 1, n, 0, 0, 0, 0);
+        let p = plan_line::row::put_row(plan, o, 42, 1, n, 0, 0, 0, 0);
         return Path {
             seen: true,
             waits: 0,

@@ -5,7 +5,7 @@ ghost use lib.ListN.{length};
 mod list;
 
 use cases::answer::values_of;
-use cases::say::say_values;
+use cases::line::write_values;
 use cases::text::build_sheet;
 use cases::text::next;
 use libc::STDOUT_FILENO;
@@ -16,7 +16,9 @@ use statement::size_statement;
 fn show(label: &[u8], sheet: &[u8], a: &mut [u32], b: &mut [u32], c: &mut [u32], d: &mut [u32]) {
     let answer = size_statement(sheet, a, b, c, d);
     io::write_all(STDOUT_FILENO, label);
-    say_values(b" ", values_of(answer));
+    let mut line = [0u8; 160];
+    let n = write_values(&mut line, b' ', values_of(answer));
+    io::write_all(STDOUT_FILENO, &line[0..n]);
     io::write_all(STDOUT_FILENO, b"\n");
 }
 

@@ -13,10 +13,10 @@ use Rattle.model.specs.Call
 use Rattle.words.specs.Held.{Held, HeldSome}
 use Rattle.lower.specs.Rep.{Mem, Written, Rep}
 use Rattle.clauses.specs.Statement.{LowersStatement}
-use Rattle.plan_sheet.specs.Promise.{tables-of}
-use Rattle.plan_sheet.specs.Whole.{Tables, SomeTables, WrotePlan}
-use Rattle.plan_sheet.specs.Whole
-use Rattle.plan_sheet.specs.declared.plan.Plan.{Plan}
+use Rattle.plan_writer.specs.Promise.{tables-of}
+use Rattle.plan_writer.specs.Whole.{Tables, SomeTables, WrotePlan}
+use Rattle.plan_writer.specs.Whole
+use Rattle.plan_writer.specs.declared.Plan.{Plan}
 use Rattle.statement.specs.declared.Answer.{Answer}
 use Rattle.statement.specs.Answer.{answerOf}
 use Rattle.statement.specs.Lowering.{Gives, too-many, too-far, wrote}

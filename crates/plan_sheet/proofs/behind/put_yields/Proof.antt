@@ -10,7 +10,7 @@ use Rattle.plan_sheet.proofs.behind.put_yields.Tie as tie
 use Rattle.plan_sheet.proofs.behind.put_yields.Reads as reads
 use Rattle.plan_sheet.proofs.behind.put_yields.Lts as lts
 use Rattle.plan_sheet.proofs.head.note.Reads as note-reads
-use Rattle.plan_sheet.proofs.row.put_named.Reads as put-named-reads
+use Rattle.plan_line.proofs.row.put_named.Reads as put-named-reads
 use Rattle.words.proofs.word.Reads as word-reads
 
 abbrev Inv-loop : tie.InvT-loop

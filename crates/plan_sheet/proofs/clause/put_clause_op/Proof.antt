@@ -13,7 +13,7 @@ use Rattle.plan_sheet.proofs.clause.put_clause_op.Lts as lts
 use Rattle.plan_sheet.proofs.clause.put_procedure.Reads as put-procedure-reads
 use Rattle.plan_sheet.proofs.clause.put_project.Reads as put-project-reads
 use Rattle.plan_sheet.proofs.clause.put_with.Reads as put-with-reads
-use Rattle.plan_sheet.proofs.row.put_row.Reads as put-row-reads
+use Rattle.plan_line.proofs.row.put_row.Reads as put-row-reads
 
 -- src/clause.rt:93:14
 put-row-requires : tie.Need-put-row-requires

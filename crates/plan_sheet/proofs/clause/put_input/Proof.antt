@@ -1,5 +1,5 @@
 -- `put_input` meets its contract. Assumes nothing.
-use Rattle.plan_sheet.proofs.RowLaws
+use Rattle.plan_line.proofs.RowLaws
 use Rattle.words.specs.Words.{optionOf}
 use Rattle.model.specs.Field.{spellOption}
 use Rattle.output.specs.Page.{on}
@@ -12,7 +12,7 @@ use Rattle.plan_sheet.proofs.clause.put_input.Tie as tie
 use Rattle.plan_sheet.proofs.clause.put_input.Reads as reads
 use Rattle.plan_sheet.proofs.clause.put_input.Lts as lts
 use Rattle.output.proofs.put_byte.Reads as put-byte-reads
-use Rattle.plan_sheet.proofs.field.put_number.Reads as put-number-reads
+use Rattle.plan_line.proofs.field.put_number.Reads as put-number-reads
 
 -- src/clause.rt:41:13
 put-byte-requires : tie.Need-put-byte-requires

@@ -1,5 +1,5 @@
 -- `put_procedure` meets its contract. Assumes nothing.
-use Rattle.plan_sheet.specs.Row.{callText}
+use Rattle.plan_line.specs.Row.{callText}
 use Rattle.output.specs.Page.{on}
 use Rattle.output.specs.Writes.{_⨾_, same}
 use mathlib.Core.Path.{_≡_, refl, sym, ap, _∙_}
@@ -11,9 +11,9 @@ use Rattle.plan_sheet.proofs.clause.put_procedure.Reads as reads
 use Rattle.plan_sheet.proofs.clause.put_procedure.Lts as lts
 use Rattle.output.proofs.put_byte.Reads as put-byte-reads
 use Rattle.plan_sheet.proofs.clause.put_input.Reads as put-input-reads
-use Rattle.plan_sheet.proofs.field.put_text.Reads as put-text-reads
-use Rattle.plan_sheet.proofs.keyword.put_keyword.Reads as put-keyword-reads
-use Rattle.plan_sheet.proofs.row.put_numbers.Reads as put-numbers-reads
+use Rattle.plan_line.proofs.field.put_text.Reads as put-text-reads
+use Rattle.plan_line.proofs.keyword.put_keyword.Reads as put-keyword-reads
+use Rattle.plan_line.proofs.row.put_numbers.Reads as put-numbers-reads
 use Rattle.words.proofs.word.Reads as word-reads
 
 -- src/clause.rt:63:9

@@ -8,7 +8,7 @@ use Rattle.plan_sheet.proofs.clause.put_project.Statement.{statement}
 use Rattle.plan_sheet.proofs.clause.put_project.Tie as tie
 use Rattle.plan_sheet.proofs.clause.put_project.Reads as reads
 use Rattle.plan_sheet.proofs.clause.put_project.Lts as lts
-use Rattle.plan_sheet.proofs.row.put_row.Reads as put-row-reads
+use Rattle.plan_line.proofs.row.put_row.Reads as put-row-reads
 use Rattle.words.proofs.word.Reads as word-reads
 
 -- src/clause.rt:32:9

@@ -8,7 +8,7 @@ use Rattle.plan_sheet.proofs.clause.put_with.Statement.{statement}
 use Rattle.plan_sheet.proofs.clause.put_with.Tie as tie
 use Rattle.plan_sheet.proofs.clause.put_with.Reads as reads
 use Rattle.plan_sheet.proofs.clause.put_with.Lts as lts
-use Rattle.plan_sheet.proofs.row.put_row.Reads as put-row-reads
+use Rattle.plan_line.proofs.row.put_row.Reads as put-row-reads
 use Rattle.words.proofs.word.Reads as word-reads
 
 -- src/clause.rt:21:9

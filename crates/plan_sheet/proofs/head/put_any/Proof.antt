@@ -4,7 +4,7 @@ use Rattle.plan_sheet.proofs.head.put_any.Statement.{statement}
 use Rattle.plan_sheet.proofs.head.put_any.Tie as tie
 use Rattle.plan_sheet.proofs.head.put_any.Reads as reads
 use Rattle.plan_sheet.proofs.head.put_any.Lts as lts
-use Rattle.plan_sheet.proofs.row.put_row.Reads as put-row-reads
+use Rattle.plan_line.proofs.row.put_row.Reads as put-row-reads
 use Rattle.words.proofs.word.Reads as word-reads
 
 -- src/head.rt:49:9

@@ -10,7 +10,7 @@ use Rattle.plan_sheet.proofs.head.put_before.Statement.{statement}
 use Rattle.plan_sheet.proofs.head.put_before.Tie as tie
 use Rattle.plan_sheet.proofs.head.put_before.Reads as reads
 use Rattle.plan_sheet.proofs.head.put_before.Lts as lts
-use Rattle.plan_sheet.proofs.field.put_line.Reads as put-line-reads
+use Rattle.plan_line.proofs.field.put_line.Reads as put-line-reads
 use Rattle.plan_sheet.proofs.item.put_item.Reads as put-item-reads
 use Rattle.words.proofs.word.Reads as word-reads
 

@@ -4,7 +4,7 @@ use Rattle.plan_sheet.proofs.head.put_call.Statement.{statement}
 use Rattle.plan_sheet.proofs.head.put_call.Tie as tie
 use Rattle.plan_sheet.proofs.head.put_call.Reads as reads
 use Rattle.plan_sheet.proofs.head.put_call.Lts as lts
-use Rattle.plan_sheet.proofs.row.put_named.Reads as put-named-reads
+use Rattle.plan_line.proofs.row.put_named.Reads as put-named-reads
 use Rattle.words.proofs.word.Reads as word-reads
 
 -- src/head.rt:37:9

@@ -7,10 +7,10 @@ use Rattle.plan_sheet.proofs.head.put_expr.Statement.{statement}
 use Rattle.plan_sheet.proofs.head.put_expr.Tie as tie
 use Rattle.plan_sheet.proofs.head.put_expr.Reads as reads
 use Rattle.plan_sheet.proofs.head.put_expr.Lts as lts
-use Rattle.plan_sheet.proofs.field.put_line.Reads as put-line-reads
+use Rattle.plan_line.proofs.field.put_line.Reads as put-line-reads
 use Rattle.plan_sheet.proofs.head.put_any.Reads as put-any-reads
 use Rattle.plan_sheet.proofs.head.put_call.Reads as put-call-reads
-use Rattle.plan_sheet.proofs.row.put_row.Reads as put-row-reads
+use Rattle.plan_line.proofs.row.put_row.Reads as put-row-reads
 
 -- src/head.rt:62:15
 put-row-requires : tie.Need-put-row-requires

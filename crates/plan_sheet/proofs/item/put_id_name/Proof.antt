@@ -12,7 +12,7 @@ use Rattle.plan_sheet.proofs.item.put_id_name.Reads as reads
 use Rattle.plan_sheet.proofs.item.put_id_name.Lts as lts
 use Rattle.output.proofs.put_byte.Reads as put-byte-reads
 use Rattle.output.proofs.put_decimal.Reads as put-decimal-reads
-use Rattle.plan_sheet.proofs.keyword.put_keyword.Reads as put-keyword-reads
+use Rattle.plan_line.proofs.keyword.put_keyword.Reads as put-keyword-reads
 
 -- src/item.rt:31:9
 put-keyword-requires : tie.Need-put-keyword-requires

@@ -11,7 +11,7 @@ use Rattle.plan_sheet.proofs.item.put_no_name.Tie as tie
 use Rattle.plan_sheet.proofs.item.put_no_name.Reads as reads
 use Rattle.plan_sheet.proofs.item.put_no_name.Lts as lts
 use Rattle.output.proofs.put_byte.Reads as put-byte-reads
-use Rattle.plan_sheet.proofs.keyword.put_keyword.Reads as put-keyword-reads
+use Rattle.plan_line.proofs.keyword.put_keyword.Reads as put-keyword-reads
 
 -- src/item.rt:43:9
 put-keyword-requires : tie.Need-put-keyword-requires

@@ -8,7 +8,7 @@ use Rattle.plan_sheet.proofs.item.put_own_name.Statement.{statement}
 use Rattle.plan_sheet.proofs.item.put_own_name.Tie as tie
 use Rattle.plan_sheet.proofs.item.put_own_name.Reads as reads
 use Rattle.plan_sheet.proofs.item.put_own_name.Lts as lts
-use Rattle.plan_sheet.proofs.row.put_named.Reads as put-named-reads
+use Rattle.plan_line.proofs.row.put_named.Reads as put-named-reads
 use Rattle.words.proofs.word.Reads as word-reads
 
 -- src/item.rt:22:9

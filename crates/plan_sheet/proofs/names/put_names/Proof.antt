@@ -9,7 +9,7 @@ use Rattle.plan_sheet.proofs.names.put_names.Statement.{statement}
 use Rattle.plan_sheet.proofs.names.put_names.Tie as tie
 use Rattle.plan_sheet.proofs.names.put_names.Reads as reads
 use Rattle.plan_sheet.proofs.names.put_names.Lts as lts
-use Rattle.plan_sheet.proofs.field.put_line.Reads as put-line-reads
+use Rattle.plan_line.proofs.field.put_line.Reads as put-line-reads
 
 abbrev Inv-loop : tie.InvT-loop
 Inv-loop plan₀ sheet a b i n at₀ left₀ o₀ plan at left o = NameLaws.NamesGoing sheet a b n i (on plan₀ o₀) left at (on plan o)

@@ -9,7 +9,7 @@ use Rattle.plan_sheet.proofs.names.put_node.Statement.{statement}
 use Rattle.plan_sheet.proofs.names.put_node.Tie as tie
 use Rattle.plan_sheet.proofs.names.put_node.Reads as reads
 use Rattle.plan_sheet.proofs.names.put_node.Lts as lts
-use Rattle.plan_sheet.proofs.row.put_row.Reads as put-row-reads
+use Rattle.plan_line.proofs.row.put_row.Reads as put-row-reads
 use Rattle.words.proofs.word.Reads as word-reads
 
 -- src/names.rt:60:9

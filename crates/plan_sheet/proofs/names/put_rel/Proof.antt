@@ -1,5 +1,5 @@
 -- `put_rel` meets its contract. Assumes nothing.
-use Rattle.plan_sheet.specs.Row.{relText}
+use Rattle.plan_line.specs.Row.{relText}
 use Rattle.plan_sheet.proofs.NameLaws
 use Rattle.output.specs.Writes.{_⨾_, same}
 use Rattle.output.specs.Page.{on}
@@ -11,9 +11,9 @@ use Rattle.plan_sheet.proofs.names.put_rel.Tie as tie
 use Rattle.plan_sheet.proofs.names.put_rel.Reads as reads
 use Rattle.plan_sheet.proofs.names.put_rel.Lts as lts
 use Rattle.output.proofs.put_byte.Reads as put-byte-reads
-use Rattle.plan_sheet.proofs.field.put_number.Reads as put-number-reads
-use Rattle.plan_sheet.proofs.field.put_text.Reads as put-text-reads
-use Rattle.plan_sheet.proofs.keyword.put_keyword.Reads as put-keyword-reads
+use Rattle.plan_line.proofs.field.put_number.Reads as put-number-reads
+use Rattle.plan_line.proofs.field.put_text.Reads as put-text-reads
+use Rattle.plan_line.proofs.keyword.put_keyword.Reads as put-keyword-reads
 use Rattle.words.proofs.word.Reads as word-reads
 
 -- src/names.rt:41:9

@@ -7,7 +7,7 @@ use Rattle.plan_sheet.proofs.op.put_expand.Tie as tie
 use Rattle.plan_sheet.proofs.op.put_expand.Reads as reads
 use Rattle.plan_sheet.proofs.op.put_expand.Lts as lts
 use Rattle.plan_sheet.proofs.head.note.Reads as note-reads
-use Rattle.plan_sheet.proofs.row.put_row.Reads as put-row-reads
+use Rattle.plan_line.proofs.row.put_row.Reads as put-row-reads
 
 -- src/op.rt:51:9
 note-requires : tie.Need-note-requires

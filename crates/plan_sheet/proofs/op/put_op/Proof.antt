@@ -14,7 +14,7 @@ use Rattle.plan_sheet.proofs.clause.put_clause_op.Reads as put-clause-o
 use Rattle.plan_sheet.proofs.op.put_expand.Reads as put-expand-reads
 use Rattle.plan_sheet.proofs.op.put_short.Reads as put-short-reads
 use Rattle.plan_sheet.proofs.op.put_source.Reads as put-source-reads
-use Rattle.plan_sheet.proofs.row.put_row.Reads as put-row-reads
+use Rattle.plan_line.proofs.row.put_row.Reads as put-row-reads
 
 -- src/op.rt:153:14
 put-row-requires : tie.Need-put-row-requires

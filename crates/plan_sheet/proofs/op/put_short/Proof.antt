@@ -8,7 +8,7 @@ use Rattle.plan_sheet.proofs.op.put_short.Reads as reads
 use Rattle.plan_sheet.proofs.op.put_short.Lts as lts
 use Rattle.plan_sheet.proofs.head.note.Reads as note-reads
 use Rattle.plan_sheet.proofs.op.is_two.Reads as is-two-reads
-use Rattle.plan_sheet.proofs.row.put_row.Reads as put-row-reads
+use Rattle.plan_line.proofs.row.put_row.Reads as put-row-reads
 use Rattle.words.proofs.word.Reads as word-reads
 
 -- src/op.rt:73:40

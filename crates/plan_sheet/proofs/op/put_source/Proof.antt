@@ -6,7 +6,7 @@ use Rattle.plan_sheet.proofs.op.put_source.Statement.{statement}
 use Rattle.plan_sheet.proofs.op.put_source.Tie as tie
 use Rattle.plan_sheet.proofs.op.put_source.Reads as reads
 use Rattle.plan_sheet.proofs.op.put_source.Lts as lts
-use Rattle.plan_sheet.proofs.row.put_row.Reads as put-row-reads
+use Rattle.plan_line.proofs.row.put_row.Reads as put-row-reads
 use Rattle.words.proofs.word.Reads as word-reads
 
 -- src/op.rt:62:9

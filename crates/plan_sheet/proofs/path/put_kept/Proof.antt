@@ -8,7 +8,7 @@ use Rattle.plan_sheet.proofs.path.put_kept.Tie as tie
 use Rattle.plan_sheet.proofs.path.put_kept.Reads as reads
 use Rattle.plan_sheet.proofs.path.put_kept.Lts as lts
 use Rattle.plan_sheet.proofs.head.note.Reads as note-reads
-use Rattle.plan_sheet.proofs.row.put_row.Reads as put-row-reads
+use Rattle.plan_line.proofs.row.put_row.Reads as put-row-reads
 
 -- src/path.rt:30:9
 returns : tie.Need-returns

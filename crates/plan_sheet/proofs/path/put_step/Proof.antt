@@ -9,7 +9,7 @@ use Rattle.plan_sheet.proofs.path.put_step.Reads as reads
 use Rattle.plan_sheet.proofs.path.put_step.Lts as lts
 use Rattle.plan_sheet.proofs.head.note.Reads as note-reads
 use Rattle.plan_sheet.proofs.path.put_kept.Reads as put-kept-reads
-use Rattle.plan_sheet.proofs.row.put_row.Reads as put-row-reads
+use Rattle.plan_line.proofs.row.put_row.Reads as put-row-reads
 
 -- src/path.rt:44:16
 add-line : tie.Need-add-line

@@ -4,7 +4,7 @@ use Rattle.statement.proofs.lowering.write_lowered.Statement.{statement
 use Rattle.statement.proofs.lowering.write_lowered.Tie as tie
 use Rattle.statement.proofs.lowering.write_lowered.Reads as reads
 use Rattle.statement.proofs.lowering.write_lowered.Lts as lts
-use Rattle.plan_sheet.proofs.plan.write_plan.Reads as write-plan-reads
+use Rattle.plan_writer.proofs.write_plan.Reads as write-plan-reads
 
 pub write-lowered-spec : {M : Type 1} → statement M
 write-lowered-spec =

@@ -1,0 +1,5 @@
+pub mod KeywordLaws
+pub mod FieldLaws
+pub mod WordLaws
+pub mod SignedLaws
+pub mod RowLaws

@@ -1,0 +1,3 @@
+pub mod Keywords
+pub mod Field
+pub mod Row

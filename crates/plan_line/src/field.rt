@@ -1,0 +1,143 @@
+// The fields of a line, each behind a tab, off the words of a record.
+ghost use mathlib.Core.Path.{_≡_};
+ghost use mathlib.Core.Bool.{true};
+ghost use mathlib.Core.List.{_∷_};
+ghost use Prim.Native.Nat.{_+_, _*_, _<_, _≤_};
+ghost use lib.ListN.{length};
+ghost use lib.Seq.{slice};
+ghost use Rattle.model.specs.Text.{decimal, signed, hexDigits};
+ghost use Rattle.output.specs.Page.{on, Puts};
+ghost use Rattle.words.specs.Words.{Roomy, part, intOf};
+ghost use Rattle.words.specs.Held.{Flag, Text};
+ghost use Rattle.line.specs.Table.{codeAt, formOf, formsAt};
+ghost use Rattle.plan_line.specs.Keywords.{word};
+ghost use Rattle.plan_line.specs.Field.{plain, fieldText, fieldsText, Fielded, lineText};
+use output::Out;
+
+// The code of field g of a kind, 0 behind the last.
+fn form_code(kind: usize, g: usize) -> u32
+    requires { ⌜ (kind < 39) × (g < 7) ⌝ }
+    ensures { λ r. ⌜ r ≡ codeAt kind g ⌝ }
+{
+    let row = line::table::FORMS[kind];
+    row[g]
+}
+
+// The 64 bits of two words.
+fn bits(low: u32, high: u32) -> u64
+    ensures { λ r. ⌜ r ≡ high * 4294967296 + low ⌝ }
+{
+    high as u64 * 4294967296 + low as u64
+}
+
+// The signed number of two words.
+fn signed_of(low: u32, high: u32) -> i64
+    ensures { λ r. ⌜ r ≡ intOf low high ⌝ }
+{
+    if high < 2147483648 {
+        let n = bits(low, high);
+        return n as i64;
+    }
+    let n = bits(low, high - 2147483648);
+    let m = n as i64;
+    -1 - m
+}
+
+// A number.
+pub fn put_number(plan: &mut [u8], out: Out, n: u32) -> Out
+    ensures { λ r. ⌜ Puts (9 ∷ decimal n) (on (now (plan .entry)) out) (on (now (plan .exit)) r) ⌝ }
+{
+    let o = output::put_byte(plan, out, 9);
+    output::put_decimal(plan, o, n as u64)
+}
+
+// A signed number.
+fn put_int(plan: &mut [u8], out: Out, low: u32, high: u32) -> Out
+    ensures { λ r. ⌜ Puts (9 ∷ signed (intOf low high)) (on (now (plan .entry)) out) (on (now (plan .exit)) r) ⌝ }
+{
+    let n = signed_of(low, high);
+    let o = output::put_byte(plan, out, 9);
+    output::put_signed(plan, o, n)
+}
+
+// The bits of a float.
+fn put_float(plan: &mut [u8], out: Out, low: u32, high: u32) -> Out
+    ensures { λ r. ⌜ Puts (9 ∷ hexDigits 16 (high * 4294967296 + low)) (on (now (plan .entry)) out) (on (now (plan .exit)) r) ⌝ }
+{
+    let n = bits(low, high);
+    let o = output::put_byte(plan, out, 9);
+    output::put_hex(plan, o, n)
+}
+
+// A part of the sheet, which is spelled there as it is here.
+pub fn put_text(plan: &mut [u8], out: Out, sheet: &[u8], x: u32, y: u32) -> Out
+    requires { ⌜ (x ≤ y) × (y ≤ length (now sheet)) ⌝ }
+    ensures { λ r. ⌜ Puts (9 ∷ slice x y (now (sheet .entry))) (on (now (plan .entry)) out) (on (now (plan .exit)) r) ⌝ }
+{
+    let o = output::put_byte(plan, out, 9);
+    crate::keyword::put_within(plan, o, sheet, x as usize, y as usize)
+}
+
+// A field by the code of its form: a flag is spelled as a number is.
+fn put_field(plan: &mut [u8], out: Out, sheet: &[u8], code: u32, x: u32, y: u32) -> Out
+    requires { ⌜ Flag (formOf code) x ⌝ }
+    requires { ⌜ Text (formOf code) (now sheet) x y ⌝ }
+    requires { ⌜ plain (formOf code) ≡ true ⌝ }
+    ensures { λ r. ⌜ Puts (fieldText (formOf code) (now (sheet .entry)) x y) (on (now (plan .entry)) out) (on (now (plan .exit)) r) ⌝ }
+{
+    match code {
+        4 => put_int(plan, out, x, y),
+        5 => put_float(plan, out, x, y),
+        6 => put_text(plan, out, sheet, x, y),
+        9 => put_text(plan, out, sheet, x, y),
+        _ => put_number(plan, out, x),
+    }
+}
+
+// The fields of record i, by the table's row of its kind.
+pub fn put_fields(
+    plan: &mut [u8],
+    out: Out,
+    sheet: &[u8],
+    a: &[u32],
+    b: &[u32],
+    i: usize,
+    kind: usize,
+) -> Out
+    requires { ⌜ Roomy (now a) (now b) ⌝ }
+    requires { ⌜ (i < 2048) × Fielded (now sheet) (now a) (now b) i kind ⌝ }
+    ensures { λ r. ⌜ Puts (fieldsText (formsAt kind) (now (sheet .entry)) (part (now (a .entry)) (now (b .entry)) i) 0) (on (now (plan .entry)) out) (on (now (plan .exit)) r) ⌝ }
+{
+    let mut o = out;
+    let mut g = 0;
+    let mut code = form_code(kind, 0);
+    while code != 0 {
+        let x = words::word(a, b, i, g + g + 2);
+        let y = words::word(a, b, i, g + g + 3);
+        o = put_field(plan, o, sheet, code, x, y);
+        g += 1;
+        code = form_code(kind, g);
+    }
+    o
+}
+
+// A whole line: keyword k, and the fields of record i.
+pub fn put_line(
+    plan: &mut [u8],
+    out: Out,
+    sheet: &[u8],
+    a: &[u32],
+    b: &[u32],
+    i: usize,
+    kind: usize,
+    k: usize,
+) -> Out
+    requires { ⌜ Roomy (now a) (now b) ⌝ }
+    requires { ⌜ (i < 2048) × Fielded (now sheet) (now a) (now b) i kind ⌝ }
+    requires { ⌜ k < 46 ⌝ }
+    ensures { λ r. ⌜ Puts (lineText (word k) (now (sheet .entry)) (now (a .entry)) (now (b .entry)) i kind) (on (now (plan .entry)) out) (on (now (plan .exit)) r) ⌝ }
+{
+    let o = crate::keyword::put_keyword(plan, out, k);
+    let p = put_fields(plan, o, sheet, a, b, i, kind);
+    output::put_byte(plan, p, 10)
+}

@@ -1,0 +1,50 @@
+-- The tables that the lowering leaves, the state that they stand for, and what writing the whole plan sheet comes to. Assumes nothing: these are definitions.
+use mathlib.Core.Path.{_≡_}
+use Prim.Native.Nat.{ℕ, zero, suc, _≤_}
+use mathlib.Core.List.{List, [], _++_}
+use lib.ListN.{length, drop}
+use Rattle.model.specs.Text.{Bytes}
+use Rattle.model.specs.Record.{spellRecs}
+use Rattle.model.specs.Lower.{Recs, LowerCtx, at}
+use Rattle.model.specs.Plan.{mappedRecs, planSheet}
+use Rattle.model.specs.Call.{Answer, plainRefusal, accepted, written}
+use Rattle.output.specs.Page.{Page, Puts}
+use Rattle.context.specs.Tables.{varsOf, varsAt}
+use Rattle.lower.specs.Render.{Ops}
+use Rattle.plan_sheet.specs.Due.{Planned}
+use Rattle.plan_writer.specs.declared.Plan.{Plan}
+
+-- the tables, with n operators and so many named variables, stand for the state s
+pub record Tables (sheet : Bytes) (a b os rest : List ℕ) (n mapped : ℕ) (s : LowerCtx) : Type 0 where
+  pub count : n ≡ length (s .ops)
+  pub planned : Planned sheet a b os rest n (λ k. at (s .ops) k)
+  pub vars : varsOf mapped (drop varsAt rest) ≡ s .vars
+  pub few : mapped ≤ 5888
+
+pub record SomeTables (sheet : Bytes) (a b os rest : List ℕ) (n mapped : ℕ) : Type 0 where
+  pub state : LowerCtx
+  pub tables : Tables sheet a b os rest n mapped state
+
+-- the first n operators, in order
+unfoldable pub upTo : ℕ → Ops → Recs
+upTo zero A = []
+upTo (suc n) A = upTo n A ++ A n
+
+-- document 01's answer
+unfoldable pub answerOf : Plan → Answer
+answerOf Plan.NoRoom = plainRefusal 10
+answerOf (Plan.Written n) = accepted n
+
+-- k of n operators are written
+abbrev pub WroteOps : (sheet : Bytes) (a b os rest : List ℕ) (n k : ℕ) → Page → Page → Type 0
+WroteOps sheet a b os rest n k p q = (A : Ops) → Planned sheet a b os rest n A → Puts (spellRecs (upTo k A)) p q
+
+abbrev pub WroteVars : (rest : List ℕ) (n : ℕ) → Page → Page → Type 0
+WroteVars rest n p q = Puts (spellRecs (mappedRecs (varsOf n (drop varsAt rest)))) p q
+
+abbrev pub WroteSheet : (sheet : Bytes) (a b os rest : List ℕ) (n mapped : ℕ) → Page → Page → Type 0
+WroteSheet sheet a b os rest n mapped p q = (s : LowerCtx) → Tables sheet a b os rest n mapped s → Puts (planSheet s) p q
+
+-- the answer and the slice, for every state that the tables stand for
+abbrev pub WrotePlan : (sheet : Bytes) (a b os rest : List ℕ) (n mapped : ℕ) → Bytes → Bytes → Plan → Type 0
+WrotePlan sheet a b os rest n mapped slice slice′ r = (s : LowerCtx) → Tables sheet a b os rest n mapped s → record { answer = answerOf r; slice = slice′ } ≡ written (planSheet s) slice

@@ -1,0 +1,101 @@
+// The whole plan sheet: measured first, and written only if it fits.
+ghost use Prim.Native.Nat.{_≤_};
+ghost use lib.ListN.{length};
+ghost use Rattle.output.specs.Page.{on};
+ghost use Rattle.plan_sheet.specs.Due.{Room, SomePlan};
+ghost use Rattle.plan_writer.specs.Whole.{SomeTables, WroteOps, WroteVars, WroteSheet, WrotePlan};
+use output::Out;
+
+// What became of the plan: it did not fit, or it has so many bytes.
+pub enum Plan {
+    NoRoom,
+    Written(usize),
+}
+
+// The first n operators.
+fn write_ops(
+    plan: &mut [u8],
+    out: Out,
+    sheet: &[u8],
+    a: &[u32],
+    b: &[u32],
+    ops: &[u32],
+    rest: &[u32],
+    n: usize,
+) -> Out
+    requires { ⌜ Room (now a) (now b) (now ops) (now rest) ⌝ }
+    requires { ⌜ SomePlan (now sheet) (now a) (now b) (now ops) (now rest) n ⌝ }
+    ensures { λ r. ⌜ WroteOps (now (sheet .entry)) (now (a .entry)) (now (b .entry)) (now (ops .entry)) (now (rest .entry)) n n (on (now (plan .entry)) out) (on (now (plan .exit)) r) ⌝ }
+{
+    let mut k = 0;
+    let mut o = out;
+    while k < n {
+        o = plan_sheet::write::write_op(plan, o, sheet, a, b, ops, rest, k);
+        k += 1;
+    }
+    o
+}
+
+// The first n named variables.
+fn write_vars(plan: &mut [u8], out: Out, rest: &[u32], n: usize) -> Out
+    requires { ⌜ (16384 ≤ length (now rest)) × (n ≤ 5888) ⌝ }
+    ensures { λ r. ⌜ WroteVars (now (rest .entry)) n (on (now (plan .entry)) out) (on (now (plan .exit)) r) ⌝ }
+{
+    let mut k = 0;
+    let mut o = out;
+    while k < n {
+        let at = 4608 + k * 2;
+        let id = plan_sheet::head::note(rest, at);
+        let number = plan_sheet::head::note(rest, at + 1);
+        o = plan_line::row::put_row(plan, o, 43, 2, number, id, 0, 0, 0);
+        k += 1;
+    }
+    o
+}
+
+// The first line, n operators and the named variables.
+fn write_sheet(
+    plan: &mut [u8],
+    out: Out,
+    sheet: &[u8],
+    a: &[u32],
+    b: &[u32],
+    ops: &[u32],
+    rest: &[u32],
+    n: usize,
+    mapped: usize,
+) -> Out
+    requires { ⌜ Room (now a) (now b) (now ops) (now rest) ⌝ }
+    requires { ⌜ SomeTables (now sheet) (now a) (now b) (now ops) (now rest) n mapped ⌝ }
+    ensures { λ r. ⌜ WroteSheet (now (sheet .entry)) (now (a .entry)) (now (b .entry)) (now (ops .entry)) (now (rest .entry)) n mapped (on (now (plan .entry)) out) (on (now (plan .exit)) r) ⌝ }
+{
+    let o = plan_line::row::put_row(plan, out, 36, 2, n as u32, mapped as u32, 0, 0, 0);
+    let p = write_ops(plan, o, sheet, a, b, ops, rest, n);
+    write_vars(plan, p, rest, mapped)
+}
+
+// The plan sheet of the tables.
+pub fn write_plan(
+    plan: &mut [u8],
+    sheet: &[u8],
+    a: &[u32],
+    b: &[u32],
+    ops: &[u32],
+    rest: &[u32],
+    n: usize,
+    mapped: usize,
+) -> Plan
+    requires { ⌜ Room (now a) (now b) (now ops) (now rest) ⌝ }
+    requires { ⌜ SomeTables (now sheet) (now a) (now b) (now ops) (now rest) n mapped ⌝ }
+    ensures { λ r. ⌜ WrotePlan (now (sheet .entry)) (now (a .entry)) (now (b .entry)) (now (ops .entry)) (now (rest .entry)) n mapped (now (plan .entry)) (now (plan .exit)) r ⌝ }
+{
+    let first = Out { at: 0, live: false };
+    let measured = write_sheet(plan, first, sheet, a, b, ops, rest, n, mapped);
+    let long = measured.at;
+    if plan.len() < long {
+        return Plan::NoRoom;
+    }
+    let again = Out { at: 0, live: true };
+    let done = write_sheet(plan, again, sheet, a, b, ops, rest, n, mapped);
+    Plan::Written(done.at)
+}
