@@ -1,8 +1,9 @@
--- The numbers of an answer, one after another. Assumes nothing.
+-- The numbers of an answer, one after another, and an answer by its values. Assumes nothing.
 use mathlib.Core.List.{_∷_}
 use Prim.Native.Nat.{ℕ}
-use Rattle.model.specs.Text.{decimal}
-use Rattle.model.specs.Call.{Answer}
+use mathlib.Core.Path.{_≡_}
+use Rattle.model.specs.Text.{Bytes, decimal}
+use Rattle.model.specs.Call.{Answer, Outcome}
 use Rattle.output.specs.Page.{Page, Puts}
 use Rattle.output.specs.Writes.{_⨾_}
 use Rattle.cases.specs.Values.{refusalText, valuesText}
@@ -15,3 +16,7 @@ module _ (s : ℕ) (a : Answer) where
   pub six : {g g₁ g₂ : Page} → Puts (refusalText s a) g g₁ → Puts (s ∷ decimal (a .length)) g₁ g₂ → Puts (valuesText s a) g g₂
   unfolding valuesText
   six p q = p ⨾ q
+
+-- an outcome with another name for its answer
+pub with-values : {a b : Answer} {slice : Bytes} {o : Outcome} → a ≡ b → _≡_ {A = Outcome} (record { answer = b; slice = slice }) o → _≡_ {A = Outcome} (record { answer = a; slice = slice }) o
+with-values e h = rw e h

@@ -1,4 +1,5 @@
-// What the programs share: the texts of a list of cases, and the values of an answer, also as text.
+// What the programs share: the texts of a list of cases, the lowering call with its answer's values, and these as text.
 pub mod answer;
+pub mod call;
 pub mod line;
 pub mod text;

@@ -1,26 +1,8 @@
 // The lowering call on a sheet from standard input: prints the plan sheet, or one line that says how the sheet is refused.
-ghost use Prim.Native.Nat.{_≤_};
-ghost use lib.ListN.{length};
-use cases::answer::Values;
-use cases::answer::values_of;
+use cases::call::lower;
 use cases::line::write_refusal;
 use libc::STDIN_FILENO;
 use libc::STDOUT_FILENO;
-use statement::lowering::lower_statement;
-
-// The call with four work slices and a plan slice, within which the length lies.
-fn lower(
-    sheet: &[u8],
-    a: &mut [u32],
-    b: &mut [u32],
-    c: &mut [u32],
-    d: &mut [u32],
-    plan: &mut [u8],
-) -> Values
-    ensures { λ r. ⌜ r .length ≤ length (now (plan .exit)) ⌝ }
-{
-    values_of(lower_statement(sheet, a, b, c, d, plan))
-}
 
 // The plan, or a refusal, parted as a sheet's fields are; a refusal leaves the plan's slice free for its line.
 fn show(sheet: &[u8], a: &mut [u32], b: &mut [u32], c: &mut [u32], d: &mut [u32], plan: &mut [u8]) {
