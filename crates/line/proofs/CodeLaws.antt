@@ -84,8 +84,8 @@ module _ (sheet : Bytes) (p r c : ℕ) (w : Words) where
   unfolding formOf otherForms
   arm-alias l h a b d e f g k = rw (seven c l h a b d e f g) k
 
-  pub arm-number : 8 ≤ c → (c ≡ 8 → ⊥) → (c ≡ 9 → ⊥) → Right (num (getD limits (c - 10) 0)) → WordsOf (formOf c) sheet (slice p r sheet ∷ []) w
-  arm-number h a b k = arm (num (getD limits (c - 10) 0)) (number-code c (omega arith)) k
+  pub arm-number : 8 ≤ c → (c ≡ 8 → ⊥) → (c ≡ 9 → ⊥) → (m : ℕ) → m ≡ getD limits (c - 10) 0 → Right (num m) → WordsOf (formOf c) sheet (slice p r sheet ∷ []) w
+  arm-number h a b m q k = arm (num m) (rw q (number-code c (omega arith))) k
 
 -- ── the field ──
 

@@ -83,37 +83,32 @@ module _ (sheet : Bytes) where
 
 -- ── the loop ──
 
-pub record Filling (n : ℕ) (sheet : Bytes) (p e : ℕ) (ws₀ ws row : List ℕ) (at g form : ℕ) : Type 0 where
+pub record Filling (n : ℕ) (sheet : Bytes) (p e : ℕ) (ws₀ ws : List ℕ) (at g form : ℕ) : Type 0 where
   pub low : n < 39
-  pub is-row : row ≡ getD codes n []
-  pub code : form ≡ getD row g 0
+  pub code : form ≡ codeAt n g
   pub long : length ws ≡ 16
   pub room : g + length (formsFrom n g) ≤ 6
   pub kept : getD ws 0 0 ≡ getD ws₀ 0 0
   pub going : Going sheet (formsAt n) (piecesAt sheet p e) (formsFrom n g) (piecesAt sheet at e) ws g
 
-pub fill-start : (n : ℕ) (sheet : Bytes) (p e : ℕ) (ws : List ℕ) → n < 39 → length ws ≡ 16 → Filling n sheet p e ws ws (getD codes n []) p 0 (codeAt n 0)
+pub fill-start : (n : ℕ) (sheet : Bytes) (p e : ℕ) (ws : List ℕ) → n < 39 → length ws ≡ 16 → (form : ℕ) → form ≡ codeAt n 0 → Filling n sheet p e ws ws p 0 form
 unfolding formsAt
-fill-start n sheet p e ws h l =
+fill-start n sheet p e ws h l form c =
     record {
       low = h;
-      is-row = refl;
-      code = refl;
+      code = c;
       long = l;
       room = omega (arith, code-row n h .few);
       kept = refl;
       going = go-first sheet (formsAt n) (piecesAt sheet p e) ws;
     }
 
-module _ (n : ℕ) (sheet : Bytes) (p e : ℕ) (ws₀ ws row : List ℕ) (at g form : ℕ) (f : Filling n sheet p e ws₀ ws row at g form) where
+module _ (n : ℕ) (sheet : Bytes) (p e : ℕ) (ws₀ ws : List ℕ) (at g form : ℕ) (f : Filling n sheet p e ws₀ ws at g form) where
   in-row : g < length (getD codes n [])
   in-row = omega (arith, code-row n (f .low) .long, f .room)
 
-  code-is : form ≡ codeAt n g
-  code-is = f .code ∙ ap (λ r. getD r g 0) (f .is-row)
-
   pub fill-code : form < 15
-  fill-code = rw code-is (code-row n (f .low) .low g (omega (arith, f .room)))
+  fill-code = rw (f .code) (code-row n (f .low) .low g (omega (arith, f .room)))
 
   -- ── a form is left ──
 
@@ -121,8 +116,8 @@ module _ (n : ℕ) (sheet : Bytes) (p e : ℕ) (ws₀ ws row : List ℕ) (at g f
     rest-is : formsFrom n g ≡ formOf form ∷ formsFrom n (suc g)
     unfolding formsFrom
     rest-is =
-        row-more (getD codes n []) g in-row (λ z. h (code-is ∙ z))
-        ∙ ap (λ c. formOf c ∷ formsIn (drop (suc g) (getD codes n []))) (sym code-is)
+        row-more (getD codes n []) g in-row (λ z. h (f .code ∙ z))
+        ∙ ap (λ c. formOf c ∷ formsIn (drop (suc g) (getD codes n []))) (sym (f .code))
 
     pub fill-room : g < 6
     fill-room = omega (arith, f .room, ap length rest-is)
@@ -137,15 +132,14 @@ module _ (n : ℕ) (sheet : Bytes) (p e : ℕ) (ws₀ ws row : List ℕ) (at g f
       pub fill-not : w ≡ FieldRead.Not → FieldsRead n sheet p e ws₀ ws false
       fill-not q = record { answer = go-none sheet _ _ _ _ _ ws g next-going (rw q at (k .words .is)); kept = f .kept; long = f .long }
 
-      pub fill-more : (x y at₁ : ℕ) → w ≡ FieldRead.Is x y at₁ → Filling n sheet p e ws₀ (put ws g x y) row at₁ (g + 1) (getD row (g + 1) 0)
-      fill-more x y at₁ q =
+      pub fill-more : (x y at₁ : ℕ) → w ≡ FieldRead.Is x y at₁ → (form₁ : ℕ) → form₁ ≡ codeAt n (g + 1) → Filling n sheet p e ws₀ (put ws g x y) at₁ (g + 1) form₁
+      fill-more x y at₁ q form₁ c =
           let is = rw q at (k .words) in
           let behind = rw q at (k .behind) in
           let fits : g + g + 3 < length ws = omega (arith, f .long, fill-room) in
           record {
             low = f .low;
-            is-row = f .is-row;
-            code = refl;
+            code = c;
             long = rw (length-set, length-set) (f .long);
             room = rw (add-one g) (omega (arith, f .room, ap length rest-is));
             kept = put-below ws g x y fits 0 (omega arith) ∙ f .kept;
@@ -157,7 +151,7 @@ module _ (n : ℕ) (sheet : Bytes) (p e : ℕ) (ws₀ ws row : List ℕ) (at g f
   module _ (h : form ≡ 0) where
     rest-none : formsFrom n g ≡ []
     unfolding formsFrom
-    rest-none = row-end (getD codes n []) g in-row (sym code-is ∙ h)
+    rest-none = row-end (getD codes n []) g in-row (sym (f .code) ∙ h)
 
     last-going : Going sheet (formsAt n) (piecesAt sheet p e) [] (piecesAt sheet at e) ws g
     last-going = rw rest-none at (f .going)

@@ -11,3 +11,4 @@ pub mod FillLaws
 pub mod LineLaws
 pub mod IntoLaws
 pub mod CountLaws
+pub mod DigitLaws

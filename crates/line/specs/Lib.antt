@@ -5,3 +5,4 @@ pub mod Kinds
 pub mod Place
 pub mod FieldRead
 pub mod LineRead
+pub mod LastLaws

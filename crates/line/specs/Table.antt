@@ -77,6 +77,17 @@ keys =
     ∷ 1603874874739  -- undes
     ∷ []
 
+-- ── rows ──
+
+-- entries as hexadecimal digits behind a number
+abbrev pub digitsOn : ℕ → List ℕ → ℕ
+digitsOn v [] = v
+digitsOn v (d ∷ ds) = digitsOn (v * 16 + d) ds
+
+-- a row's entries as one number
+abbrev pub inDigits : List ℕ → ℕ
+inDigits ds = digitsOn 0 ds
+
 -- ── fields ──
 
 -- the numbers' limits, from code 10 on

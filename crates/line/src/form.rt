@@ -17,7 +17,7 @@ use crate::field::number;
 use crate::field::text;
 use crate::field::variable;
 use crate::piece::piece_to;
-use crate::table::LIMITS;
+use crate::table::limit;
 
 // A field's words and the place of the next piece, or none.
 pub enum FieldRead {
@@ -100,8 +100,8 @@ fn single(sheet: &[u8], p: usize, r: usize, form: u32) -> Words
     if form < 8 {
         return plain(sheet, p, r, form);
     }
-    let limit = LIMITS[(form - 10) as usize];
-    number(&sheet[p..r], limit)
+    let most = limit(form - 10);
+    number(&sheet[p..r], most)
 }
 
 // The field that begins at p, of the line that ends before e. If p is behind e, no piece is left.

@@ -3,14 +3,14 @@ ghost use mathlib.Core.Path.{_≡_};
 ghost use Prim.Native.Nat.{_<_};
 ghost use Rattle.words.specs.Words.{Roomy, part};
 ghost use Rattle.line.specs.Table.{groupSort, groupSource, countOf};
-use crate::table::GROUPS;
+use crate::table::group_entry;
 
 // The sort of group g.
 pub fn group_sort(kind: u32, g: usize) -> u32
     requires { ⌜ (kind < 39) × (g < 5) ⌝ }
     ensures { λ r. ⌜ (r ≡ groupSort kind g) × (r < 11) ⌝ }
 {
-    GROUPS[kind as usize][g * 2]
+    group_entry(kind, g * 2)
 }
 
 // Where the count of group g is from.
@@ -18,7 +18,7 @@ fn group_source(kind: u32, g: usize) -> u32
     requires { ⌜ (kind < 39) × (g < 5) ⌝ }
     ensures { λ r. ⌜ (r ≡ groupSource kind g) × (r < 8) ⌝ }
 {
-    GROUPS[kind as usize][g * 2 + 1]
+    group_entry(kind, g * 2 + 1)
 }
 
 // How many records group g of record i has; 0 where its kind has no such group.

@@ -3,8 +3,8 @@ ghost use mathlib.Core.Path.{_≡_};
 ghost use Prim.Native.Nat.{_<_};
 ghost use Rattle.line.specs.Table.{sortOf};
 ghost use Rattle.line.specs.Kinds.{Packed, Named};
-use crate::table::FIRST;
-use crate::table::KEYS;
+use crate::table::first_kind;
+use crate::table::key;
 
 // The number of a kind, or none.
 pub enum KindFound {
@@ -41,10 +41,10 @@ pub fn kind_named(s: &[u8], sort: u32) -> KindFound
 {
     let w = pack(s);
     let at = sort as usize;
-    let end = FIRST[at + 1];
-    let mut k = FIRST[at];
+    let end = first_kind(at + 1);
+    let mut k = first_kind(at);
     while k < end {
-        if KEYS[k as usize] == w {
+        if key(k) == w {
             return KindFound::Is(k);
         }
         k += 1;

@@ -10,7 +10,7 @@ use crate::form::read_form;
 use crate::kind::KindFound;
 use crate::kind::kind_named;
 use crate::piece::piece_to;
-use crate::table::FORMS;
+use crate::table::form_code;
 
 // The number of a record's kind, or none.
 pub enum Line {
@@ -24,10 +24,10 @@ fn read_fields(sheet: &[u8], p: usize, e: usize, kind: u32, part: &mut [u32]) ->
     requires { ⌜ (kind < 39) × (length (now part) ≡ 16) ⌝ }
     ensures { λ r. ⌜ FieldsRead kind (now (sheet .entry)) p e (now (part .entry)) (now (part .exit)) r ⌝ }
 {
-    let row = FORMS[kind as usize];
+    let row = kind as usize;
     let mut at = p;
     let mut g = 0;
-    let mut form = row[0];
+    let mut form = form_code(row, 0);
     while form != 0 {
         let FieldRead::Is(x, y, next) = read_form(sheet, at, e, form) else {
             return false;
@@ -36,7 +36,7 @@ fn read_fields(sheet: &[u8], p: usize, e: usize, kind: u32, part: &mut [u32]) ->
         part[g + g + 3] = y;
         at = next;
         g += 1;
-        form = row[g];
+        form = form_code(row, g);
     }
     if e < at {
         return true;

@@ -1,136 +1,204 @@
 // The record table: of each kind its keyword, the forms of its fields and its groups of children. Kinds are numbered sort by sort, as words hold them. A new record is a row here and in specs/Table.antt.
+// Tables are matches with constant arms, since the compiler reads those from constant data and writes an array anew at each use.
+ghost use mathlib.Core.Path.{_≡_};
+ghost use mathlib.Core.List.{[]};
+ghost use Prim.Native.Nat.{_<_};
+ghost use lib.ListN.{getD};
+ghost use Rattle.line.specs.Table.{first, keys, codes, limits, groups, codeAt, inDigits};
 
 // The first kind of each sort, and the number of kinds. Sorts: 0 statement, 1 union arm, 2 clause, 3 projection, 4 order item, 5 pattern part, 6 pattern element, 7 name, 8 yield item, 9 a map's entry, 10 expression.
-pub const FIRST: [u32; 12] = [0, 1, 2, 9, 10, 11, 12, 14, 15, 16, 17, 39];
+pub fn first_kind(sort: usize) -> u32
+    requires { ⌜ sort < 12 ⌝ }
+    ensures { λ r. ⌜ r ≡ getD first sort 0 ⌝ }
+{
+    match sort {
+        0 => 0,
+        1 => 1,
+        2 => 2,
+        3 => 9,
+        4 => 10,
+        5 => 11,
+        6 => 12,
+        7 => 14,
+        8 => 15,
+        9 => 16,
+        10 => 17,
+        _ => 39,
+    }
+}
 
 // A keyword's bytes as one number, behind a leading 1.
-pub const KEYS: [u64; 39] = [
-    6231977332, // stmt
-    23163501, // arm
-    1569298080616, // match
-    1612364214885, // where
-    6298367080, // with
-    407255047828078, // return
-    410592286961252, // unwind
-    5962296428, // call
-    1612532249701, // write
-    6064203117, // item
-    23815545, // key
-    6180401780, // part
-    6147761253, // node
-    24274284, // rel
-    6146846053, // name
-    1620970925156, // yield
-    6146846053, // name (a map's)
-    6148156524, // null
-    5946437484, // bool
-    23686772, // int
-    1539417530740, // float
-    24343666, // str
-    1582182850925, // param
-    6181515120, // prop
-    1552335267192, // index
-    1595251712869, // slice
-    6113817460, // list
-    23226734, // bin
-    95598, // un
-    5962298213, // case
-    397419472055404, // isnull
-    92526, // in
-    24535410, // var
-    23945584, // map
-    91758, // fn
-    24142196, // pat
-    1565137269872, // listp
-    1603875792243, // unres
-    1603874874739, // undes
-];
+pub fn key(kind: u32) -> u64
+    requires { ⌜ kind < 39 ⌝ }
+    ensures { λ r. ⌜ r ≡ getD keys kind 0 ⌝ }
+{
+    match kind {
+        0 => 6231977332, // stmt
+        1 => 23163501, // arm
+        2 => 1569298080616, // match
+        3 => 1612364214885, // where
+        4 => 6298367080, // with
+        5 => 407255047828078, // return
+        6 => 410592286961252, // unwind
+        7 => 5962296428, // call
+        8 => 1612532249701, // write
+        9 => 6064203117, // item
+        10 => 23815545, // key
+        11 => 6180401780, // part
+        12 => 6147761253, // node
+        13 => 24274284, // rel
+        14 => 6146846053, // name
+        15 => 1620970925156, // yield
+        16 => 6146846053, // name (a map's)
+        17 => 6148156524, // null
+        18 => 5946437484, // bool
+        19 => 23686772, // int
+        20 => 1539417530740, // float
+        21 => 24343666, // str
+        22 => 1582182850925, // param
+        23 => 6181515120, // prop
+        24 => 1552335267192, // index
+        25 => 1595251712869, // slice
+        26 => 6113817460, // list
+        27 => 23226734, // bin
+        28 => 95598, // un
+        29 => 5962298213, // case
+        30 => 397419472055404, // isnull
+        31 => 92526, // in
+        32 => 24535410, // var
+        33 => 23945584, // map
+        34 => 91758, // fn
+        35 => 24142196, // pat
+        36 => 1565137269872, // listp
+        37 => 1603875792243, // unres
+        _ => 1603874874739, // undes
+    }
+}
 
-// The codes of a kind's fields, 0 behind the last: 1 flag, 2 variable, 3 variable or absent, 4 integer, 5 float, 6 text, 7 alias, 8 span, 9 length, and from 10 on a number with a limit.
-pub const FORMS: [[u32; 7]; 39] = [
-    [10, 10, 0, 0, 0, 0, 0], // stmt
-    [1, 10, 0, 0, 0, 0, 0], // arm
-    [1, 10, 8, 0, 0, 0, 0], // match
-    [8, 0, 0, 0, 0, 0, 0], // where
-    [10, 1, 10, 1, 1, 8, 0], // with
-    [10, 1, 10, 1, 1, 8, 0], // return
-    [2, 8, 0, 0, 0, 0, 0], // unwind
-    [6, 10, 10, 1, 8, 0, 0], // call
-    [8, 0, 0, 0, 0, 0, 0], // write
-    [7, 0, 0, 0, 0, 0, 0], // item
-    [1, 0, 0, 0, 0, 0, 0], // key
-    [3, 12, 10, 0, 0, 0, 0], // part
-    [3, 10, 1, 8, 0, 0, 0], // node
-    [3, 10, 12, 9, 1, 8, 0], // rel
-    [6, 0, 0, 0, 0, 0, 0], // name
-    [6, 2, 0, 0, 0, 0, 0], // yield
-    [6, 0, 0, 0, 0, 0, 0], // name (a map's)
-    [0, 0, 0, 0, 0, 0, 0], // null
-    [1, 0, 0, 0, 0, 0, 0], // bool
-    [4, 0, 0, 0, 0, 0, 0], // int
-    [5, 0, 0, 0, 0, 0, 0], // float
-    [6, 0, 0, 0, 0, 0, 0], // str
-    [6, 0, 0, 0, 0, 0, 0], // param
-    [6, 0, 0, 0, 0, 0, 0], // prop
-    [0, 0, 0, 0, 0, 0, 0], // index
-    [1, 1, 0, 0, 0, 0, 0], // slice
-    [10, 0, 0, 0, 0, 0, 0], // list
-    [14, 0, 0, 0, 0, 0, 0], // bin
-    [11, 0, 0, 0, 0, 0, 0], // un
-    [1, 10, 1, 0, 0, 0, 0], // case
-    [1, 0, 0, 0, 0, 0, 0], // isnull
-    [0, 0, 0, 0, 0, 0, 0], // in
-    [2, 0, 0, 0, 0, 0, 0], // var
-    [10, 0, 0, 0, 0, 0, 0], // map
-    [6, 10, 1, 0, 0, 0, 0], // fn
-    [10, 0, 0, 0, 0, 0, 0], // pat
-    [13, 2, 1, 0, 0, 0, 0], // listp
-    [6, 0, 0, 0, 0, 0, 0], // unres
-    [13, 0, 0, 0, 0, 0, 0], // undes
-];
+// The codes of a kind's fields as seven hexadecimal digits, 0 behind the last: 1 flag, 2 variable, 3 variable or absent, 4 integer, 5 float, 6 text, 7 alias, 8 span, 9 length, and from 10 on a number with a limit.
+fn form_row(kind: usize) -> u64
+    requires { ⌜ kind < 39 ⌝ }
+    ensures { λ r. ⌜ r ≡ inDigits (getD codes kind []) ⌝ }
+{
+    match kind {
+        0 => 0xaa00000, // stmt
+        1 => 0x1a00000, // arm
+        2 => 0x1a80000, // match
+        3 => 0x8000000, // where
+        4 => 0xa1a1180, // with
+        5 => 0xa1a1180, // return
+        6 => 0x2800000, // unwind
+        7 => 0x6aa1800, // call
+        8 => 0x8000000, // write
+        9 => 0x7000000, // item
+        10 => 0x1000000, // key
+        11 => 0x3ca0000, // part
+        12 => 0x3a18000, // node
+        13 => 0x3ac9180, // rel
+        14 => 0x6000000, // name
+        15 => 0x6200000, // yield
+        16 => 0x6000000, // name (a map's)
+        17 => 0x0000000, // null
+        18 => 0x1000000, // bool
+        19 => 0x4000000, // int
+        20 => 0x5000000, // float
+        21 => 0x6000000, // str
+        22 => 0x6000000, // param
+        23 => 0x6000000, // prop
+        24 => 0x0000000, // index
+        25 => 0x1100000, // slice
+        26 => 0xa000000, // list
+        27 => 0xe000000, // bin
+        28 => 0xb000000, // un
+        29 => 0x1a10000, // case
+        30 => 0x1000000, // isnull
+        31 => 0x0000000, // in
+        32 => 0x2000000, // var
+        33 => 0xa000000, // map
+        34 => 0x6a10000, // fn
+        35 => 0xa000000, // pat
+        36 => 0xd210000, // listp
+        37 => 0x6000000, // unres
+        _ => 0xd000000, // undes
+    }
+}
+
+// The code of field g of a kind, 0 behind the last.
+pub fn form_code(kind: usize, g: usize) -> u32
+    requires { ⌜ (kind < 39) × (g < 7) ⌝ }
+    ensures { λ r. ⌜ r ≡ codeAt kind g ⌝ }
+{
+    let row = form_row(kind);
+    ((row >> (24 - 4 * g)) % 16) as u32
+}
 
 // The limits of the numbers, from code 10 on.
-pub const LIMITS: [u64; 5] = [4294967295, 1, 2, 3, 19];
+pub fn limit(code: u32) -> u64
+    requires { ⌜ code < 5 ⌝ }
+    ensures { λ r. ⌜ r ≡ getD limits code 0 ⌝ }
+{
+    match code {
+        0 => 4294967295,
+        1 => 1,
+        2 => 2,
+        3 => 3,
+        _ => 19,
+    }
+}
 
-// Five groups of children a kind, each a sort and a count: 0, 1 or 2 is the count itself, 3 the first word of field 0, 4 that of field 1, and so on.
-pub const GROUPS: [[u32; 10]; 39] = [
-    [2, 3, 1, 4, 0, 0, 0, 0, 0, 0], // stmt
-    [2, 4, 0, 0, 0, 0, 0, 0, 0, 0], // arm
-    [5, 4, 0, 0, 0, 0, 0, 0, 0, 0], // match
-    [10, 1, 0, 0, 0, 0, 0, 0, 0, 0], // where
-    [3, 3, 10, 4, 4, 5, 10, 6, 10, 7], // with
-    [3, 3, 4, 5, 10, 6, 10, 7, 0, 0], // return
-    [10, 1, 0, 0, 0, 0, 0, 0, 0, 0], // unwind
-    [10, 4, 8, 5, 0, 0, 0, 0, 0, 0], // call
-    [0, 0, 0, 0, 0, 0, 0, 0, 0, 0], // write
-    [10, 1, 0, 0, 0, 0, 0, 0, 0, 0], // item
-    [10, 1, 0, 0, 0, 0, 0, 0, 0, 0], // key
-    [6, 5, 0, 0, 0, 0, 0, 0, 0, 0], // part
-    [7, 4, 10, 5, 0, 0, 0, 0, 0, 0], // node
-    [7, 4, 10, 7, 0, 0, 0, 0, 0, 0], // rel
-    [0, 0, 0, 0, 0, 0, 0, 0, 0, 0], // name
-    [0, 0, 0, 0, 0, 0, 0, 0, 0, 0], // yield
-    [10, 1, 0, 0, 0, 0, 0, 0, 0, 0], // name (a map's)
-    [0, 0, 0, 0, 0, 0, 0, 0, 0, 0], // null
-    [0, 0, 0, 0, 0, 0, 0, 0, 0, 0], // bool
-    [0, 0, 0, 0, 0, 0, 0, 0, 0, 0], // int
-    [0, 0, 0, 0, 0, 0, 0, 0, 0, 0], // float
-    [0, 0, 0, 0, 0, 0, 0, 0, 0, 0], // str
-    [0, 0, 0, 0, 0, 0, 0, 0, 0, 0], // param
-    [10, 1, 0, 0, 0, 0, 0, 0, 0, 0], // prop
-    [10, 2, 0, 0, 0, 0, 0, 0, 0, 0], // index
-    [10, 1, 10, 3, 10, 4, 0, 0, 0, 0], // slice
-    [10, 3, 0, 0, 0, 0, 0, 0, 0, 0], // list
-    [10, 2, 0, 0, 0, 0, 0, 0, 0, 0], // bin
-    [10, 1, 0, 0, 0, 0, 0, 0, 0, 0], // un
-    [10, 3, 10, 4, 10, 4, 10, 5, 0, 0], // case
-    [10, 1, 0, 0, 0, 0, 0, 0, 0, 0], // isnull
-    [10, 2, 0, 0, 0, 0, 0, 0, 0, 0], // in
-    [0, 0, 0, 0, 0, 0, 0, 0, 0, 0], // var
-    [9, 3, 0, 0, 0, 0, 0, 0, 0, 0], // map
-    [10, 4, 0, 0, 0, 0, 0, 0, 0, 0], // fn
-    [5, 3, 0, 0, 0, 0, 0, 0, 0, 0], // pat
-    [10, 1, 10, 5, 0, 0, 0, 0, 0, 0], // listp
-    [0, 0, 0, 0, 0, 0, 0, 0, 0, 0], // unres
-    [0, 0, 0, 0, 0, 0, 0, 0, 0, 0], // undes
-];
+// Five groups of children a kind, each two digits, a sort and a count: 0, 1 or 2 is the count itself, 3 the first word of field 0, 4 that of field 1, and so on.
+fn group_row(kind: u32) -> u64
+    requires { ⌜ kind < 39 ⌝ }
+    ensures { λ r. ⌜ r ≡ inDigits (getD groups kind []) ⌝ }
+{
+    match kind {
+        0 => 0x2314000000, // stmt
+        1 => 0x2400000000, // arm
+        2 => 0x5400000000, // match
+        3 => 0xa100000000, // where
+        4 => 0x33a445a6a7, // with
+        5 => 0x3345a6a700, // return
+        6 => 0xa100000000, // unwind
+        7 => 0xa485000000, // call
+        8 => 0x0000000000, // write
+        9 => 0xa100000000, // item
+        10 => 0xa100000000, // key
+        11 => 0x6500000000, // part
+        12 => 0x74a5000000, // node
+        13 => 0x74a7000000, // rel
+        14 => 0x0000000000, // name
+        15 => 0x0000000000, // yield
+        16 => 0xa100000000, // name (a map's)
+        17 => 0x0000000000, // null
+        18 => 0x0000000000, // bool
+        19 => 0x0000000000, // int
+        20 => 0x0000000000, // float
+        21 => 0x0000000000, // str
+        22 => 0x0000000000, // param
+        23 => 0xa100000000, // prop
+        24 => 0xa200000000, // index
+        25 => 0xa1a3a40000, // slice
+        26 => 0xa300000000, // list
+        27 => 0xa200000000, // bin
+        28 => 0xa100000000, // un
+        29 => 0xa3a4a4a500, // case
+        30 => 0xa100000000, // isnull
+        31 => 0xa200000000, // in
+        32 => 0x0000000000, // var
+        33 => 0x9300000000, // map
+        34 => 0xa400000000, // fn
+        35 => 0x5300000000, // pat
+        36 => 0xa1a5000000, // listp
+        37 => 0x0000000000, // unres
+        _ => 0x0000000000, // undes
+    }
+}
+
+// Entry j of a kind's groups.
+pub fn group_entry(kind: u32, j: usize) -> u32
+    requires { ⌜ (kind < 39) × (j < 10) ⌝ }
+    ensures { λ r. ⌜ r ≡ getD (getD groups kind []) j 0 ⌝ }
+{
+    let row = group_row(kind);
+    ((row >> (36 - 4 * j)) % 16) as u32
+}

@@ -1,40 +1,60 @@
--- Each keyword lies within the text of all of them. Assumes nothing: every law is proved.
+-- The keywords as numbers, and their bytes put one by one. Assumes nothing: every law is proved.
 use mathlib.Core.Path.{_≡_, refl}
-use Prim.Native.Nat.{ℕ, zero, suc, _≤_, _<_}
+use Prim.Native.Nat.{ℕ, zero, suc, _/_, _%_, _<_}
 use native.Mathlib.Omega.{arith}
-use mathlib.Core.Bool.{Bool, true, _&&_}
-use mathlib.Core.List.{List, [], _∷_}
-use lib.Dec.{leb}
-use lib.ListN.{length, getD}
-use borrow.Author.Tests.{leb-true}
-use Rattle.laws.specs.TextLaws.{and-left, and-right}
-use Rattle.plan_line.specs.Keywords.{starts}
+use mathlib.Core.Bool.{Bool}
+use mathlib.Core.List.{[], _∷_}
+use lib.ListN.{getD}
+use borrow.Author.Tests.{eq-eqb, ne-eqb}
+use Rattle.model.specs.Text.{bytes, bytesFrom, same, sameBy}
+use Rattle.laws.specs.TextLaws.{same-sound}
+use Rattle.line.specs.TableLaws.{passesTo, passes-at}
+use Rattle.output.specs.Page.{Page, Puts}
+use Rattle.output.specs.Writes.{stay, _⨾_}
+use Rattle.plan_line.specs.Keywords.{word, letters, numbers, unpacked}
 
--- numbers that do not fall, and are m at most
-rising : ℕ → List ℕ → Bool
-rising m [] = true
-rising m (x ∷ []) = leb x m
-rising m (x ∷ y ∷ l) = leb x y && rising m (y ∷ l)
+-- ── numbers ──
 
-pub record Within (m x y : ℕ) : Type 0 where
-  pub from : x ≤ y
-  pub to : y ≤ m
+numberTest : ℕ → Bool
+numberTest k = same (unpacked 8 (getD numbers k 0)) (word k)
 
-last-low : (m : ℕ) (l : List ℕ) (x : ℕ) → rising m (x ∷ l) ≡ true → x ≤ m
-unfolding rising
-last-low m [] x h = leb-true x m h
-last-low m (y ∷ l) x h =
-    let a : x ≤ y = leb-true x y (and-left _ _ h) in
-    let b : y ≤ m = last-low m l y (and-right (leb x y) _ h) in
-    omega arith
+number-word : (k : ℕ) → k < 46 → unpacked 8 (getD numbers k 0) ≡ word k
+unfolding numberTest passesTo unpacked word letters bytes bytesFrom same sameBy
+number-word k h = same-sound _ _ (passes-at numberTest 46 refl k h)
 
-rising-at : (m : ℕ) (l : List ℕ) (i : ℕ) → rising m l ≡ true → suc i < length l → Within m (getD l i 0) (getD l (suc i) 0)
-unfolding rising
-rising-at m [] i h s = absurd (omega arith)
-rising-at m (x ∷ []) i h s = absurd (omega arith)
-rising-at m (x ∷ y ∷ l) zero h s = record { from = leb-true x y (and-left _ _ h); to = last-low m l y (and-right (leb x y) _ h) }
-rising-at m (x ∷ y ∷ l) (suc i) h s = rising-at m (y ∷ l) i (and-right (leb x y) _ h) (omega arith)
+-- ── bytes ──
 
-pub keyword-within : (k : ℕ) → k < 46 → Within 195 (getD starts k 0) (getD starts (suc k) 0)
-unfolding rising
-keyword-within k h = rising-at 195 starts k refl (omega arith)
+-- a number of at most n bytes
+abbrev Bytewise : ℕ → ℕ → Type 0
+Bytewise zero v = v ≡ 0
+Bytewise (suc n) v = Bytewise n (v / 256)
+
+-- the bytes of w are put but for those of v
+pub record Unpacking (w v : ℕ) (g h : Page) : Type 0 where
+  pub left : ℕ
+  pub few : Bytewise left v
+  pub rest : (i : Page) → Puts (unpacked left v) h i → Puts (unpacked 8 w) g i
+
+pub unpack-start : (w : ℕ) {g : Page} → w < 18446744073709551616 → Unpacking w w g g
+unpack-start w h = record { left = 8; few = omega arith; rest = λ i p. p }
+
+module _ {w v : ℕ} {g h : Page} (u : Unpacking w v g h) where
+  pub unpack-more : (v ≡ 0 → ⊥) → {i : Page} → Puts (v % 256 ∷ []) h i → Unpacking w (v / 256) g i
+  unfolding unpacked
+  unpack-more b {i} p = go (u .left) (u .few) (u .rest)
+    where
+      go : (n : ℕ) → Bytewise n v → ((j : Page) → Puts (unpacked n v) h j → Puts (unpacked 8 w) g j) → Unpacking w (v / 256) g i
+      go zero f r = absurd (b f)
+      go (suc n) f r = record { left = n; few = f; rest = λ j q. r j (rw (ne-eqb v 0 b) (p ⨾ q)) }
+
+  pub unpack-done : v ≡ 0 → Puts (unpacked 8 w) g h
+  unfolding unpacked
+  unpack-done e = u .rest h (go (u .left))
+    where
+      go : (n : ℕ) → Puts (unpacked n v) h h
+      go zero = stay
+      go (suc n) = rw (eq-eqb v 0 e) stay
+
+-- the bytes of a keyword's number are the keyword
+pub put-word : {g h : Page} (k w : ℕ) → k < 46 → w ≡ getD numbers k 0 → Puts (unpacked 8 w) g h → Puts (word k) g h
+put-word k w h e p = rw (e, number-word k h) at p

@@ -9,19 +9,11 @@ ghost use Rattle.model.specs.Text.{decimal, signed, hexDigits};
 ghost use Rattle.output.specs.Page.{on, Puts};
 ghost use Rattle.words.specs.Words.{Roomy, part, intOf};
 ghost use Rattle.words.specs.Held.{Flag, Text};
-ghost use Rattle.line.specs.Table.{codeAt, formOf, formsAt};
+ghost use Rattle.line.specs.Table.{formOf, formsAt};
 ghost use Rattle.plan_line.specs.Keywords.{word};
 ghost use Rattle.plan_line.specs.Field.{plain, fieldText, fieldsText, Fielded, lineText};
+use line::table::form_code;
 use output::Out;
-
-// The code of field g of a kind, 0 behind the last.
-fn form_code(kind: usize, g: usize) -> u32
-    requires { ⌜ (kind < 39) × (g < 7) ⌝ }
-    ensures { λ r. ⌜ r ≡ codeAt kind g ⌝ }
-{
-    let row = line::table::FORMS[kind];
-    row[g]
-}
 
 // The 64 bits of two words.
 fn bits(low: u32, high: u32) -> u64

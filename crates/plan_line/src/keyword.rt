@@ -1,61 +1,80 @@
 // The keywords of the plan sheet.
+ghost use mathlib.Core.Path.{_≡_};
 ghost use Prim.Native.Nat.{_<_, _≤_};
-ghost use lib.ListN.{length};
+ghost use lib.ListN.{length, getD};
 ghost use lib.Seq.{slice};
 ghost use Rattle.output.specs.Page.{on, Puts};
-ghost use Rattle.plan_line.specs.Keywords.{word};
+ghost use Rattle.plan_line.specs.Keywords.{word, numbers, unpacked};
 use output::Out;
 
-// Where each keyword begins in the text of all of them, and where the last ends.
-const STARTS: [usize; 47] = [
-    0,
-    4,
-    8,
-    11,
-    16,
-    19,
-    24,
-    28,
-    33,
-    38,
-    42,
-    45,
-    47,
-    51,
-    57,
-    59,
-    62,
-    65,
-    67,
-    73,
-    78,
-    84,
-    90,
-    96,
-    103,
-    106,
-    111,
-    115,
-    120,
-    128,
-    134,
-    139,
-    143,
-    151,
-    156,
-    160,
-    164,
-    168,
-    171,
-    173,
-    177,
-    181,
-    184,
-    185,
-    186,
-    190,
-    195,
-];
+// Keyword k as one number, its first byte the lowest. A number and no byte string, since the compiler writes a byte string anew at each use and reads the arms of a match from constant data.
+fn keyword_number(k: usize) -> u64
+    requires { ⌜ k < 46 ⌝ }
+    ensures { λ r. ⌜ r ≡ getD numbers k 0 ⌝ }
+{
+    match k {
+        0 => 0x6c6c756e, // null
+        1 => 0x6c6f6f62, // bool
+        2 => 0x746e69, // int
+        3 => 0x74616f6c66, // float
+        4 => 0x727473, // str
+        5 => 0x6d61726170, // param
+        6 => 0x706f7270, // prop
+        7 => 0x7865646e69, // index
+        8 => 0x6563696c73, // slice
+        9 => 0x7473696c, // list
+        10 => 0x6e6962, // bin
+        11 => 0x6e75, // un
+        12 => 0x65736163, // case
+        13 => 0x6c6c756e7369, // isnull
+        14 => 0x6e69, // in
+        15 => 0x726176, // var
+        16 => 0x70616d, // map
+        17 => 0x6e66, // fn
+        18 => 0x737473697865, // exists
+        19 => 0x707473696c, // listp
+        20 => 0x656372756f73, // source
+        21 => 0x646e61707865, // expand
+        22 => 0x7265746c6966, // filter
+        23 => 0x7463656a6f7270, // project
+        24 => 0x676761, // agg
+        25 => 0x726564726f, // order
+        26 => 0x70696b73, // skip
+        27 => 0x74696d696c, // limit
+        28 => 0x74636e6974736964, // distinct
+        29 => 0x646e69776e75, // unwind
+        30 => 0x6e6f696e75, // union
+        31 => 0x68746977, // with
+        32 => 0x6c616e6f6974706f, // optional
+        33 => 0x74726f6873, // short
+        34 => 0x68746170, // path
+        35 => 0x6c6c6163, // call
+        36 => 0x6e616c70, // plan
+        37 => 0x6c6572, // rel
+        38 => 0x6f74, // to
+        39 => 0x6d657469, // item
+        40 => 0x66676761, // aggf
+        41 => 0x79656b, // key
+        42 => 0x65, // e
+        43 => 0x76, // v
+        44 => 0x656d616e, // name
+        _ => 0x646c656979, // yield
+    }
+}
+
+// The bytes of a number from the lowest on, up to a 0.
+fn put_packed(plan: &mut [u8], out: Out, w: u64) -> Out
+    ensures { λ r. ⌜ Puts (unpacked 8 w) (on (now (plan .entry)) out) (on (now (plan .exit)) r) ⌝ }
+{
+    let mut o = out;
+    let mut v = w;
+    while v != 0 {
+        let b = (v % 256) as u8;
+        o = output::put_byte(plan, o, b);
+        v = v / 256;
+    }
+    o
+}
 
 // The bytes of s from one place up to another.
 pub fn put_within(plan: &mut [u8], out: Out, s: &[u8], from: usize, to: usize) -> Out
@@ -70,13 +89,6 @@ pub fn put_keyword(plan: &mut [u8], out: Out, k: usize) -> Out
     requires { ⌜ k < 46 ⌝ }
     ensures { λ r. ⌜ Puts (word k) (on (now (plan .entry)) out) (on (now (plan .exit)) r) ⌝ }
 {
-    let from = STARTS[k];
-    let to = STARTS[k + 1];
-    put_within(
-        plan,
-        out,
-        b"nullboolintfloatstrparampropindexslicelistbinuncaseisnullinvarmapfnexistslistpsourceexpandfilterprojectaggorderskiplimitdistinctunwindunionwithoptionalshortpathcallplanreltoitemaggfkeyevnameyield",
-        from,
-        to,
-    )
+    let w = keyword_number(k);
+    put_packed(plan, out, w)
 }

@@ -1,14 +1,14 @@
 -- `line::read::read_fields` meets its contract: the fields, one by one. The invariant: what the fields left come to is what all come to. Assumes nothing.
-use native.Mathlib.Omega.{arith}
-use lib.ListN.{length, length-set}
-use borrow.Author.Needs.{needs}
-use Rattle.line.specs.Table.{formsFrom}
 use Rattle.line.proofs.FillLaws.{Filling, fill-start, fill-code, fill-room, fill-less, fill-not, fill-more, fill-yes, fill-no}
+use Rattle.line.specs.Table.{formsFrom}
+use lib.ListN.{length, length-set}
+use native.Mathlib.Omega.{arith}
+use borrow.Author.Needs.{needs}
 use Rattle.line.proofs.read.read_fields.Statement.{statement}
 use Rattle.line.proofs.read.read_fields.Tie as tie
 
 abbrev Inv-loop : tie.InvT-loop
-Inv-loop sheet p e kind part₀ row at₀ g₀ form₀ part at g form = Filling kind sheet p e part₀ part row at g form
+Inv-loop sheet p e kind part₀ row at₀ g₀ form₀ part at g form = Filling kind sheet p e part₀ part at g form
 
 abbrev μ-loop : tie.MeasureT-loop
 μ-loop sheet p e kind part₀ row at₀ g₀ form₀ part at g form = length (formsFrom kind g)
@@ -19,11 +19,9 @@ read-fields-spec =
     (tie.spec
     Inv-loop
     μ-loop
-    (λ c. search needs)
-    (λ c. search needs)
-    (λ c. search needs)
-    (λ c. fill-start _ _ _ _ _ (c .before .before .before .pre .1 .0) (c .before .before .before .pre .1 .1))
-    (λ c κs. ((c .before .before .before .before .before .pre .0), (omega (arith, (c .loop-test .taken)), fill-code _ _ _ _ _ _ _ _ _ _ (c .before .loop .inv))))
+    (λ c κs. search needs)
+    (λ c. fill-start _ _ _ _ _ (c .before .before .before .pre .1 .0) (c .before .before .before .pre .1 .1) _ (c .form-code .ensures))
+    (λ c κs. ((c .before .before .before .before .before .pre .0), (omega (arith, (c .loop-test .taken)), fill-code _ _ _ _ _ _ _ _ _ (c .before .loop .inv))))
     (λ c. search needs)
     (λ c. search needs)
     (λ c. search needs)
@@ -35,11 +33,10 @@ read-fields-spec =
     (λ c. search needs)
     (λ c. search needs)
     (λ c. search needs)
-    (λ c. rw length-set (omega (arith, fill-room _ _ _ _ _ _ _ _ _ _ (c .before .before .before .before .before .loop .inv) (c .before .before .before .before .loop-test .taken), (c .before .before .before .before .before .loop .inv .long))))
+    (λ c. rw length-set (omega (arith, fill-room _ _ _ _ _ _ _ _ _ (c .before .before .before .before .before .loop .inv) (c .before .before .before .before .loop-test .taken), (c .before .before .before .before .before .loop .inv .long))))
     (λ c. search needs)
-    (λ c. search needs)
-    (λ c. omega (arith, fill-room _ _ _ _ _ _ _ _ _ _ (c .before .before .before .before .before .loop .inv) (c .before .before .before .before .loop-test .taken)))
-    (λ c. fill-less _ _ _ _ _ _ _ _ _ _ (c .before .before .before .before .before .loop .inv) (c .before .before .before .before .loop-test .taken))
+    (λ c κs. ((c .before .before .before .before .before .before .before .before .before .pre .1 .0), omega (arith, fill-room _ _ _ _ _ _ _ _ _ (c .before .before .before .before .before .loop .inv) (c .before .before .before .before .loop-test .taken))))
+    (λ c. fill-less _ _ _ _ _ _ _ _ _ (c .before .before .before .before .before .before .loop .inv) (c .before .before .before .before .before .loop-test .taken))
     (λ c. search (fill-more, needs))
     (λ c. search needs)
     (λ c. search (fill-yes, needs))

@@ -13,7 +13,6 @@ use Rattle.plan_line.proofs.field.put_fields.Statement.{statement}
 use Rattle.plan_line.proofs.field.put_fields.Tie as tie
 use Rattle.plan_line.proofs.field.put_fields.Reads as reads
 use Rattle.plan_line.proofs.field.put_fields.Lts as lts
-use Rattle.plan_line.proofs.field.form_code.Reads as form-code-reads
 use Rattle.plan_line.proofs.field.put_field.Reads as put-field-reads
 use Rattle.words.proofs.word.Reads as word-reads
 
