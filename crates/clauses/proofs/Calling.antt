@@ -17,7 +17,7 @@ use Rattle.words.specs.Held.{Held, sizeOf}
 use Rattle.context.specs.Tables.{Op, Pushed}
 use Rattle.context.specs.declared.LowerCtx.{LowerCtx}
 use Rattle.lower.specs.Shows.{shift, Sane, shows-call}
-use Rattle.lower.specs.Rep.{State, Mem, mem, Written, Sub, Rep}
+use Rattle.lower.specs.Rep.{State, Mem, mem, Written, Sub, Rep, Indexes}
 use Rattle.lower.specs.Pieces.{SomeTree, SomeCarried, lowerC, LowersExprs}
 use Rattle.lower.specs.Carry.{plainC, plain-size, plain-held, plain-render, plain-below}
 use Rattle.lower.specs.Chains.{givenIf}
@@ -86,11 +86,11 @@ module _ {a b : List ℕ} (d i : ℕ) (room : Roomy a b) (k7 : cell a b i 0 ≡ 
       let w = v .yielded in
       omega arith
 
-  pub room-yields : {n n′ e : ℕ} {m m₁ : Mem} → n ≡ cell a b i 4 → n′ ≡ cell a b i 6 → LowersExprs a b n 0 (d - 1) 0 (i + 1) e m m₁ → SomeTree a b clause d i → Ready i m → (e + n′ ≤ 2048) × (m₁ .ctx .mapped + n′ ≤ 5000) × (m₁ .ctx .next + n′ ≤ 5000) × (16384 ≤ length (m₁ .rest))
+  pub room-yields : {n n′ e : ℕ} {m m₁ : Mem} → n ≡ cell a b i 4 → n′ ≡ cell a b i 6 → LowersExprs a b n 0 (d - 1) 0 (i + 1) e m m₁ → SomeTree a b clause d i → Ready i m → (e + n′ ≤ 2048) × (m₁ .ctx .mapped + n′ ≤ 4352) × (m₁ .ctx .next + n′ ≤ 5000) × (16384 ≤ length (m₁ .rest)) × Indexes m₁
   room-yields en en′ p x g =
       let f = yields-fit en en′ p x in
       let v = p .moved in
-      (f, omega (arith, f, g .met, v .met, v .up, g .here), omega (arith, f, g .low, v .low, v .up, g .here), rw (v .in-rest) (g .in-rest))
+      (f, omega (arith, f, g .met, v .met, v .up, g .here), omega (arith, f, g .low, v .low, v .up, g .here), rw (v .in-rest) (g .in-rest), v .index (g .index))
 
 module _ {a b : List ℕ} {n n′ j e : ℕ} {c : LowerCtx} {os : List ℕ} {m m₁ m₂ : Mem} (d i has last : ℕ) (room : Roomy a b) (k7 : cell a b i 0 ≡ 7) (sh : d ≤ 64) (en : n ≡ cell a b i 4) (en′ : n′ ≡ cell a b i 6) (x : LowersExprs a b n 0 (d - 1) 0 (i + 1) j m m₁) (y : LowersYields a b n′ j e m₁ m₂) (pc : Pushed (m₂ .ctx) c (m₂ .ops) os (callOp i has last d)) (lo : length os ≡ length (m₂ .ops)) where
   call-run : (sheet : Bytes) (t : Tree clause) → Held sheet a b t d i → (W : Written) (s : State) → Rep sheet a b W s m → BothBlank W (suc i) (suc e) → Leaves sheet a b W (λ s. lowerClause t (givenIf has last) s) (some (m₂ .ctx .ops)) (suc i) (suc e) s m (mem c os (m₂ .rest))
@@ -127,7 +127,7 @@ module _ {a b : List ℕ} {n n′ j e : ℕ} {c : LowerCtx} {os : List ℕ} {m m
       let v = x .moved in
       let w = y .moved in
       record {
-        moved = record { up = omega (arith, v .up, w .up); here = w .here; few = omega (arith, v .few, v .up, w .few, w .up, pc .count); low = omega (arith, v .low, v .up, w .low, w .up, pc .next); met = omega (arith, v .met, v .up, w .met, w .up, pc .mapped); in-ops = lo ∙ w .in-ops ∙ v .in-ops; in-rest = w .in-rest ∙ v .in-rest };
+        moved = record { up = omega (arith, v .up, w .up); here = w .here; few = omega (arith, v .few, v .up, w .few, w .up, pc .count); low = omega (arith, v .low, v .up, w .low, w .up, pc .next); met = omega (arith, v .met, v .up, w .met, w .up, pc .mapped); in-ops = lo ∙ w .in-ops ∙ v .in-ops; in-rest = w .in-rest ∙ v .in-rest; index = λ z. rw (pc .mapped) (w .index (v .index z)) };
         stands = omega (arith, pc .count);
         next = λ t hd. (let o = a-call room t hd k7 in let p = args-end d i room k7 en x sheet t hd in let q = y .next in let z = o .sized in let f = yields-size (o .yields) in let g = o .yielded in omega arith);
         run = call-run sheet;

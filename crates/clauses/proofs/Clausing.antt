@@ -35,7 +35,7 @@ module _ (sheet : Bytes) {a b : List ℕ} (d i : ℕ) (o : Option ℕ) (m : Mem)
 
   pub write-law : LowersClause sheet a b d i (i + 1) o o m m
   write-law = record {
-    moved = record { up = omega arith; here = omega arith; few = omega arith; low = omega arith; met = omega arith; in-ops = refl; in-rest = refl };
+    moved = record { up = omega arith; here = omega arith; few = omega arith; low = omega arith; met = omega arith; in-ops = refl; in-rest = refl; index = λ x. x };
     stands = st;
     next = λ t hd. (let z = a-write sheet d i room t hd k8 .0 in omega arith);
     run = λ t hd W s r bl. write-run t hd W s r;

@@ -82,7 +82,7 @@ module _ {sheet : Bytes} {a b : List ℕ} {n e k k′ all : ℕ} {below : Option
   arm-law =
       let v = cl .moved in
       record {
-        moved = record { up = omega (arith, v .up); here = v .here; few = omega (arith, v .few, ql .few, qr .few, pu .count); low = omega (arith, v .low, ql .next, qr .next, pu .next); met = omega (arith, v .met, ql .mapped, qr .mapped, pu .mapped); in-ops = lo ∙ qr .in-ops ∙ ql .in-ops ∙ v .in-ops; in-rest = ap length (qr .rest) ∙ ap length (ql .rest) ∙ v .in-rest };
+        moved = record { up = omega (arith, v .up); here = v .here; few = omega (arith, v .few, ql .few, qr .few, pu .count); low = omega (arith, v .low, ql .next, qr .next, pu .next); met = omega (arith, v .met, ql .mapped, qr .mapped, pu .mapped); in-ops = lo ∙ qr .in-ops ∙ ql .in-ops ∙ v .in-ops; in-rest = ap length (qr .rest) ∙ ap length (ql .rest) ∙ v .in-rest; index = λ z. rw (pu .mapped, qr .mapped, qr .rest, ql .mapped, ql .rest) (v .index z) };
         stands = omega (arith, pu .count);
         next = λ t hd. (let w = an-arm room t hd in let y : LowersClauses sheet a b (w .n) (d - 1) (i + 1) e none below m m₁ = rw (en ∙ sym (w .many)) at cl in let z = y .next (w .clauses) (w .held) in let f = w .sized in omega arith);
         run = arm-run;

@@ -112,7 +112,7 @@ module _ {a b : List ℕ} {n k e : ℕ} {m m₁ : Mem} (d i has last : ℕ) (roo
         let f = tree-fits (x .sheet) a b (x .tree) d i (x .held) .0 in
         let u : i < e = omega arith in
         record {
-          moved = record { up = v .up; here = v .here; few = omega (arith, v .few, pj .count, u); low = omega (arith, v .low, pj .next, u); met = omega (arith, v .met, pj .mapped, u); in-ops = lo ∙ v .in-ops; in-rest = v .in-rest };
+          moved = record { up = v .up; here = v .here; few = omega (arith, v .few, pj .count, u); low = omega (arith, v .low, pj .next, u); met = omega (arith, v .met, pj .mapped, u); in-ops = lo ∙ v .in-ops; in-rest = v .in-rest; index = λ z. rw (pj .mapped) (v .index z) };
           stands = omega (arith, pj .count);
           next = match-next sheet;
           run = joined-run sheet;

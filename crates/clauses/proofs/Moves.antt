@@ -16,30 +16,30 @@ use Rattle.lower.specs.State.{sub-more, sub-then, sub-within, blank-within, bla
 
 -- room for what is at most d deep, from record j on
 pub ready-good : {d i j : ℕ} {m : Mem} → Ready i m → i ≤ j → j ≤ 2048 → d ≤ 64 → Good d j m
-ready-good g l h ld = record { few = omega (arith, g .few); low = omega (arith, g .low); met = omega (arith, g .met); here = h; in-ops = g .in-ops; in-rest = g .in-rest }
+ready-good g l h ld = record { few = omega (arith, g .few); low = omega (arith, g .low); met = omega (arith, g .met); here = h; in-ops = g .in-ops; in-rest = g .in-rest; index = g .index }
 
 pub ready-after : {i e : ℕ} {m m′ : Mem} → MovedTwice i e m m′ → Ready i m → Ready e m′
-ready-after p g = record { few = omega (arith, p .few, g .few); low = omega (arith, p .low, g .low); met = omega (arith, p .met, g .met); here = p .here; in-ops = rw (p .in-ops) (g .in-ops); in-rest = rw (p .in-rest) (g .in-rest) }
+ready-after p g = record { few = omega (arith, p .few, g .few); low = omega (arith, p .low, g .low); met = omega (arith, p .met, g .met); here = p .here; in-ops = rw (p .in-ops) (g .in-ops); in-rest = rw (p .in-rest) (g .in-rest); index = p .index (g .index) }
 
 pub ready-from : {i j : ℕ} {m : Mem} → i ≤ j → j ≤ 2048 → Ready i m → Ready j m
-ready-from l h g = record { few = omega (arith, g .few); low = omega (arith, g .low); met = omega (arith, g .met); here = h; in-ops = g .in-ops; in-rest = g .in-rest }
+ready-from l h g = record { few = omega (arith, g .few); low = omega (arith, g .low); met = omega (arith, g .met); here = h; in-ops = g .in-ops; in-rest = g .in-rest; index = g .index }
 
 pub few-ready : {i : ℕ} {m : Mem} → Ready i m → m .ctx .ops ≤ 8192
 few-ready g = omega (arith, g .few, g .here)
 
 pub twice-refl : {i : ℕ} {m : Mem} → i ≤ 2048 → MovedTwice i i m m
-twice-refl h = record { up = omega arith; here = h; few = omega arith; low = omega arith; met = omega arith; in-ops = refl; in-rest = refl }
+twice-refl h = record { up = omega arith; here = h; few = omega arith; low = omega arith; met = omega arith; in-ops = refl; in-rest = refl; index = λ x. x }
 
 pub twice-then : {i j e : ℕ} {m m₁ m₂ : Mem} → MovedTwice i j m m₁ → MovedTwice j e m₁ m₂ → MovedTwice i e m m₂
-twice-then p q = record { up = omega (arith, p .up, q .up); here = q .here; few = omega (arith, p .few, q .few); low = omega (arith, p .low, q .low); met = omega (arith, p .met, q .met); in-ops = q .in-ops ∙ p .in-ops; in-rest = q .in-rest ∙ p .in-rest }
+twice-then p q = record { up = omega (arith, p .up, q .up); here = q .here; few = omega (arith, p .few, q .few); low = omega (arith, p .low, q .low); met = omega (arith, p .met, q .met); in-ops = q .in-ops ∙ p .in-ops; in-rest = q .in-rest ∙ p .in-rest; index = λ x. q .index (p .index x) }
 
 -- from an earlier record on
 pub twice-from : {i j e : ℕ} {m m′ : Mem} → i ≤ j → MovedTwice j e m m′ → MovedTwice i e m m′
-twice-from l p = record { up = omega (arith, p .up); here = p .here; few = omega (arith, p .few); low = omega (arith, p .low); met = omega (arith, p .met); in-ops = p .in-ops; in-rest = p .in-rest }
+twice-from l p = record { up = omega (arith, p .up); here = p .here; few = omega (arith, p .few); low = omega (arith, p .low); met = omega (arith, p .met); in-ops = p .in-ops; in-rest = p .in-rest; index = p .index }
 
 -- one pass alone
 pub twice-once : {i e : ℕ} {m m′ : Mem} → Moved i e m m′ → MovedTwice i e m m′
-twice-once p = record { up = p .up; here = p .here; few = omega (arith, p .few, p .up); low = omega (arith, p .low, p .up); met = omega (arith, p .met, p .up); in-ops = p .in-ops; in-rest = p .in-rest }
+twice-once p = record { up = p .up; here = p .here; few = omega (arith, p .few, p .up); low = omega (arith, p .low, p .up); met = omega (arith, p .met, p .up); in-ops = p .in-ops; in-rest = p .in-rest; index = p .index }
 
 -- ── notes ──
 

@@ -9,7 +9,7 @@ use Rattle.model.specs.Kind.{Sort}
 use Rattle.model.specs.Tree.{Tree, node}
 use Rattle.model.specs.Lower.{Lowering, ret, orSourceAll}
 use Rattle.words.specs.Held.{Held}
-use Rattle.lower.specs.Rep.{Mem, Good, Moved}
+use Rattle.lower.specs.Rep.{Mem, Good, Moved, Indexes}
 use Rattle.lower.specs.Pieces.{SomeTree}
 use Rattle.lower.specs.Chains.{givenIf, OrSource}
 use Rattle.lower.specs.Clauses.{Ready}
@@ -64,11 +64,11 @@ module _ {i j e : ℕ} {m m′ : Mem} (g : Ready i m) (p : Moved j e m m′) (l 
 
 module _ {L : Lowering ℕ} {k i j : ℕ} {m m₁ : Mem} (g : Ready i m) (q : OrSource L k m m₁) where
   pub good-sourced : {d : ℕ} → i + 1 ≤ j → j ≤ 2048 → d ≤ 64 → Good d j m₁
-  good-sourced l h ld = record { few = omega (arith, g .few, q .few); low = omega (arith, g .low, q .next); met = omega (arith, g .met, q .mapped); here = h; in-ops = rw (q .in-ops) (g .in-ops); in-rest = rw (q .rest) (g .in-rest) }
+  good-sourced l h ld = record { few = omega (arith, g .few, q .few); low = omega (arith, g .low, q .next); met = omega (arith, g .met, q .mapped); here = h; in-ops = rw (q .in-ops) (g .in-ops); in-rest = rw (q .rest) (g .in-rest); index = rw (q .mapped, q .rest) (g .index) }
 
   module _ {e : ℕ} {m₂ : Mem} (p : Moved j e m₁ m₂) (l : i ≤ j) where
     pub few-sourced : m₂ .ctx .ops ≤ 16384
     few-sourced = omega (arith, g .few, q .few, p .few, p .here, p .up)
 
-    pub can-number : {place : ℕ} → place ≡ i + 1 → i ≤ 2048 → (m₂ .ctx .mapped < 5888) × (m₂ .ctx .next < 65536) × (place < 4608) × (16384 ≤ length (m₂ .rest))
-    can-number ep h = (omega (arith, g .met, q .mapped, p .met, p .here, p .up), omega (arith, g .low, q .next, p .low, p .here, p .up), omega arith, rw (p .in-rest ∙ ap length (q .rest)) (g .in-rest))
+    pub can-number : {place : ℕ} → place ≡ i + 1 → i ≤ 2048 → (m₂ .ctx .mapped < 4352) × (m₂ .ctx .next < 65536) × (place < 4608) × (16384 ≤ length (m₂ .rest)) × Indexes m₂
+    can-number ep h = (omega (arith, g .met, q .mapped, p .met, p .here, p .up), omega (arith, g .low, q .next, p .low, p .here, p .up), omega arith, rw (p .in-rest ∙ ap length (q .rest)) (g .in-rest), p .index (rw (q .mapped, q .rest) (g .index)))

@@ -86,7 +86,7 @@ module _ {a b : List ℕ} {k e : ℕ} {c : LowerCtx} {os rest₃ : List ℕ} {r�
       let v = x .moved in
       let n = nm .issued in
       record {
-        moved = record { up = omega (arith, v .up); here = v .here; few = omega (arith, v .few, v .up, sr .few, n .ops, pu .count); low = omega (arith, v .low, v .up, sr .next, n .low, pu .next); met = omega (arith, v .met, v .up, sr .mapped, n .met, pu .mapped); in-ops = lo ∙ v .in-ops ∙ sr .in-ops; in-rest = lr ∙ v .in-rest ∙ ap length (sr .rest) };
+        moved = record { up = omega (arith, v .up); here = v .here; few = omega (arith, v .few, v .up, sr .few, n .ops, pu .count); low = omega (arith, v .low, v .up, sr .next, n .low, pu .next); met = omega (arith, v .met, v .up, sr .mapped, n .met, pu .mapped); in-ops = lo ∙ v .in-ops ∙ sr .in-ops; in-rest = lr ∙ v .in-rest ∙ ap length (sr .rest); index = λ z. rw (pu .mapped) (n .index (v .index (rw (sr .mapped, sr .rest) z))) };
         stands = omega (arith, pu .count);
         next = λ t hd. (let w = an-unwind room t hd k6 in let y = x .next sheet (w .tree) (w .held) in let z = w .sized in omega arith);
         run = unwind-run sheet;

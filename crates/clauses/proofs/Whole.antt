@@ -4,14 +4,14 @@ use Prim.Native.Nat.{ℕ, suc, _≤_}
 use native.Mathlib.Omega.{arith}
 use mathlib.Core.List.{List, []}
 use mathlib.Core.Option.{Option, none}
-use lib.ListN.{length}
+use lib.ListN.{length, drop}
 use Rattle.model.specs.Text.{Bytes}
 use Rattle.model.specs.Kind.{statement, clause, unionArm}
 use Rattle.model.specs.Tree.{Tree, Trees}
 use Rattle.model.specs.Lower.{lowerClauses, lowerArms, empty}
 use Rattle.words.specs.Words.{Roomy, cell}
 use Rattle.words.specs.Held.{Held, HeldSome, HeldMany}
-use Rattle.context.specs.Tables.{varsOf}
+use Rattle.context.specs.Tables.{varsOf, varsAt, latestOf, Indexed}
 use Rattle.context.specs.declared.LowerCtx.{LowerCtx}
 use Rattle.lower.specs.Rep.{Mem, mem, Rep}
 use Rattle.lower.specs.Clauses.{Ready, bothPasses, BothBlank}
@@ -25,8 +25,13 @@ use Rattle.clauses.proofs.Turning.{clauses-turns, arms-turns}
 abbrev pub start : LowerCtx
 start = record { ops = 0; next = 0; mapped = 0 }
 
+-- no words need to be cleared before the first variable
+none-indexed : (vs : List ℕ) → Indexed 0 vs
+unfolding latestOf
+none-indexed vs = record { head = λ b l d. absurd (d refl); link = λ j l. absurd (omega arith) }
+
 pub start-ready : (os rs : List ℕ) → 16384 ≤ length os → 16384 ≤ length rs → Ready 1 (mem start os rs)
-start-ready os rs lo lr = record { few = omega arith; low = omega arith; met = omega arith; here = omega arith; in-ops = lo; in-rest = lr }
+start-ready os rs lo lr = record { few = omega arith; low = omega arith; met = omega arith; here = omega arith; in-ops = lo; in-rest = lr; index = none-indexed (drop varsAt rs) }
 
 start-rep : (sheet : Bytes) (a b os rs : List ℕ) → Rep sheet a b [] empty (mem start os rs)
 unfolding empty varsOf

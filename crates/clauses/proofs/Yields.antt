@@ -5,7 +5,7 @@ use native.Mathlib.Nat.{le-refl}
 use native.Mathlib.Omega.{arith}
 use mathlib.Core.List.{List, _∷_}
 use mathlib.Core.Logic.{inl}
-use lib.ListN.{length}
+use lib.ListN.{length, drop}
 use Rattle.model.specs.Text.{Bytes}
 use Rattle.model.specs.Field.{Fields}
 use Rattle.model.specs.Kind.{yieldItem}
@@ -15,7 +15,7 @@ use Rattle.model.specs.Lower.{Recs, _>>=_, ret, mapVar, lowerYields}
 use Rattle.words.specs.Words.{Roomy, cell, fieldsOf, fieldOf}
 use Rattle.words.specs.Held.{Held, HeldOf, size, sizeOf}
 use Rattle.words.specs.Cells.{shown}
-use Rattle.context.specs.Tables.{Numbers}
+use Rattle.context.specs.Tables.{Numbers, Indexed}
 use Rattle.context.specs.declared.LowerCtx.{LowerCtx}
 use Rattle.context.specs.declared.Numbered.{Numbered}
 use Rattle.lower.specs.Render.{render, recsOver}
@@ -67,7 +67,7 @@ module _ {a b : List ℕ} {n i e : ℕ} {m m₂ : Mem} {rest₁ : List ℕ} {r�
       let v = q .moved in
       let x = nm .issued in
       record {
-        moved = record { up = omega (arith, v .up); here = v .here; few = omega (arith, x .ops, v .few); low = omega (arith, x .low, v .low); met = omega (arith, x .met, v .met); in-ops = v .in-ops; in-rest = v .in-rest ∙ lr };
+        moved = record { up = omega (arith, v .up); here = v .here; few = omega (arith, x .ops, v .few); low = omega (arith, x .low, v .low); met = omega (arith, x .met, v .met); in-ops = v .in-ops; in-rest = v .in-rest ∙ lr; index = λ z. v .index (x .index z) };
         same = q .same ∙ x .ops;
         next = omega (arith, q .next);
         run = cons-run;
@@ -79,9 +79,10 @@ module _ {a b : List ℕ} {n i e : ℕ} {m m₂ : Mem} {rest₁ : List ℕ} {r�
 pub record Left (a b : List ℕ) (Done : ℕ → LowerCtx → List ℕ → Type 0) (k i : ℕ) (c : LowerCtx) (rs : List ℕ) : Type 0 where
   pub some : SomeYields a b k i
   pub fits : i + k ≤ 2048
-  pub met : c .mapped + k ≤ 5000
+  pub met : c .mapped + k ≤ 4352
   pub low : c .next + k ≤ 5000
   pub in-rest : 16384 ≤ length rs
+  pub index : Indexed (c .mapped) (drop 4608 rs)
   pub rest : (e : ℕ) (c′ : LowerCtx) (rest′ : List ℕ) → ((os : List ℕ) → LowersYields a b k i e (mem c os rs) (mem c′ os rest′)) → Done e c′ rest′
 
 behind : {a b : List ℕ} (i : ℕ) (sheet : Bytes) (d : ℕ) {k : ℕ} (ts : Trees yieldItem (suc k)) → HeldOf sheet a b ts d i → SomeYields a b k (i + 1)
@@ -102,6 +103,7 @@ module _ {a b : List ℕ} {Done : ℕ → LowerCtx → List ℕ → Type 0} wher
         met = omega (arith, p .met, nm .issued .met);
         low = omega (arith, p .low, nm .issued .low);
         in-rest = rw lr (p .in-rest);
+        index = nm .issued .index (p .index);
         rest = λ e c′ rest′ q. p .rest e c′ rest′ (λ os. cons-law room nm lr (q os) (omega arith));
       })
 

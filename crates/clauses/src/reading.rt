@@ -3,12 +3,13 @@ ghost use mathlib.Core.Path.{_≡_};
 ghost use Prim.Native.Nat.{ℕ, _+_, _≤_, _<_};
 ghost use mathlib.Core.List.{List};
 ghost use mathlib.Core.Option.{some};
-ghost use lib.ListN.{length};
+ghost use lib.ListN.{length, drop};
 ghost use Rattle.model.specs.Text.{Bytes};
 ghost use Rattle.model.specs.Kind.{clause};
 ghost use Rattle.model.specs.Lower.{orSourceAll};
 ghost use Rattle.words.specs.Words.{Roomy, cell};
 ghost use Rattle.words.specs.Held.{HeldSome};
+ghost use Rattle.context.specs.Tables.{Indexed};
 ghost use Rattle.lower.specs.Rep.{mem};
 ghost use Rattle.lower.specs.Pieces.{SomeTree};
 ghost use Rattle.lower.specs.Chains.{givenIf};
@@ -44,7 +45,7 @@ pub fn lower_yields(
 ) -> Step
     requires { ⌜ Roomy (now a) (now b) ⌝ }
     requires { ⌜ SomeYields (now a) (now b) n i ⌝ }
-    requires { ⌜ (i + n ≤ 2048) × (ctx .mapped + n ≤ 5000) × (ctx .next + n ≤ 5000) × (16384 ≤ length (now rest)) ⌝ }
+    requires { ⌜ (i + n ≤ 2048) × (ctx .mapped + n ≤ 4352) × (ctx .next + n ≤ 5000) × (16384 ≤ length (now rest)) × Indexed (ctx .mapped) (drop 4608 (now rest)) ⌝ }
     ensures { λ r. ⌜ ((os : List ℕ) → LowersYields (now (a .entry)) (now (b .entry)) n i (r .next) (mem ctx os (now (rest .entry))) (mem (r .ctx) os (now (rest .exit)))) ⌝ }
 {
     let mut at = i;

@@ -1,24 +1,21 @@
 -- What the small steps of the lowering's state do to the words. Assumes nothing.
 use mathlib.Core.Path.{_≡_, refl, sym, ap, subst, _∙_}
-use mathlib.Core.Bool.{Bool, true, false, cond}
 use mathlib.Core.List.{List, [], _∷_, _++_, append-nil}
 use mathlib.Core.Option.{Option, none, some}
 use Prim.Native.Nat.{ℕ, zero, suc, _+_, _*_, _-_, _≤_, _<_}
 use native.Mathlib.Numerals.{add-one, sub-one}
 use native.Mathlib.Omega.{arith}
-use lib.ListN.{length, take, drop, getD, set, length-set, length-take}
-use lib.Dec.{eqb}
+use lib.ListN.{length, take, drop, getD, set, length-set}
 use lib.Seq.{take-all, getD-set-same, getD-set-other, drop-set-lt, drop-at, length-take-le, getD-take}
 use lib.ListN.{List·getD-append, length-drop, drop-of-length-le}
 use borrow.Author.Tests.{eq-eqb, ne-eqb}
-use Rattle.model.specs.Lower.{Recs, Lowering, lookup, mapVar, numbered, fresh, endpointVar}
-use Rattle.model.specs.Lower
+use Rattle.model.specs.Lower.{lookup, mapVar, numbered, fresh, endpointVar}
 use Rattle.words.specs.Words.{optionOf}
-use Rattle.context.specs.Tables.{varsOf, foundOf, stateOf, Op, opAt, Issued, Noted, Notes, Numbers, Pushed, varsAt}
+use Rattle.context.specs.Tables.{varsOf, foundOf, Op, opAt, Indexed, Issued, Notes, Numbers, Pushed}
 use Rattle.context.specs.declared.LowerCtx.{LowerCtx}
 use Rattle.context.specs.declared.Numbered.{Numbered}
-use Rattle.context.specs.declared.Found.{Found}
-use Rattle.context.specs.declared.Found.the-variants.{At, Nothing}
+use Rattle.context.specs.declared.index.Found.{Found}
+use Rattle.context.specs.declared.index.Found.the-variants.{At, Nothing}
 
 -- ── looking up ──
 
@@ -29,6 +26,10 @@ pub hit : (vs : List ℕ) (k id : ℕ) → ((k ≡ 0) → ⊥) → getD vs ((k -
 unfolding varsOf lookup foundOf
 hit vs zero id h e = absurd (h refl)
 hit vs (suc k) id h e = let e′ : getD vs (k * 2) 0 ≡ id = rw sub-one at e in rw (sub-one, eq-eqb _ _ e′)
+
+pub pass : (vs : List ℕ) (k id : ℕ) → ((getD vs (k * 2) 0 ≡ id) → ⊥) → from vs (suc k) id ≡ from vs k id
+unfolding varsOf lookup foundOf
+pass vs k id e = rw (ne-eqb _ _ e)
 
 pub miss : (vs : List ℕ) (k id : ℕ) → ((k ≡ 0) → ⊥) → ((getD vs ((k - 1) * 2) 0 ≡ id) → ⊥) → from vs k id ≡ from vs (k - 1) id
 unfolding varsOf lookup foundOf
@@ -41,7 +42,7 @@ nothing vs k id e = rw e
 
 -- ── issuing ──
 
-vars-same : (n : ℕ) (vs vs′ : List ℕ) → ((q : ℕ) → q < n * 2 → getD vs′ q 0 ≡ getD vs q 0) → varsOf n vs′ ≡ varsOf n vs
+pub vars-same : (n : ℕ) (vs vs′ : List ℕ) → ((q : ℕ) → q < n * 2 → getD vs′ q 0 ≡ getD vs q 0) → varsOf n vs′ ≡ varsOf n vs
 unfolding varsOf
 vars-same zero vs vs′ h = refl
 vars-same (suc n) vs vs′ h = rw (h (n * 2) (omega arith), h (n * 2 + 1) (omega arith), vars-same n vs vs′ (λ q l. h q (omega arith)))
@@ -54,7 +55,7 @@ told : Found → ℕ
 told (At n) = n
 told Nothing = 0
 
-found-none : (o : Option ℕ) → foundOf o ≡ Nothing → o ≡ none
+pub found-none : (o : Option ℕ) → foundOf o ≡ Nothing → o ≡ none
 unfolding foundOf Told
 found-none none e = refl
 found-none (some n) e = absurd (subst Told e tt)
@@ -64,20 +65,9 @@ unfolding foundOf Told told
 found-some none n e = absurd (subst Told (sym e) tt)
 found-some (some k) n e = ap some (ap told e)
 
-pub new-var : (c : LowerCtx) (vs : List ℕ) (id : ℕ) → c .mapped < 5888 → 11776 ≤ length vs → foundOf (lookup (varsOf (c .mapped) vs) id) ≡ Nothing → Issued (mapVar id) c vs (set (set vs (c .mapped * 2) id) (c .mapped * 2 + 1) (c .next)) (record { number = c .next; ctx = record { ops = c .ops; next = c .next + 1; mapped = c .mapped + 1 } })
-unfolding mapVar numbered varsOf
-new-var c vs id h l f =
-    let n : ℕ = c .mapped in
-    let vs′ : List ℕ = set (set vs (n * 2) id) (n * 2 + 1) (c .next) in
-    let e : lookup (varsOf n vs) id ≡ none = found-none _ f in
-    let x : getD vs′ (n * 2) 0 ≡ id = getD-set-other (set vs (n * 2) id) (n * 2 + 1) (n * 2) (c .next) 0 (omega arith) ∙ getD-set-same vs (n * 2) id 0 (omega arith) in
-    let y : getD vs′ (n * 2 + 1) 0 ≡ c .next = getD-set-same (set vs (n * 2) id) (n * 2 + 1) (c .next) 0 (simp length-set (omega arith)) in
-    let z : varsOf n vs′ ≡ varsOf n vs = vars-same n vs vs′ (λ q l. getD-set-other (set vs (n * 2) id) (n * 2 + 1) q (c .next) 0 (omega arith) ∙ getD-set-other vs (n * 2) q id 0 (omega arith)) in
-    record { is = λ ops. rw (e, add-one n, add-one (c .next), x, y, z); ops = refl; low = omega arith; met = omega arith }
-
 pub old-var : (c : LowerCtx) (vs : List ℕ) (id n : ℕ) {r : Found} → r ≡ foundOf (lookup (varsOf (c .mapped) vs) id) → r ≡ At n → Issued (mapVar id) c vs vs (record { number = n; ctx = c })
 unfolding mapVar numbered
-old-var c vs id n h e = record { is = λ ops. rw (found-some _ n (sym h ∙ e)); ops = refl; low = omega arith; met = omega arith }
+old-var c vs id n h e = record { is = λ ops. rw (found-some _ n (sym h ∙ e)); ops = refl; low = omega arith; met = omega arith; index = λ x. x }
 
 -- ── notes ──
 
@@ -92,6 +82,9 @@ module _ (rest : List ℕ) (vs′ : List ℕ) (l : 16384 ≤ length rest) where
   pub part-note : (q : ℕ) → q < 4608 → getD (take 4608 rest ++ vs′) q 0 ≡ getD rest q 0
   part-note q h = List·getD-append (take 4608 rest) vs′ 0 q (rw (length-take-le 4608 rest (omega arith)) h) ∙ getD-take 4608 rest q 0 h
 
+pub index-part : (m n : ℕ) (rest : List ℕ) → n ≡ length rest - 4608 → Indexed m (drop 4608 rest) → Indexed m (take n (drop 4608 rest))
+index-part m n rest en x = rw (take-all n (drop 4608 rest) (rw (length-drop, en) (omega arith))) x
+
 pub number-law : (id place n : ℕ) (c : LowerCtx) (rest vs′ rest′ : List ℕ) (r : Numbered) → 16384 ≤ length rest → n ≡ length rest - 4608 → Issued (mapVar id) c (take n (drop 4608 rest)) vs′ r → Notes place (r .number) (take 4608 rest ++ (vs′ ++ drop n (drop 4608 rest))) rest′ → Numbers (mapVar id) place c rest rest′ r
 number-law id place n c rest vs′ rest′ r l en i k =
     let h : length (drop 4608 rest) ≤ n = rw (length-drop, en) (omega arith) in
@@ -105,7 +98,7 @@ number-law id place n c rest vs′ rest′ r l en i k =
 pub unnamed-law : (named id place : ℕ) (c : LowerCtx) (rest rest′ : List ℕ) (r : Numbered) → named ≡ 0 → (r .number ≡ c .next) × (r .ctx .ops ≡ c .ops) × (r .ctx .next ≡ c .next + 1) × (r .ctx .mapped ≡ c .mapped) → Notes place (r .number) rest rest′ → Numbers (endpointVar (optionOf named id)) place c rest rest′ r
 unfolding endpointVar optionOf fresh
 unnamed-law named id place c rest rest′ r z f n =
-    record { issued = record { is = λ ops. rw (z, n .vars, f .0, f .2, f .3, add-one); ops = f .1; low = omega (arith, f .2); met = omega (arith, f .3) }; noted = n .noted }
+    record { issued = record { is = λ ops. rw (z, n .vars, f .0, f .2, f .3, add-one); ops = f .1; low = omega (arith, f .2); met = omega (arith, f .3); index = λ x. rw (n .vars, f .3) x }; noted = n .noted }
 
 named-by : (named id : ℕ) → ((named ≡ 0) → ⊥) → optionOf named id ≡ some id
 unfolding optionOf

@@ -1,15 +1,17 @@
--- How the work slices hold the state of the lowering: eight words an operator in one slice, of which the last seven are used; in the other the notes, and from word 4,608 on the named variables, two words each. Assumes nothing: these are definitions.
+-- How the work slices hold the state of the lowering: eight words an operator in one slice, of which the last seven are used; in the other the notes, and from word 4,608 on the named variables, two words each, then the index of the first of them: a link for each, and the heads of the buckets. Assumes nothing: these are definitions.
 use mathlib.Core.Path.{_≡_}
-use Prim.Native.Nat.{ℕ, zero, suc, _+_, _*_, _≤_, _<_}
+use Prim.Native.Nat.{ℕ, zero, suc, _+_, _*_, _-_, _%_, _≤_, _<_}
 use mathlib.Core.List.{List, [], _∷_}
+use mathlib.Core.Bool.{cond}
+use lib.Dec.{eqb}
 use mathlib.Core.Option.{Option, none, some}
-use lib.ListN.{length, getD, drop}
-use Rattle.model.specs.Lower.{Recs, Lowering, lookup}
+use lib.ListN.{getD, drop, set}
+use Rattle.model.specs.Lower.{Recs, Lowering}
 use Rattle.model.specs.Lower
 use Rattle.context.specs.declared.LowerCtx.{LowerCtx}
 use Rattle.context.specs.declared.Numbered.{Numbered}
-use Rattle.context.specs.declared.Found.{Found}
-use Rattle.context.specs.declared.Found.the-variants.{At, Nothing}
+use Rattle.context.specs.declared.index.Found.{Found}
+use Rattle.context.specs.declared.index.Found.the-variants.{At, Nothing}
 
 -- so many operators are stored; those beyond are counted alone
 abbrev pub maxStored : ℕ
@@ -23,6 +25,41 @@ varsAt = 4608
 unfoldable pub varsOf : ℕ → List ℕ → List (ℕ × ℕ)
 varsOf zero vs = []
 varsOf (suc n) vs = (getD vs (n * 2) 0, getD vs (n * 2 + 1) 0) ∷ varsOf n vs
+
+-- ── the index ──
+
+-- so many variables are in the index; those beyond are searched one by one
+abbrev pub maxIndexed : ℕ
+maxIndexed = 2048
+
+-- a link for each of them, and then the heads, behind the variables' words
+abbrev pub linksAt : ℕ
+linksAt = 8704
+
+abbrev pub headsAt : ℕ
+headsAt = 10752
+
+abbrev pub bucket : ℕ → ℕ
+bucket id = id % 1024
+
+-- the newest of the first n variables in a bucket, its place and one; 0 where there is none
+unfoldable pub latestOf : List ℕ → ℕ → ℕ → ℕ
+latestOf vs b zero = 0
+latestOf vs b (suc n) = cond (eqb (bucket (getD vs (n * 2) 0)) b) (suc n) (latestOf vs b n)
+
+-- The head of a bucket is its newest variable, and a variable's link is the one before it in its bucket. The head of an empty bucket may be anything, so that no words need to be cleared before the first variable.
+pub record Bucketed (n : ℕ) (vs : List ℕ) : Type 0 where
+  pub head : (b : ℕ) → b < 1024 → ((latestOf vs b n ≡ 0) → ⊥) → getD vs (headsAt + b) 0 ≡ latestOf vs b n
+  pub link : (j : ℕ) → j < n → getD vs (linksAt + j) 0 ≡ latestOf vs (bucket (getD vs (j * 2) 0)) j
+
+-- the index is right for those of n variables that it has room for
+abbrev pub Indexed : ℕ → List ℕ → Type 0
+Indexed n vs = Bucketed (n - (n - maxIndexed)) vs
+
+-- the words of the index for one more variable
+pub record Linked (k id : ℕ) (vs vs′ : List ℕ) : Type 0 where
+  pub full : maxIndexed ≤ k → vs′ ≡ vs
+  pub room : k < maxIndexed → vs′ ≡ set (set vs (linksAt + k) (latestOf vs (bucket id) k)) (headsAt + bucket id) (k + 1)
 
 unfoldable pub foundOf : Option ℕ → Found
 foundOf none = Nothing
@@ -51,6 +88,7 @@ pub record Issued (step : Lowering ℕ) (c : LowerCtx) (vs vs′ : List ℕ) (r 
   pub ops : r .ctx .ops ≡ c .ops
   pub low : r .ctx .next ≤ c .next + 1
   pub met : r .ctx .mapped ≤ c .mapped + 1
+  pub index : Indexed (c .mapped) vs → Indexed (r .ctx .mapped) vs′
 
 -- the word at a place has changed, and no other among the notes
 pub record Noted (place v : ℕ) (rest rest′ : List ℕ) : Type 0 where

@@ -1,10 +1,13 @@
 // The state of the lowering, by value, over tables in lent slices: numbers are issued, noted and looked up, and operators pushed.
 ghost use mathlib.Core.Path.{_≡_};
 ghost use Prim.Native.Nat.{_+_, _*_, _<_, _≤_};
-ghost use lib.ListN.{length};
-ghost use Rattle.model.specs.Lower.{lookup, mapVar, fresh as freshOf, endpointVar};
+ghost use lib.ListN.{length, drop};
+ghost use Rattle.model.specs.Lower.{lookup, mapVar, endpointVar};
 ghost use Rattle.words.specs.Words.{optionOf};
-ghost use Rattle.context.specs.Tables.{varsOf, foundOf, Issued, Numbers, Notes, Pushed};
+ghost use Rattle.context.specs.Tables.{varsOf, foundOf, Indexed, Issued, Numbers, Notes, Pushed};
+use crate::index::Found;
+
+pub mod index;
 
 // How many operators, variable numbers and named variables there are. The operators' count goes on beyond their table.
 pub struct LowerCtx {
@@ -19,26 +22,6 @@ pub struct Numbered {
     pub ctx: LowerCtx,
 }
 
-pub enum Found {
-    At(u32),
-    Nothing,
-}
-
-// The number of a variable, the newest first.
-fn find(vars: &[u32], count: usize, id: u32) -> Found
-    requires { ⌜ count * 2 ≤ length (now vars) ⌝ }
-    ensures { λ r. ⌜ r ≡ foundOf (lookup (varsOf count (now (vars .entry))) id) ⌝ }
-{
-    let mut k = count;
-    while k != 0 {
-        k -= 1;
-        if vars[k * 2] == id {
-            return Found::At(vars[k * 2 + 1]);
-        }
-    }
-    Found::Nothing
-}
-
 // A note at a place.
 pub fn note(rest: &mut [u32], place: usize, v: u32)
     requires { ⌜ (place < 4608) × (16384 ≤ length (now rest)) ⌝ }
@@ -50,10 +33,11 @@ pub fn note(rest: &mut [u32], place: usize, v: u32)
 impl LowerCtx {
     // A variable that has no number yet gets the next one.
     fn new_var(self, vars: &mut [u32], id: u32) -> Numbered
-        requires { ⌜ (self .mapped < 5888) × (self .next < 65536) × (11776 ≤ length (now vars)) ⌝ }
+        requires { ⌜ (self .mapped < 4352) × (self .next < 65536) × (11776 ≤ length (now vars)) × Indexed (self .mapped) (now vars) ⌝ }
         requires { ⌜ foundOf (lookup (varsOf (self .mapped) (now vars)) id) ≡ Found.Nothing ⌝ }
         ensures { λ r. ⌜ Issued (mapVar id) self (now (vars .entry)) (now (vars .exit)) r ⌝ }
     {
+        index::enter(vars, self.mapped, id);
         let at = self.mapped * 2;
         vars[at] = id;
         vars[at + 1] = self.next;
@@ -68,10 +52,10 @@ impl LowerCtx {
     }
 
     fn map_var(self, vars: &mut [u32], id: u32) -> Numbered
-        requires { ⌜ (self .mapped < 5888) × (self .next < 65536) × (11776 ≤ length (now vars)) ⌝ }
+        requires { ⌜ (self .mapped < 4352) × (self .next < 65536) × (11776 ≤ length (now vars)) × Indexed (self .mapped) (now vars) ⌝ }
         ensures { λ r. ⌜ Issued (mapVar id) self (now (vars .entry)) (now (vars .exit)) r ⌝ }
     {
-        match find(vars, self.mapped, id) {
+        match index::find(vars, self.mapped, id) {
             Found::At(n) => Numbered {
                 number: n,
                 ctx: self,
@@ -82,7 +66,7 @@ impl LowerCtx {
 
     // The number of a named variable, noted at a place.
     pub fn number(self, rest: &mut [u32], id: u32, place: usize) -> Numbered
-        requires { ⌜ (self .mapped < 5888) × (self .next < 65536) × (place < 4608) × (16384 ≤ length (now rest)) ⌝ }
+        requires { ⌜ (self .mapped < 4352) × (self .next < 65536) × (place < 4608) × (16384 ≤ length (now rest)) × Indexed (self .mapped) (drop 4608 (now rest)) ⌝ }
         ensures { λ r. ⌜ Numbers (mapVar id) place self (now (rest .entry)) (now (rest .exit)) r ⌝ }
     {
         let r = self.map_var(&mut rest[4608..], id);
@@ -107,7 +91,7 @@ impl LowerCtx {
 
     // The number of a node or a rel, by its id or, unnamed, the next one; noted at a place.
     pub fn endpoint_var(self, rest: &mut [u32], named: u32, id: u32, place: usize) -> Numbered
-        requires { ⌜ (self .mapped < 5888) × (self .next < 65536) × (place < 4608) × (16384 ≤ length (now rest)) ⌝ }
+        requires { ⌜ (self .mapped < 4352) × (self .next < 65536) × (place < 4608) × (16384 ≤ length (now rest)) × Indexed (self .mapped) (drop 4608 (now rest)) ⌝ }
         ensures { λ r. ⌜ Numbers (endpointVar (optionOf named id)) place self (now (rest .entry)) (now (rest .exit)) r ⌝ }
     {
         if named == 0 {

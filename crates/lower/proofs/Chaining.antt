@@ -160,7 +160,7 @@ module _ {a b : List ℕ} {n base : ℕ} {c : LowerCtx} {ch : Chain} {os os₁ r
         let v = el .moved in
         let f = el .sturdy .from in
         record {
-          moved = record { up = omega (arith, v .up); here = el .sturdy .next; few = omega (arith, v .few, sr .few); low = omega (arith, v .low, sr .next); met = omega (arith, v .met, sr .mapped); in-ops = sr .in-ops ∙ v .in-ops; in-rest = ap length (sr .rest) ∙ v .in-rest };
+          moved = record { up = omega (arith, v .up); here = el .sturdy .next; few = omega (arith, v .few, sr .few); low = omega (arith, v .low, sr .next); met = omega (arith, v .met, sr .mapped); in-ops = sr .in-ops ∙ v .in-ops; in-rest = ap length (sr .rest) ∙ v .in-rest; index = λ x. rw (sr .mapped, sr .rest) (v .index x) };
           low = sr .low;
           next = chain-next;
           run = unnamed-run;
@@ -202,7 +202,7 @@ module _ {a b : List ℕ} {n base : ℕ} {c : LowerCtx} {ch : Chain} {os os₁ r
         let f = el .sturdy .from in
         let n = nm .issued in
         record {
-          moved = record { up = omega (arith, v .up); here = el .sturdy .next; few = omega (arith, v .few, sr .few, n .ops, pp .count); low = omega (arith, v .low, sr .next, n .low, pp .next); met = omega (arith, v .met, sr .mapped, n .met, pp .mapped); in-ops = lo ∙ sr .in-ops ∙ v .in-ops; in-rest = lr ∙ ap length (sr .rest) ∙ v .in-rest };
+          moved = record { up = omega (arith, v .up); here = el .sturdy .next; few = omega (arith, v .few, sr .few, n .ops, pp .count); low = omega (arith, v .low, sr .next, n .low, pp .next); met = omega (arith, v .met, sr .mapped, n .met, pp .mapped); in-ops = lo ∙ sr .in-ops ∙ v .in-ops; in-rest = lr ∙ ap length (sr .rest) ∙ v .in-rest; index = λ x. rw (pp .mapped) (n .index (rw (sr .mapped, sr .rest) (v .index x))) };
           low = omega (arith, pp .count);
           next = chain-next;
           run = named-run;

@@ -187,7 +187,7 @@ module _ {a b : List ℕ} (d base : ℕ) (ch : Chain) {e k place : ℕ} {os rest
       let w₂ = ls .mapped in
       let w₃ = v .few in
       let w₄ = v .up in
-      record { up = omega arith; here = v .here; few = omega arith; low = omega arith; met = omega arith; in-ops = v .in-ops; in-rest = v .in-rest ∙ lr }
+      record { up = omega arith; here = v .here; few = omega arith; low = omega arith; met = omega arith; in-ops = v .in-ops; in-rest = v .in-rest ∙ lr; index = λ x. v .index (n .index x) }
 
   pub start-law : SomeTree a b patternElement d (ch .next) → LowersElement a b d base ch ch′ os (m₂ .ops) rest (m₂ .rest)
   start-law x =
@@ -238,6 +238,7 @@ module _ {a b : List ℕ} (d base : ℕ) (ch : Chain) {e₁ e₂ n₁ n₂ p₁ 
         met = omega (arith, i₁ .met, i₂ .met, v₁ .met, v₂ .met, pe .mapped, v₁ .up, v₂ .up);
         in-ops = lo ∙ v₂ .in-ops ∙ v₁ .in-ops;
         in-rest = v₂ .in-rest ∙ v₁ .in-rest ∙ lr₂ ∙ lr₁;
+        index = λ x. rw (pe .mapped) (v₂ .index (v₁ .index (i₂ .index (i₁ .index x))));
       }
 
   expanded-run : (sheet : Bytes) (t : Tree patternElement) → Held sheet a b t d (ch .next) → (W : Written) (s : State) (c : Lower.Chain) → Rep sheet a b W s (mem (ch .ctx) os rest) → Linked sheet a b d ch c → Waiting sheet a b d ch (c .pending) → Blank W (base + suc (ch .from)) (base + suc e₂) → Chained sheet a b W d base ch ch″ t (stepOf t) c s (mem (ch .ctx) os rest) (mem c₅ os₅ (m₄ .rest))

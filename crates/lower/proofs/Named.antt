@@ -112,7 +112,7 @@ module _ {a b : List ℕ} {n d base i e id place : ℕ} {c : LowerCtx} {os rest 
     moved =
         let v = p .moved in
         let w = nm .issued in
-        record { up = omega (arith, v .up); here = v .here; few = omega (arith, v .few, w .ops); low = omega (arith, v .low, w .low); met = omega (arith, v .met, w .met); in-ops = v .in-ops; in-rest = v .in-rest ∙ lr };
+        record { up = omega (arith, v .up); here = v .here; few = omega (arith, v .few, w .ops); low = omega (arith, v .low, w .low); met = omega (arith, v .met, w .met); in-ops = v .in-ops; in-rest = v .in-rest ∙ lr; index = λ x. v .index (w .index x) };
     next = naming-next;
     run = λ sheet t hd W s q bl.
         let o = see sheet t hd in
@@ -190,7 +190,7 @@ module _ {a b : List ℕ} {n d base i e k place : ℕ} {rest′ : List ℕ} {m m
 
   pub pattern-law : LowersExpr a b d base i e m (mem (m₁ .ctx) (m₁ .ops) rest′)
   pattern-law = record {
-    moved = let v = p .moved in record { up = v .up; here = v .here; few = v .few; low = v .low; met = v .met; in-ops = v .in-ops; in-rest = lr ∙ v .in-rest };
+    moved = let v = p .moved in record { up = v .up; here = v .here; few = v .few; low = v .low; met = v .met; in-ops = v .in-ops; in-rest = lr ∙ v .in-rest; index = λ x. rw (nt .vars) (v .index x) };
     next = pattern-next;
     run = pattern-run;
   }

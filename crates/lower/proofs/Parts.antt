@@ -109,7 +109,7 @@ module _ {a b : List ℕ} (d base i : ℕ) (m : Mem) (f : Numbered) (c : LowerCt
       let e₂ = fr .2 in
       let e₃ = fr .3 in
       record {
-        moved = record { up = omega arith; here = omega arith; few = omega (arith, ps .count); low = omega (arith, ps .next); met = omega (arith, ps .mapped); in-ops = lo; in-rest = refl };
+        moved = record { up = omega arith; here = omega arith; few = omega (arith, ps .count); low = omega (arith, ps .next); met = omega (arith, ps .mapped); in-ops = lo; in-rest = refl; index = λ x. rw (ps .mapped, fr .3) x };
         low = omega (arith, ps .count);
         next = λ sheet ts hd. none-size (i + 1) ts;
         run = λ sheet ts hd W s r bl. no-run sheet ts W s r;

@@ -3,7 +3,7 @@ use mathlib.Core.Path.{_≡_, refl, sym, ap, _∙_}
 use Prim.Native.Nat.{ℕ, zero, suc, _+_, _*_, _-_, _≤_, _<_}
 use native.Mathlib.Omega.{arith}
 use mathlib.Core.List.{List}
-use lib.ListN.{length}
+use lib.ListN.{length, drop}
 use Rattle.model.specs.Text.{Bytes}
 use Rattle.model.specs.Kind.{Sort, expr, patternElement}
 use mathlib.Core.Bool.{Bool, true, false}
@@ -24,7 +24,7 @@ use Rattle.lower.specs.declared.Chain.{Chain}
 use Rattle.model.specs.Tree.{Tree, node}
 use Rattle.words.specs.Words.{cell, Roomy, optionOf}
 use Rattle.words.specs.Held.{Held, size}
-use Rattle.context.specs.Tables.{Op, Pushed, Issued, Numbers}
+use Rattle.context.specs.Tables.{Op, Pushed, Issued, Numbers, Indexed, varsAt}
 use Rattle.context.specs.declared.LowerCtx.{LowerCtx}
 use Rattle.context.specs.declared.Numbered.{Numbered}
 use Rattle.model.specs.Lower.{Lowering, endpointVar}
@@ -45,20 +45,20 @@ module _ {d i : ℕ} {c : LowerCtx} {os rs : List ℕ} (g : Good d i (mem c os r
   pub can-push : (c .ops < 65536) × (16384 ≤ length os)
   can-push = (let x = g .few in let y = g .here in omega arith, g .in-ops)
 
-  pub can-number : (base place j : ℕ) → base ≤ 2048 → j ≤ 2048 → place ≡ base + j → (c .mapped < 5888) × (c .next < 65536) × (place < 4608) × (16384 ≤ length rs)
-  can-number base place j lb lj e = (let x = g .met in let y = g .here in omega arith, let x = g .low in let y = g .here in omega arith, omega arith, g .in-rest)
+  pub can-number : (base place j : ℕ) → base ≤ 2048 → j ≤ 2048 → place ≡ base + j → (c .mapped < 4352) × (c .next < 65536) × (place < 4608) × (16384 ≤ length rs) × Indexed (c .mapped) (drop 4608 rs)
+  can-number base place j lb lj e = (let x = g .met in let y = g .here in omega arith, let x = g .low in let y = g .here in omega arith, omega arith, g .in-rest, g .index)
 
   -- behind a number
-  pub numbered : {step : Lowering ℕ} {vs vs′ rs′ : List ℕ} {r : Numbered} → Issued step c vs vs′ r → length rs′ ≡ length rs → 1 ≤ d → Good (d - 1) i (mem (r .ctx) os rs′)
-  numbered n l h = record { few = let x = g .few in let y = n .ops in omega arith; low = let x = g .low in let y = n .low in omega arith; met = let x = g .met in let y = n .met in omega arith; here = g .here; in-ops = g .in-ops; in-rest = rw l (g .in-rest) }
+  pub numbered : {step : Lowering ℕ} {rs′ : List ℕ} {r : Numbered} → Issued step c (drop varsAt rs) (drop varsAt rs′) r → length rs′ ≡ length rs → 1 ≤ d → Good (d - 1) i (mem (r .ctx) os rs′)
+  numbered n l h = record { few = let x = g .few in let y = n .ops in omega arith; low = let x = g .low in let y = n .low in omega arith; met = let x = g .met in let y = n .met in omega arith; here = g .here; in-ops = g .in-ops; in-rest = rw l (g .in-rest); index = n .index (g .index) }
 
   -- a number at the record itself, and then what is behind it
-  pub numbered-on : {step : Lowering ℕ} {vs vs′ rs′ : List ℕ} {r : Numbered} (d′ j : ℕ) → Issued step c vs vs′ r → length rs′ ≡ length rs → d′ ≤ d → i + 1 ≤ j → j ≤ 2048 → Good d′ j (mem (r .ctx) os rs′)
-  numbered-on d′ j n l ld lj h = record { few = let x = g .few in let y = n .ops in omega arith; low = let x = g .low in let y = n .low in omega arith; met = let x = g .met in let y = n .met in omega arith; here = h; in-ops = g .in-ops; in-rest = rw l (g .in-rest) }
+  pub numbered-on : {step : Lowering ℕ} {rs′ : List ℕ} {r : Numbered} (d′ j : ℕ) → Issued step c (drop varsAt rs) (drop varsAt rs′) r → length rs′ ≡ length rs → d′ ≤ d → i + 1 ≤ j → j ≤ 2048 → Good d′ j (mem (r .ctx) os rs′)
+  numbered-on d′ j n l ld lj h = record { few = let x = g .few in let y = n .ops in omega arith; low = let x = g .low in let y = n .low in omega arith; met = let x = g .met in let y = n .met in omega arith; here = h; in-ops = g .in-ops; in-rest = rw l (g .in-rest); index = n .index (g .index) }
 
   -- an operator, and then what is behind the record
   pub pushed-on : {x : Op} {c′ : LowerCtx} {os′ : List ℕ} (d′ j : ℕ) → Pushed c c′ os os′ x → length os′ ≡ length os → d′ ≤ d → i + 1 ≤ j → j ≤ 2048 → Good d′ j (mem c′ os′ rs)
-  pushed-on d′ j p l ld lj h = record { few = let x = g .few in let y = p .count in omega arith; low = let x = g .low in let y = p .next in omega arith; met = let x = g .met in let y = p .mapped in omega arith; here = h; in-ops = rw l (g .in-ops); in-rest = g .in-rest }
+  pushed-on d′ j p l ld lj h = record { few = let x = g .few in let y = p .count in omega arith; low = let x = g .low in let y = p .next in omega arith; met = let x = g .met in let y = p .mapped in omega arith; here = h; in-ops = rw l (g .in-ops); in-rest = g .in-rest; index = rw (p .mapped) (g .index) }
 
 pub few-ops : {d i : ℕ} {m : Mem} → Good d i m → m .ctx .ops < 40000
 few-ops g = let x = g .few in let y = g .here in omega arith
@@ -103,8 +103,8 @@ rel-end {a} {b} room d i {base} {e} {c} {os} {rest} {m′} k p sheet t hd =
 
 -- behind a source of everything, if there is one
 module _ {L : Lowering ℕ} {k d i : ℕ} {c c′ : LowerCtx} {os os′ rs : List ℕ} (g : Good d i (mem c os rs)) (q : OrSource L k (mem c os rs) (mem c′ os′ rs)) where
-  pub source-number : (base place j : ℕ) → base ≤ 2048 → j ≤ 2048 → place ≡ base + j → (c′ .mapped < 5888) × (c′ .next < 65536) × (place < 4608) × (16384 ≤ length rs)
-  source-number base place j lb lj e = (let x = g .met in let y = g .here in let z = q .mapped in omega arith, let x = g .low in let y = g .here in let z = q .next in omega arith, omega arith, g .in-rest)
+  pub source-number : (base place j : ℕ) → base ≤ 2048 → j ≤ 2048 → place ≡ base + j → (c′ .mapped < 4352) × (c′ .next < 65536) × (place < 4608) × (16384 ≤ length rs) × Indexed (c′ .mapped) (drop 4608 rs)
+  source-number base place j lb lj e = (let x = g .met in let y = g .here in let z = q .mapped in omega arith, let x = g .low in let y = g .here in let z = q .next in omega arith, omega arith, g .in-rest, rw (q .mapped) (g .index))
 
   pub source-few : (c′ .ops < 40000) × (k < 40000)
   source-few = (let x = g .few in let y = g .here in let z = q .few in omega arith, let x = g .few in let y = g .here in let z = q .few in let w = q .low in omega arith)
@@ -137,7 +137,7 @@ pub after-rel : {a b : List ℕ} {d base i e : ℕ} {c : LowerCtx} {os rest : Li
 after-rel j g p le lj =
     let n = p .noted .issued in
     let v = p .props .moved in
-    record { few = omega (arith, g .few, n .ops, v .few, v .up); low = omega (arith, g .low, n .low, v .low, v .up); met = omega (arith, g .met, n .met, v .met, v .up); here = lj; in-ops = rw (v .in-ops) (g .in-ops); in-rest = rw (v .in-rest ∙ p .kept) (g .in-rest) }
+    record { few = omega (arith, g .few, n .ops, v .few, v .up); low = omega (arith, g .low, n .low, v .low, v .up); met = omega (arith, g .met, n .met, v .met, v .up); here = lj; in-ops = rw (v .in-ops) (g .in-ops); in-rest = rw (v .in-rest ∙ p .kept) (g .in-rest); index = v .index (n .index (g .index)) }
 
 pub start-ends : {a b : List ℕ} {d base i number e k r : ℕ} {m m′ : Mem} → SomeTree a b patternElement d i → LowersStart a b d base i number e k m m′ → Ends a b i r → e ≡ r
 start-ends {d = d} x p n = p .next (x .sheet) (x .tree) (x .held) ∙ sym (n .each (x .sheet) patternElement d (x .tree) tt (x .held))
@@ -146,9 +146,9 @@ pub rel-ends : {a b : List ℕ} {d base i e r : ℕ} {c : LowerCtx} {os rest : L
 rel-ends {d = d} {i = i} room k x p n = rel-end room d i k p (x .sheet) (x .tree) (x .held) ∙ sym (n .each (x .sheet) patternElement d (x .tree) tt (x .held))
 
 -- two numbers running, and an operator behind them
-module _ {d i : ℕ} {c : LowerCtx} {os rs : List ℕ} (g : Good d i (mem c os rs)) {step : Lowering ℕ} {vs vs′ : List ℕ} {r : Numbered} (n : Issued step c vs vs′ r) where
-  pub can-again : {len : ℕ} → len ≡ length rs → (base place j : ℕ) → base ≤ 2048 → j ≤ 2048 → place ≡ base + j → (r .ctx .mapped < 5888) × (r .ctx .next < 65536) × (place < 4608) × (16384 ≤ len)
-  can-again l base place j lb lj e = (let x = g .met in let y = g .here in let z = n .met in omega arith, let x = g .low in let y = g .here in let z = n .low in omega arith, omega arith, rw l (g .in-rest))
+module _ {d i : ℕ} {c : LowerCtx} {os rs : List ℕ} (g : Good d i (mem c os rs)) {step : Lowering ℕ} {vs′ : List ℕ} {r : Numbered} (n : Issued step c (drop varsAt rs) vs′ r) where
+  pub can-again : {len : ℕ} → len ≡ length rs → (base place j : ℕ) → base ≤ 2048 → j ≤ 2048 → place ≡ base + j → (r .ctx .mapped < 4352) × (r .ctx .next < 65536) × (place < 4608) × (16384 ≤ len) × Indexed (r .ctx .mapped) vs′
+  can-again l base place j lb lj e = (let x = g .met in let y = g .here in let z = n .met in omega arith, let x = g .low in let y = g .here in let z = n .low in omega arith, omega arith, rw l (g .in-rest), n .index (g .index))
 
   pub push-again : {step₂ : Lowering ℕ} {ws ws′ : List ℕ} {r₂ : Numbered} → Issued step₂ (r .ctx) ws ws′ r₂ → (r₂ .ctx .ops < 65536) × (16384 ≤ length os)
   push-again n₂ = (let x = g .few in let y = g .here in let z = n .ops in let w = n₂ .ops in omega arith, g .in-ops)

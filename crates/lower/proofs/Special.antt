@@ -106,6 +106,7 @@ module _ {a b : List ℕ} (d base i rel far e : ℕ) {p₁ p₃ p₄ e₁ e₂ k
         met = omega (arith, i₁ .met, i₂ .met, i₃ .met, i₄ .met, ls .mapped, v₂ .met, pp .mapped, v₁ .up, v₂ .up);
         in-ops = lo ∙ v₂ .in-ops ∙ v₁ .in-ops;
         in-rest = lr₄ ∙ lr₃ ∙ v₂ .in-rest ∙ lr .kept ∙ v₁ .in-rest ∙ lr₁;
+        index = λ x. rw (pp .mapped) (i₄ .index (i₃ .index (v₂ .index (i₂ .index (v₁ .index (i₁ .index x))))));
       }
 
   special-run : (sheet : Bytes) (t : Tree patternPart) (hd : Held sheet a b t d i) (W : Written) (s : State) → Rep sheet a b W s (mem c₀ os rest) → Blank W (base + suc i) (base + suc e) → Rooted sheet a b W (partL t) (r₄ .ctx .ops) base (suc i) (suc e) s (mem c₀ os rest) (mem c₆ os₆ rest₅)

@@ -9,7 +9,7 @@ use Rattle.model.specs.Kind.{clause}
 use Rattle.model.specs.Tree.{Tree}
 use Rattle.model.specs.Lower.{Lowering, lowerClause}
 use Rattle.words.specs.Held.{Held, size}
-use Rattle.lower.specs.Rep.{State, Mem, Written, Blank, Rep, To}
+use Rattle.lower.specs.Rep.{State, Mem, Written, Blank, Rep, To, Indexes}
 
 -- the notes of the second pass over a `return` begin here; those of the first, and of all else, at 0
 abbrev pub secondPass : ℕ
@@ -23,6 +23,7 @@ pub record Ready (i : ℕ) (m : Mem) : Type 0 where
   pub here : i ≤ 2048
   pub in-ops : 16384 ≤ length (m .ops)
   pub in-rest : 16384 ≤ length (m .rest)
+  pub index : Indexes m
 
 -- what the lowering of clauses from record i to e does, whatever the state
 pub record MovedTwice (i e : ℕ) (m m′ : Mem) : Type 0 where
@@ -33,6 +34,7 @@ pub record MovedTwice (i e : ℕ) (m m′ : Mem) : Type 0 where
   pub met : m′ .ctx .mapped + 2 * i ≤ m .ctx .mapped + 2 * e
   pub in-ops : length (m′ .ops) ≡ length (m .ops)
   pub in-rest : length (m′ .rest) ≡ length (m .rest)
+  pub index : Indexes m → Indexes m′
 
 -- the notes from line lo to hi of both passes
 abbrev pub bothPasses : ℕ → ℕ → Written → Written

@@ -23,20 +23,20 @@ use Rattle.lower.specs.Below.{below-more}
 -- ── what moves ──
 
 pub moved-refl : {i : ℕ} {m : Mem} → i ≤ 2048 → Moved i i m m
-moved-refl h = record { up = omega arith; here = h; few = omega arith; low = omega arith; met = omega arith; in-ops = refl; in-rest = refl }
+moved-refl h = record { up = omega arith; here = h; few = omega arith; low = omega arith; met = omega arith; in-ops = refl; in-rest = refl; index = λ x. x }
 
 pub moved-then : {i j e : ℕ} {m m₁ m₂ : Mem} → Moved i j m m₁ → Moved j e m₁ m₂ → Moved i e m m₂
-moved-then p q = record { up = omega (arith, p .up, q .up); here = q .here; few = omega (arith, p .few, q .few); low = omega (arith, p .low, q .low); met = omega (arith, p .met, q .met); in-ops = q .in-ops ∙ p .in-ops; in-rest = q .in-rest ∙ p .in-rest }
+moved-then p q = record { up = omega (arith, p .up, q .up); here = q .here; few = omega (arith, p .few, q .few); low = omega (arith, p .low, q .low); met = omega (arith, p .met, q .met); in-ops = q .in-ops ∙ p .in-ops; in-rest = q .in-rest ∙ p .in-rest; index = λ x. q .index (p .index x) }
 
 -- from an earlier record, to a later one
 pub moved-within : {i j e f : ℕ} {m m′ : Mem} → i ≤ j → e ≤ f → f ≤ 2048 → Moved j e m m′ → Moved i f m m′
-moved-within l l′ h p = record { up = omega (arith, p .up); here = h; few = omega (arith, p .few); low = omega (arith, p .low); met = omega (arith, p .met); in-ops = p .in-ops; in-rest = p .in-rest }
+moved-within l l′ h p = record { up = omega (arith, p .up); here = h; few = omega (arith, p .few); low = omega (arith, p .low); met = omega (arith, p .met); in-ops = p .in-ops; in-rest = p .in-rest; index = p .index }
 
 pub good-after : {d i j : ℕ} {m m₁ : Mem} → Moved i j m m₁ → Good d i m → Good d j m₁
-good-after p g = record { few = omega (arith, p .few, g .few); low = omega (arith, p .low, g .low); met = omega (arith, p .met, g .met); here = p .here; in-ops = rw (p .in-ops) (g .in-ops); in-rest = rw (p .in-rest) (g .in-rest) }
+good-after p g = record { few = omega (arith, p .few, g .few); low = omega (arith, p .low, g .low); met = omega (arith, p .met, g .met); here = p .here; in-ops = rw (p .in-ops) (g .in-ops); in-rest = rw (p .in-rest) (g .in-rest); index = p .index (g .index) }
 
 pub good-from : {d d′ i j : ℕ} {m : Mem} → d′ ≤ d → i ≤ j → j ≤ 2048 → Good d i m → Good d′ j m
-good-from ld l h g = record { few = omega (arith, g .few); low = omega (arith, g .low); met = omega (arith, g .met); here = h; in-ops = g .in-ops; in-rest = g .in-rest }
+good-from ld l h g = record { few = omega (arith, g .few); low = omega (arith, g .low); met = omega (arith, g .met); here = h; in-ops = g .in-ops; in-rest = g .in-rest; index = g .index }
 
 -- what holds where more is written holds where less is
 pub narrow : {W W′ : Written} {s : State} {m : Mem} {N : Notes} {A : Ops} → Sub W W′ → Future W′ s m N A → Future W s m N A

@@ -7,7 +7,7 @@ use lib.ListN.{length, getD, drop}
 use Rattle.model.specs.Text.{Bytes}
 use Rattle.model.specs.Lower.{Recs, Lowering, at}
 use Rattle.model.specs.Lower
-use Rattle.context.specs.Tables.{stateOf, opAt, varsAt, maxStored}
+use Rattle.context.specs.Tables.{stateOf, opAt, varsAt, maxStored, Indexed}
 use Rattle.context.specs.declared.LowerCtx.{LowerCtx}
 use Rattle.lower.specs.Render.{Notes, Ops}
 use Rattle.lower.specs.Shows.{Stored, shift}
@@ -89,6 +89,10 @@ pub record Rooted (sheet : Bytes) (a b : List ℕ) (W : Written) (L : Lowering �
 
 -- ── safety ──
 
+-- the variables' index is right
+abbrev pub Indexes : Mem → Type 0
+Indexes m = Indexed (m .ctx .mapped) (drop varsAt (m .rest))
+
 -- there is room at record i, for what is at most d deep
 pub record Good (d i : ℕ) (m : Mem) : Type 0 where
   pub few : m .ctx .ops + d ≤ 30000 + 2 * i
@@ -97,6 +101,7 @@ pub record Good (d i : ℕ) (m : Mem) : Type 0 where
   pub here : i ≤ 2048
   pub in-ops : 16384 ≤ length (m .ops)
   pub in-rest : 16384 ≤ length (m .rest)
+  pub index : Indexes m
 
 -- what the lowering of records i to e does whatever the state
 pub record Moved (i e : ℕ) (m m′ : Mem) : Type 0 where
@@ -107,3 +112,4 @@ pub record Moved (i e : ℕ) (m m′ : Mem) : Type 0 where
   pub met : m′ .ctx .mapped + i ≤ m .ctx .mapped + e
   pub in-ops : length (m′ .ops) ≡ length (m .ops)
   pub in-rest : length (m′ .rest) ≡ length (m .rest)
+  pub index : Indexes m → Indexes m′

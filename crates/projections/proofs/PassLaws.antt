@@ -118,6 +118,7 @@ module _ {sheet : Bytes} {a b : List ℕ} {n j aggs k₀ k : ℕ} {c′ : LowerC
         met = omega (arith, sr .mapped, x .met, y .mapped);
         in-ops = y .same ∙ x .in-ops ∙ sr .in-ops;
         in-rest = x .in-rest ∙ ap length (sr .rest);
+        index = λ z. rw (y .mapped) (x .index (rw (sr .mapped, sr .rest) z));
         next = pt .next;
         run = first-run;
       }
@@ -192,6 +193,7 @@ module _ {a b : List ℕ} {n j x k : ℕ} {c₁ c₂ : LowerCtx} {o₁ o₂ : Li
         met = omega (arith, v .met, ps .mapped, y .mapped);
         in-ops = y .same ∙ lo ∙ v .in-ops;
         in-rest = v .in-rest;
+        index = λ z. rw (y .mapped, ps .mapped) (v .index z);
         next = second-next sheet;
         run = second-run sheet;
       }

@@ -61,7 +61,7 @@ module _ {sheet : Bytes} {a b : List ℕ} (d i : ℕ) (room : Roomy a b) (k5 : c
 
     -- there is room for the second
     pub good-second : (d′ : ℕ) → d′ ≤ 64 → i < 2048 → Ready i m → Good d′ (i + 1) m₁
-    good-second d′ l low r = record { few = omega (arith, r .few, p .few, p .here); low = omega (arith, r .low, p .fresh, p .here); met = omega (arith, r .met, p .met, p .here); here = omega arith; in-ops = rw (p .in-ops) (r .in-ops); in-rest = rw (p .in-rest) (r .in-rest) }
+    good-second d′ l low r = record { few = omega (arith, r .few, p .few, p .here); low = omega (arith, r .low, p .fresh, p .here); met = omega (arith, r .met, p .met, p .here); here = omega arith; in-ops = rw (p .in-ops) (r .in-ops); in-rest = rw (p .in-rest) (r .in-rest); index = p .index (r .index) }
 
     module _ {x j₂ k₂ : ℕ} {m₂ : Mem} (ex : x ≡ cell a b i 4) (q : LowersPass sheet a b n (d - 1) 2048 (i + 1) j₂ k₂ (secondL n (eqb x 1) k₁) m₁ m₂) where
       second-as : (y : ℕ) → y ≡ cell a b i 2 → LowersPass sheet a b y (d - 1) 2048 (i + 1) j₂ k₂ (secondL y (eqb (cell a b i 4) 1) k₁) m₁ m₂
@@ -77,7 +77,7 @@ module _ {sheet : Bytes} {a b : List ℕ} (d i : ℕ) (room : Roomy a b) (k5 : c
         pub return-moved : MovedTwice i j₂ m m₂
         return-moved =
             let e = both-end in
-            record { up = omega (arith, q .up); here = q .here; few = omega (arith, p .few, q .few, p .up); low = omega (arith, p .fresh, q .fresh, p .up); met = omega (arith, p .met, q .met, p .up); in-ops = q .in-ops ∙ p .in-ops; in-rest = q .in-rest ∙ p .in-rest }
+            record { up = omega (arith, q .up); here = q .here; few = omega (arith, p .few, q .few, p .up); low = omega (arith, p .fresh, q .fresh, p .up); met = omega (arith, p .met, q .met, p .up); in-ops = q .in-ops ∙ p .in-ops; in-rest = q .in-rest ∙ p .in-rest; index = λ z. q .index (p .index z) }
 
         pub return-tail : SomeTail a b (d - 1) i j₂
         return-tail = let v = a-return room (some-return .tree) (some-return .is) k5 in rw (second-end (some-return .tree) v) (record { sheet = sheet; tail = v .tail })

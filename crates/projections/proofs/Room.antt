@@ -29,20 +29,20 @@ pub low : {a b : List ℕ} {s : Sort} {d i : ℕ} → SomeTree a b s d i → i <
 low {a} {b} {d = d} {i = i} x = tree-low (x .sheet) a b (x .tree) d i (x .held)
 
 pub ready-good : {i : ℕ} {m : Mem} (d : ℕ) → d ≤ 64 → Ready i m → Good d i m
-ready-good d l r = record { few = omega (arith, r .few, r .here); low = omega (arith, r .low, r .here); met = omega (arith, r .met, r .here); here = r .here; in-ops = r .in-ops; in-rest = r .in-rest }
+ready-good d l r = record { few = omega (arith, r .few, r .here); low = omega (arith, r .low, r .here); met = omega (arith, r .met, r .here); here = r .here; in-ops = r .in-ops; in-rest = r .in-rest; index = r .index }
 
 pub ready-after : {i j : ℕ} {m m₁ : Mem} → MovedTwice i j m m₁ → Ready i m → Ready j m₁
-ready-after p r = record { few = omega (arith, p .few, r .few, p .up); low = omega (arith, p .low, r .low, p .up); met = omega (arith, p .met, r .met, p .up); here = p .here; in-ops = rw (p .in-ops) (r .in-ops); in-rest = rw (p .in-rest) (r .in-rest) }
+ready-after p r = record { few = omega (arith, p .few, r .few, p .up); low = omega (arith, p .low, r .low, p .up); met = omega (arith, p .met, r .met, p .up); here = p .here; in-ops = rw (p .in-ops) (r .in-ops); in-rest = rw (p .in-rest) (r .in-rest); index = p .index (r .index) }
 
 pub twice-refl : {i : ℕ} {m : Mem} → i ≤ 2048 → MovedTwice i i m m
-twice-refl h = record { up = omega arith; here = h; few = omega arith; low = omega arith; met = omega arith; in-ops = refl; in-rest = refl }
+twice-refl h = record { up = omega arith; here = h; few = omega arith; low = omega arith; met = omega arith; in-ops = refl; in-rest = refl; index = λ x. x }
 
 pub twice-then : {i j e : ℕ} {m m₁ m₂ : Mem} → MovedTwice i j m m₁ → MovedTwice j e m₁ m₂ → MovedTwice i e m m₂
-twice-then p q = record { up = omega (arith, p .up, q .up); here = q .here; few = omega (arith, p .few, q .few); low = omega (arith, p .low, q .low); met = omega (arith, p .met, q .met); in-ops = q .in-ops ∙ p .in-ops; in-rest = q .in-rest ∙ p .in-rest }
+twice-then p q = record { up = omega (arith, p .up, q .up); here = q .here; few = omega (arith, p .few, q .few); low = omega (arith, p .low, q .low); met = omega (arith, p .met, q .met); in-ops = q .in-ops ∙ p .in-ops; in-rest = q .in-rest ∙ p .in-rest; index = λ x. q .index (p .index x) }
 
 -- at least one record, and then an operator
 pub twice-pushed : {i j : ℕ} {c : LowerCtx} {os : List ℕ} {x : Op} {m m₁ : Mem} → Moved i j m m₁ → i + 1 ≤ j → Pushed (m₁ .ctx) c (m₁ .ops) os x → length os ≡ length (m₁ .ops) → MovedTwice i j m (mem c os (m₁ .rest))
-twice-pushed p l q lo = record { up = p .up; here = p .here; few = omega (arith, p .few, q .count); low = omega (arith, p .low, p .up, q .next); met = omega (arith, p .met, p .up, q .mapped); in-ops = lo ∙ p .in-ops; in-rest = p .in-rest }
+twice-pushed p l q lo = record { up = p .up; here = p .here; few = omega (arith, p .few, q .count); low = omega (arith, p .low, p .up, q .next); met = omega (arith, p .met, p .up, q .mapped); in-ops = lo ∙ p .in-ops; in-rest = p .in-rest; index = λ x. rw (q .mapped) (p .index x) }
 
 pub few : {i : ℕ} {m : Mem} → Ready i m → m .ctx .ops ≤ 8192
 few r = omega (arith, r .few, r .here)
@@ -56,7 +56,7 @@ few-trees {a} {b} {d = d} {i = i} l x = let f = trees-fits (x .sheet) a b (x .tr
 
 -- behind the operator before the clause at record i
 pub good-source : {L : Lowering ℕ} {k i : ℕ} {m m₁ : Mem} (d : ℕ) → d ≤ 64 → i < 2048 → Ready i m → OrSource L k m m₁ → Good d (i + 1) m₁
-good-source d l h r q = record { few = omega (arith, r .few, q .few); low = omega (arith, r .low, q .next); met = omega (arith, r .met, q .mapped); here = omega arith; in-ops = rw (q .in-ops) (r .in-ops); in-rest = rw (q .rest) (r .in-rest) }
+good-source d l h r q = record { few = omega (arith, r .few, q .few); low = omega (arith, r .low, q .next); met = omega (arith, r .met, q .mapped); here = omega arith; in-ops = rw (q .in-ops) (r .in-ops); in-rest = rw (q .rest) (r .in-rest); index = rw (q .mapped, q .rest) (r .index) }
 
 -- the operator before, as a word
 pub few-source : {L : Lowering ℕ} {k i : ℕ} {m m₁ : Mem} → Ready i m → OrSource L k m m₁ → k < 65536

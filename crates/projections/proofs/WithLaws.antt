@@ -88,7 +88,7 @@ module _ {a b : List ℕ} (d i : ℕ) (room : Roomy a b) (k4 : cell a b i 0 ≡ 
         with-moved =
             let x = it .moved in
             let y = pr .moved in
-            record { up = omega (arith, x .up, y .up); here = y .here; few = omega (arith, sr .few, x .few, y .few, ps .count, x .up, y .up); low = omega (arith, sr .next, x .low, y .low, ps .next, x .up, y .up); met = omega (arith, sr .mapped, x .met, y .met, ps .mapped, x .up, y .up); in-ops = lo ∙ y .in-ops ∙ x .in-ops ∙ sr .in-ops; in-rest = y .in-rest ∙ x .in-rest ∙ ap length (sr .rest) }
+            record { up = omega (arith, x .up, y .up); here = y .here; few = omega (arith, sr .few, x .few, y .few, ps .count, x .up, y .up); low = omega (arith, sr .next, x .low, y .low, ps .next, x .up, y .up); met = omega (arith, sr .mapped, x .met, y .met, ps .mapped, x .up, y .up); in-ops = lo ∙ y .in-ops ∙ x .in-ops ∙ sr .in-ops; in-rest = y .in-rest ∙ x .in-rest ∙ ap length (sr .rest); index = λ z. rw (ps .mapped) (y .index (x .index (rw (sr .mapped, sr .rest) z))) }
 
         module _ {e k : ℕ} {m₅ : Mem} (tl : LowersTail a b (d - 1) (m₃ .ctx .ops) i p e k (mem c os (m₃ .rest)) m₅) where
           with-next : (sheet : Bytes) (t : Tree clause) → Held sheet a b t d i → e ≡ i + size t

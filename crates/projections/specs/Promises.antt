@@ -17,7 +17,7 @@ use Rattle.context.specs.Tables.{Op, Pushed}
 use Rattle.context.specs.declared.LowerCtx.{LowerCtx}
 use Rattle.lower.specs.Render.{Notes, Ops, BelowOf, keyRecs, aggRecs}
 use Rattle.lower.specs.Shows.{shift}
-use Rattle.lower.specs.Rep.{State, Mem, Written, Blank, Future, Rep, To, Rooted, Moved}
+use Rattle.lower.specs.Rep.{State, Mem, Written, Blank, Future, Rep, To, Rooted, Moved, Indexes}
 use Rattle.lower.specs.Clauses.{MovedTwice}
 
 -- ── order, skip, limit ──
@@ -99,6 +99,7 @@ pub record LowersPass (sheet : Bytes) (a b : List ℕ) (n d base i e k : ℕ) (L
   pub met : m′ .ctx .mapped + i ≤ m .ctx .mapped + e
   pub in-ops : length (m′ .ops) ≡ length (m .ops)
   pub in-rest : length (m′ .rest) ≡ length (m .rest)
+  pub index : Indexes m → Indexes m′
   pub next : (items : Trees projection n) → HeldOf sheet a b items d i → e ≡ i + sizeOf items
   pub run : (items : Trees projection n) → HeldOf sheet a b items d i → (W : Written) (s : State) → Rep sheet a b W s m → Blank W (base + suc i) (base + suc e) → Rooted sheet a b W (L items) k base (suc i) (suc e) s m m′
 

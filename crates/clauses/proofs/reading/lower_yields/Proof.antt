@@ -22,10 +22,10 @@ lower-yields-spec =
     (tie.spec
     Inv-loop
     μ-loop
-    (λ c. (record { some = (c .before .before .before .pre .1 .0); fits = (c .before .before .before .pre .1 .1 .0); met = (c .before .before .before .pre .1 .1 .1); low = (c .before .before .before .pre .1 .1 .2); in-rest = (c .before .before .before .pre .1 .1 .3); rest = λ e c′ rest′ q. q }, refl))
+    (λ c. (record { some = (c .before .before .before .pre .1 .0); fits = (c .before .before .before .pre .1 .1 .0); met = (c .before .before .before .pre .1 .1 .1); low = (c .before .before .before .pre .1 .1 .2); in-rest = (c .before .before .before .pre .1 .1 .3); index = (c .before .before .before .pre .1 .1 .4); rest = λ e c′ rest′ q. q }, refl))
     (λ c κs. ((let x = (c .before .loop .inv .0 .fits) in let y = (c .loop-test .taken) in omega arith), (omega arith, (c .before .before .before .before .before .pre .0))))
     (λ c. (let x = (c .before .before .before .loop .inv .0 .fits) in let y = (c .before .before .loop-test .taken) in omega arith))
-    (λ c κs. (let x = (c .before .before .before .loop .inv .0 .met) in let y = (c .before .before .loop-test .taken) in omega arith, let x = (c .before .before .before .loop .inv .0 .low) in let y = (c .before .before .loop-test .taken) in omega arith, (let x = (c .before .before .before .loop .inv .0 .fits) in let y = (c .before .before .loop-test .taken) in omega arith), (c .before .before .before .loop .inv .0 .in-rest)))
+    (λ c κs. (let x = (c .before .before .before .loop .inv .0 .met) in let y = (c .before .before .loop-test .taken) in omega arith, let x = (c .before .before .before .loop .inv .0 .low) in let y = (c .before .before .loop-test .taken) in omega arith, (let x = (c .before .before .before .loop .inv .0 .fits) in let y = (c .before .before .loop-test .taken) in omega arith), (c .before .before .before .loop .inv .0 .in-rest), (c .before .before .before .loop .inv .0 .index)))
     (λ c. (let x = (c .before .before .before .before .before .before .loop .inv .0 .fits) in let y = (c .before .before .before .before .before .loop-test .taken) in omega arith))
     (λ c. search needs)
     (λ c. search needs)
