@@ -11,7 +11,8 @@ use Rattle.model.specs.Tree.{Tree, Trees}
 use Rattle.model.specs.Lower.{lowerClauses, lowerArms, empty}
 use Rattle.words.specs.Words.{Roomy, cell}
 use Rattle.words.specs.Held.{Held, HeldSome, HeldMany}
-use Rattle.context.specs.Tables.{varsOf, varsAt, latestOf, Indexed}
+use Rattle.context.specs.Tables.{varsOf, varsAt}
+use Rattle.context.specs.IndexLaws.{none-indexed}
 use Rattle.context.specs.declared.LowerCtx.{LowerCtx}
 use Rattle.lower.specs.Rep.{Mem, mem, Rep}
 use Rattle.lower.specs.Clauses.{Ready, bothPasses, BothBlank}
@@ -24,11 +25,6 @@ use Rattle.clauses.proofs.Turning.{clauses-turns, arms-turns}
 
 abbrev pub start : LowerCtx
 start = record { ops = 0; next = 0; mapped = 0 }
-
--- no words need to be cleared before the first variable
-none-indexed : (vs : List ℕ) → Indexed 0 vs
-unfolding latestOf
-none-indexed vs = record { head = λ b l d. absurd (d refl); link = λ j l. absurd (omega arith) }
 
 pub start-ready : (os rs : List ℕ) → 16384 ≤ length os → 16384 ≤ length rs → Ready 1 (mem start os rs)
 start-ready os rs lo lr = record { few = omega arith; low = omega arith; met = omega arith; here = omega arith; in-ops = lo; in-rest = lr; index = none-indexed (drop varsAt rs) }

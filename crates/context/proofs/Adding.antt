@@ -12,7 +12,6 @@ use Rattle.context.specs.Tables.{varsOf, foundOf, Linked, Issued}
 use Rattle.context.specs.declared.LowerCtx.{LowerCtx}
 use Rattle.context.specs.declared.index.Found.the-variants.{Nothing}
 use Rattle.context.proofs.Laws.{vars-same, found-none}
-use Rattle.context.proofs.Buckets.{linked-low, linked-length, index-more}
 
 module _ (c : LowerCtx) (vs vs₁ : List ℕ) (id : ℕ) (h : c .mapped < 4352) (l : 11776 ≤ length vs) (d : Linked (c .mapped) id vs vs₁) where
   abbrev vs′ : List ℕ
@@ -22,16 +21,16 @@ module _ (c : LowerCtx) (vs vs₁ : List ℕ) (id : ℕ) (h : c .mapped < 4352) 
   n = c .mapped
 
   id-here : getD vs′ (n * 2) 0 ≡ id
-  id-here = getD-set-other (set vs₁ (n * 2) id) (n * 2 + 1) (n * 2) (c .next) 0 (omega arith) ∙ getD-set-same vs₁ (n * 2) id 0 (rw (linked-length n id vs vs₁ d) (omega arith))
+  id-here = getD-set-other (set vs₁ (n * 2) id) (n * 2 + 1) (n * 2) (c .next) 0 (omega arith) ∙ getD-set-same vs₁ (n * 2) id 0 (rw (d .long) (omega arith))
 
   number-here : getD vs′ (n * 2 + 1) 0 ≡ c .next
-  number-here = getD-set-same (set vs₁ (n * 2) id) (n * 2 + 1) (c .next) 0 (rw (length-set, linked-length n id vs vs₁ d) (omega arith))
+  number-here = getD-set-same (set vs₁ (n * 2) id) (n * 2 + 1) (c .next) 0 (rw (length-set, d .long) (omega arith))
 
   other : (q : ℕ) → ((q ≡ n * 2) → ⊥) → ((q ≡ n * 2 + 1) → ⊥) → getD vs′ q 0 ≡ getD vs₁ q 0
   other q e₁ e₂ = getD-set-other (set vs₁ (n * 2) id) (n * 2 + 1) q (c .next) 0 e₂ ∙ getD-set-other vs₁ (n * 2) q id 0 e₁
 
   below : (q : ℕ) → q < n * 2 → getD vs′ q 0 ≡ getD vs q 0
-  below q g = other q (omega arith) (omega arith) ∙ linked-low n id vs vs₁ d q (omega arith)
+  below q g = other q (omega arith) (omega arith) ∙ d .vars q (omega arith)
 
   pub new-var : foundOf (lookup (varsOf n vs) id) ≡ Nothing → Issued (mapVar id) c vs vs′ (record { number = c .next; ctx = record { ops = c .ops; next = c .next + 1; mapped = c .mapped + 1 } })
   unfolding mapVar numbered varsOf
@@ -43,5 +42,5 @@ module _ (c : LowerCtx) (vs vs₁ : List ℕ) (id : ℕ) (h : c .mapped < 4352) 
         ops = refl;
         low = omega arith;
         met = omega arith;
-        index = index-more n id vs vs₁ vs′ d l (λ j g. below (j * 2) (omega arith)) id-here (λ q g. other q (omega arith) (omega arith));
+        index = λ _. d .index vs′ (λ j g. below (j * 2) (omega arith)) id-here (λ q g. other q (omega arith) (omega arith));
       }

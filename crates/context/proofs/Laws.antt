@@ -22,19 +22,21 @@ use Rattle.context.specs.declared.index.Found.the-variants.{At, Nothing}
 abbrev pub from : List ℕ → ℕ → ℕ → Found
 from vs k id = foundOf (lookup (varsOf k vs) id)
 
-pub hit : (vs : List ℕ) (k id : ℕ) → ((k ≡ 0) → ⊥) → getD vs ((k - 1) * 2) 0 ≡ id → At (getD vs ((k - 1) * 2 + 1) 0) ≡ from vs k id
+pub hit-last : (vs : List ℕ) (k id : ℕ) → getD vs (k * 2) 0 ≡ id → At (getD vs (k * 2 + 1) 0) ≡ from vs (suc k) id
 unfolding varsOf lookup foundOf
+hit-last vs k id e = rw (eq-eqb _ _ e)
+
+pub hit : (vs : List ℕ) (k id : ℕ) → ((k ≡ 0) → ⊥) → getD vs ((k - 1) * 2) 0 ≡ id → At (getD vs ((k - 1) * 2 + 1) 0) ≡ from vs k id
 hit vs zero id h e = absurd (h refl)
-hit vs (suc k) id h e = let e′ : getD vs (k * 2) 0 ≡ id = rw sub-one at e in rw (sub-one, eq-eqb _ _ e′)
+hit vs (suc k) id h e = rw sub-one (hit-last vs k id (rw sub-one at e))
 
 pub pass : (vs : List ℕ) (k id : ℕ) → ((getD vs (k * 2) 0 ≡ id) → ⊥) → from vs (suc k) id ≡ from vs k id
 unfolding varsOf lookup foundOf
 pass vs k id e = rw (ne-eqb _ _ e)
 
 pub miss : (vs : List ℕ) (k id : ℕ) → ((k ≡ 0) → ⊥) → ((getD vs ((k - 1) * 2) 0 ≡ id) → ⊥) → from vs k id ≡ from vs (k - 1) id
-unfolding varsOf lookup foundOf
 miss vs zero id h e = absurd (h refl)
-miss vs (suc k) id h e = let e′ : (getD vs (k * 2) 0 ≡ id) → ⊥ = rw sub-one at e in rw (sub-one, ne-eqb _ _ e′)
+miss vs (suc k) id h e = rw sub-one (pass vs k id (rw sub-one at e))
 
 pub nothing : (vs : List ℕ) (k id : ℕ) → k ≡ 0 → Nothing ≡ from vs k id
 unfolding varsOf lookup foundOf
@@ -54,6 +56,10 @@ Told Nothing = ⊥
 told : Found → ℕ
 told (At n) = n
 told Nothing = 0
+
+pub at-something : {n : ℕ} → At n ≡ Nothing → ⊥
+unfolding Told
+at-something e = subst Told e tt
 
 pub found-none : (o : Option ℕ) → foundOf o ≡ Nothing → o ≡ none
 unfolding foundOf Told

@@ -1,11 +1,11 @@
--- How the work slices hold the state of the lowering: eight words an operator in one slice, of which the last seven are used; in the other the notes, and from word 4,608 on the named variables, two words each, then the index of the first of them: a link for each, and the heads of the buckets. Assumes nothing: these are definitions.
+-- How the work slices hold the state of the lowering: eight words an operator in one slice, of which the last seven are used; in the other the notes, and from word 4,608 on the named variables, two words each, then the index of the first of them, a word of links for each. Assumes nothing: these are definitions.
 use mathlib.Core.Path.{_≡_}
-use Prim.Native.Nat.{ℕ, zero, suc, _+_, _*_, _-_, _%_, _≤_, _<_}
+use Prim.Native.Nat.{ℕ, zero, suc, _+_, _*_, _-_, _/_, _%_, _≤_, _<_}
 use mathlib.Core.List.{List, [], _∷_}
 use mathlib.Core.Bool.{cond}
 use lib.Dec.{eqb}
 use mathlib.Core.Option.{Option, none, some}
-use lib.ListN.{getD, drop, set}
+use lib.ListN.{length, getD, drop, set}
 use Rattle.model.specs.Lower.{Recs, Lowering}
 use Rattle.model.specs.Lower
 use Rattle.context.specs.declared.LowerCtx.{LowerCtx}
@@ -32,34 +32,66 @@ varsOf (suc n) vs = (getD vs (n * 2) 0, getD vs (n * 2 + 1) 0) ∷ varsOf n vs
 abbrev pub maxIndexed : ℕ
 maxIndexed = 2048
 
--- a link for each of them, and then the heads, behind the variables' words
+-- a word of links for each of them, behind the variables' words
 abbrev pub linksAt : ℕ
 linksAt = 8704
 
-abbrev pub headsAt : ℕ
-headsAt = 10752
+-- the id of a variable
+abbrev pub idOf : List ℕ → ℕ → ℕ
+idOf vs j = getD vs (j * 2) 0
 
-abbrev pub bucket : ℕ → ℕ
-bucket id = id % 1024
+-- The half of a word of links that the last bit of `rest` names: the lower half for 0, the upper one for 1.
+unfoldable pub half : ℕ → ℕ → ℕ
+half w rest = cond (eqb (rest % 2) 0) (w % 65536) (w / 65536)
 
--- the newest of the first n variables in a bucket, its place and one; 0 where there is none
-unfoldable pub latestOf : List ℕ → ℕ → ℕ → ℕ
-latestOf vs b zero = 0
-latestOf vs b (suc n) = cond (eqb (bucket (getD vs (n * 2) 0)) b) (suc n) (latestOf vs b n)
+-- a word of links of which that half, until now 0, is l
+unfoldable pub withHalf : ℕ → ℕ → ℕ → ℕ
+withHalf w rest l = cond (eqb (rest % 2) 0) (w + l) (w + l * 65536)
 
--- The head of a bucket is its newest variable, and a variable's link is the one before it in its bucket. The head of an empty bucket may be anything, so that no words need to be cleared before the first variable.
-pub record Bucketed (n : ℕ) (vs : List ℕ) : Type 0 where
-  pub head : (b : ℕ) → b < 1024 → ((latestOf vs b n ≡ 0) → ⊥) → getD vs (headsAt + b) 0 ≡ latestOf vs b n
-  pub link : (j : ℕ) → j < n → getD vs (linksAt + j) 0 ≡ latestOf vs (bucket (getD vs (j * 2) 0)) j
+-- the child of variable p on the side that `rest` names, its place and one; 0 where there is none
+abbrev pub childOf : List ℕ → ℕ → ℕ → ℕ
+childOf vs p rest = half (getD vs (linksAt + p) 0) rest
+
+-- The way down from variable p, for an id whose bits in `rest` are still to come, ends at variable j, the first one met that has the id.
+pub data Leads (vs : List ℕ) (id : ℕ) : ℕ → ℕ → ℕ → Type 0 where
+  here : {rest p j : ℕ} → p ≡ j → idOf vs j ≡ id → Leads vs id rest p j
+  on : {rest p q j : ℕ} → ((idOf vs p ≡ id) → ⊥) → childOf vs p rest ≡ suc q → Leads vs id (rest / 2) q j → Leads vs id rest p j
+
+-- The first n variables are a digital search tree: variable 0 is its root, the way down for a variable's id leads to it, and a child is a later variable. The words behind these do not matter, so that none need to be cleared before the first variable.
+pub record Treed (n : ℕ) (vs : List ℕ) : Type 0 where
+  pub leads : (j : ℕ) → j < n → Leads vs (idOf vs j) (idOf vs j) 0 j
+  pub later : (j rest q : ℕ) → j < n → childOf vs j rest ≡ suc q → (j < q) × (q < n)
 
 -- the index is right for those of n variables that it has room for
 abbrev pub Indexed : ℕ → List ℕ → Type 0
-Indexed n vs = Bucketed (n - (n - maxIndexed)) vs
+Indexed n vs = Treed (n - (n - maxIndexed)) vs
 
--- the words of the index for one more variable
+-- the first n variables keep their ids, and every child that one of them has
+pub record Kept (n : ℕ) (vs vs′ : List ℕ) : Type 0 where
+  pub ids : (j : ℕ) → j < n → idOf vs′ j ≡ idOf vs j
+  pub children : (j rest q : ℕ) → j < n → childOf vs j rest ≡ suc q → childOf vs′ j rest ≡ suc q
+
+-- The way down from the root for an id has come to variable p, with the bits in `rest` still to come: from p it leads to every variable that has the id, and what it leads to from p in a tree that keeps this one, it leads to from the root.
+pub record Descends (vs : List ℕ) (n id p rest : ℕ) : Type 0 where
+  pub low : p < n
+  pub all : (j : ℕ) → j < n → idOf vs j ≡ id → Leads vs id rest p j
+  pub back : (vs′ : List ℕ) (j : ℕ) → Kept n vs vs′ → Leads vs′ id rest p j → Leads vs′ id id 0 j
+
+-- the way down has come to its end: to a variable that has the id, or to one that has no child on the side
+pub record Descended (vs : List ℕ) (n id p rest : ℕ) : Type 0 where
+  pub way : Descends vs n id p rest
+  pub end : ((idOf vs p ≡ id) → ⊥) → childOf vs p rest ≡ 0
+
+-- variable k is the root, or the child at the end of the way down for its id
+pub data Joined (k id : ℕ) (vs vs′ : List ℕ) : Type 0 where
+  root : k ≡ 0 → vs′ ≡ vs → Joined k id vs vs′
+  child : (p rest : ℕ) → Descends vs k id p rest → childOf vs p rest ≡ 0 → vs′ ≡ set vs (linksAt + p) (withHalf (getD vs (linksAt + p) 0) rest (k + 1)) → Joined k id vs vs′
+
+-- The words of the index for one more variable. Once the variable's own words are written too, the index is right for it.
 pub record Linked (k id : ℕ) (vs vs′ : List ℕ) : Type 0 where
-  pub full : maxIndexed ≤ k → vs′ ≡ vs
-  pub room : k < maxIndexed → vs′ ≡ set (set vs (linksAt + k) (latestOf vs (bucket id) k)) (headsAt + bucket id) (k + 1)
+  pub long : length vs′ ≡ length vs
+  pub vars : (q : ℕ) → q < linksAt → getD vs′ q 0 ≡ getD vs q 0
+  pub index : (vs″ : List ℕ) → ((j : ℕ) → j < k → idOf vs″ j ≡ idOf vs j) → idOf vs″ k ≡ id → ((q : ℕ) → linksAt ≤ q → getD vs″ q 0 ≡ getD vs′ q 0) → Indexed (k + 1) vs″
 
 unfoldable pub foundOf : Option ℕ → Found
 foundOf none = Nothing

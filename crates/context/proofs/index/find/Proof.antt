@@ -1,7 +1,7 @@
 use native.Mathlib.Omega.{arith}
 use mathlib.Core.Path.{_≡_, refl, sym, _∙_}
 use Prim.Native.Nat.{_≤_, _-_}
-use Rattle.context.proofs.Buckets
+use Rattle.context.proofs.Tree
 use Rattle.context.proofs.Laws
 use borrow.Author.Needs.{needs}
 use Rattle.context.proofs.index.find.Statement.{statement}
@@ -30,6 +30,6 @@ find-spec =
     (λ c. search needs)
     (λ c. Laws.hit _ _ _ (λ (z : _ ≡ 0). absurd (omega (arith, z, (c .before .before .before .loop-test .taken)))) ((c .before .if1 .taken)) ∙ sym ((c .before .before .before .before .loop .inv .2)))
     (λ c. search needs)
-    (λ c. (omega arith, Buckets.late _ (c .before .before .loop-test .taken) ∙ (c .before .before .before .loop .inv .1), (c .before .before .before .loop .inv .2) ∙ Laws.miss _ _ _ (λ (z : _ ≡ 0). absurd (omega (arith, z, (c .before .before .loop-test .taken)))) ((c .if1 .left))))
-    (λ c κs. (omega (arith, (c .loop-test .left)), (c .before .before .before .pre .1), Buckets.index-late _ _ _ (c .before .loop .inv .1) ((c .before .before .before .pre .2))))
+    (λ c. (omega arith, Tree.late _ (c .before .before .loop-test .taken) ∙ (c .before .before .before .loop .inv .1), (c .before .before .before .loop .inv .2) ∙ Laws.miss _ _ _ (λ (z : _ ≡ 0). absurd (omega (arith, z, (c .before .before .loop-test .taken)))) ((c .if1 .left))))
+    (λ c κs. (omega (arith, (c .loop-test .left)), (c .before .before .before .pre .1), Tree.index-late _ _ _ (c .before .loop .inv .1) ((c .before .before .before .pre .2))))
     (λ c. (c .find-indexed .ensures) ∙ sym ((c .before .before .loop .inv .2))))
