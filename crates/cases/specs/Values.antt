@@ -1,12 +1,8 @@
--- An answer's values: the struct as the model's answer, and as text. Assumes nothing: these are definitions.
+-- An answer as text. Assumes nothing: these are definitions.
 use mathlib.Core.List.{_∷_, _++_}
 use Prim.Native.Nat.{ℕ}
 use Rattle.model.specs.Text.{Bytes, decimal}
 use Rattle.model.specs.Call.{Answer}
-use Rattle.cases.specs.declared.answer.Values.{Values}
-
-abbrev pub told : Values → Answer
-told v = record { number = v .number; line = v .line; start = v .start; end = v .end; kind = v .kind; length = v .length }
 
 -- each number behind a separator: all but the length, and all
 unfoldable pub refusalText : ℕ → Answer → Bytes

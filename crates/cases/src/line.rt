@@ -7,11 +7,12 @@ ghost use lib.Dec.{ltb};
 ghost use lib.ListN.{length, take};
 ghost use Rattle.model.specs.Text.{decimal};
 ghost use Rattle.output.specs.Page.{on, Puts};
-ghost use Rattle.cases.specs.Values.{told, refusalText, valuesText};
-use crate::answer::Values;
+ghost use Rattle.values.specs.Told.{told};
+ghost use Rattle.cases.specs.Values.{refusalText, valuesText};
 use output::Out;
 use output::put_byte;
 use output::put_decimal;
+use values::Values;
 
 // A number behind a separator.
 fn put_number(page: &mut [u8], out: Out, separator: u8, n: u64) -> Out

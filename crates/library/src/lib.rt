@@ -4,13 +4,12 @@ ghost use mathlib.Core.List.{[], _∷_};
 ghost use Prim.Native.Nat.{_≤_};
 ghost use lib.ListN.{length, drop};
 ghost use Rattle.model.specs.Call.{SizeCall, lowerCall};
-ghost use Rattle.statement.specs.Answer.{answerOf, errorAnswer};
+ghost use Rattle.values.specs.Told.{told};
 ghost use Rattle.library.specs.Told.{noted, Told, Lowers};
-use precheck::HirSpan;
-use precheck::PlanLowerError;
-use statement::Answer;
 use statement::lowering::lower_statement;
 use statement::size_statement;
+use values::Values;
+use values::values_of;
 
 // Six words at the start of a slice.
 fn put(
@@ -33,52 +32,20 @@ fn put(
     answer[5] = size;
 }
 
-// A refusal with a line and a span.
-fn put_tree(answer: &mut [usize], number: usize, line: u32, span: HirSpan, kind: u32)
+// The six words of an answer.
+fn put_answer(answer: &mut [usize], v: Values)
     requires { ⌜ 6 ≤ length (now answer) ⌝ }
-    ensures { λ _. ⌜ now (answer .exit) ≡ number ∷ line ∷ span .start ∷ span .end ∷ kind ∷ 0 ∷ drop 6 (now (answer .entry)) ⌝ }
+    ensures { λ _. ⌜ now (answer .exit) ≡ noted (told v) (now (answer .entry)) ⌝ }
 {
     put(
         answer,
-        number,
-        line as usize,
-        span.start as usize,
-        span.end as usize,
-        kind as usize,
-        0,
+        v.number as usize,
+        v.line as usize,
+        v.start as usize,
+        v.end as usize,
+        v.kind as usize,
+        v.length,
     );
-}
-
-// A refusal of the check.
-fn put_error(answer: &mut [usize], e: PlanLowerError)
-    requires { ⌜ 6 ≤ length (now answer) ⌝ }
-    ensures { λ _. ⌜ now (answer .exit) ≡ noted (errorAnswer e) (now (answer .entry)) ⌝ }
-{
-    match e {
-        PlanLowerError::UnresolvedName { line, span } => put_tree(answer, 6, line, span, 0),
-        PlanLowerError::UndesugaredExpr { line, span, kind } => {
-            put_tree(answer, 7, line, span, kind)
-        }
-        PlanLowerError::EmptyPatternPart { line, span } => put_tree(answer, 8, line, span, 0),
-    }
-}
-
-// The six words of an answer.
-fn put_answer(answer: &mut [usize], x: Answer)
-    requires { ⌜ 6 ≤ length (now answer) ⌝ }
-    ensures { λ _. ⌜ now (answer .exit) ≡ noted (answerOf x) (now (answer .entry)) ⌝ }
-{
-    match x {
-        Answer::Accepted(size) => put(answer, 0, 0, 0, 0, 0, size),
-        Answer::ShortWork => put(answer, 1, 0, 0, 0, 0, 0),
-        Answer::LongSheet => put(answer, 2, 0, 0, 0, 0, 0),
-        Answer::BadLine(line) => put(answer, 3, line as usize, 0, 0, 0, 0),
-        Answer::BigTree(line) => put(answer, 4, line as usize, 0, 0, 0, 0),
-        Answer::WriteClause(line) => put(answer, 5, line as usize, 0, 0, 0, 0),
-        Answer::Refused(e) => put_error(answer, e),
-        Answer::PlanFull => put(answer, 9, 0, 0, 0, 0, 0),
-        Answer::NoRoom => put(answer, 10, 0, 0, 0, 0, 0),
-    }
 }
 
 // The sizing call. False, with nothing written, if the answer has no room for six words.
@@ -96,7 +63,7 @@ pub extern "C" fn dresserhawk_size(
     if answer.len() < 6 {
         return false;
     }
-    put_answer(answer, size_statement(sheet, a, b, c, d));
+    put_answer(answer, values_of(size_statement(sheet, a, b, c, d)));
     true
 }
 
@@ -116,6 +83,6 @@ pub extern "C" fn dresserhawk_lower(
     if answer.len() < 6 {
         return false;
     }
-    put_answer(answer, lower_statement(sheet, a, b, c, d, plan));
+    put_answer(answer, values_of(lower_statement(sheet, a, b, c, d, plan)));
     true
 }

@@ -4,7 +4,6 @@ ghost use lib.ListN.{length};
 
 mod list;
 
-use cases::answer::values_of;
 use cases::line::write_values;
 use cases::text::build_sheet;
 use cases::text::next;
@@ -16,6 +15,7 @@ use output::Out;
 use record::Decimal;
 use record::number::decimal;
 use statement::lowering::lower_statement;
+use values::values_of;
 
 // The first bytes of a slice, of a long one no more than this.
 fn say_slice(slice: &[u8]) {

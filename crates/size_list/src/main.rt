@@ -4,13 +4,13 @@ ghost use lib.ListN.{length};
 
 mod list;
 
-use cases::answer::values_of;
 use cases::line::write_values;
 use cases::text::build_sheet;
 use cases::text::next;
 use libc::STDOUT_FILENO;
 use list::LIST;
 use statement::size_statement;
+use values::values_of;
 
 // The answer to a sheet, with four work slices.
 fn show(label: &[u8], sheet: &[u8], a: &mut [u32], b: &mut [u32], c: &mut [u32], d: &mut [u32]) {

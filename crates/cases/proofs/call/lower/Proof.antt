@@ -8,7 +8,7 @@ use Rattle.cases.proofs.call.lower.Statement.{statement}
 use Rattle.cases.proofs.call.lower.Tie as tie
 use Rattle.cases.proofs.call.lower.Reads as reads
 use Rattle.cases.proofs.call.lower.Lts as lts
-use Rattle.cases.proofs.answer.values_of.Reads as values-of-reads
+use Rattle.values.proofs.values_of.Reads as values-of-reads
 use Rattle.statement.proofs.lowering.lower_statement.Reads as lower-statement-reads
 
 pub lower-spec : {M : Type 1} → statement M

@@ -1,7 +1,7 @@
 -- `error_values` meets its contract, case by case. Assumes nothing.
 use borrow.Author.Needs.{needs}
-use Rattle.cases.proofs.answer.error_values.Statement.{statement}
-use Rattle.cases.proofs.answer.error_values.Tie as tie
+use Rattle.values.proofs.error_values.Statement.{statement}
+use Rattle.values.proofs.error_values.Tie as tie
 
 pub error-values-spec : {M : Type 1} → statement M
 error-values-spec =

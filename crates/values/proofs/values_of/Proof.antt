@@ -1,7 +1,7 @@
 -- `values_of` meets its contract, case by case. Assumes nothing.
 use borrow.Author.Needs.{needs}
-use Rattle.cases.proofs.answer.values_of.Statement.{statement}
-use Rattle.cases.proofs.answer.values_of.Tie as tie
+use Rattle.values.proofs.values_of.Statement.{statement}
+use Rattle.values.proofs.values_of.Tie as tie
 
 pub values-of-spec : {M : Type 1} → statement M
 values-of-spec =

@@ -1,9 +1,9 @@
-// The six values that document 01 gives an answer, for printing.
+// The six values that document 01 gives an answer: as numbers, for printing and for callers in other languages.
 ghost use mathlib.Core.Path.{_≡_};
 ghost use Rattle.model.specs.Call.{lineRefusal, treeRefusal};
 ghost use Rattle.precheck.specs.Answer.{spanOf};
 ghost use Rattle.statement.specs.Answer.{answerOf, errorAnswer};
-ghost use Rattle.cases.specs.Values.{told};
+ghost use Rattle.values.specs.Told.{told};
 use precheck::HirSpan;
 use precheck::PlanLowerError;
 use statement::Answer;
