@@ -33,10 +33,6 @@ twice-refl h = record { up = omega arith; here = h; few = omega arith; low = ome
 pub twice-then : {i j e : ℕ} {m m₁ m₂ : Mem} → MovedTwice i j m m₁ → MovedTwice j e m₁ m₂ → MovedTwice i e m m₂
 twice-then p q = record { up = omega (arith, p .up, q .up); here = q .here; few = omega (arith, p .few, q .few); low = omega (arith, p .low, q .low); met = omega (arith, p .met, q .met); in-ops = q .in-ops ∙ p .in-ops; in-rest = q .in-rest ∙ p .in-rest; index = λ x. q .index (p .index x) }
 
--- from an earlier record on
-pub twice-from : {i j e : ℕ} {m m′ : Mem} → i ≤ j → MovedTwice j e m m′ → MovedTwice i e m m′
-twice-from l p = record { up = omega (arith, p .up); here = p .here; few = omega (arith, p .few); low = omega (arith, p .low); met = omega (arith, p .met); in-ops = p .in-ops; in-rest = p .in-rest; index = p .index }
-
 -- one pass alone
 pub twice-once : {i e : ℕ} {m m′ : Mem} → Moved i e m m′ → MovedTwice i e m m′
 twice-once p = record { up = p .up; here = p .here; few = omega (arith, p .few, p .up); low = omega (arith, p .low, p .up); met = omega (arith, p .met, p .up); in-ops = p .in-ops; in-rest = p .in-rest; index = p .index }

@@ -57,9 +57,6 @@ module _ {i j e : ℕ} {m m′ : Mem} (g : Ready i m) (p : Moved j e m m′) (l 
   pub ops-after : 16384 ≤ length (m′ .ops)
   ops-after = rw (p .in-ops) (g .in-ops)
 
-  pub rest-after : 16384 ≤ length (m′ .rest)
-  rest-after = rw (p .in-rest) (g .in-rest)
-
 -- ── behind the operator before, or a source of everything, and then one pass ──
 
 module _ {L : Lowering ℕ} {k i j : ℕ} {m m₁ : Mem} (g : Ready i m) (q : OrSource L k m m₁) where

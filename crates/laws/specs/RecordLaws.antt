@@ -100,8 +100,3 @@ nothing = record { first = []; more = [] }
 pub lines-all : (rs : List Rec) → split lineFeed (spellRecs rs) ≡ ahead rs nothing
 unfolding split
 lines-all rs = ap (λ t. split lineFeed t) (sym (append-nil (spellRecs rs))) ∙ lines-ahead rs []
-
--- line by line
-pub linesOf : (r : Rec) (rs : List Rec) → split lineFeed (spellRecs (r ∷ rs)) ≡ record { first = lineText r; more = split lineFeed (spellRecs rs) .first ∷ split lineFeed (spellRecs rs) .more }
-unfolding ahead
-linesOf r rs = rw (lines-all (r ∷ rs), lines-all rs)

@@ -18,7 +18,7 @@ use Rattle.words.specs.Words.{Roomy, cell, kindOf, firstKind, fieldsOf, fieldOf
 use Rattle.words.specs.Held.{Held, HeldOf, HeldIn, RecordAt, Flags, size, sizeOf, sizeIn, roomIn}
 use Rattle.words.specs.Cells.{cells, Shown, shown, numbered, number-of}
 use Rattle.lower.specs.Fits.{tree-fits}
-use Rattle.lower.specs.Count.{Inner, total, kidsOf, countBy, countAt, Due, none-due, one-due, Starts, Ends}
+use Rattle.lower.specs.Count.{Inner, total, countBy, countAt, Due, none-due, one-due, Starts, Ends}
 use Rattle.words.specs.Numbers.{sameNumber, exprNumber, elementNumber}
 
 -- ── by the words ──

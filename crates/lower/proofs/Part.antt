@@ -95,9 +95,6 @@ module _ {a b : List ℕ} (d i : ℕ) {rel : ℕ} (room : Roomy a b) (k6 : cell 
       let e : rel ≡ i + 1 + size (th .first) = na .each sheet patternElement (d - 1) (th .first) tt (h .0) in
       record { trees = th; first = h .0; second = rw e (h .1); third = rw e (h .2) }
 
-  pub some-first : SomeTree a b patternPart d i → SomeTree a b patternElement (d - 1) (i + 1)
-  some-first x = let s = stand (x .sheet) (x .tree) (x .held) in record { sheet = x .sheet; tree = s .trees .first; held = s .first }
-
   pub some-second : SomeTree a b patternPart d i → SomeTree a b patternElement (d - 1) rel
   some-second x = let s = stand (x .sheet) (x .tree) (x .held) in record { sheet = x .sheet; tree = s .trees .rel; held = s .second }
 

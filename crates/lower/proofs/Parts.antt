@@ -140,11 +140,6 @@ pub some-behind : {a b : List ℕ} {k d base i j k₁ : ℕ} {m m₁ : Mem} → 
 some-behind {k = zero} h x p = absurd (h refl)
 some-behind {k = suc k} h x p = let e : suc k - 1 ≡ k = omega arith in rw e (behind (x .sheet) (x .trees) p (x .held))
 
--- after the first part
-pub first-left : {a b : List ℕ} {n d base j k₁ : ℕ} {m m₁ : Mem} (i : ℕ) → ((n ≡ 0) → ⊥) → SomeTrees a b patternPart n d (i + 1) → Good d (i + 1) m → LowersPart a b d base (i + 1) j k₁ m m₁ → Left a b d base (λ e k m′. LowersParts a b n d base i e k m m′) (n - 1) j k₁ m₁
-first-left {n = zero} i h x g p = absurd (h refl)
-first-left {n = suc n} i h x g p = record { some = some-behind h x p; good = good-after (p .moved) g; low = p .low; rest = λ e k m′ q. (let z : suc n - 1 ≡ n = omega arith in first-law i p (rw z at q)) }
-
 module _ {a b : List ℕ} {d base : ℕ} {Done : ℕ → ℕ → Mem → Type 0} where
   less : {k i root : ℕ} {m : Mem} → Left a b d base Done k i root m → Left a b d base Done (suc k - 1) i root m
   less {k} p = let e : suc k - 1 ≡ k = omega arith in rw e p

@@ -30,9 +30,6 @@ abbrev pub total : List Group → ℕ
 total [] = 0
 total (g ∷ gs) = g .1 + total gs
 
-abbrev pub kidsOf : {s : Sort} → Tree s → ℕ
-kidsOf (node s line k f kids) = total (children s k f)
-
 -- by the number of the kind and the first words of the fields
 unfoldable pub countBy : (kind x y z u : ℕ) → ℕ
 countBy kind x y z u =

@@ -102,13 +102,6 @@ unfoldable mutual
 
 -- ── pattern elements ──
 
-abbrev pub lineOf : {s : Sort} → Tree s → ℕ
-lineOf (node s line k f kids) = line
-
--- the forest of a tree, rendered
-unfoldable pub kidsRecs : Notes → Ops → {s : Sort} → Tree s → Recs
-kidsRecs N A (node s line k f kids) = renderIn N A kids
-
 unfoldable pub KidsBelow : Notes → ℕ → {s : Sort} → Tree s → Type 0
 KidsBelow N b (node s line k f kids) = BelowIn N b kids
 

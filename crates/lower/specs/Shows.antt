@@ -15,7 +15,7 @@ use Rattle.model.specs.Lower.{Recs, op, source, pathElements}
 use Rattle.words.specs.Words.{cell, optionOf}
 use Rattle.words.specs.Held.{Held, HeldOf, HeldIn, RecordAt, sizeOf}
 use Rattle.context.specs.Tables.{Op}
-use Rattle.lower.specs.Render.{Notes, Ops, render, renderOf, Below, BelowOf, specRecs, KidsBelow, lineOf, keptFrom, keyRecs, aggRecs}
+use Rattle.lower.specs.Render.{Notes, Ops, render, renderOf, Below, BelowOf, specRecs, KidsBelow, keptFrom, keyRecs, aggRecs}
 
 -- the notes of a pass stand from b on
 abbrev pub shift : Notes → ℕ → Notes

@@ -77,7 +77,7 @@ ofRecord entry line k f kids span = fine
 ofRecord expr line k f kids span = ofExpr line k f span
 ofRecord (inPlan p) line k f kids span = fine
 
--- a record, then its children in sheet order
+-- a record, then its children in sheet order: `check` of an expression is the Rust's check_expr, `checkOf` of parts its check_pattern
 unfoldable mutual
   pub check : {s : Sort} → Tree s → Span → Verdict
   check (node s line k f kids) span = andThen (ofRecord s line k f kids span) (checkIn kids (spanIn s k f span))
@@ -93,12 +93,6 @@ unfoldable mutual
 -- every record that can be refused stands in a clause, whose span replaces this one
 unfoldable pub noSpan : Span
 noSpan = record { start = 0; end = 0 }
-
-abbrev pub checkExpr : Tree expr → Span → Verdict
-checkExpr e span = check e span
-
-abbrev pub checkPattern : {n : ℕ} → Trees patternPart n → Span → Verdict
-checkPattern ps span = checkOf ps span
 
 unfoldable pub precheckStatement : Tree statement → Verdict
 precheckStatement t = check t noSpan

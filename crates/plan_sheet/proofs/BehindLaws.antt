@@ -39,12 +39,6 @@ use Rattle.plan_sheet.proofs.OpLaws.{here, shown-at, planned-below, fir
 
 -- ── how many, and from where ──
 
-pub first-at : (kind n i : ℕ) → kind ≡ n → firstBy n i ≡ firstBy kind i
-first-at kind n i e = rw e
-
-pub many-at : (kind n x y z u : ℕ) → kind ≡ n → manyBy n x y z u ≡ manyBy kind x y z u
-many-at kind n x y z u e = rw e
-
 pub none-at : (kind x y z u : ℕ) → (kind ≡ 2 → ⊥) → (kind ≡ 7 → ⊥) → (kind ≡ 8 → ⊥) → (kind ≡ 10 → ⊥) → (kind ≡ 11 → ⊥) → (kind ≡ 12 → ⊥) → (kind ≡ 14 → ⊥) → (kind ≡ 16 → ⊥) → 0 ≡ manyBy kind x y z u
 unfolding manyBy
 none-at kind x y z u c d e f g h i j = rw (ne-eqb kind 2 c, ne-eqb kind 7 d, ne-eqb kind 8 e, ne-eqb kind 10 f, ne-eqb kind 11 g, ne-eqb kind 12 h, ne-eqb kind 14 i, ne-eqb kind 16 j)

@@ -257,9 +257,6 @@ module _ {sheet : Bytes} {a b rest : List ℕ} {o : Op} (room : Roomy a b) (h : 
 -- ── a whole operator ──
 
 module _ (k : ℕ) {sheet : Bytes} {a b os rest : List ℕ} {A : Ops} {o : Op} (p : Planned sheet a b os rest (k + 1) A) (e : o ≡ opAt os k) where
-  pub op-low : k < 2048
-  op-low = omega (arith, p .few)
-
   unfoldable pub shown-at : OpShown sheet a b rest o
   shown-at = record { ops = A; number = k; recs = A k; stored = rw e (p .stored k (omega arith)) }
 

@@ -46,10 +46,6 @@ pub text-value : (s : Bytes) → isRead (read text (s ∷ [])) ≡ true → read
 unfolding meaning piece
 text-value s e = read-meaning text (s ∷ []) e
 
-pub length-value : (a b c : Bytes) → isRead (read length (a ∷ b ∷ c ∷ [])) ≡ true → read length (a ∷ b ∷ c ∷ []) ≡ some (lengthValue a b c)
-unfolding meaning piece
-length-value a b c e = read-meaning length (a ∷ b ∷ c ∷ []) e
-
 pub alias-value : (s : Bytes) → aliasOf (read alias (s ∷ [])) ≡ Alias.Named → read alias (s ∷ []) ≡ some (some (unescape (tail s)))
 unfolding meaning piece aliasValue
 alias-value s e = go (same s (45 ∷ [])) (read-meaning alias (s ∷ []) (named (read alias (s ∷ [])) e))

@@ -138,9 +138,6 @@ module _ (w w′ : List ℕ) (m r n : ℕ) (long : 16384 ≤ length w) (fit : Fi
   room-low true e = rw (← (room-same (group w m .sort) (group w m .room) e room)) (top-fits .1)
   room-low false e = rw (← (room-less (group w m .sort) (group w m .room) e room)) (omega (arith, top-fits .1))
 
-  slack-some : slack (group w m .sort) ≤ 6
-  slack-some = slack-low (group w m .sort)
-
   pub space : (d : ℕ) → d ≡ roomBelow (group w m .sort) (group w m .room) → Space w′ n r d
   space d q =
       record {

@@ -105,7 +105,3 @@ pub record HeldSome (sheet : Bytes) (a b : List ℕ) (s : Sort) (d i : ℕ) : Ty
 pub record HeldMany (sheet : Bytes) (a b : List ℕ) (s : Sort) (n d i : ℕ) : Type 0 where
   pub trees : Trees s n
   pub are : HeldOf sheet a b trees d i
-
--- a statement, which begins at record 0 and is at most 64 deep
-abbrev pub HeldStatement : Bytes → List ℕ → List ℕ → Tree statement → Type 0
-HeldStatement sheet a b t = Held sheet a b t 64 0
