@@ -1,7 +1,7 @@
 #!/usr/bin/env bash
-# Builds the oracle: the shared Rust, unchanged, with our stubs and driver.
-#   build.sh        everything that is made lies below target/oracle
-#   build.sh OUT    only the Rust's libraries, in OUT/lib, for programs to link
+# Compiles the shared Rust, unchanged, with our stubs. rust/compare's build runs
+# this and links what it makes.
+#   build.sh OUT    the libraries are put into OUT/lib
 #   CYRS_SRC      folder that holds `crates` (default: ../shared/docs/src
 #                 beside the repository)
 #   ORACLE_FLAGS  further words for rustc, e.g. '-C debug-assertions=yes'
@@ -10,7 +10,7 @@ set -euo pipefail
 here="$(cd "$(dirname "${BASH_SOURCE[0]}")" && pwd)"
 root="$(dirname "$here")"
 src="$(cd "${CYRS_SRC:-$root/../shared/docs/src}" && pwd)"
-out="${1:-$root/target/oracle}"
+out="${1:?build.sh OUT}"
 read -r -a flags <<<"${ORACLE_FLAGS:-}"
 
 rm -rf "$out/src" "$out/lib"
@@ -44,12 +44,10 @@ fill_modules() {
 fill_modules "$out/src/cyrs-hir"
 fill_modules "$out/src/cyrs-plan"
 
-compile() {
-    "${RUSTC:-rustc}" --edition 2024 -C opt-level=3 -C codegen-units=1 \
-        --cap-lints allow -L "$out/lib" ${flags[@]+"${flags[@]}"} "$@"
-}
 library() {
-    compile --crate-type rlib --crate-name "$1" "$2" --out-dir "$out/lib" "${@:3}"
+    "${RUSTC:-rustc}" --edition 2024 -C opt-level=3 -C codegen-units=1 \
+        --cap-lints allow -L "$out/lib" ${flags[@]+"${flags[@]}"} \
+        --crate-type rlib --crate-name "$1" "$2" --out-dir "$out/lib" "${@:3}"
 }
 
 library smol_str "$here/stubs/smol_str.rs"
@@ -59,7 +57,3 @@ library cyrs_hir "$out/src/cyrs-hir/lib.rs" \
     --extern smol_str --extern indexmap --extern cyrs_syntax
 library cyrs_plan "$out/src/cyrs-plan/lib.rs" \
     --extern smol_str --extern indexmap --extern cyrs_hir
-[ $# -eq 0 ] || exit 0
-compile --crate-type bin --crate-name oracle "$here/driver.rs" -o "$out/oracle" \
-    --extern smol_str --extern cyrs_syntax --extern cyrs_hir --extern cyrs_plan
-echo "built target/oracle/oracle"

@@ -1,13 +1,15 @@
 #!/usr/bin/env python3
-"""Holds the definitions of crates/model against the Rust: every sheet that the oracle has answered becomes one equation, which the checker computes.
+"""Holds the definitions of crates/model against the Rust: every sheet and the Rust's answer to it become one equation, which the checker computes.
 
-  python3 oracle/compare.py DIR      DIR has NAME.sheet and NAME.answer, as `oracle many DIR` leaves them
+  python3 oracle/compare.py DIR      DIR has sheets, NAME.sheet
 
-A scratch repository below target/ gets a copy of crates/model and a crate of equations `compute sheet slice ≡ what the Rust
-answered`, each proved by `refl`. Prints each sheet whose equation is refused, and the counts last. Exit status 1 where there is one.
+`compare answer DIR` (rust/compare) is asked for the Rust's answers, NAME.answer, unless they are all there. A scratch repository below
+target/ gets a copy of crates/model and a crate of equations `compute sheet slice ≡ what the Rust answered`, each proved by `refl`. Prints
+each sheet whose equation is refused, and the counts last. Exit status 1 where there is one.
 """
 import glob, os, re, shutil, subprocess, sys
 
+COMPARE = "target/rust/release/compare"
 SCRATCH = "target/oracle/compare"
 BATCH = 50
 
@@ -28,8 +30,14 @@ def equation(name, sheet, answer):
     return f"{name} : compute ({listed(sheet)}) ({slice_}) ≡ {want}\nunfolding compute\n{name} = refl\n"
 
 
+def answer_to(sheet):
+    return sheet[: -len(".sheet")] + ".answer"
+
+
 def main():
     sheets = sorted(glob.glob(os.path.join(sys.argv[1], "*.sheet")))
+    if not all(os.path.exists(answer_to(path)) for path in sheets):
+        subprocess.run([COMPARE, "answer", sys.argv[1]], check=True)
     shutil.rmtree(SCRATCH, ignore_errors=True)
     specs = f"{SCRATCH}/crates/compare/specs"
     os.makedirs(specs)
@@ -51,7 +59,7 @@ def main():
         for i, path in enumerate(sheets[at : at + BATCH]):
             name = f"e{at + i}"
             names[(module, name)] = path
-            answer = open(path[: -len(".sheet")] + ".answer", "rb").read()
+            answer = open(answer_to(path), "rb").read()
             text.append(equation(name, open(path, "rb").read(), answer))
         open(f"{specs}/{module}.antt", "w").write("\n".join(text))
     open(f"{specs}/Lib.antt", "w").write("".join(f"pub mod {m}\n" for m in modules))

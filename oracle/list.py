@@ -1,19 +1,21 @@
 #!/usr/bin/env python3
 """Writes the list of program plan_list and what it has to print.
 
-  python3 oracle/list.py     from the repository's root, after oracle/build.sh
+  python3 oracle/list.py     from the repository's root, after rust/compare is built
 
 A case is a label, a text and what is said of the plan slice's room. In a text
 records end in `;` and fields are parted by a blank; between three stars stand
 a number and a part that is there so many times. The plans and refusals 6 to 9
-are the oracle's; refusals 1 to 5 are given here by hand, from document 01; 10
-is given where the oracle's plan is longer than the room.
+are the oracle's, as `compare answer` writes them; refusals 1 to 5 are given here
+by hand, from document 01, and 2 to 5 are held to what `compare one` has for
+them; 10 is given where the oracle's plan is longer than the room.
 """
 import pathlib
 import re
+import shutil
 import subprocess
 
-ORACLE = 'target/oracle/oracle'
+COMPARE = 'target/rust/release/compare'
 LIST = 'crates/plan_list/src/list.rt'
 STDOUT = 'crates/plan_list/stdout'
 # Where the answered sheets are left, for sheets.py and compare.py.
@@ -216,7 +218,7 @@ ROOMS = [
     ('room-unres', statement(where('unres x;')), 0),
 ]
 
-# Label, text, number and line, from document 01. The oracle does not take the first group's sheets; it knows no limits for the second's.
+# Label, text, number and line, from document 01. The oracle does not take these sheets.
 BY_HAND = [
     ('M2', '', 3, 1),
     ('M8-past', 'stmt 1 0;return 1 0 0 0 0 0 26;item -;int 9223372036854775808;', 3, 4),
@@ -224,8 +226,6 @@ BY_HAND = [
     ('not-due', 'stmt 0 0;null;', 3, 2),
     ('no-feed', 'stmt 0 0', 3, 1),
     ('write', 'stmt 2 0;where 0 1;unres x;write 3 8;', 5, 4),
-]
-LIMITS = [
     ('long', 'stmt 1 0;where 0 1;str *32745*x*;', 2, 0),
     ('line-2049', statement(where('list 2046;*2046*null;*')), 4, 2049),
     ('depth-65', statement(where('*62*list 1;*null;')), 4, 65),
@@ -245,9 +245,19 @@ def sheet_of(text):
     return found[1] + found[3] * int(found[2]) + found[4] if found else text
 
 
-def oracle(sheet):
-    run = subprocess.run([ORACLE, 'lower'], input=sheet, capture_output=True)
-    return run.stdout if run.returncode == 0 else None
+def ask_oracle():
+    """Leaves the cases that it answers in SHEETS, with its answers."""
+    shutil.rmtree(SHEETS, ignore_errors=True)
+    SHEETS.mkdir(parents=True)
+    for label, text, *_ in ANSWERED + ROOMS:
+        SHEETS.joinpath(f'{label}.sheet').write_bytes(sheet_of(spelled(text)))
+    subprocess.run([COMPARE, 'answer', SHEETS], check=True)
+
+
+def agrees(text, number, line):
+    """Whether the second reading of document 01 gives this refusal too."""
+    run = subprocess.run([COMPARE, 'one', '/dev/stdin'], input=sheet_of(text), capture_output=True)
+    return run.stdout.startswith(b'reading: [%d, %d, 0, 0, 0, 0],' % (number, line))
 
 
 def entry(label, room, text):
@@ -277,10 +287,7 @@ class Output:
         self.say(label, values, slice_)
 
     def answered(self, label, text, more):
-        answer = oracle(sheet_of(text))
-        assert answer is not None, label
-        SHEETS.joinpath(f'{label}.sheet').write_bytes(sheet_of(text))
-        SHEETS.joinpath(f'{label}.answer').write_bytes(answer)
+        answer = SHEETS.joinpath(f'{label}.answer').read_bytes()
         if answer.startswith(b'refused\t'):
             values = [int(word) for word in answer.split(b'\t')[1:]] + [0]
             self.add(label, text, values, b'#' * max(more, 0))
@@ -291,7 +298,7 @@ class Output:
 
 
 def main():
-    SHEETS.mkdir(parents=True, exist_ok=True)
+    ask_oracle()
     out = Output()
     for label in SHORT:
         out.say(label, [1, 0, 0, 0, 0, 0], b'###')
@@ -299,8 +306,8 @@ def main():
         out.answered(label, spelled(text), 3)
     for label, text, more in ROOMS:
         out.answered(label, spelled(text), more)
-    for label, text, number, line in BY_HAND + LIMITS:
-        assert (oracle(sheet_of(spelled(text))) is None) == ((label, text, number, line) in BY_HAND), label
+    for label, text, number, line in BY_HAND:
+        assert agrees(spelled(text), number, line), label
         out.add(label, spelled(text), [number, line, 0, 0, 0, 0], b'###')
     with open(LIST, 'w', encoding='ascii') as file:
         file.write('// Made by oracle/list.py. Each case is a label, the length of the plan slice and a sheet, each ended by a bar. Between three stars stand a number and a part of the sheet that is there so many times. There are two lists because a constant may not have more bytes.\n')

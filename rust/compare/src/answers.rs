@@ -1,35 +1,30 @@
 //! The Rust's answers as text: for the definitions, which are held against
-//! them by oracle/compare.py, and for the gate's fixed list.
+//! them by oracle/compare.py, and for the gate's fixed lists.
 
+use crate::generate;
+use crate::hold::{self, Asked};
 use crate::line;
-use crate::original::{self, Said};
 use crate::reading::{self, Answer};
 use crate::rng::Rng;
 use crate::tally::{Counts, Tally};
-use crate::{generate, hold};
 use std::fs;
 use std::path::Path;
 
 /// What the Rust answers, and its plan if there is one. It gives no line with
-/// a refusal and no refusal 9: these are the second reading's. None if the
-/// sheet is not one that the Rust can be asked about.
-fn ask(sheet: &[u8]) -> Option<(Answer, Vec<u8>)> {
-    std::str::from_utf8(sheet).ok()?;
+/// a refusal and no refusal 9: these are the second reading's, which has to
+/// agree in all that the Rust says. None if the sheet is not one that the Rust
+/// can be asked about.
+fn ask(sheet: &[u8]) -> Result<Option<(Answer, Vec<u8>)>, String> {
     let verdict = reading::judge(sheet, [16_384; 4]);
-    if verdict.records.is_empty() || verdict.answer[0] == 5 {
-        return None;
+    let mut plan = Vec::new();
+    let asked = hold::with_rust(sheet, &verdict, &mut plan);
+    if asked.map_err(|difference| difference.what)? == Asked::Nothing {
+        return Ok(None);
     }
-    match original::ask(&original::statement(&verdict.records)) {
-        Said::Refused([number, start, end, kind]) => {
-            Some(([number, verdict.answer[1], start, end, kind, 0], Vec::new()))
-        }
-        Said::Plan(_) if verdict.answer[0] == 9 => Some((verdict.answer, Vec::new())),
-        Said::Plan(plan) => {
-            let mut text = Vec::new();
-            original::print::plan(&plan, &mut text);
-            Some(([0, 0, 0, 0, 0, text.len()], text))
-        }
+    if verdict.answer[0] != 0 {
+        plan.clear();
     }
+    Ok(Some((verdict.answer, plan)))
 }
 
 /// Writes NAME.answer beside each NAME.sheet of a folder: the plan sheet, or
@@ -44,7 +39,10 @@ pub fn folder(folder: &Path) -> Result<usize, String> {
         }
         let sheet = fs::read(&path).map_err(told)?;
         let (answer, mut text) = ask(&sheet)
-            .ok_or(format!("{}: not well-formed, read-only and UTF-8", path.display()))?;
+            .and_then(|said| {
+                said.ok_or("not well-formed and read-only in UTF-8, or beyond a limit".to_string())
+            })
+            .map_err(|why| format!("{}: {why}", path.display()))?;
         if answer[0] != 0 {
             let [number, at, start, end, kind, _] = answer;
             line!(&mut text, "refused", number, at, start, end, kind);
@@ -68,7 +66,7 @@ pub fn sample(seed: u64, count: usize, sheets: &Path, answers: &Path) -> Result<
         number += 1;
         let records = rng.from(1, 24);
         let sheet = generate::sheet(rng, records);
-        let Some((answer, plan)) = ask(&sheet) else { continue };
+        let Some((answer, plan)) = ask(&sheet)? else { continue };
         if sheet.len() > 350 || plan.len() > 500 {
             continue;
         }
@@ -101,7 +99,7 @@ fn reach(sheet: &[u8]) -> Tally {
     let verdict = reading::judge(sheet, [16_384; 4]);
     let case = hold::Case { sheet: sheet.to_vec(), work: [16_384; 4], rooms: [0; 2] };
     let mut counts = Counts::new();
-    counts.count(&case, &verdict, hold::Asked::Plan);
+    counts.count(&case, &verdict, Asked::Plan);
     counts.named()
 }
 

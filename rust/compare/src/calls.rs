@@ -2,10 +2,12 @@
 
 use crate::reading;
 
+/// The four work slices.
+type Work<'w> = [&'w mut [u32]; 4];
 /// The sizing call: sheet, work slices, answer.
-pub type Size = fn(&[u8], [&mut [u32]; 4], &mut [usize]) -> bool;
+pub type Size = fn(&[u8], Work, &mut [usize]) -> bool;
 /// The lowering call: sheet, work slices, plan, answer.
-pub type Lower = fn(&[u8], [&mut [u32]; 4], &mut [u8], &mut [usize]) -> bool;
+pub type Lower = fn(&[u8], Work, &mut [u8], &mut [usize]) -> bool;
 
 #[derive(Clone, Copy)]
 pub struct Calls {
@@ -31,7 +33,7 @@ pub fn stand_in(name: &str) -> Option<Calls> {
     }
 }
 
-fn plain_size(sheet: &[u8], work: [&mut [u32]; 4], answer: &mut [usize]) -> bool {
+fn plain_size(sheet: &[u8], work: Work, answer: &mut [usize]) -> bool {
     let Some(answer) = answer.first_chunk_mut() else { return false };
     let verdict = reading::judge(sheet, work.map(|words| words.len()));
     *answer = verdict.answer;
@@ -41,7 +43,7 @@ fn plain_size(sheet: &[u8], work: [&mut [u32]; 4], answer: &mut [usize]) -> bool
     true
 }
 
-fn plain_lower(sheet: &[u8], work: [&mut [u32]; 4], plan: &mut [u8], answer: &mut [usize]) -> bool {
+fn plain_lower(sheet: &[u8], work: Work, plan: &mut [u8], answer: &mut [usize]) -> bool {
     let Some(answer) = answer.first_chunk_mut() else { return false };
     let verdict = reading::judge(sheet, work.map(|words| words.len()));
     *answer = verdict.with_room(plan.len());
@@ -51,7 +53,7 @@ fn plain_lower(sheet: &[u8], work: [&mut [u32]; 4], plan: &mut [u8], answer: &mu
     true
 }
 
-fn late_line(sheet: &[u8], work: [&mut [u32]; 4], answer: &mut [usize]) -> bool {
+fn late_line(sheet: &[u8], work: Work, answer: &mut [usize]) -> bool {
     let written = plain_size(sheet, work, answer);
     if written && answer[0] == 6 {
         answer[1] += 1;
@@ -59,12 +61,7 @@ fn late_line(sheet: &[u8], work: [&mut [u32]; 4], answer: &mut [usize]) -> bool 
     written
 }
 
-fn writes_behind(
-    sheet: &[u8],
-    work: [&mut [u32]; 4],
-    plan: &mut [u8],
-    answer: &mut [usize],
-) -> bool {
+fn writes_behind(sheet: &[u8], work: Work, plan: &mut [u8], answer: &mut [usize]) -> bool {
     let written = plain_lower(sheet, work, plan, answer);
     if written && answer[0] == 0 && answer[5] > 100 && plan.len() > answer[5] {
         plan[answer[5]] = b'\n';
@@ -72,12 +69,7 @@ fn writes_behind(
     written
 }
 
-fn writes_when_refused(
-    sheet: &[u8],
-    work: [&mut [u32]; 4],
-    plan: &mut [u8],
-    answer: &mut [usize],
-) -> bool {
+fn writes_when_refused(sheet: &[u8], work: Work, plan: &mut [u8], answer: &mut [usize]) -> bool {
     let written = plain_lower(sheet, work, plan, answer);
     if written && answer[0] == 10 && plan.len() > 50 {
         plan[..4].copy_from_slice(b"plan");
@@ -85,7 +77,7 @@ fn writes_when_refused(
     written
 }
 
-fn wrong_byte(sheet: &[u8], work: [&mut [u32]; 4], plan: &mut [u8], answer: &mut [usize]) -> bool {
+fn wrong_byte(sheet: &[u8], work: Work, plan: &mut [u8], answer: &mut [usize]) -> bool {
     let written = plain_lower(sheet, work, plan, answer);
     if let Some(at) = plan.windows(8).position(|bytes| bytes == b"\nexists\n") {
         plan[at + 1] = b'E';

@@ -2,7 +2,9 @@
 
 use crate::calls::Calls;
 use crate::original::{self, Said};
+use crate::reading::lowering::Lowered;
 use crate::reading::{self, Answer, Verdict};
+use cyrs_hir::Statement;
 
 /// A sheet and how it is handed over.
 #[derive(Clone)]
@@ -65,7 +67,7 @@ pub fn hold<'c>(
     bench: &mut Bench,
 ) -> (Verdict<'c>, Result<Asked, Difference>) {
     let verdict = reading::judge(&case.sheet, case.work);
-    let result = with_rust(case, &verdict, bench)
+    let result = with_rust(&case.sheet, &verdict, &mut bench.printed)
         .and_then(|asked| with_size(case, &verdict, calls, bench).map(|()| asked))
         .and_then(|asked| with_lower(case, &verdict, calls, bench).map(|()| asked));
     (verdict, result)
@@ -79,10 +81,15 @@ fn differ<T>(what: &'static str, said: Vec<(&'static str, Vec<u8>)>) -> Result<T
     Err(Difference { what, said })
 }
 
-/// The second reading and the Rust: plans, and refusals 6 to 8.
-fn with_rust(case: &Case, verdict: &Verdict, bench: &mut Bench) -> Result<Asked, Difference> {
+/// The second reading and the Rust: plans, and refusals 6 to 8. `printed` gets
+/// the Rust's plan.
+pub fn with_rust(
+    sheet: &[u8],
+    verdict: &Verdict,
+    printed: &mut Vec<u8>,
+) -> Result<Asked, Difference> {
     let well_formed = !verdict.records.is_empty() && verdict.answer[0] != 5;
-    if !well_formed || std::str::from_utf8(&case.sheet).is_err() {
+    if !well_formed || std::str::from_utf8(sheet).is_err() {
         return Ok(Asked::Nothing);
     }
     let statement = original::statement(&verdict.records);
@@ -94,35 +101,29 @@ fn with_rust(case: &Case, verdict: &Verdict, bench: &mut Bench) -> Result<Asked,
             vec![("reading", words(&verdict.answer)), ("rust", words(&said))],
         ),
         Said::Plan(plan) => {
-            bench.printed.clear();
-            original::print::plan(&plan, &mut bench.printed);
+            printed.clear();
+            original::print::plan(&plan, printed);
             match &verdict.lowered {
-                Some(lowered) if lowered.plan == bench.printed => {}
-                Some(lowered) => {
-                    let said =
-                        vec![("reading", lowered.plan.clone()), ("rust", bench.printed.clone())];
-                    return differ("plan: reading and Rust", said);
-                }
-                None => {
-                    let said =
-                        vec![("reading", words(&verdict.answer)), ("rust", bench.printed.clone())];
-                    return differ("the Rust lowers what the reading refuses", said);
-                }
+                Some(lowered) if lowered.plan == *printed => numbers_too(lowered, statement),
+                Some(lowered) => differ(
+                    "plan: reading and Rust",
+                    vec![("reading", lowered.plan.clone()), ("rust", printed.clone())],
+                ),
+                None => differ(
+                    "the Rust lowers what the reading refuses",
+                    vec![("reading", words(&verdict.answer)), ("rust", printed.clone())],
+                ),
             }
-            numbers_too(verdict, statement)
         }
     }
 }
 
-/// The count of variable numbers, where it is near the limit of refusal 9.
-fn numbers_too(verdict: &Verdict, statement: cyrs_hir::Statement) -> Result<Asked, Difference> {
-    let numbers = verdict.lowered.as_ref().map_or(0, |lowered| lowered.numbers as usize);
-    if numbers > 2_000 {
-        let issued = original::numbers_issued(statement);
-        if issued != numbers {
-            let said = vec![("reading", words(&[numbers])), ("rust", words(&[issued]))];
-            return differ("variable numbers: reading and Rust", said);
-        }
+/// The count of variable numbers, for refusal 9.
+fn numbers_too(lowered: &Lowered, statement: Statement) -> Result<Asked, Difference> {
+    let (read, issued) = (lowered.numbers as usize, original::numbers_issued(statement));
+    if issued != read {
+        let said = vec![("reading", words(&[read])), ("rust", words(&[issued]))];
+        return differ("variable numbers: reading and Rust", said);
     }
     Ok(Asked::Plan)
 }

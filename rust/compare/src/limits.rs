@@ -12,14 +12,32 @@ pub fn sheet(rng: &mut Rng) -> Vec<u8> {
         3 => deep_pattern(rng.from(18, 22)),
         4 => operators(rng.from(1_021, 1_025), rng.flag()),
         5 => numbers(rng.from(338, 345)),
-        6 => distinct_variables(rng.from(2_040, 2_047)),
+        6 => variables((0..rng.from(2_040, 2_047)).map(|place| 7 * place)),
         _ => unions(rng.from(1_021, 1_025)),
     }
 }
 
+/// A statement of one where; its expression is due.
+fn one_where() -> Vec<u8> {
+    let mut sheet = Vec::new();
+    line!(&mut sheet, "stmt", 1u32, 0u32);
+    line!(&mut sheet, "where", 0u32, 1u32);
+    sheet
+}
+
+/// A statement of one return with one item; its expression is due.
+fn one_return(distinct: bool) -> Vec<u8> {
+    let mut sheet = Vec::new();
+    line!(&mut sheet, "stmt", 1u32, 0u32);
+    line!(&mut sheet, "return", 1u32, distinct, 0u32, false, false, 0u32, 1u32);
+    line!(&mut sheet, "item", "-");
+    sheet
+}
+
 /// So many bytes: one long string.
 fn bytes(size: usize) -> Vec<u8> {
-    let mut sheet = b"stmt\t1\t0\nwhere\t0\t1\nstr\t".to_vec();
+    let mut sheet = one_where();
+    sheet.extend_from_slice(b"str\t");
     sheet.resize(size - 1, b'x');
     sheet.push(b'\n');
     sheet
@@ -27,9 +45,7 @@ fn bytes(size: usize) -> Vec<u8> {
 
 /// So many lines: one long list.
 fn lines(count: usize) -> Vec<u8> {
-    let mut sheet = Vec::new();
-    line!(&mut sheet, "stmt", 1u32, 0u32);
-    line!(&mut sheet, "where", 0u32, 1u32);
+    let mut sheet = one_where();
     line!(&mut sheet, "list", count - 3);
     for _ in 0..count - 3 {
         line!(&mut sheet, "null");
@@ -39,9 +55,7 @@ fn lines(count: usize) -> Vec<u8> {
 
 /// A line at this depth.
 fn deep(depth: usize, last: &str) -> Vec<u8> {
-    let mut sheet = Vec::new();
-    line!(&mut sheet, "stmt", 1u32, 0u32);
-    line!(&mut sheet, "where", 0u32, 1u32);
+    let mut sheet = one_where();
     for _ in 0..depth - 3 {
         line!(&mut sheet, "list", 1u32);
     }
@@ -51,10 +65,7 @@ fn deep(depth: usize, last: &str) -> Vec<u8> {
 
 /// Patterns in the props of patterns, three levels each.
 fn deep_pattern(levels: usize) -> Vec<u8> {
-    let mut sheet = Vec::new();
-    line!(&mut sheet, "stmt", 1u32, 0u32);
-    line!(&mut sheet, "return", 1u32, false, 0u32, false, false, 0u32, 1u32);
-    line!(&mut sheet, "item", "-");
+    let mut sheet = one_return(false);
     for _ in 0..levels {
         line!(&mut sheet, "pat", 1u32);
         line!(&mut sheet, "part", "-", 0u32, 1u32);
@@ -66,10 +77,7 @@ fn deep_pattern(levels: usize) -> Vec<u8> {
 
 /// A return of a list of patterns without parts: two operators each, and two more.
 fn operators(count: usize, distinct: bool) -> Vec<u8> {
-    let mut sheet = Vec::new();
-    line!(&mut sheet, "stmt", 1u32, 0u32);
-    line!(&mut sheet, "return", 1u32, distinct, 0u32, false, false, 0u32, 1u32);
-    line!(&mut sheet, "item", "-");
+    let mut sheet = one_return(distinct);
     line!(&mut sheet, "list", count);
     for _ in 0..count {
         line!(&mut sheet, "pat", 0u32);
@@ -80,10 +88,7 @@ fn operators(count: usize, distinct: bool) -> Vec<u8> {
 /// A return of a list of patterns of two unnamed nodes and a rel: six numbers
 /// and four operators each.
 fn numbers(count: usize) -> Vec<u8> {
-    let mut sheet = Vec::new();
-    line!(&mut sheet, "stmt", 1u32, 0u32);
-    line!(&mut sheet, "return", 1u32, false, 0u32, false, false, 0u32, 1u32);
-    line!(&mut sheet, "item", "-");
+    let mut sheet = one_return(false);
     line!(&mut sheet, "list", count);
     for _ in 0..count {
         line!(&mut sheet, "pat", 1u32);
@@ -95,14 +100,12 @@ fn numbers(count: usize) -> Vec<u8> {
     sheet
 }
 
-/// A list of distinct variables.
-fn distinct_variables(count: usize) -> Vec<u8> {
-    let mut sheet = Vec::new();
-    line!(&mut sheet, "stmt", 1u32, 0u32);
-    line!(&mut sheet, "where", 0u32, 1u32);
-    line!(&mut sheet, "list", count);
-    for id in 0..count {
-        line!(&mut sheet, "var", id * 7);
+/// A list of variables with these ids.
+pub fn variables(ids: impl ExactSizeIterator<Item = usize>) -> Vec<u8> {
+    let mut sheet = one_where();
+    line!(&mut sheet, "list", ids.len());
+    for id in ids {
+        line!(&mut sheet, "var", id);
     }
     sheet
 }

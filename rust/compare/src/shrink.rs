@@ -53,9 +53,10 @@ fn join(lines: &Lines) -> Vec<u8> {
     joined.join(&b'\n')
 }
 
-/// Groups of children: the field with their count or flag (0 if none), how many
-/// there are, and how many records each counts for.
-fn groups(form: &Form) -> Vec<(usize, u32, usize)> {
+/// Groups of children that a field counts, in their order: the field with the
+/// count or flag, how many there are, and how many records each counts for.
+/// Children that are always there stand before them.
+fn counted(form: &Form) -> Vec<(usize, u32, usize)> {
     let one = |field: usize, flag: bool| (field, flag as u32, 1);
     match *form {
         Form::Stmt { clauses, arms } => vec![(1, clauses, 1), (2, arms, 1)],
@@ -71,21 +72,13 @@ fn groups(form: &Form) -> Vec<(usize, u32, usize)> {
         Form::Part { elements, .. } => vec![(3, elements, 1)],
         Form::Node { labels, props, .. } => vec![(2, labels, 1), one(3, props)],
         Form::Rel { types, props, .. } => vec![(2, types, 1), one(7, props)],
-        Form::Slice { start, end } => vec![(0, 1, 1), one(1, start), one(2, end)],
+        Form::Slice { start, end } => vec![one(1, start), one(2, end)],
         Form::Map(n) => vec![(1, n, 2)],
         Form::Fn { args, .. } => vec![(2, args, 1)],
         Form::Case { scrutinee, arms, otherwise } => {
             vec![one(1, scrutinee), (2, arms, 2), one(3, otherwise)]
         }
-        Form::Listp { pred, .. } => vec![(0, 1, 1), one(3, pred)],
-        Form::Index | Form::Bin(_) | Form::In => vec![(0, 2, 1)],
-        Form::Where { .. }
-        | Form::Unwind { .. }
-        | Form::Item { .. }
-        | Form::Key { .. }
-        | Form::Prop(_)
-        | Form::Un(_)
-        | Form::IsNull { .. } => vec![(0, 1, 1)],
+        Form::Listp { pred, .. } => vec![one(3, pred)],
         _ => Vec::new(),
     }
 }
@@ -115,35 +108,69 @@ fn is_expr(form: &Form) -> bool {
 /// A child less, with its parent's count; an expression replaced by a child of
 /// its own, or by null.
 fn by_tree(lines: &Lines, records: &[Record], all: &mut Vec<Vec<u8>>) {
-    let mut steps: Vec<(usize, Vec<u8>)> = Vec::new();
-    for (place, record) in records.iter().enumerate() {
-        let mut child = place + 1;
-        for (field, count, each) in groups(&record.form) {
-            for _ in 0..count {
-                let from = child;
-                for _ in 0..each {
-                    let form = &records[child].form;
-                    if is_expr(form) && is_expr(&record.form) {
-                        let kept = lines[child..records[child].end].to_vec();
-                        let saved = record.end - place - kept.len();
-                        steps.push((saved, replaced(lines, place..record.end, kept)));
-                    }
-                    child = records[child].end;
-                }
-                if field > 0 {
-                    let mut less = lines.clone();
-                    less[place][field] = (count - 1).to_string().into_bytes();
-                    steps.push((child - from, replaced(&less, from..child, Vec::new())));
-                }
-            }
-        }
-        if is_expr(&record.form) && record.form != Form::Null {
-            let null = vec![vec![b"null".to_vec()]];
-            steps.push((record.end - place, replaced(lines, place..record.end, null)));
+    let mut steps = Vec::new();
+    for place in 0..records.len() {
+        let starts = starts(records, place);
+        fewer_children(lines, place, &counted(&records[place].form), &starts, &mut steps);
+        if is_expr(&records[place].form) {
+            simpler_expr(lines, records, place, &starts, &mut steps);
         }
     }
     steps.sort_by_key(|step| std::cmp::Reverse(step.0));
     all.extend(steps.into_iter().map(|step| step.1));
+}
+
+/// How many lines a step saves, and what it leaves.
+type Step = (usize, Vec<u8>);
+
+/// Where each child of the record at `place` begins, and where the last ends.
+fn starts(records: &[Record], place: usize) -> Vec<usize> {
+    let mut starts = vec![place + 1];
+    let mut child = place + 1;
+    while child < records[place].end {
+        child = records[child].end;
+        starts.push(child);
+    }
+    starts
+}
+
+fn fewer_children(
+    lines: &Lines,
+    place: usize,
+    counted: &[(usize, u32, usize)],
+    starts: &[usize],
+    steps: &mut Vec<Step>,
+) {
+    let due: usize = counted.iter().map(|&(_, count, each)| count as usize * each).sum();
+    let mut at = starts.len() - 1 - due;
+    for &(field, count, each) in counted {
+        for _ in 0..count {
+            let mut less = lines.clone();
+            less[place][field] = (count - 1).to_string().into_bytes();
+            let child = starts[at]..starts[at + each];
+            steps.push((child.len(), replaced(&less, child, Vec::new())));
+            at += each;
+        }
+    }
+}
+
+fn simpler_expr(
+    lines: &Lines,
+    records: &[Record],
+    place: usize,
+    starts: &[usize],
+    steps: &mut Vec<Step>,
+) {
+    let whole = place..records[place].end;
+    let children = starts.windows(2).filter(|child| is_expr(&records[child[0]].form));
+    let mut simpler: Vec<Lines> =
+        children.map(|child| lines[child[0]..child[1]].to_vec()).collect();
+    if records[place].form != Form::Null {
+        simpler.push(vec![vec![b"null".to_vec()]]);
+    }
+    for kept in simpler {
+        steps.push((whole.len() - kept.len(), replaced(lines, whole.clone(), kept)));
+    }
 }
 
 fn replaced(lines: &Lines, range: std::ops::Range<usize>, new: Lines) -> Vec<u8> {

@@ -6,7 +6,7 @@
 
 use crate::calls::Calls;
 use crate::generate;
-use crate::line;
+use crate::limits;
 use crate::original::{self, Said};
 use crate::reading;
 use crate::rng::Rng;
@@ -25,6 +25,13 @@ struct Load {
 /// How many sheets of each size: one alone would say more of its own shape
 /// than of its size.
 const SHEETS: usize = 32;
+
+/// How many variables a sheet of nothing else has.
+const VARIABLES: usize = 2_000;
+
+/// The rows of the table: how many records, or the number of a sheet of
+/// variables.
+const ROWS: [usize; 8] = [16, 64, 256, 1_024, 2_048, 2_000, 2_001, 2_002];
 
 impl Load {
     fn new(name: String, sheets: Vec<Vec<u8>>) -> Self {
@@ -50,18 +57,22 @@ impl Load {
         Load::new(format!("{records} records"), sheets)
     }
 
-    /// A list of so many variables, each other than all before it or all the
-    /// same: the difference is what looking them up costs.
-    fn variables(count: usize, distinct: bool) -> Self {
-        let mut sheet = Vec::new();
-        line!(&mut sheet, "stmt", 1u32, 0u32);
-        line!(&mut sheet, "where", 0u32, 1u32);
-        line!(&mut sheet, "list", count);
-        for id in 0..count {
-            line!(&mut sheet, "var", if distinct { id } else { 0 });
+    /// A list of variables whose ids are the multiples of `step`, all the same
+    /// if it is 0: what one such sheet costs more than another is the looking up.
+    fn variables(name: &str, step: usize) -> Self {
+        let sheet = limits::variables((0..VARIABLES).map(|place| step * place));
+        assert_eq!(reading::judge(&sheet, [16_384; 4]).answer[0], 0, "the sheets are accepted");
+        Load::new(format!("{VARIABLES} {name}"), vec![sheet])
+    }
+
+    /// The load of this number in `count`.
+    fn of(number: usize) -> Self {
+        match number {
+            2_000 => Load::variables("distinct variables", 1),
+            2_001 => Load::variables("times one variable", 0),
+            2_002 => Load::variables("multiples of 1024", 1_024),
+            records => Load::random(records),
         }
-        let name = if distinct { "distinct variables" } else { "times one variable" };
-        Load::new(format!("{count} {name}"), vec![sheet])
     }
 }
 
@@ -114,12 +125,6 @@ fn micros(time: Duration) -> f64 {
     time.as_secs_f64() * 1e6
 }
 
-fn loads() -> Vec<Load> {
-    let mut loads: Vec<Load> = [16, 64, 256, 1_024, 2_048].map(Load::random).into();
-    loads.extend([true, false].map(|distinct| Load::variables(2_000, distinct)));
-    loads
-}
-
 fn bench() -> Bench {
     Bench { work: std::array::from_fn(|_| vec![0; 16_384]), plan: vec![0; 1 << 22] }
 }
@@ -133,7 +138,7 @@ pub fn table(calls: &Calls) {
         "{:<25}{:>8}{:>8}{:>12}{:>12}{:>12}{:>8}",
         "sheets", "bytes", "records", "our sizing", "our call", "the Rust", "ratio"
     );
-    for load in loads() {
+    for load in ROWS.map(Load::of) {
         let count = load.sheets.len();
         let bytes = load.sheets.iter().map(Vec::len).sum::<usize>() / count;
         let size =
@@ -157,11 +162,7 @@ pub fn table(calls: &Calls) {
 
 /// Each side so many times on each sheet of a size, for a profiler to count.
 pub fn count(calls: &Calls, records: usize, times: usize) {
-    let load = match records {
-        2_000 => Load::variables(2_000, true),
-        2_001 => Load::variables(2_000, false),
-        records => Load::random(records),
-    };
+    let load = Load::of(records);
     let (mut bench, mut out, mut sum) = (bench(), Vec::new(), 0);
     for _ in 0..times {
         for (sheet, tree) in load.sheets.iter().zip(&load.trees) {

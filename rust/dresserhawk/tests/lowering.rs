@@ -2,9 +2,8 @@
 
 use dresserhawk::{Planner, Refusal, raw};
 
-/// M1 of document 01.
-const SHEET: &[u8] = b"stmt\t2\t0\nmatch\t0\t1\t0\t14\npart\t-\t0\t1\nnode\t7\t1\t0\t6\t14\n\
-    name\tBook\nreturn\t1\t0\t0\t0\t0\t15\t29\nitem\t-\nprop\ttitle\nvar\t7\n";
+/// M1 of document 01, and its plan.
+const SHEET: &[u8] = include_bytes!("../../../searches/titles.sheet");
 const PLAN: &[u8] =
     b"plan\t2\t1\nsource\t0\t1\nname\tBook\nproject\t0\t1\nitem\ttitle\nprop\ttitle\nvar\t0\nv\t0\t7\n";
 

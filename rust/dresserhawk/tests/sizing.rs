@@ -13,19 +13,10 @@ fn size(lines: &[&str]) -> Result<usize, Refusal> {
 
 #[test]
 fn a_figure_is_within_its_bounds() {
-    let lines = [
-        "stmt 2 0",
-        "match 0 1 0 14",
-        "part - 0 1",
-        "node 7 1 0 6 14",
-        "name Book",
-        "return 1 0 0 0 0 15 29",
-        "item -",
-        "prop title",
-        "var 7",
-    ];
-    let figure = size(&lines).unwrap();
-    assert!((2..=4 * lines.len()).contains(&figure), "{figure}");
+    // Nine records, which give two operators.
+    let sheet = include_bytes!("../../../searches/titles.sheet");
+    let figure = Planner::new().size(sheet).unwrap();
+    assert!((2..=4 * 9).contains(&figure), "{figure}");
 }
 
 #[test]

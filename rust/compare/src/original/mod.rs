@@ -13,7 +13,7 @@ use cyrs_plan::{PlanLowerError, ReadOp};
 pub enum Said {
     /// Number, start, end and kind. It gives no line.
     Refused([usize; 4]),
-    /// Its plan, and how many variable numbers it issued.
+    /// Its plan.
     Plan(Box<PlanStatement>),
 }
 

@@ -1,11 +1,12 @@
 //! A second reading of document 01, in Rust: it answers both calls for all
 //! arguments. It was written from the document's text, and no line of it is
 //! copied from the definitions or the code of the Rattle crates; but its author
-//! had seen the oracle's driver, the calls (model/specs/Call.antt,
-//! statement/src/lib.rt), a part of the check and the start of docs/FORMAT.md
-//! before. Where the text leaves something open the Rust settled it: the props of a special shortest part's
-//! rel are lowered right after its number; the keys of `agg` are expressions
-//! without names; those of `order` are `key` records.
+//! had seen an earlier program that asked the Rust, the calls
+//! (model/specs/Call.antt, statement/src/lib.rt), a part of the check and the
+//! start of docs/FORMAT.md before. Where the text leaves something open the Rust
+//! settled it: the props of a special shortest part's rel are lowered right
+//! after its number; the keys of `agg` are expressions without names; those of
+//! `order` are `key` records.
 
 pub mod branch;
 pub mod check;
