@@ -1,14 +1,13 @@
 -- Names compared byte by byte, and the names one after another. Assumes nothing: every law is proved.
 use mathlib.Core.Path.{_≡_, refl, ap}
 use Prim.Native.Nat.{ℕ, zero, suc, _+_, _-_, _≤_, _<_}
-use native.Mathlib.Nat.{sub-zero, zero-sub, suc-sub-suc}
 use native.Mathlib.Numerals.{add-one}
 use native.Mathlib.Omega.{arith}
 use mathlib.Core.Bool.{Bool, true, false, _&&_, _||_, and-false}
 use mathlib.Core.List.{List, [], _∷_, map}
 use lib.Dec.{eqb, leb}
-use lib.ListN.{length, getD, take, drop, drop-of-length-le}
-use lib.Seq.{slice, drop-cons, take-nil}
+use lib.ListN.{length, getD, drop, drop-of-length-le}
+use lib.Seq.{drop-cons}
 use borrow.Author.Tests.{eq-eqb, ne-eqb, lt-leb, le-leb, leb-true}
 use Rattle.model.specs.Text.{Bytes, bytes, bytesFrom, same, sameBy}
 use Rattle.model.specs.Lower.{lowercase, among, aggregates}

@@ -16,7 +16,7 @@ pub record Represented (sheet : Bytes) (a b : List ℕ) (t : Tree statement) (m 
 
 -- the statement that is held is lowered, from nothing, and the counts stay within the tables' bounds
 pub record LowersStatement (sheet : Bytes) (a b : List ℕ) (m : Mem) : Type 0 where
-  pub met : m .ctx .mapped ≤ 5888
+  pub met : m .ctx .mapped ≤ 4352
   pub few : m .ctx .ops ≤ 8192
   pub in-ops : 16384 ≤ length (m .ops)
   pub in-rest : 16384 ≤ length (m .rest)

@@ -2,7 +2,7 @@
 use mathlib.Core.Path.{_≡_, refl}
 use Prim.Native.Nat.{ℕ, zero, suc}
 use Prim.Native.String.{String}
-use mathlib.Core.List.{List, [], _∷_, _++_}
+use mathlib.Core.List.{[], _++_}
 use lib.ListN.{replicate, take}
 use Rattle.model.specs.Text.{Bytes, bytes}
 use Rattle.model.specs.Call.{plainRefusal}

@@ -1,15 +1,14 @@
 -- The end of a piece, and the pieces from a place on: the first of them, and those behind it. Assumes nothing.
 use mathlib.Core.Path.{_≡_, refl, sym, ap, _∙_}
-use Prim.Native.Nat.{ℕ, zero, suc, _+_, _-_, _<_, _≤_}
+use Prim.Native.Nat.{ℕ, _+_, _-_, _<_, _≤_}
 use mathlib.Core.Bool.{Bool, true, false}
-use mathlib.Core.List.{List, [], _∷_, _++_, append-nil}
-use native.Mathlib.Nat.{sub-zero, zero-sub, suc-sub-suc}
+use mathlib.Core.List.{[], _∷_, _++_, append-nil}
 use native.Mathlib.Numerals.{add-one}
 use native.Mathlib.Omega.{arith}
 use borrow.Author.Tests.{lt-ltb, le-ltb, ltb-true, ltb-false}
 use lib.Dec.{ltb}
 use lib.ListN.{length, take, drop, getD, take-append-drop}
-use lib.Seq.{slice, length-take-le, length-slice, take-take, getD-take, getD-drop, getD-at, drop-append-le, slice-cons, take-nil}
+use lib.Seq.{slice, length-take-le, length-slice, take-take, getD-take, getD-drop, getD-at, drop-append-le, slice-cons}
 use Rattle.model.specs.Text.{Bytes, tab, split, join, behind}
 use Rattle.laws.specs.TextLaws.{Free, split-append, split-line, split-parted, join-split}
 use Rattle.record.specs.Piece.{Piece}

@@ -1,19 +1,17 @@
 -- A part as a chain: its elements, a source of everything where there is no operator, and the path if it is named. Assumes nothing.
-use mathlib.Core.Path.{_≡_, refl, sym, ap, subst, _∙_}
-use Prim.Native.Nat.{ℕ, zero, suc, _+_, _*_, _-_, _≤_, _<_}
+use mathlib.Core.Path.{_≡_, refl, sym, ap, _∙_}
+use Prim.Native.Nat.{ℕ, zero, suc, _+_, _-_, _≤_, _<_}
 use native.Mathlib.Nat.{le-refl}
 use native.Mathlib.Omega.{arith}
-use mathlib.Core.Bool.{Bool, true, false}
-use mathlib.Core.List.{List, [], _∷_, _++_}
+use mathlib.Core.List.{List, [], _∷_}
 use mathlib.Core.Option.{Option, none, some}
-use mathlib.Core.Logic.{inl, inr}
 use lib.ListN.{length}
 use Rattle.model.specs.Text.{Bytes}
 use Rattle.model.specs.Field.{Fields}
 use Rattle.model.specs.Kind.{ReadOp, patternPart, patternElement}
 use Rattle.model.specs.Record.{forms}
-use Rattle.model.specs.Tree.{Tree, Trees, node, []ᵗ, _∷ᵗ_, end, _▸_, toList, fold, foldOf}
-use Rattle.model.specs.Lower.{Recs, Lowering, Lowered, made, _>>=_, ret, push, op, source, upcoming, mapVar, pushSourceAll, orSourceAll, rootOf, pathElements, bindPath, lowerElements, lowerChain}
+use Rattle.model.specs.Tree.{Tree, Trees, node, end, _▸_, fold}
+use Rattle.model.specs.Lower.{Recs, Lowered, made, _>>=_, ret, push, op, source, upcoming, mapVar, pushSourceAll, orSourceAll, rootOf, pathElements, bindPath, lowerElements, lowerChain}
 use Rattle.model.specs.Lower
 use Rattle.words.specs.Words.{Roomy, cell, optionOf, fieldsOf, fieldOf}
 use Rattle.words.specs.Held.{Held, HeldOf, size, sizeOf}
@@ -21,16 +19,14 @@ use Rattle.context.specs.Tables.{Op, Pushed, Numbers}
 use Rattle.context.specs.declared.LowerCtx.{LowerCtx}
 use Rattle.context.specs.declared.Numbered.{Numbered}
 use Rattle.words.specs.Cells.{shown}
-use Rattle.lower.specs.Render.{Notes, Ops, keptFrom}
-use Rattle.lower.specs.Shows.{shift, Shows, shows-all, shows-path}
-use Rattle.lower.specs.Rep.{State, Mem, mem, Written, Sub, Blank, Future, Rep, To, Rooted, Good, Moved}
+use Rattle.lower.specs.Shows.{shows-all, shows-path}
+use Rattle.lower.specs.Rep.{State, Mem, mem, Written, Sub, Blank, Rep, Rooted}
 use Rattle.lower.specs.Pieces.{SomeTree}
 use Rattle.lower.specs.Patterns.{SomeTrees}
-use Rattle.lower.specs.Chains.{givenIf, seenIf, stepsOf, Waiting, no-rel, Linked, Sturdy, Anchored, passed, ChainedAll, LowersElements, Sourced, OrSource, chainL, LowersChain, startChain}
+use Rattle.lower.specs.Chains.{givenIf, seenIf, stepsOf, no-rel, Linked, Sturdy, Anchored, passed, ChainedAll, LowersElements, Sourced, OrSource, chainL, LowersChain, startChain}
 use Rattle.lower.specs.declared.Chain.{Chain}
-use Rattle.lower.specs.State.{sub-more, sub-within, blank-within, blank-before, blank-behind, back, to-refl, to-then, to-wider, push-to, Given, number-to, upcoming-number}
-use Rattle.lower.specs.Fits.{tree-fits, trees-fits, tree-low}
-use Rattle.lower.specs.Exprs.{moved-within, narrow}
+use Rattle.lower.specs.State.{sub-more, sub-within, blank-within, blank-before, back, to-refl, to-then, to-wider, push-to, Given, number-to, upcoming-number}
+use Rattle.lower.specs.Fits.{tree-low}
 use Rattle.lower.proofs.Parts.{allOp, all-sane}
 
 -- ── the operator before, or a source of everything ──

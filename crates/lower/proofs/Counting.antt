@@ -1,12 +1,10 @@
 -- How many children a record has, and the record behind a tree. Assumes nothing.
-use mathlib.Core.Path.{_≡_, refl, sym, ap, subst, _∙_}
-use Prim.Native.Nat.{ℕ, zero, suc, _+_, _*_, _-_, _≤_, _<_}
-use native.Mathlib.Nat.{add-assoc, add-zero}
-use native.Mathlib.Numerals.{add-one, sub-one}
+use mathlib.Core.Path.{_≡_, refl, sym, ap, _∙_}
+use Prim.Native.Nat.{ℕ, zero, suc, _+_, _-_, _≤_, _<_}
 use native.Mathlib.Omega.{arith}
-use mathlib.Core.Bool.{Bool, true, false, cond}
+use mathlib.Core.Bool.{Bool}
 use mathlib.Core.List.{List, [], _∷_}
-use mathlib.Core.Option.{Option, none, some}
+use mathlib.Core.Option.{some}
 use lib.Dec.{eqb}
 use borrow.Author.Tests.{ne-eqb}
 use Rattle.model.specs.Text.{Bytes}
@@ -14,7 +12,7 @@ use Rattle.model.specs.Field.{Fields}
 use Rattle.model.specs.Kind.{Sort, Kind, PatternElement, Same, Expr, patternPart, patternElement, name, entry, expr, statement, unionArm, clause, projection, orderItem, yieldItem, inPlan}
 use Rattle.model.specs.Record.{Group, one, forms, children, kinds, sames}
 use Rattle.model.specs.Tree.{Tree, Trees, Forest, node, []ᵗ, _∷ᵗ_, end, _▸_}
-use Rattle.words.specs.Words.{Roomy, cell, kindOf, firstKind, fieldsOf, fieldOf, maxRecords}
+use Rattle.words.specs.Words.{Roomy, cell, kindOf, firstKind, fieldsOf, fieldOf}
 use Rattle.words.specs.Held.{Held, HeldOf, HeldIn, RecordAt, Flags, size, sizeOf, sizeIn, roomIn}
 use Rattle.words.specs.Cells.{cells, Shown, shown, numbered, number-of}
 use Rattle.lower.specs.Fits.{tree-fits}

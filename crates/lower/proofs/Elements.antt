@@ -1,29 +1,28 @@
 -- Pattern elements as their words have them: names, and props if there are any. Assumes nothing.
-use mathlib.Core.Path.{_≡_, refl, sym, ap, subst, _∙_}
-use Prim.Native.Nat.{ℕ, zero, suc, _+_, _*_, _-_, _≤_, _<_}
-use native.Mathlib.Nat.{le-refl}
+use mathlib.Core.Path.{_≡_, refl, sym, ap}
+use Prim.Native.Nat.{ℕ, suc, _+_, _-_, _≤_}
 use native.Mathlib.Omega.{arith}
 use mathlib.Core.Bool.{Bool, true, false}
 use mathlib.Core.List.{List, [], _∷_, _++_, append-nil}
-use mathlib.Core.Option.{Option, none, some}
-use lib.ListN.{length, getD}
+use mathlib.Core.Option.{none, some}
+use lib.ListN.{length}
 use lib.Dec.{eqb}
 use Rattle.model.specs.Text.{Bytes}
 use Rattle.model.specs.Field.{Fields, RelLength}
-use Rattle.model.specs.Kind.{Sort, Kind, PatternElement, patternElement, name, expr, inPlan, relSpec, nodeSpec}
-use Rattle.model.specs.Record.{Rec, rec, Group, one, forms, elementForms, children}
-use Rattle.model.specs.Tree.{Tree, Trees, Forest, node, []ᵗ, _∷ᵗ_, end, _▸_, toList, fold, foldOf}
-use Rattle.model.specs.Lower.{Recs, Lowering, Lowered, made, _>>=_, ret, elementStep, propsOf, lowerProps, lowerExpr, has, Props, Step, NodeStep, RelStep, ofNode, ofRel}
+use Rattle.model.specs.Kind.{PatternElement, patternElement, name, expr, inPlan, relSpec, nodeSpec}
+use Rattle.model.specs.Record.{Rec, rec, one, elementForms}
+use Rattle.model.specs.Tree.{Tree, Trees, node, []ᵗ, _∷ᵗ_, end, _▸_, toList, fold, foldOf}
+use Rattle.model.specs.Lower.{Recs, Lowered, made, _>>=_, ret, elementStep, propsOf, lowerProps, lowerExpr, has, Step, NodeStep, RelStep, ofNode, ofRel}
 use Rattle.words.specs.Words.{Roomy, cell, fieldsOf, fieldOf, optionOf}
-use Rattle.words.specs.Held.{Held, HeldOf, HeldIn, RecordAt, size, sizeOf, sizeIn}
-use Rattle.words.specs.Cells.{cells, Shown, shown}
-use Rattle.lower.specs.Render.{Notes, Ops, render, renderOf, renderIn, recsOver, Below, BelowOf, BelowIn, belowIn, specRecs, specRec, KidsBelow}
+use Rattle.words.specs.Held.{Held, HeldOf, RecordAt, size, sizeOf}
+use Rattle.words.specs.Cells.{shown}
+use Rattle.lower.specs.Render.{Notes, Ops, render, renderOf, recsOver, Below, BelowOf, belowIn, specRecs, specRec, KidsBelow}
 use Rattle.lower.specs.Rep.{State}
-use Rattle.lower.specs.Pieces.{Carried, []ᶜ, _∷ᶜ_, lowerC, renderC, BelowC, sizeC, HeldC}
+use Rattle.lower.specs.Pieces.{lowerC}
 use Rattle.lower.specs.Chains.{stepOf}
 use Rattle.words.specs.Numbers.{elementNumber}
 use Rattle.lower.proofs.Counting.{innerNumber, inner-number, flag-one}
-use Rattle.lower.specs.Carry.{plainC, plain-lower, plain-size, plain-held, plain-render, plain-below}
+use Rattle.lower.specs.Carry.{plainC}
 
 -- ── names ──
 

@@ -1,36 +1,36 @@
 -- A node behind a rel that waits: its number, the rel's number, the rel's props, its own props, and then the expand. Assumes nothing.
 use mathlib.Core.Path.{_≡_, refl, sym, ap, subst, _∙_}
-use Prim.Native.Nat.{ℕ, zero, suc, _+_, _*_, _-_, _≤_, _<_}
+use Prim.Native.Nat.{ℕ, suc, _+_, _-_, _≤_, _<_}
 use native.Mathlib.Nat.{le-refl}
 use native.Mathlib.Omega.{arith}
-use mathlib.Core.Bool.{Bool, true, false}
-use mathlib.Core.List.{List, [], _∷_, _++_, append-nil, append-assoc}
-use mathlib.Core.Logic.{_⊎_, inl, inr, ⊎-elim}
+use mathlib.Core.Bool.{Bool}
+use mathlib.Core.List.{List, [], _∷_, _++_}
+use mathlib.Core.Logic.{inl}
 use mathlib.Core.Option.{Option, none, some}
-use lib.ListN.{length, getD}
+use lib.ListN.{length}
 use Rattle.model.specs.Text.{Bytes}
-use Rattle.model.specs.Kind.{ReadOp, PatternElement, patternElement, expr, name, inPlan, relSpec, nodeSpec}
+use Rattle.model.specs.Kind.{ReadOp, patternElement, expr, name, inPlan, relSpec, nodeSpec}
 use Rattle.model.specs.Record.{Rec, rec, one}
-use Rattle.model.specs.Tree.{Tree, Trees, toList, fold, foldOf}
-use Rattle.model.specs.Lower.{Recs, Lowering, Lowered, made, _>>=_, ret, push, op, endpointVar, propsOf, lowerProps, has, nodeRecs, lowerRelElement, expandTo, reach, lowerElement, NodeStep, RelStep, ofNode, ofRel, at}
+use Rattle.model.specs.Tree.{Tree, Trees, toList, foldOf}
+use Rattle.model.specs.Lower.{Recs, Lowered, made, _>>=_, ret, push, op, endpointVar, propsOf, nodeRecs, lowerRelElement, expandTo, reach, lowerElement, NodeStep, RelStep, ofNode, ofRel, at}
 use Rattle.model.specs.Lower
 use Rattle.words.specs.Words.{Roomy, cell, optionOf}
-use Rattle.words.specs.Held.{Held, HeldOf, size, sizeOf}
-use Rattle.context.specs.Tables.{Op, Pushed, Numbers, varsAt}
+use Rattle.words.specs.Held.{Held, size}
+use Rattle.context.specs.Tables.{Op, Pushed, Numbers}
 use Rattle.context.specs.declared.LowerCtx.{LowerCtx}
 use Rattle.context.specs.declared.Numbered.{Numbered}
-use Rattle.lower.specs.Render.{Notes, Ops, renderOf, specRecs, BelowOf}
-use Rattle.lower.specs.Shows.{shift, Sane, Shows, shows-expand}
-use Rattle.lower.specs.Rep.{State, Mem, mem, notes, Written, In, Sub, Blank, Future, Rep, To, Ran, Rooted, Good, Moved}
-use Rattle.lower.specs.Pieces.{Carried, lowerC, renderC, HeldC, sizeC, carriedPiece, SomeTree, SomeCarried, LowersExprs}
+use Rattle.lower.specs.Render.{Notes, Ops, renderOf, specRecs}
+use Rattle.lower.specs.Shows.{shift, Sane, shows-expand}
+use Rattle.lower.specs.Rep.{State, Mem, mem, notes, Written, Sub, Blank, Future, Rep, To}
+use Rattle.lower.specs.Pieces.{lowerC, renderC, LowersExprs}
 use Rattle.lower.specs.Chains.{stepOf}
-use Rattle.lower.specs.State.{sub-refl, sub-then, sub-more, sub-within, blank-within, blank-before, blank-behind, back, rep-wider, to-refl, to-then, to-wider, push-to, Given, number-to}
-use Rattle.lower.specs.Fits.{tree-fits, tree-low}
+use Rattle.lower.specs.State.{sub-more, sub-within, blank-within, blank-before, blank-behind, back, to-then, to-wider, push-to, Given, number-to}
+use Rattle.lower.specs.Fits.{tree-low}
 use Rattle.lower.specs.Below.{carried-more}
-use Rattle.lower.specs.Exprs.{moved-within, narrow}
+use Rattle.lower.specs.Exprs.{narrow}
 use Rattle.lower.specs.Carry.{plainC, plain-size, plain-held, plain-render, plain-below}
 use Rattle.lower.proofs.Elements
-use Rattle.lower.proofs.Elements.{names-render, names-count, props-lower, props-has, IsElement, IsNode, IsRel, a-node, a-rel}
+use Rattle.lower.proofs.Elements.{names-render, names-count, props-lower, props-has, a-node, a-rel}
 
 -- what the definition's steps make of elements that are opened
 abbrev pub nodeStep : (bind : Option ℕ) {n : ℕ} → Trees name n → (p : Bool) → Trees expr (one p) → NodeStep

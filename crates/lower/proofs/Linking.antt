@@ -1,38 +1,37 @@
 -- The elements of a chain, one by one: a rel waits, a node starts a source or ends an expand. Assumes nothing.
 use mathlib.Core.Path.{_≡_, refl, sym, ap, subst, _∙_}
-use Prim.Native.Nat.{ℕ, zero, suc, _+_, _*_, _-_, _≤_, _<_}
+use Prim.Native.Nat.{ℕ, suc, _+_, _-_, _≤_, _<_}
 use native.Mathlib.Nat.{le-refl}
 use native.Mathlib.Omega.{arith}
 use mathlib.Core.Bool.{Bool, true, false}
-use mathlib.Core.List.{List, [], _∷_, _++_, append-nil, append-assoc}
-use mathlib.Core.Logic.{_⊎_, inl, inr, ⊎-elim}
+use mathlib.Core.List.{List, [], _∷_, _++_, append-assoc}
+use mathlib.Core.Logic.{inl, inr}
 use mathlib.Core.Option.{Option, none, some}
-use lib.ListN.{length, getD, length-append}
+use lib.ListN.{length, length-append}
 use Rattle.model.specs.Text.{Bytes}
-use Rattle.model.specs.Kind.{ReadOp, PatternElement, patternElement, expr, name}
-use Rattle.model.specs.Record.{one}
-use Rattle.model.specs.Tree.{Tree, Trees, Forest, node, []ᵗ, _∷ᵗ_, end, _▸_, toList, fold, foldOf}
-use Rattle.model.specs.Lower.{Recs, Lowering, Lowered, made, _>>=_, ret, push, endpointVar, filterByProps, startNode, reach, lowerElement, elementStep, NodeStep, RelStep, ofNode, ofRel, at}
+use Rattle.model.specs.Kind.{PatternElement, patternElement}
+use Rattle.model.specs.Tree.{Tree, Trees, node, _∷ᵗ_, end, _▸_, toList, fold, foldOf}
+use Rattle.model.specs.Lower.{Lowering, Lowered, made, _>>=_, ret, endpointVar, startNode, reach, lowerElement, elementStep, NodeStep, RelStep, ofNode, ofRel, at}
 use Rattle.model.specs.Lower
 use Rattle.words.specs.Words.{Roomy, cell, optionOf}
-use Rattle.words.specs.Held.{Held, HeldOf, size, sizeOf}
-use Rattle.context.specs.Tables.{Op, Pushed, Numbers, varsAt}
+use Rattle.words.specs.Held.{Held}
+use Rattle.context.specs.Tables.{Pushed, Numbers}
 use Rattle.context.specs.declared.LowerCtx.{LowerCtx}
 use Rattle.context.specs.declared.Numbered.{Numbered}
 use Rattle.lower.specs.Count.{Ends}
-use Rattle.lower.specs.Render.{Notes, Ops, keptRel, keptFrom}
+use Rattle.lower.specs.Render.{Notes, keptRel, keptFrom}
 use Rattle.lower.specs.Shows.{shift}
-use Rattle.lower.specs.Rep.{State, Mem, mem, notes, Written, In, Sub, Blank, Future, Rep, To, Ran, Rooted, Good, Moved}
+use Rattle.lower.specs.Rep.{State, Mem, mem, notes, Written, Sub, Blank, Rep, Moved}
 use Rattle.lower.specs.Pieces.{SomeTree, LowersExprs}
-use Rattle.lower.specs.Chains.{givenIf, seenIf, stepOf, Waiting, no-rel, a-rel, Linked, Sturdy, Anchored, passed, Chained, LowersElement, startL, LowersStart, Starts}
+use Rattle.lower.specs.Chains.{givenIf, seenIf, stepOf, Waiting, no-rel, a-rel, Linked, Sturdy, Anchored, Chained, LowersElement, startL, LowersStart, Starts}
 use Rattle.lower.specs.declared.Chain.{Chain}
-use Rattle.lower.specs.State.{sub-refl, sub-then, sub-more, sub-within, blank-within, blank-before, blank-behind, back, rep-wider, to-refl, to-then, to-wider, Given, number-to}
+use Rattle.lower.specs.State.{sub-more, sub-within, blank-within, blank-behind, back, to-refl, to-then, to-wider, Given, number-to}
 use Rattle.lower.specs.Fits.{tree-fits}
 use Rattle.words.specs.Numbers.{elementNumber}
 use Rattle.lower.specs.Exprs.{moved-refl, moved-within, narrow}
-use Rattle.lower.proofs.Elements.{IsElement, IsNode, IsRel, a-node, element-number}
+use Rattle.lower.proofs.Elements.{a-node, element-number}
 use Rattle.lower.proofs.Elements
-use Rattle.lower.proofs.Expand.{expandOp, Expanded, expand-run, far-end, rel-end}
+use Rattle.lower.proofs.Expand.{expandOp, expand-run, far-end, rel-end}
 
 IsNodeStep : Lower.Step → Type 0
 IsNodeStep (ofNode n) = Unit {0}

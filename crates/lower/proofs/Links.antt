@@ -1,23 +1,21 @@
 -- Elements one after another, and the loop over them. Assumes nothing.
-use mathlib.Core.Path.{_≡_, refl, sym, ap, subst, _∙_}
-use Prim.Native.Nat.{ℕ, zero, suc, _+_, _*_, _-_, _≤_, _<_}
+use mathlib.Core.Path.{_≡_, refl, sym, _∙_}
+use Prim.Native.Nat.{ℕ, zero, suc, _+_, _-_}
 use native.Mathlib.Nat.{le-refl}
 use native.Mathlib.Omega.{arith}
-use mathlib.Core.List.{List, [], _∷_, _++_, append-nil}
-use mathlib.Core.Option.{Option, none, some}
+use mathlib.Core.List.{List, [], _∷_, append-nil}
+use mathlib.Core.Option.{some}
 use Rattle.model.specs.Text.{Bytes}
 use Rattle.model.specs.Kind.{patternElement}
-use Rattle.model.specs.Tree.{Tree, Trees, []ᵗ, _∷ᵗ_, toList, fold, foldOf}
-use Rattle.model.specs.Lower.{Lowered, made, _>>=_, ret, lowerElement, lowerElements}
+use Rattle.model.specs.Tree.{Trees, []ᵗ, _∷ᵗ_, toList, fold}
+use Rattle.model.specs.Lower.{_>>=_, ret, lowerElement, lowerElements}
 use Rattle.model.specs.Lower
-use Rattle.words.specs.Words.{optionOf}
 use Rattle.words.specs.Held.{Held, HeldOf, size, sizeOf}
-use Rattle.lower.specs.Render.{Notes, Ops, keptFrom}
-use Rattle.lower.specs.Shows.{shift}
-use Rattle.lower.specs.Rep.{State, Mem, mem, Written, Sub, Blank, Future, Rep, To, Good, Moved}
+use Rattle.lower.specs.Render.{keptFrom}
+use Rattle.lower.specs.Rep.{State, mem, Written, Sub, Blank, Rep, Good}
 use Rattle.lower.specs.Pieces.{SomeTree}
 use Rattle.lower.specs.Patterns.{SomeTrees}
-use Rattle.lower.specs.Chains.{seenIf, stepOf, stepsOf, Linked, Sturdy, Anchored, passed, Chained, ChainedAll, LowersElement, LowersElements}
+use Rattle.lower.specs.Chains.{stepOf, Linked, Sturdy, Anchored, ChainedAll, LowersElement, LowersElements}
 use Rattle.lower.specs.declared.Chain.{Chain}
 use Rattle.lower.specs.State.{sub-more, sub-within, blank-within, blank-behind, back, to-refl, to-then, to-wider}
 use Rattle.lower.specs.Exprs.{moved-refl, moved-then, good-after, narrow}

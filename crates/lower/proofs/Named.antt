@@ -1,38 +1,34 @@
 -- The arms of the lowering of an expression at which something is noted: a variable, a list predicate, a pattern. Assumes nothing.
-use mathlib.Core.Path.{_≡_, refl, sym, ap, subst, _∙_}
-use Prim.Native.Nat.{ℕ, zero, suc, _+_, _*_, _-_, _≤_, _<_}
+use mathlib.Core.Path.{_≡_, refl, sym, ap, _∙_}
+use Prim.Native.Nat.{ℕ, suc, _+_, _-_, _≤_, _<_}
 use native.Mathlib.Nat.{le-refl}
 use native.Mathlib.Omega.{arith}
-use mathlib.Core.Bool.{Bool, true, false}
-use mathlib.Core.List.{List, [], _∷_, _++_, append-nil}
-use mathlib.Core.Logic.{_⊎_, inl, inr, ⊎-elim}
-use mathlib.Core.Option.{Option, none, some}
-use lib.ListN.{length, getD}
-use lib.Dec.{eqb}
+use mathlib.Core.List.{List, [], _∷_, append-nil}
+use mathlib.Core.Logic.{inl}
+use lib.ListN.{length}
 use Rattle.model.specs.Text.{Bytes}
 use Rattle.model.specs.Field.{Fields}
-use Rattle.model.specs.Kind.{Sort, Kind, Same, Expr, PlanExpr, expr, entry, patternPart}
-use Rattle.model.specs.Record.{Rec, rec, Group, one, forms, exprForms, children}
-use Rattle.model.specs.Tree.{Tree, Trees, Forest, node, []ᵗ, _∷ᵗ_, end, _▸_, toList, fold, foldOf}
-use Rattle.model.specs.Lower.{Recs, Lowering, Lowered, made, _>>=_, ret, mapVar, inOrder, over, exprStep, planned, lowerExpr, lowerParts, lowerMatchPattern, optionalJoin, copy, at}
+use Rattle.model.specs.Kind.{Expr, PlanExpr, expr, patternPart}
+use Rattle.model.specs.Record.{Rec, exprForms}
+use Rattle.model.specs.Tree.{Tree, Trees, node, end, _▸_, fold}
+use Rattle.model.specs.Lower.{Recs, made, _>>=_, ret, mapVar, over, exprStep, planned, lowerExpr, lowerMatchPattern, optionalJoin, copy, at}
 use Rattle.words.specs.Words.{Roomy, cell, fieldsOf, fieldOf}
-use Rattle.words.specs.Held.{Held, HeldOf, HeldIn, RecordAt, size, sizeOf, sizeIn}
-use Rattle.context.specs.Tables.{Numbers, Notes, varsAt}
+use Rattle.words.specs.Held.{Held, HeldOf, size, sizeOf}
+use Rattle.context.specs.Tables.{Numbers, Notes}
 use Rattle.context.specs.declared.LowerCtx.{LowerCtx}
 use Rattle.context.specs.declared.Numbered.{Numbered}
-use Rattle.words.specs.Cells.{cells, Shown, shown}
-use Rattle.lower.specs.Count.{Inner, countAt, countBy}
-use Rattle.lower.specs.Render.{Ops, render, renderOf, renderIn, recsOver, exprRecs, Below, BelowOf, BelowIn, belowIn, copiesBelow}
+use Rattle.words.specs.Cells.{shown}
+use Rattle.lower.specs.Count.{countAt, countBy}
+use Rattle.lower.specs.Render.{Ops, render, renderOf, recsOver, exprRecs, Below, belowIn, copiesBelow}
 use Rattle.lower.specs.Render
 use Rattle.lower.specs.Shows.{shift}
-use Rattle.lower.specs.Rep.{State, Mem, mem, notes, Written, In, Sub, Blank, Agree, Future, Rep, To, Piece, Ran, Rooted, Good, Moved}
-use Rattle.lower.specs.Pieces.{exprPiece, Carried, []ᶜ, _∷ᶜ_, lowerC, renderC, BelowC, sizeC, HeldC, carriedPiece, SomeTree, SomeCarried, LowersExpr, LowersExprs}
+use Rattle.lower.specs.Rep.{State, Mem, mem, notes, Written, Sub, Blank, Future, Rep, Ran}
+use Rattle.lower.specs.Pieces.{exprPiece, Carried, []ᶜ, lowerC, renderC, BelowC, sizeC, HeldC, carriedPiece, SomeTree, SomeCarried, LowersExpr, LowersExprs}
 use Rattle.lower.specs.Patterns.{partsL, SomeTrees, LowersParts}
-use Rattle.lower.specs.State.{sub-refl, sub-then, sub-more, sub-within, blank-within, blank-before, blank-behind, back, rep-wider, to-refl, to-then, to-wider, Given, number-to, note-to}
-use Rattle.lower.specs.Fits.{tree-fits}
-use Rattle.words.specs.Numbers.{exprNumber, sameNumber}
+use Rattle.lower.specs.State.{sub-more, sub-within, blank-within, blank-before, blank-behind, back, to-then, to-wider, Given, number-to, note-to}
+use Rattle.words.specs.Numbers.{exprNumber}
 use Rattle.lower.proofs.Counting.{counted}
-use Rattle.lower.specs.Exprs.{moved-within, narrow}
+use Rattle.lower.specs.Exprs.{narrow}
 use Rattle.lower.specs.Carry.{plainC, plain-lower, plain-size, plain-held, plain-render, plain-below}
 use Rattle.lower.proofs.Arms.{number-at, same-low}
 

@@ -1,26 +1,26 @@
 -- A part by its shape: a chain, unless it is a shortest part of exactly node, rel, node. Assumes nothing.
-use mathlib.Core.Path.{_≡_, refl, sym, ap, subst, _∙_}
-use Prim.Native.Nat.{ℕ, zero, suc, _+_, _*_, _-_, _≤_, _<_}
+use mathlib.Core.Path.{_≡_, refl, sym, ap, _∙_}
+use Prim.Native.Nat.{ℕ, _+_, _-_, _≤_, _<_}
 use native.Mathlib.Omega.{arith}
 use mathlib.Core.Bool.{Bool, true, false, cond}
-use mathlib.Core.List.{List, [], _∷_, _++_}
+use mathlib.Core.List.{List, [], _∷_}
 use lib.Dec.{eqb}
 use borrow.Author.Tests.{eqb-true, eqb-false}
 use Rattle.model.specs.Text.{Bytes}
 use Rattle.model.specs.Kind.{patternPart, patternElement}
-use Rattle.model.specs.Tree.{Tree, Trees}
-use Rattle.model.specs.Lower.{Step, NodeStep, RelStep, ofNode, ofRel, Shape, other, shapeOf}
+use Rattle.model.specs.Tree.{Tree}
+use Rattle.model.specs.Lower.{Step, NodeStep, RelStep, ofNode, ofRel, other, shapeOf}
 use Rattle.words.specs.Words.{Roomy, cell}
-use Rattle.words.specs.Held.{Held, HeldOf, size, sizeOf}
+use Rattle.words.specs.Held.{Held, size}
 use Rattle.lower.specs.Count.{Starts, Ends}
-use Rattle.lower.specs.Rep.{State, Mem, Rooted, Good, Moved}
+use Rattle.lower.specs.Rep.{State, Mem}
 use Rattle.lower.specs.Pieces.{SomeTree}
 use Rattle.lower.specs.Patterns.{partL, LowersPart}
-use Rattle.lower.specs.Chains.{stepOf, stepsOf, chainL, LowersChain, elementOf}
+use Rattle.lower.specs.Chains.{stepsOf, chainL, LowersChain, elementOf}
 use Rattle.lower.specs.declared.Element.{Element}
 use Rattle.lower.specs.declared.Element.the-variants.{Node, Rel}
 use Rattle.lower.specs.Fits.{tree-fits}
-use Rattle.lower.proofs.Elements.{IsNode, IsRel, a-node, a-rel, other-element}
+use Rattle.lower.proofs.Elements.{a-node, a-rel, other-element}
 use Rattle.lower.proofs.Chaining.{IsPart, a-part}
 use Rattle.lower.proofs.Shortest.{Three, three, plain-part, other-part, shape-not-three, steps-length}
 

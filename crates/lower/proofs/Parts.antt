@@ -1,24 +1,24 @@
 -- Parts one after another: the last one's root counts; and no parts. Assumes nothing.
-use mathlib.Core.Path.{_≡_, refl, sym, ap, subst, _∙_}
-use Prim.Native.Nat.{ℕ, zero, suc, _+_, _*_, _-_, _≤_, _<_}
+use mathlib.Core.Path.{_≡_, refl, sym, ap, _∙_}
+use Prim.Native.Nat.{ℕ, zero, suc, _+_, _-_, _≤_, _<_}
 use native.Mathlib.Nat.{le-refl}
 use native.Mathlib.Omega.{arith}
-use mathlib.Core.List.{List, [], _∷_, _++_}
+use mathlib.Core.List.{List, [], _∷_}
 use lib.ListN.{length}
 use Rattle.model.specs.Text.{Bytes}
 use Rattle.model.specs.Kind.{patternPart}
-use Rattle.model.specs.Tree.{Tree, Trees, []ᵗ, _∷ᵗ_, toList, fold, foldOf}
-use Rattle.model.specs.Lower.{Lowering, Lowered, made, _>>=_, ret, push, source, lowerParts}
+use Rattle.model.specs.Tree.{Tree, Trees, []ᵗ, _∷ᵗ_, toList, fold}
+use Rattle.model.specs.Lower.{Lowering, _>>=_, ret, push, source, lowerParts}
 use Rattle.model.specs.Lower
 use Rattle.words.specs.Held.{Held, HeldOf, size, sizeOf}
 use Rattle.context.specs.Tables.{Op, Pushed}
 use Rattle.context.specs.declared.LowerCtx.{LowerCtx}
 use Rattle.context.specs.declared.Numbered.{Numbered}
-use Rattle.lower.specs.Shows.{Sane, Shows, shows-all}
-use Rattle.lower.specs.Rep.{State, Mem, mem, Written, Sub, Blank, Future, Rep, To, Rooted, Good, Moved}
+use Rattle.lower.specs.Shows.{Sane, shows-all}
+use Rattle.lower.specs.Rep.{State, Mem, mem, Written, Blank, Rep, Rooted, Good, Moved}
 use Rattle.lower.specs.Pieces.{SomeTree}
 use Rattle.lower.specs.Patterns.{partsL, partL, SomeTrees, LowersParts, LowersPart}
-use Rattle.lower.specs.State.{sub-more, sub-within, blank-within, blank-behind, back, to-refl, to-then, to-wider, push-to, fresh-to, fresh-number}
+use Rattle.lower.specs.State.{sub-more, sub-within, blank-within, blank-behind, to-refl, to-then, to-wider, push-to, fresh-to, fresh-number}
 use Rattle.lower.specs.Exprs.{moved-refl, moved-then, moved-within, good-after}
 
 -- parts behind a part whose root is k

@@ -1,11 +1,11 @@
 -- What the room that there is allows: an operator more, a number more, and the calls below. Assumes nothing.
 use mathlib.Core.Path.{_≡_, refl, sym, ap, _∙_}
-use Prim.Native.Nat.{ℕ, zero, suc, _+_, _*_, _-_, _≤_, _<_}
+use Prim.Native.Nat.{ℕ, _+_, _-_, _≤_, _<_}
 use native.Mathlib.Omega.{arith}
 use mathlib.Core.List.{List}
 use lib.ListN.{length, drop}
 use Rattle.model.specs.Text.{Bytes}
-use Rattle.model.specs.Kind.{Sort, expr, patternElement}
+use Rattle.model.specs.Kind.{Sort, patternElement}
 use mathlib.Core.Bool.{Bool, true, false}
 use mathlib.Core.Logic.{_⊎_, inl, inr}
 use lib.Dec.{eqb}
@@ -28,7 +28,7 @@ use Rattle.context.specs.Tables.{Op, Pushed, Issued, Numbers, Indexed, varsAt}
 use Rattle.context.specs.declared.LowerCtx.{LowerCtx}
 use Rattle.context.specs.declared.Numbered.{Numbered}
 use Rattle.model.specs.Lower.{Lowering, endpointVar}
-use Rattle.lower.specs.Rep.{Mem, mem, Good, Moved}
+use Rattle.lower.specs.Rep.{Mem, mem, Good}
 use Rattle.lower.specs.Pieces.{SomeTree, SomeCarried, LowersExprs}
 
 deep-by : {s : Sort} (sheet : List ℕ) (a b : List ℕ) (t : Tree s) (d i : ℕ) → Held sheet a b t d i → (i < 2048) × (1 ≤ d)

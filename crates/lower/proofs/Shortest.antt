@@ -1,37 +1,27 @@
 -- A shortest part of exactly node, rel, node. Assumes nothing.
-use mathlib.Core.Path.{_≡_, refl, sym, ap, subst, _∙_}
-use Prim.Native.Nat.{ℕ, zero, suc, _+_, _*_, _-_, _≤_, _<_}
-use native.Mathlib.Nat.{le-refl}
+use mathlib.Core.Path.{_≡_, refl, sym, ap}
+use Prim.Native.Nat.{ℕ, zero, suc, _+_, _-_, _≤_, _<_}
 use native.Mathlib.Omega.{arith}
-use mathlib.Core.Bool.{Bool, true, false}
+use mathlib.Core.Bool.{Bool}
 use mathlib.Core.List.{List, [], _∷_, _++_}
-use mathlib.Core.Option.{Option, none, some}
-use mathlib.Core.Logic.{inl, inr}
-use lib.ListN.{length, getD}
+use mathlib.Core.Option.{Option}
+use lib.ListN.{length}
 use lib.Dec.{eqb, eqb·suc-suc}
 use Rattle.model.specs.Text.{Bytes}
-use Rattle.model.specs.Kind.{ReadOp, patternPart, patternElement, name, expr, inPlan, relSpec}
+use Rattle.model.specs.Kind.{ReadOp, patternElement, name, expr, inPlan, relSpec}
 use Rattle.model.specs.Record.{Rec, rec, one}
 use Rattle.model.specs.Tree.{Tree, Trees, []ᵗ, _∷ᵗ_, toList, fold, foldOf}
-use Rattle.model.specs.Lower.{Recs, Lowering, Lowered, made, _>>=_, ret, push, op, endpointVar, propsOf, lowerRelElement, filterByProps, lowerShortestPathPart, shapeOf, lowerShaped, lowerPatternPart, lowerChain, NodeStep, RelStep, Step, ofNode, ofRel, Shape, nodeRelNode, other}
+use Rattle.model.specs.Lower.{Recs, Lowered, made, _>>=_, ret, push, op, endpointVar, propsOf, lowerRelElement, lowerShortestPathPart, shapeOf, lowerShaped, lowerPatternPart, lowerChain, NodeStep, RelStep, Step, ofNode, ofRel, nodeRelNode, other}
 use Rattle.model.specs.Lower
-use Rattle.words.specs.Words.{Roomy, cell, optionOf}
 use Rattle.words.specs.Held.{Held, HeldOf, size, sizeOf}
-use Rattle.context.specs.Tables.{Op, Pushed, Numbers}
-use Rattle.context.specs.declared.LowerCtx.{LowerCtx}
-use Rattle.context.specs.declared.Numbered.{Numbered}
+use Rattle.context.specs.Tables.{Op}
 use Rattle.lower.specs.Render.{Notes, Ops, renderOf, specRecs}
-use Rattle.lower.specs.Shows.{shift, Shows, shows-short}
-use Rattle.lower.specs.Rep.{State, Mem, mem, Written, Sub, Blank, Future, Rep, To, Rooted, Good, Moved}
-use Rattle.lower.specs.Pieces.{lowerC, renderC, SomeTree, LowersExprs}
-use Rattle.lower.specs.Chains.{stepOf, stepsOf, startL, LowersStart, LowersRel}
-use Rattle.lower.specs.State.{sub-more, sub-within, blank-within, blank-before, blank-behind, back, to-refl, to-then, to-wider, push-to, Given, number-to}
-use Rattle.lower.specs.Below.{carried-more}
-use Rattle.lower.specs.Exprs.{narrow}
-use Rattle.lower.specs.Carry.{plainC, plain-held, plain-size, plain-render, plain-below}
-use Rattle.lower.proofs.Elements.{names-render, names-count, props-lower, props-has, IsElement, IsNode, IsRel, a-node, a-rel}
+use Rattle.lower.specs.Rep.{State}
+use Rattle.lower.specs.Pieces.{lowerC, renderC}
+use Rattle.lower.specs.Chains.{stepOf, stepsOf, startL}
+use Rattle.lower.specs.Carry.{plainC, plain-render}
+use Rattle.lower.proofs.Elements.{names-render, names-count, props-lower, props-has}
 use Rattle.lower.proofs.Elements
-use Rattle.lower.proofs.Expand.{Places}
 
 abbrev pub shortOp : (i input rel far d base : ℕ) → Op
 shortOp i input rel far d base = record { kind = 4; idx = i; input = input; x = rel; y = far; left = d; base = base }

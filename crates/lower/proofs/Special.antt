@@ -1,41 +1,40 @@
 -- The lowering of a shortest part of exactly node, rel, node. Assumes nothing.
 use mathlib.Core.Path.{_≡_, refl, sym, ap, subst, _∙_}
-use Prim.Native.Nat.{ℕ, zero, suc, _+_, _*_, _-_, _≤_, _<_}
+use Prim.Native.Nat.{ℕ, suc, _+_, _-_, _≤_, _<_}
 use native.Mathlib.Nat.{le-refl, le-trans}
 use native.Mathlib.Omega.{arith}
-use mathlib.Core.Bool.{Bool, true, false}
+use mathlib.Core.Bool.{Bool}
 use mathlib.Core.List.{List, [], _∷_, _++_}
-use mathlib.Core.Option.{Option, none, some}
-use mathlib.Core.Logic.{inl, inr}
-use lib.ListN.{length, getD}
+use mathlib.Core.Option.{Option}
+use mathlib.Core.Logic.{inl}
+use lib.ListN.{length}
 use lib.Dec.{eqb}
 use Rattle.model.specs.Text.{Bytes}
-use Rattle.model.specs.Kind.{ReadOp, patternPart, patternElement, name, expr}
-use Rattle.model.specs.Record.{Rec, rec, one}
-use Rattle.model.specs.Tree.{Tree, Trees, toList, fold, foldOf}
-use Rattle.model.specs.Lower.{Recs, Lowering, Lowered, made, push, endpointVar, propsOf, shapeOf, lowerShortestPathPart, lowerPatternPart, NodeStep, RelStep, Step, ofNode, ofRel, Shape, nodeRelNode, other}
+use Rattle.model.specs.Kind.{patternPart, patternElement}
+use Rattle.model.specs.Record.{Rec, one}
+use Rattle.model.specs.Tree.{Tree, toList, foldOf}
+use Rattle.model.specs.Lower.{Recs, Lowered, made, push, endpointVar, propsOf, shapeOf, NodeStep, RelStep, Step, ofNode, ofRel, nodeRelNode}
 use Rattle.model.specs.Lower
 use Rattle.words.specs.Words.{Roomy, cell, optionOf}
-use Rattle.words.specs.Held.{Held, HeldOf, size, sizeOf}
-use Rattle.context.specs.Tables.{Op, Pushed, Numbers}
+use Rattle.words.specs.Held.{Held, size}
+use Rattle.context.specs.Tables.{Pushed, Numbers}
 use Rattle.context.specs.declared.LowerCtx.{LowerCtx}
 use Rattle.context.specs.declared.Numbered.{Numbered}
 use Rattle.lower.specs.Count.{Ends}
-use Rattle.lower.specs.Render.{Notes, Ops, renderOf}
-use Rattle.lower.specs.Shows.{shift, Sane, Shows, shows-short}
-use Rattle.lower.specs.Rep.{State, Mem, mem, Written, Sub, Blank, Future, Rep, To, Rooted, Moved}
+use Rattle.lower.specs.Render.{renderOf}
+use Rattle.lower.specs.Shows.{shift, Sane, shows-short}
+use Rattle.lower.specs.Rep.{State, Mem, mem, Written, Sub, Blank, Rep, Rooted, Moved}
 use Rattle.lower.specs.Pieces.{lowerC, SomeTree, LowersExprs}
 use Rattle.lower.specs.Patterns.{partL, LowersPart}
-use Rattle.lower.specs.Chains.{stepOf, stepsOf, startL, LowersStart, LowersRel}
-use Rattle.lower.specs.State.{sub-more, sub-within, blank-within, blank-before, blank-behind, back, to-refl, to-then, to-wider, push-to, Given, number-to}
+use Rattle.lower.specs.Chains.{stepsOf, startL, LowersStart, LowersRel}
+use Rattle.lower.specs.State.{sub-more, sub-within, blank-within, blank-before, blank-behind, back, to-then, to-wider, push-to, Given, number-to}
 use Rattle.lower.specs.Below.{carried-more}
 use Rattle.lower.specs.Fits.{tree-fits, tree-low}
-use Rattle.lower.specs.Exprs.{narrow}
 use Rattle.lower.specs.Carry.{plainC, plain-held, plain-size, plain-below}
-use Rattle.lower.proofs.Elements.{IsElement, IsNode, IsRel, a-node, a-rel}
+use Rattle.lower.proofs.Elements.{a-node, a-rel}
 use Rattle.lower.proofs.Elements
 use Rattle.lower.proofs.Chaining.{IsPart, a-part}
-use Rattle.lower.proofs.Shortest.{shortOp, shortRecs, short-def, short-is, special-part, Three, three, Spots, spots, at-place, place-at}
+use Rattle.lower.proofs.Shortest.{shortOp, shortRecs, short-def, short-is, special-part, Three, three, spots, at-place, place-at}
 
 one-more : {k n : ℕ} → n ≡ k + 1 → k < n
 one-more e = omega arith

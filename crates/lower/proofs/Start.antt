@@ -1,30 +1,26 @@
 -- A node with its number: the source, and the filter by its props. Assumes nothing.
-use mathlib.Core.Path.{_≡_, refl, sym, ap, subst, _∙_}
-use Prim.Native.Nat.{ℕ, zero, suc, _+_, _*_, _-_, _≤_, _<_}
+use mathlib.Core.Path.{_≡_, refl, sym, ap, _∙_}
+use Prim.Native.Nat.{ℕ, suc, _+_, _-_, _≤_}
 use native.Mathlib.Nat.{le-refl}
 use native.Mathlib.Omega.{arith}
-use mathlib.Core.Bool.{Bool, true, false}
-use mathlib.Core.List.{List, [], _∷_, _++_, append-nil}
-use mathlib.Core.Option.{Option, none, some}
-use lib.ListN.{length, getD}
+use mathlib.Core.List.{List, _∷_}
+use mathlib.Core.Option.{none, some}
+use lib.ListN.{length}
 use Rattle.model.specs.Text.{Bytes}
-use Rattle.model.specs.Kind.{ReadOp, patternElement, expr, name}
-use Rattle.model.specs.Record.{one}
-use Rattle.model.specs.Tree.{Tree, Trees, toList, fold, foldOf}
-use Rattle.model.specs.Lower.{Recs, Lowering, Lowered, made, _>>=_, ret, push, op, source, filter, filterByProps, propsOf, lowerExpr, NodeStep, ofNode, at}
+use Rattle.model.specs.Kind.{ReadOp, patternElement, expr}
+use Rattle.model.specs.Tree.{Tree, toList, foldOf}
+use Rattle.model.specs.Lower.{Recs, Lowered, made, _>>=_, ret, push, op, source, filter, filterByProps, propsOf, lowerExpr, NodeStep, ofNode, at}
 use Rattle.words.specs.Words.{Roomy, cell, optionOf}
-use Rattle.words.specs.Held.{Held, HeldOf, size, sizeOf}
+use Rattle.words.specs.Held.{Held}
 use Rattle.context.specs.Tables.{Op, Pushed}
 use Rattle.context.specs.declared.LowerCtx.{LowerCtx}
-use Rattle.lower.specs.Render.{Notes, Ops}
-use Rattle.lower.specs.Shows.{shift, Shows, shows-source, shows-filter}
-use Rattle.lower.specs.Rep.{State, Mem, mem, Written, Sub, Blank, Future, Rep, To, Ran, Rooted, Good, Moved}
-use Rattle.lower.specs.Pieces.{exprPiece, SomeTree, LowersExpr}
+use Rattle.lower.specs.Shows.{shift, shows-source, shows-filter}
+use Rattle.lower.specs.Rep.{State, Mem, mem, Written, Blank, Rep, To, Rooted}
+use Rattle.lower.specs.Pieces.{SomeTree, LowersExpr}
 use Rattle.lower.specs.Chains.{stepOf, startL, LowersStart}
-use Rattle.lower.specs.State.{sub-refl, sub-then, sub-more, sub-within, blank-within, blank-before, blank-behind, back, rep-wider, to-refl, to-then, to-wider, push-to}
+use Rattle.lower.specs.State.{sub-more, sub-within, blank-within, to-then, to-wider, push-to}
 use Rattle.lower.specs.Fits.{tree-fits, tree-low}
-use Rattle.lower.specs.Exprs.{moved-within, narrow}
-use Rattle.lower.proofs.Elements.{names-render, names-size, IsElement, IsNode, a-node, OneProp, one-prop, no-prop, same-node}
+use Rattle.lower.proofs.Elements.{names-render, a-node, OneProp, one-prop, no-prop, same-node}
 
 abbrev pub sourceOp : (i number d base : ℕ) → Op
 sourceOp i number d base = record { kind = 1; idx = i; input = 0; x = number; y = 0; left = d - 1; base = base }

@@ -1,14 +1,14 @@
 -- Children of a record as expressions one after another: those of an expression, and those of a map's keys. Assumes nothing.
-use mathlib.Core.Path.{_≡_, refl, sym, ap, subst, _∙_}
-use Prim.Native.Nat.{ℕ, zero, suc, _+_, _-_, _≤_, _<_}
+use mathlib.Core.Path.{_≡_, refl, ap, _∙_}
+use Prim.Native.Nat.{ℕ, suc, _+_, _-_}
 use native.Mathlib.Omega.{arith}
 use mathlib.Core.List.{List, [], _∷_, _++_, append-nil}
 use Rattle.model.specs.Text.{Bytes}
-use Rattle.model.specs.Kind.{Sort, expr, entry, inPlan, planEntry}
-use Rattle.model.specs.Record.{Rec, rec, Group}
-use Rattle.model.specs.Tree.{Tree, Trees, Forest, node, []ᵗ, _∷ᵗ_, end, _▸_, toList, fold, foldOf}
-use Rattle.model.specs.Lower.{Recs, Lowering, Lowered, made, _>>=_, ret, inOrder, over, exprStep, lowerExpr}
-use Rattle.words.specs.Held.{Held, HeldOf, HeldIn, size, sizeOf}
+use Rattle.model.specs.Kind.{expr, entry, inPlan, planEntry}
+use Rattle.model.specs.Record.{rec}
+use Rattle.model.specs.Tree.{Trees, node, []ᵗ, _∷ᵗ_, end, _▸_, toList, fold, foldOf}
+use Rattle.model.specs.Lower.{Recs, Lowered, made, _>>=_, ret, inOrder, over, lowerExpr}
+use Rattle.words.specs.Held.{Held, HeldOf, size, sizeOf}
 use Rattle.lower.specs.Render.{Notes, Ops, render, renderOf, recsOver, Below, BelowOf, belowIn}
 use Rattle.lower.specs.Rep.{State}
 use Rattle.lower.specs.Pieces.{Carried, []ᶜ, _∷ᶜ_, lowerC, renderC, BelowC, sizeC, HeldC}

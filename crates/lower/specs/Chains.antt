@@ -2,15 +2,15 @@
 use mathlib.Core.Path.{_≡_}
 use Prim.Native.Nat.{ℕ, zero, suc, _+_, _*_, _-_, _≤_, _<_}
 use mathlib.Core.Bool.{Bool, true, false, cond}
-use mathlib.Core.List.{List, [], _∷_, _++_}
+use mathlib.Core.List.{List, _∷_, _++_}
 use mathlib.Core.Option.{Option, none, some}
 use mathlib.Core.Logic.{_⊎_}
 use Rattle.lower.specs.Count.{Ends}
 use lib.ListN.{length}
 use Rattle.model.specs.Text.{Bytes}
-use Rattle.model.specs.Kind.{Sort, PatternElement, name, expr, patternPart, patternElement}
+use Rattle.model.specs.Kind.{patternPart, patternElement}
 use Rattle.model.specs.Tree.{Tree, Trees, node, _∷ᵗ_, end, _▸_, toList, fold, foldOf}
-use Rattle.model.specs.Lower.{Recs, Lowering, Lowered, made, _>>=_, ret, push, source, filterByProps, Props, Step, RelStep, NodeStep, ofNode, ofRel, lowerElement, lowerElements, lowerChain, endpointVar}
+use Rattle.model.specs.Lower.{Lowering, Lowered, made, _>>=_, push, source, filterByProps, Step, RelStep, NodeStep, ofNode, ofRel, lowerElement, lowerElements, lowerChain, endpointVar}
 use Rattle.model.specs.Lower
 use Rattle.words.specs.Words.{cell, optionOf}
 use Rattle.words.specs.Held.{Held, HeldOf, size, sizeOf}

@@ -6,8 +6,8 @@ use mathlib.Core.List.{List, [], _∷_}
 use lib.Dec.{eqb}
 use Rattle.model.specs.Text.{Bytes}
 use Rattle.model.specs.Kind.{Sort, statement, unionArm, clause, projection, orderItem, patternPart, patternElement, name, yieldItem, entry, expr, inPlan}
-use Rattle.model.specs.Record.{Group, children}
-use Rattle.model.specs.Tree.{Tree, node}
+use Rattle.model.specs.Record.{Group}
+use Rattle.model.specs.Tree.{Tree}
 use Rattle.words.specs.Words.{cell}
 use Rattle.words.specs.Held.{Held, size}
 

@@ -1,23 +1,19 @@
 -- Expressions one after another, and the loop over them. Assumes nothing.
-use mathlib.Core.Path.{_≡_, refl, sym, ap, subst, _∙_}
-use Prim.Native.Nat.{ℕ, zero, suc, _+_, _*_, _-_, _≤_, _<_}
-use native.Mathlib.Nat.{le-refl, add-assoc, add-zero}
-use native.Mathlib.Numerals.{add-one, sub-one}
+use mathlib.Core.Path.{_≡_, refl, _∙_}
+use Prim.Native.Nat.{ℕ, zero, suc, _+_, _-_, _≤_}
+use native.Mathlib.Nat.{le-refl}
 use native.Mathlib.Omega.{arith}
-use mathlib.Core.List.{List, [], _∷_, _++_}
-use mathlib.Core.Logic.{_⊎_, inl, inr, ⊎-elim}
-use lib.ListN.{length}
+use mathlib.Core.List.{List, [], _∷_}
 use Rattle.model.specs.Text.{Bytes}
-use Rattle.model.specs.Kind.{Sort, expr}
+use Rattle.model.specs.Kind.{expr}
 use Rattle.model.specs.Tree.{Tree}
-use Rattle.model.specs.Lower.{Recs, Lowering, _>>=_, ret, lowerExpr}
-use Rattle.words.specs.Held.{Held, size}
-use Rattle.lower.specs.Render.{Notes, Ops, render, Below}
+use Rattle.model.specs.Lower.{Recs, _>>=_, ret, lowerExpr}
+use Rattle.words.specs.Held.{size}
+use Rattle.lower.specs.Render.{Notes, Ops}
 use Rattle.lower.specs.Shows.{shift}
-use Rattle.lower.specs.Rep.{State, Mem, Written, In, Sub, Blank, Future, Rep, To, Piece, Ran, Good, Moved}
+use Rattle.lower.specs.Rep.{State, Mem, Written, Sub, Blank, Future, Rep, Ran, Good, Moved}
 use Rattle.lower.specs.Pieces.{exprPiece, Carried, []ᶜ, _∷ᶜ_, lowerC, renderC, BelowC, sizeC, HeldC, carriedPiece, SomeTree, SomeCarried, LowersExpr, LowersExprs}
-use Rattle.lower.specs.State.{sub-refl, sub-then, sub-more, sub-within, blank-within, blank-before, blank-behind, back, rep-wider, to-refl, to-then, to-wider}
-use Rattle.lower.specs.Fits.{tree-fits}
+use Rattle.lower.specs.State.{sub-more, sub-within, blank-within, blank-behind, back, to-refl, to-then, to-wider}
 use Rattle.lower.specs.Below.{below-more}
 
 -- ── what moves ──

@@ -1,16 +1,12 @@
 -- What the lowering of patterns promises: a root operator, whichever the trees are. Assumes nothing: these are definitions.
 use mathlib.Core.Path.{_≡_}
-use Prim.Native.Nat.{ℕ, zero, suc, _+_, _*_, _≤_, _<_}
-use mathlib.Core.Bool.{Bool, true, false}
-use mathlib.Core.List.{List, [], _∷_, _++_}
-use mathlib.Core.Option.{Option, none, some}
-use lib.ListN.{length}
+use Prim.Native.Nat.{ℕ, suc, _+_, _<_}
+use mathlib.Core.List.{List}
 use Rattle.model.specs.Text.{Bytes}
-use Rattle.model.specs.Kind.{Sort, PatternElement, patternPart, patternElement}
+use Rattle.model.specs.Kind.{Sort, patternPart}
 use Rattle.model.specs.Tree.{Tree, Trees, toList, fold, foldOf}
-use Rattle.model.specs.Lower.{Recs, Lowering, Lowered, made, lowerParts}
+use Rattle.model.specs.Lower.{Lowering, Lowered, made, lowerParts}
 use Rattle.words.specs.Held.{Held, HeldOf, size, sizeOf}
-use Rattle.lower.specs.Render.{Notes, Ops}
 use Rattle.lower.specs.Rep.{State, Mem, Written, Blank, Rep, Rooted, Moved}
 
 -- parts one after another; the last one's root counts

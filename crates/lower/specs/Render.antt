@@ -1,17 +1,16 @@
 -- What trees come to in the plan, read off the numbers that are noted at their records: a note is kept by the record's line, and a pattern's copy is of the operator noted at it. Assumes nothing: these are definitions.
-use mathlib.Core.Path.{_≡_}
-use Prim.Native.Nat.{ℕ, zero, suc, _+_, _<_}
+use Prim.Native.Nat.{ℕ, _+_, _<_}
 use mathlib.Core.Bool.{Bool, true, false, cond}
 use mathlib.Core.List.{List, [], _∷_, _++_}
 use mathlib.Core.Option.{Option, none, some}
 use Rattle.model.specs.Text.{Bytes}
 use Rattle.model.specs.Field.{Fields}
-use Rattle.model.specs.Kind.{Sort, Kind, PatternElement, Same, Expr, ReadOp, PlanExpr}
+use Rattle.model.specs.Kind.{Sort, Kind, PatternElement, Same, Expr, PlanExpr}
 use Rattle.model.specs.Kind.{statement, unionArm, clause, projection, orderItem, patternPart, patternElement, name, yieldItem, entry, expr, inPlan}
-use Rattle.model.specs.Kind.{readOp, relSpec, nodeSpec, planProjection, aggExpr, orderKey, pathElement, planEntry, planExpr}
-use Rattle.model.specs.Record.{Rec, rec, Group, one, forms, exprForms, elementForms, children, elementChildren}
+use Rattle.model.specs.Kind.{relSpec, nodeSpec, aggExpr, orderKey, planEntry}
+use Rattle.model.specs.Record.{Rec, rec, Group, forms, exprForms, elementForms, children}
 use Rattle.model.specs.Tree.{Tree, Trees, Forest, node, []ᵗ, _∷ᵗ_, end, _▸_}
-use Rattle.model.specs.Lower.{Recs, planned, op, item, aliasOr, synthesiseAlias, isAggregateFunc}
+use Rattle.model.specs.Lower.{Recs, planned, item, aliasOr, synthesiseAlias, isAggregateFunc}
 
 -- what is noted at a line: the number issued at its record, or a pattern's root operator
 abbrev pub Notes : Type 0

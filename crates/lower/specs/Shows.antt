@@ -1,19 +1,18 @@
 -- What the words of a stored operator stand for: its kind tells the records, over trees that the words hold and the notes of one pass. Assumes nothing: these are definitions.
 use mathlib.Core.Path.{_≡_}
-use Prim.Native.Nat.{ℕ, zero, suc, _+_, _≤_, _<_}
-use mathlib.Core.Bool.{Bool, true, false}
+use Prim.Native.Nat.{ℕ, suc, _+_, _≤_, _<_}
+use mathlib.Core.Bool.{Bool, false}
 use mathlib.Core.List.{List, [], _∷_, _++_}
-use mathlib.Core.Option.{Option, none, some}
-use lib.ListN.{length}
+use mathlib.Core.Option.{none}
 use lib.Dec.{eqb}
 use Rattle.model.specs.Text.{Bytes}
 use Rattle.model.specs.Field.{Fields}
-use Rattle.model.specs.Kind.{Sort, Clause, PatternElement, ReadOp, clause, projection, orderItem, patternPart, patternElement, name, yieldItem, expr}
-use Rattle.model.specs.Record.{Rec, Group, one, forms}
-use Rattle.model.specs.Tree.{Tree, Trees, Forest, node}
+use Rattle.model.specs.Kind.{Clause, ReadOp, clause, projection, orderItem, patternElement, name, yieldItem, expr}
+use Rattle.model.specs.Record.{Rec, one, forms}
+use Rattle.model.specs.Tree.{Tree, Trees}
 use Rattle.model.specs.Lower.{Recs, op, source, pathElements}
 use Rattle.words.specs.Words.{cell, optionOf}
-use Rattle.words.specs.Held.{Held, HeldOf, HeldIn, RecordAt, sizeOf}
+use Rattle.words.specs.Held.{Held, HeldOf, RecordAt, sizeOf}
 use Rattle.context.specs.Tables.{Op}
 use Rattle.lower.specs.Render.{Notes, Ops, render, renderOf, Below, BelowOf, specRecs, KidsBelow, keptFrom, keyRecs, aggRecs}
 

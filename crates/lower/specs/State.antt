@@ -1,25 +1,25 @@
 -- Steps of the lowering's state: what is written stays, whatever comes later; one more number, note or operator. Assumes nothing.
-use mathlib.Core.Path.{_≡_, refl, sym, ap, subst, _∙_}
+use mathlib.Core.Path.{_≡_, refl, sym, ap, _∙_}
 use mathlib.Core.Bool.{Bool, true, false}
 use mathlib.Core.Logic.{_⊎_, inl, inr, ⊎-elim}
-use mathlib.Core.List.{List, [], _∷_, _++_}
-use Prim.Native.Nat.{ℕ, zero, suc, _+_, _*_, _-_, _≤_, _<_}
+use mathlib.Core.List.{List, _∷_}
+use Prim.Native.Nat.{ℕ, suc, _+_, _-_, _≤_, _<_}
 use native.Mathlib.Nat.{le-refl}
 use native.Mathlib.Numerals.{add-one}
 use native.Mathlib.Omega.{arith}
 use lib.ListN.{length, getD, drop}
-use lib.Dec.{ltb, eqb}
+use lib.Dec.{ltb}
 use borrow.Author.Tests.{eq-eqb, ne-eqb, ltb-true, ltb-false}
 use Rattle.model.specs.Text.{Bytes}
 use Rattle.model.specs.Lower.{Recs, Lowering, at, push}
 use Rattle.model.specs.Lower
-use Rattle.context.specs.Tables.{stateOf, Op, opAt, Issued, Noted, Notes, Numbers, Pushed, varsAt}
+use Rattle.context.specs.Tables.{stateOf, Op, Noted, Notes, Numbers, Pushed, varsAt}
 use Rattle.context.specs.declared.LowerCtx.{LowerCtx}
 use Rattle.context.specs.declared.Numbered.{Numbered}
 use Rattle.lower.specs.Render.{Ops}
 use Rattle.lower.specs.Render
-use Rattle.lower.specs.Shows.{Stored, shift}
-use Rattle.lower.specs.Rep.{State, Mem, mem, notes, Written, In, Sub, Blank, Agree, Future, Rep, To}
+use Rattle.lower.specs.Shows.{Stored}
+use Rattle.lower.specs.Rep.{State, Mem, mem, notes, Written, In, Sub, Blank, Future, Rep, To}
 
 -- ── ranges ──
 

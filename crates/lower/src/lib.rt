@@ -1,6 +1,6 @@
 // The lowering of a statement that the words hold: operators, notes and variables into the tables. a and b hold the records, ops the operators, rest the notes and the variables; base is where the pass's notes begin, left how deep a tree may be.
 ghost use mathlib.Core.Path.{_≡_};
-ghost use Prim.Native.Nat.{ℕ, _+_, _*_, _-_, _≤_, _<_};
+ghost use Prim.Native.Nat.{ℕ, _+_, _-_, _≤_, _<_};
 ghost use mathlib.Core.List.{List};
 ghost use lib.ListN.{length};
 ghost use Rattle.model.specs.Kind.{expr, patternPart, patternElement};

@@ -1,7 +1,6 @@
 -- The calls, for all arguments: the tests in the order of the table of refusals, and the answer. Assumes nothing: these are definitions.
-use mathlib.Core.Path.{_≡_}
 use Prim.Native.Nat.{ℕ, _+_, _*_, _≤_}
-use mathlib.Core.Bool.{Bool, true, false, cond, _||_}
+use mathlib.Core.Bool.{Bool, false, cond, _||_}
 use mathlib.Core.List.{List, [], _∷_, _++_}
 use mathlib.Core.Option.{Option, none, some}
 use lib.Dec.{ltb}
@@ -10,7 +9,7 @@ use Rattle.model.specs.Text.{Bytes}
 use Rattle.model.specs.Field.{Span}
 use Rattle.model.specs.Kind.{statement}
 use Rattle.model.specs.Tree.{Tree, records}
-use Rattle.model.specs.Sheet.{Place, Reading, got, refused, readSheet, firstWrite}
+use Rattle.model.specs.Sheet.{Reading, got, refused, readSheet, firstWrite}
 use Rattle.model.specs.Check.{Verdict, fine, violated, precheckStatement}
 use Rattle.model.specs.Lower.{LowerCtx, lowerStatement}
 use Rattle.model.specs.Plan.{planSheet}

@@ -1,9 +1,9 @@
 -- The check of a resolved statement (`precheck_statement`, `check_pattern`, `check_expr` of lower.rs): the first record, in sheet order, that the lowering does not take. Assumes nothing: these are definitions.
-use Prim.Native.Nat.{ℕ, zero, suc}
+use Prim.Native.Nat.{ℕ}
 use mathlib.Core.List.{List, [], _∷_}
 use Rattle.model.specs.Field.{Span, Fields}
 use Rattle.model.specs.Kind.{Sort, Kind, Clause, PatternElement, Expr, statement, unionArm, clause, projection, orderItem, patternPart, patternElement, name, yieldItem, entry, expr, inPlan}
-use Rattle.model.specs.Record.{Group, forms, clauseForms, elementForms, exprForms, exprChildren, elementChildren, children}
+use Rattle.model.specs.Record.{Group, forms, clauseForms, elementForms, exprForms, children}
 use Rattle.model.specs.Tree.{Tree, Trees, Forest, node, []ᵗ, _∷ᵗ_, end, _▸_}
 
 -- fine; or the number of the refusal, with the line, the span and the kind that it reports

@@ -1,9 +1,8 @@
 -- The searches that document 01 works through, M1 to M10: sheets as bytes, and the plan sheet or the refusal that the document names; behind them a refusal for each sentence on forms that a number or a name could get past. The expected side is typed from the document.
 use mathlib.Core.Path.{_≡_, refl}
-use Prim.Native.Nat.{ℕ, zero, suc}
 use Prim.Native.String.{String}
 use mathlib.Core.List.{List, [], _∷_, _++_, map}
-use lib.ListN.{length, replicate, take, drop}
+use lib.ListN.{length, replicate, drop}
 use Rattle.model.specs.Text
 use Rattle.model.specs.Field
 use Rattle.model.specs.Record
@@ -14,7 +13,7 @@ use Rattle.model.specs.Lower
 use Rattle.model.specs.Plan
 use Rattle.model.specs.Call
 use Rattle.model.specs.Text.{Bytes, bytes}
-use Rattle.model.specs.Call.{Answer, Outcome, lowerCall, lineRefusal, treeRefusal, plainRefusal, accepted, workWords}
+use Rattle.model.specs.Call.{Answer, Outcome, lowerCall, lineRefusal, treeRefusal, accepted, workWords}
 
 -- the lowering call with four work slices that are long enough, opened down to what computes
 unfoldable pub compute : Bytes → Bytes → Outcome

@@ -1,7 +1,7 @@
 -- The forms of a record's fields: the values of each, its spelling, and its reading. Assumes nothing: these are definitions.
 use Prim.Native.Nat.{ℕ, zero, suc}
 use mathlib.Core.Bool.{Bool, true, false, cond, _&&_}
-use mathlib.Core.List.{List, [], _∷_, _++_, tail, headD}
+use mathlib.Core.List.{List, [], _∷_, _++_, tail}
 use mathlib.Core.Option.{Option, none, some}
 use lib.Dec.{leb}
 use lib.IntN.{ℤ, pos, negsuc}

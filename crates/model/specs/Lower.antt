@@ -1,17 +1,17 @@
 -- The lowering of a checked statement to operators, function by function as in lower.rs. An operator is the list of its plan records; a copy of it is that list again. Assumes nothing: these are definitions.
 use Prim.Native.Nat.{ℕ, zero, suc, _+_}
 use mathlib.Core.Bool.{Bool, true, false, cond, _||_}
-use mathlib.Core.List.{List, [], _∷_, _++_, map, reverse}
+use mathlib.Core.List.{List, [], _∷_, _++_, map}
 use mathlib.Core.Option.{Option, none, some}
-use lib.Dec.{eqb, ltb, leb}
+use lib.Dec.{eqb, leb}
 use lib.ListN.{length}
 use Rattle.model.specs.Text.{Bytes, bytes, same, decimal}
 use Rattle.model.specs.Field.{Fields, RelLength}
-use Rattle.model.specs.Kind.{Sort, PlanSort, Kind, Clause, PatternElement, Same, Expr, ReadOp, PlanExpr}
+use Rattle.model.specs.Kind.{Sort, Kind, Clause, PatternElement, Same, Expr, ReadOp, PlanExpr}
 use Rattle.model.specs.Kind.{statement, unionArm, clause, projection, orderItem, patternPart, patternElement, name, yieldItem, entry, expr, inPlan}
-use Rattle.model.specs.Kind.{plan, readOp, relSpec, nodeSpec, planProjection, aggExpr, orderKey, pathElement, mapped, planEntry, planExpr}
-use Rattle.model.specs.Record.{Rec, rec, Group, one, forms, sameForms, exprForms, elementForms, opForms, planExprForms, children, exprChildren, elementChildren, arity}
-use Rattle.model.specs.Tree.{Tree, Trees, Forest, node, []ᵗ, _∷ᵗ_, end, _▸_, Many, toList, Results, fold, foldOf}
+use Rattle.model.specs.Kind.{readOp, relSpec, nodeSpec, planProjection, aggExpr, orderKey, pathElement, planEntry, planExpr}
+use Rattle.model.specs.Record.{Rec, rec, one, forms, sameForms, exprForms, elementForms, opForms, planExprForms, children, exprChildren, elementChildren, arity}
+use Rattle.model.specs.Tree.{Tree, Trees, node, []ᵗ, _∷ᵗ_, end, _▸_, Many, toList, Results, fold}
 
 abbrev pub Recs : Type 0
 Recs = List Rec

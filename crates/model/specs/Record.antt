@@ -3,7 +3,7 @@ use Prim.Native.Nat.{ℕ, zero, suc, _+_, _*_}
 use mathlib.Core.Bool.{Bool, true, false, cond}
 use mathlib.Core.List.{List, [], _∷_, _++_, map}
 use mathlib.Core.Option.{Option, none, some}
-use Rattle.model.specs.Text.{Bytes, Pieces, bytes, same, split, join, tab, lineFeed}
+use Rattle.model.specs.Text.{Bytes, bytes, same, split, join, tab, lineFeed}
 use Rattle.model.specs.Field.{Form, num, flag, var, varOrAbsent, numOrAbsent, int, float, text, alias, span, length, u32, Fields, spellFields, readFields}
 use Rattle.model.specs.Kind.{Sort, PlanSort, Kind, PlanKind, Clause, PatternElement, Same, Expr, ReadOp, PlanExpr}
 use Rattle.model.specs.Kind.{statement, unionArm, clause, projection, orderItem, patternPart, patternElement, name, yieldItem, entry, expr, inPlan}

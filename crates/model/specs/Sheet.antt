@@ -1,5 +1,5 @@
 -- Reading a sheet: refusals 3 and 4 at a line, or the tree; then refusal 5. Assumes nothing: these are definitions.
-use Prim.Native.Nat.{ℕ, zero, suc, _+_}
+use Prim.Native.Nat.{ℕ, zero, suc}
 use mathlib.Core.Bool.{Bool, true, false, cond, _||_}
 use mathlib.Core.List.{List, [], _∷_}
 use mathlib.Core.Option.{Option, none, some}

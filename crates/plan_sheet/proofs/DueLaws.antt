@@ -8,7 +8,7 @@ use mathlib.Core.List.{List, [], _∷_, _++_, append-nil, append-assoc}
 use lib.ListN.{length}
 use Rattle.model.specs.Text.{Bytes}
 use Rattle.model.specs.Kind.{Sort, Expr, projection, orderItem, entry, expr, inPlan, orderKey, planEntry}
-use Rattle.model.specs.Record.{Group, rec, one, beside, spellRec, spellRecs}
+use Rattle.model.specs.Record.{Group, rec, beside, spellRec, spellRecs}
 use Rattle.model.specs.Tree.{Tree, Trees, Forest, node, []ᵗ, _∷ᵗ_, end, _▸_}
 use Rattle.model.specs.Lower.{Recs, item, synthesiseAlias}
 use Rattle.output.specs.Page.{Page, Puts}

@@ -3,7 +3,7 @@ use mathlib.Core.Path.{_≡_, refl, sym, subst, _∙_}
 use Prim.Native.Nat.{ℕ, _+_, _-_, _≤_, _<_}
 use native.Mathlib.Omega.{arith}
 use mathlib.Core.Bool.{Bool, true}
-use mathlib.Core.List.{List, [], _∷_, _++_, map, append-nil}
+use mathlib.Core.List.{List, [], _∷_, _++_, append-nil}
 use mathlib.Core.Option.{some, Option·some-injective}
 use borrow.Author.Tests.{ltb-true}
 use lib.ListN.{length}
@@ -11,7 +11,7 @@ use lib.Seq.{slice}
 use Rattle.model.specs.Text.{Bytes, tab, lineFeed, behind, bytes, bytesFrom}
 use Rattle.model.specs.Field.{Fields, text, spell, spellFields}
 use Rattle.model.specs.Field
-use Rattle.model.specs.Kind.{Sort, Kind, Same, Expr, projection, orderItem, name, entry, expr, inPlan, orderKey, planEntry}
+use Rattle.model.specs.Kind.{Sort, Kind, Same, Expr, projection, orderItem, entry, expr, inPlan, orderKey, planEntry}
 use Rattle.model.specs.Record.{Rec, rec, forms, sameForms, exprForms, kinds, sames, keyword, planKeyword, planExprKeyword, sameKeyword, spellRec, spellRecs}
 use Rattle.model.specs.Lower.{Recs}
 use Rattle.output.specs.Page.{Page, Puts}

@@ -7,7 +7,6 @@ use native.Mathlib.Omega.{arith}
 use mathlib.Core.List.{List, [], _∷_, _++_, append-nil, append-assoc}
 use lib.ListN.{length, getD, take}
 use mathlib.Core.Bool.{Bool, true, false}
-use mathlib.Core.Option.{none}
 use lib.Dec.{eqb}
 use lib.Seq.{slice}
 use Rattle.model.specs.Text.{Bytes, tab, lineFeed, behind, bytes, bytesFrom, decimal, digits, escape}

@@ -19,7 +19,7 @@ pub record Tables (sheet : Bytes) (a b os rest : List ℕ) (n mapped : ℕ) (s :
   pub count : n ≡ length (s .ops)
   pub planned : Planned sheet a b os rest n (λ k. at (s .ops) k)
   pub vars : varsOf mapped (drop varsAt rest) ≡ s .vars
-  pub few : mapped ≤ 5888
+  pub few : mapped ≤ 4352
 
 pub record SomeTables (sheet : Bytes) (a b os rest : List ℕ) (n mapped : ℕ) : Type 0 where
   pub state : LowerCtx

@@ -38,7 +38,7 @@ fn write_ops(
 
 // The first n named variables.
 fn write_vars(plan: &mut [u8], out: Out, rest: &[u32], n: usize) -> Out
-    requires { ⌜ (16384 ≤ length (now rest)) × (n ≤ 5888) ⌝ }
+    requires { ⌜ (16384 ≤ length (now rest)) × (n ≤ 4352) ⌝ }
     ensures { λ r. ⌜ WroteVars (now (rest .entry)) n (on (now (plan .entry)) out) (on (now (plan .exit)) r) ⌝ }
 {
     let mut k = 0;

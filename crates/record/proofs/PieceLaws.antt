@@ -1,13 +1,12 @@
 -- Walking along a text to the end of a piece: what is passed so far, and what is still to be split. Assumes nothing.
 use mathlib.Core.Path.{_≡_, refl, sym, _∙_}
 use mathlib.Core.List.{List, [], _∷_, _++_, append-assoc, append-nil}
-use Prim.Native.Nat.{ℕ, zero, suc, _+_, _-_, _≤_, _<_}
-use native.Mathlib.Nat.{sub-zero}
+use Prim.Native.Nat.{ℕ, _+_, _-_, _≤_, _<_}
 use native.Mathlib.Numerals.{add-one}
 use native.Mathlib.Omega.{arith}
 use borrow.Author.Tests.{eq-eqb, ne-eqb}
 use lib.ListN.{length, take, drop, getD, drop-of-length-le}
-use lib.Seq.{slice, slice-empty, drop-cons, take-suc, drop-append-le, take-nil, length-take-le}
+use lib.Seq.{slice, slice-empty, drop-cons, take-suc, drop-append-le, length-take-le}
 use Rattle.model.specs.Text.{Bytes, split}
 use Rattle.record.specs.Piece.{Piece}
 use Rattle.laws.specs.PartLaws.{part-is}

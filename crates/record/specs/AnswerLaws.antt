@@ -8,7 +8,7 @@ use native.Mathlib.Omega.{arith}
 use lib.Dec.{eqb}
 use lib.IntN.{ℤ}
 use Rattle.model.specs.Text.{Bytes, same, sameBy, unescape}
-use Rattle.model.specs.Field.{Form, Val, num, var, varOrAbsent, numOrAbsent, text, alias, length, u32, read, meaning, piece, spell, fits, lengthValue, aliasValue}
+use Rattle.model.specs.Field.{Form, Val, num, var, varOrAbsent, numOrAbsent, text, alias, u32, read, meaning, piece, spell, fits, aliasValue}
 use Rattle.record.specs.declared.Alias.{Alias}
 use Rattle.record.specs.declared.Decimal.{Decimal}
 use Rattle.record.specs.declared.OptDecimal.{OptDecimal}

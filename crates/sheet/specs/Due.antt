@@ -8,7 +8,7 @@ use Rattle.model.specs.Kind.{Sort, PlanSort, Kind, PlanKind}
 use Rattle.model.specs.Kind.{statement, unionArm, clause, projection, orderItem, patternPart, patternElement, name, yieldItem, entry, expr, inPlan}
 use Rattle.model.specs.Kind.{plan, readOp, relSpec, nodeSpec, planProjection, aggExpr, orderKey, pathElement, planEntry, planExpr}
 use Rattle.model.specs.Record.{Rec, rec, Group, RecOf, forms, planForms, children, planChildren, beside, planBeside}
-use Rattle.model.specs.Tree.{Tree, Trees, Forest, node, []ᵗ, _∷ᵗ_, end, _▸_, records, recordsOf, recordsIn}
+use Rattle.model.specs.Tree.{Tree, Trees, node, _∷ᵗ_, _▸_, records, recordsOf, recordsIn}
 use Rattle.model.specs.Text.{Bytes}
 use Rattle.model.specs.Field.{Fields}
 use Rattle.model.specs.Sheet.{lineAt, Place, Reading, got, refused, next, Reader, readLine, readMany, readGroups, readNode, readTree}

@@ -1,36 +1,33 @@
 -- What one line does to the reader's state. Assumes nothing.
-use mathlib.Core.Path.{_≡_, refl, sym, _∙_, ap, subst}
-use Prim.Native.Nat.{ℕ, zero, suc, _+_, _*_, _-_, _<_, _≤_}
+use mathlib.Core.Path.{_≡_, refl, sym, _∙_, ap}
+use Prim.Native.Nat.{ℕ, suc, _+_, _*_, _-_, _<_}
 use native.Mathlib.Numerals.{add-one}
 use native.Mathlib.Omega.{arith}
-use mathlib.Core.Bool.{Bool, true, false, cond}
+use mathlib.Core.Bool.{Bool, true, false}
 use mathlib.Core.List.{List, [], _∷_, _++_}
-use mathlib.Core.Option.{Option, none, some}
+use mathlib.Core.Option.{some}
 use borrow.Author.Tests.{eqb-true, eqb-false}
 use lib.Dec.{eqb}
-use lib.ListN.{length, drop, getD}
+use lib.ListN.{length, getD}
 use lib.Seq.{slice}
-use Rattle.model.specs.Text.{Bytes, split, lineFeed}
+use Rattle.model.specs.Text.{Bytes}
 use Rattle.model.specs.Field.{Fields}
 use Rattle.model.specs.Kind.{Sort, Kind}
-use Rattle.model.specs.Record.{Rec, rec, RecOf, forms, readRec, children}
-use Rattle.model.specs.Sheet.{Place, got, refused, readLine, orElse}
+use Rattle.model.specs.Record.{Rec, rec, forms, readRec}
+use Rattle.model.specs.Sheet.{refused, readLine, orElse}
 use Rattle.model.specs.Call.{refuse, lineRefusal}
-use Rattle.words.specs.Words.{Roomy, part, decode, recOf, kindOf, fieldsOf}
-use Rattle.words.specs.Held.{RecordAt}
+use Rattle.words.specs.Words.{Roomy, part, decode, recOf, fieldsOf}
 use Rattle.record.specs.Piece.{Piece}
-use Rattle.line.specs.Table.{sortOf}
 use Rattle.line.specs.LineRead.{Got, IntoRead}
 use Rattle.line.specs.declared.read.Line.{Line}
 use Rattle.sheet.specs.declared.reader.Read.{Read}
 use Rattle.sheet.specs.declared.reader.Read.the-variants.{BadLine, BigTree}
 use Rattle.sheet.specs.declared.reader.Step.{Step}
 use Rattle.sheet.specs.declared.reader.Step.the-variants.{More, Bad, Big}
-use Rattle.sheet.specs.Due.{due, roomBelow, isZero}
+use Rattle.sheet.specs.Due.{roomBelow, isZero}
 use Rattle.sheet.specs.Writes.{writes, writeAmong}
 use Rattle.sheet.specs.Progress.{placeAt, rest, line-refused, no-feed, too-many, deep, unformed, well-formed}
-use Rattle.sheet.specs.Stack.{Fit}
-use Rattle.sheet.specs.Dues.{dues, dues-length, group, Sorted, Room, Popped, Groups, Space}
+use Rattle.sheet.specs.Dues.{dues, dues-length, group, Room, Popped, Groups, Space}
 use Rattle.sheet.specs.Steps.{writes-eight, space, due-now}
 use Rattle.sheet.specs.Reader.{readOnly, Reads, Ends, SoFar, writeOf, rest-refused, top-is, advance, seen-more, seen-write}
 

@@ -2,19 +2,19 @@
 use mathlib.Core.Path.{_≡_, refl, sym, _∙_, ap}
 use Prim.Native.Nat.{ℕ, zero, suc, _+_, _<_, _≤_}
 use native.Mathlib.Omega.{arith}
-use mathlib.Core.Bool.{Bool, true, false, cond, _||_, or-true}
-use mathlib.Core.List.{List, [], _∷_, _++_, append-assoc, append-nil}
-use mathlib.Core.Option.{Option, none, some}
-use lib.Dec.{eqb, ltb}
+use mathlib.Core.Bool.{Bool, true, false, cond, or-true}
+use mathlib.Core.List.{List, [], _∷_, _++_, append-nil}
+use mathlib.Core.Option.{none, some}
+use lib.Dec.{eqb}
 use lib.ListN.{length, drop}
 use lib.Seq.{drop-length, drop-cons}
 use borrow.Author.Tests.{lt-ltb, le-ltb}
 use Rattle.model.specs.Text.{Bytes, Pieces, split, lineFeed}
-use Rattle.model.specs.Kind.{Sort, Kind, statement}
-use Rattle.model.specs.Record.{Rec, rec, Group, RecOf, readRec, children}
-use Rattle.model.specs.Tree.{Tree, Trees, node, []ᵗ, _∷ᵗ_, records, recordsOf}
+use Rattle.model.specs.Kind.{Sort, statement}
+use Rattle.model.specs.Record.{Rec, rec, RecOf, readRec, children}
+use Rattle.model.specs.Tree.{Tree, []ᵗ, _∷ᵗ_, records, recordsOf}
 use Rattle.model.specs.Sheet.{lineAt, Place, Reading, got, refused, next, formed, readLine, readMany, readTree, readSheet, atEnd, maxLines}
-use Rattle.sheet.specs.Due.{Due, due, dueOf, mapped, readDue, isZero, roomBelow, step, none-due}
+use Rattle.sheet.specs.Due.{Due, due, dueOf, mapped, readDue, isZero, roomBelow, step}
 
 -- the place at a position
 unfoldable pub placeAt : Bytes → ℕ → ℕ → Place

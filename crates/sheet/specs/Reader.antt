@@ -3,7 +3,7 @@ use mathlib.Core.Path.{_≡_, refl, sym, _∙_, ap, subst}
 use Prim.Native.Nat.{ℕ, zero, suc, _+_, _-_, _<_, _≤_}
 use native.Mathlib.Nat.{zero-add}
 use native.Mathlib.Omega.{arith}
-use mathlib.Core.Bool.{Bool, true, false, cond}
+use mathlib.Core.Bool.{true, false}
 use mathlib.Core.List.{List, [], _∷_, _++_, append-assoc, append-nil}
 use mathlib.Core.Option.{Option, none, some}
 use lib.ListN.{length, length-append}
@@ -16,15 +16,14 @@ use Rattle.model.specs.Sheet.{Place, Reading, got, refused, readLine, readSheet
 use Rattle.model.specs.Call.{Test, refuse, pass, then, testReading, testWrite, lineRefusal, recordCount}
 use Rattle.words.specs.Words.{Roomy, part}
 use Rattle.words.specs.Held.{RecordAt, Held}
-use Rattle.laws.specs.TreeLaws.{numbered}
-use Rattle.laws.specs.SheetLaws.{WellFormed, sheet-sound}
+use Rattle.laws.specs.SheetLaws.{sheet-sound}
 use Rattle.line.specs.Table.{sorts, sortOf}
 use Rattle.sheet.specs.declared.reader.Read.{Read}
 use Rattle.sheet.specs.declared.reader.Read.the-variants.{Records, BadLine, BigTree, WriteClause}
-use Rattle.sheet.specs.Due.{Due, due, dueOf, mapped, mapped-mapped, mapped-ext, roomBelow, isZero}
+use Rattle.sheet.specs.Due.{due, dueOf, mapped, mapped-mapped, mapped-ext, roomBelow, isZero}
 use Rattle.sheet.specs.Standing.{Standing, standing-both, stands-held}
 use Rattle.sheet.specs.Writes.{writes, writeAmong, first-write, orElse-none}
-use Rattle.sheet.specs.Progress.{placeAt, rest, whole, at-start, line-got, line-refused, at-the-end, not-the-end}
+use Rattle.sheet.specs.Progress.{placeAt, rest, whole, at-start, line-got, at-the-end, not-the-end}
 use Rattle.sheet.specs.Stack.{Alike, rest-alike, Fit}
 use Rattle.sheet.specs.Dues.{dues, group, Sorted, Pushed}
 

@@ -2,13 +2,13 @@
 use mathlib.Core.Path.{_≡_, refl, sym, _∙_, ap}
 use Prim.Native.Nat.{ℕ, zero, suc, _+_, _*_, _-_, _<_, _≤_}
 use native.Mathlib.Omega.{arith}
-use mathlib.Core.Bool.{Bool, true, false, cond}
+use mathlib.Core.Bool.{cond}
 use mathlib.Core.List.{List, [], _∷_, _++_}
 use lib.ListN.{length, replicate}
 use Rattle.model.specs.Kind.{Sort}
-use Rattle.model.specs.Record.{Rec, rec, Group, children, beside}
-use Rattle.model.specs.Tree.{Trees, []ᵗ, _∷ᵗ_, recordsOf}
-use Rattle.model.specs.Sheet.{Place, Reading, got, refused, next, readLine, readMany, readTree, atEnd}
+use Rattle.model.specs.Record.{rec, Group, children, beside}
+use Rattle.model.specs.Tree.{recordsOf}
+use Rattle.model.specs.Sheet.{Place, next, readLine, readMany, readTree, atEnd}
 use Rattle.line.specs.GroupLaws.{sortsOf}
 use Rattle.sheet.specs.Due.{Due, due, dueOf, mapped, readDue, isZero, roomBelow, step, none-due}
 use Rattle.sheet.specs.Progress.{rest}

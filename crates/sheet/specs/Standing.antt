@@ -1,15 +1,14 @@
 -- A tree whose records stand in the words is held by them, once its lines are numbered. Assumes nothing.
-use mathlib.Core.Path.{_≡_, refl, sym, _∙_, ap}
-use Prim.Native.Nat.{ℕ, zero, suc, _+_, _-_, _<_, _≤_, max}
-use native.Mathlib.Numerals.{add-one}
+use mathlib.Core.Path.{_≡_, refl, ap}
+use Prim.Native.Nat.{ℕ, suc, _+_, _-_, _<_, _≤_}
 use native.Mathlib.Nat.{add-zero}
 use native.Mathlib.Omega.{arith}
 use mathlib.Core.Bool.{Bool, true, false, cond}
 use mathlib.Core.List.{List, [], _∷_, _++_}
 use lib.ListN.{length, length-append}
 use Rattle.model.specs.Text.{Bytes}
-use Rattle.model.specs.Kind.{Sort, Kind, statement}
-use Rattle.model.specs.Record.{Rec, rec, Group, beside}
+use Rattle.model.specs.Kind.{Sort}
+use Rattle.model.specs.Record.{Rec, Group, beside}
 use Rattle.model.specs.Tree.{Tree, Trees, Forest, node, []ᵗ, _∷ᵗ_, end, _▸_, records, recordsOf, recordsIn}
 use Rattle.words.specs.Held.{RecordAt, roomIn, size, sizeOf, sizeIn, Held, HeldOf, HeldIn}
 use Rattle.laws.specs.TreeLaws.{level, depth, depthOf, depthIn, numbered, numberedOf, numberedIn}

@@ -1,24 +1,22 @@
 -- What the steps of a line come to: the room below a record, a write, room for its groups, and the groups that are due then. Assumes nothing.
-use mathlib.Core.Path.{_≡_, refl, sym, _∙_, ap, subst}
+use mathlib.Core.Path.{_≡_, refl, sym, _∙_, subst}
 use Prim.Native.Nat.{ℕ, zero, suc, _+_, _*_, _-_, _<_, _≤_}
 use native.Mathlib.Omega.{arith}
 use mathlib.Core.Bool.{Bool, true, false, cond}
-use mathlib.Core.List.{List, [], _∷_, _++_}
-use mathlib.Core.Option.{Option, none, some}
+use mathlib.Core.List.{List, _∷_, _++_}
+use mathlib.Core.Option.{some}
 use borrow.Author.Tests.{eqb-true, eq-eqb, ne-eqb}
-use lib.Dec.{eqb, ltb}
+use lib.Dec.{eqb}
 use lib.ListN.{length, getD}
-use lib.Seq.{slice}
 use Rattle.model.specs.Text.{Bytes}
-use Rattle.model.specs.Kind.{Sort, Kind, Clause, Same, Expr, clause, entry}
-use Rattle.model.specs.Record.{RecOf, forms, kinds, sames, children, readRec, beside}
-use Rattle.words.specs.Words.{part, decode, recOf, kindOf, firstKind, nth, fieldsOf}
-use Rattle.words.specs.Held.{RecordAt, Flags}
+use Rattle.model.specs.Kind.{Sort, Kind}
+use Rattle.model.specs.Record.{forms, kinds, sames, children, beside}
+use Rattle.words.specs.Words.{kindOf, firstKind, fieldsOf}
+use Rattle.words.specs.Held.{Flags}
 use Rattle.line.specs.Table.{sorts, sortOf, groupSort, groupsFrom, groupsOf}
 use Rattle.line.specs.TableLaws.{Rows, done, _▸_, kind-row}
-use Rattle.line.specs.GroupLaws.{sortsOf, groups-are}
-use Rattle.line.specs.LineRead.{Got}
-use Rattle.sheet.specs.Due.{Due, due, dueOf, roomBelow}
+use Rattle.line.specs.GroupLaws.{groups-are}
+use Rattle.sheet.specs.Due.{due, dueOf, roomBelow}
 use Rattle.sheet.specs.Writes.{writes}
 use Rattle.sheet.specs.Stack.{Alike, alike-trans, alike-behind, alike-groups, slack, Fit}
 use Rattle.sheet.specs.Dues.{dues, dues-length, group, Sorted, Popped, Groups, Space}

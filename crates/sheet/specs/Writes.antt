@@ -1,6 +1,6 @@
 -- The first `write` record of a sheet is that of its tree. Assumes nothing.
 use mathlib.Core.Path.{_≡_, refl, sym, _∙_, ap}
-use Prim.Native.Nat.{ℕ, zero, suc, _+_}
+use Prim.Native.Nat.{ℕ, suc, _+_}
 use native.Mathlib.Nat.{add-zero}
 use native.Mathlib.Omega.{arith}
 use mathlib.Core.Bool.{Bool, true, false, cond, false≢true}
@@ -13,7 +13,7 @@ use Rattle.model.specs.Kind.{statement, unionArm, clause, projection, orderItem
 use Rattle.model.specs.Record.{Rec, rec, Group, forms, clauseForms, clauseChildren, children}
 use Rattle.model.specs.Tree.{Tree, Trees, Forest, node, []ᵗ, _∷ᵗ_, end, _▸_, records, recordsOf, recordsIn}
 use Rattle.model.specs.Sheet.{orElse, isWrite, writeIn, writeInArms, firstWrite}
-use Rattle.laws.specs.TreeLaws.{numbered, numberedOf, numberedIn}
+use Rattle.laws.specs.TreeLaws.{numbered, numberedOf}
 
 abbrev pub clauseWrites : Clause → Bool
 clauseWrites Clause.Match = false

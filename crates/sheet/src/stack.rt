@@ -1,7 +1,6 @@
 // The stack of due groups: three words a group (sort, count, room), group m from word 3m on.
-ghost use mathlib.Core.Path.{_≡_};
-ghost use Prim.Native.Nat.{_+_, _*_, _-_, _<_, _≤_};
-ghost use lib.ListN.{length, getD};
+ghost use Prim.Native.Nat.{_+_, _*_, _-_, _<_};
+ghost use lib.ListN.{getD};
 ghost use Rattle.words.specs.Words.{Roomy, part};
 ghost use Rattle.line.specs.Table.{groupSort, groupSource, countOf};
 ghost use Rattle.sheet.specs.Dues.{Pushed, Popped, Room, Grouped, Groups, Space};

@@ -1,7 +1,7 @@
 -- The lowering call's tests in order, from what the reader, the check, the lowering and the writer answer. Assumes nothing.
-use mathlib.Core.Path.{_≡_, refl, sym, _∙_, ap}
+use mathlib.Core.Path.{_≡_, refl}
 use Prim.Native.Nat.{ℕ, _<_, _≤_}
-use mathlib.Core.Bool.{Bool, true, false, cond, _||_, or-true}
+use mathlib.Core.Bool.{Bool, false, or-true}
 use mathlib.Core.List.{List, [], _∷_}
 use borrow.Author.Tests.{lt-ltb, le-ltb}
 use lib.Dec.{ltb}
@@ -9,18 +9,18 @@ use lib.ListN.{length}
 use Rattle.model.specs.Text.{Bytes}
 use Rattle.model.specs.Kind.{statement}
 use Rattle.model.specs.Tree.{Tree}
-use Rattle.model.specs.Check.{Verdict, fine, violated, precheckStatement}
+use Rattle.model.specs.Check.{precheckStatement}
 use Rattle.model.specs.Lower.{LowerCtx, lowerStatement}
 use Rattle.model.specs.Plan.{planSheet}
-use Rattle.model.specs.Call.{Test, refuse, pass, then, short, testCheck, testPlan, checked, planned, plainRefusal, lineRefusal, Outcome, outcome, written, lowerCall, maxBytes, maxDepth, maxPlan}
+use Rattle.model.specs.Call.{Test, then, short, testCheck, testPlan, planned, Outcome, outcome, written, lowerCall, maxBytes, maxDepth, maxPlan}
 use Rattle.words.specs.Held.{Held, HeldSome}
 use Rattle.precheck.specs.Answer.{verdictOf, errorOf}
 use Rattle.precheck.specs.declared.Checked.{Checked}
 use Rattle.precheck.specs.declared.PlanLowerError.{PlanLowerError}
-use Rattle.sheet.specs.Reader.{readOnly, Reads}
+use Rattle.sheet.specs.Reader.{Reads}
 use Rattle.sheet.specs.declared.reader.Read.{Read}
 use Rattle.statement.specs.declared.Answer.{Answer}
-use Rattle.statement.specs.Answer.{answerOf, errorAnswer, Long}
+use Rattle.statement.specs.Answer.{answerOf, Long}
 use Rattle.statement.specs.Sizing.{short-first, long-second, read-third}
 
 -- the answer and the slice are those of a test

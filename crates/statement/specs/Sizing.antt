@@ -1,8 +1,8 @@
 -- The sizing call's tests in order, from what the reader and the check answer. Assumes nothing.
-use mathlib.Core.Path.{_≡_, refl, sym, _∙_, ap, subst}
-use Prim.Native.Nat.{ℕ, zero, suc, _*_, _<_, _≤_}
+use mathlib.Core.Path.{_≡_, refl, sym, ap}
+use Prim.Native.Nat.{ℕ, _*_, _<_, _≤_}
 use native.Mathlib.Omega.{arith}
-use mathlib.Core.Bool.{Bool, true, false, cond, _||_, or-true}
+use mathlib.Core.Bool.{Bool, true, false, or-true}
 use mathlib.Core.List.{List, [], _∷_}
 use mathlib.Core.Option.{Option, none, some}
 use borrow.Author.Tests.{lt-ltb, le-ltb}
@@ -12,7 +12,7 @@ use Rattle.model.specs.Text.{Bytes}
 use Rattle.model.specs.Kind.{statement}
 use Rattle.model.specs.Tree.{Tree}
 use Rattle.model.specs.Sheet.{Place, Reading, got, refused, readSheet, firstWrite}
-use Rattle.model.specs.Check.{Verdict, fine, violated, precheckStatement}
+use Rattle.model.specs.Check.{precheckStatement}
 use Rattle.model.specs.Call.{Test, refuse, pass, then, short, testWork, testBytes, testReading, testWrite, testCheck, checked, plainRefusal, lineRefusal, accepted, Sized, refusal, figure, Figure, recordCount, maxBytes, maxDepth}
 use Rattle.bounds.specs.Counts as Counts
 use Rattle.words.specs.Held.{Held, HeldSome}

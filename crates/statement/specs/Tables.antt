@@ -5,16 +5,15 @@ use mathlib.Core.List.{List}
 use lib.ListN.{length}
 use Rattle.model.specs.Text.{Bytes}
 use Rattle.model.specs.Kind.{statement}
-use Rattle.model.specs.Tree.{Tree}
 use Rattle.model.specs.Lower.{LowerCtx, lowerStatement}
 use Rattle.model.specs.Plan.{planSheet}
 use Rattle.model.specs.Call.{Outcome, written, testPlan}
 use Rattle.model.specs.Call
-use Rattle.words.specs.Held.{Held, HeldSome}
+use Rattle.words.specs.Held.{HeldSome}
 use Rattle.lower.specs.Rep.{Mem, Written, Rep}
 use Rattle.clauses.specs.Statement.{LowersStatement}
 use Rattle.plan_writer.specs.Promise.{tables-of}
-use Rattle.plan_writer.specs.Whole.{Tables, SomeTables, WrotePlan}
+use Rattle.plan_writer.specs.Whole.{SomeTables, WrotePlan}
 use Rattle.plan_writer.specs.Whole
 use Rattle.plan_writer.specs.declared.Plan.{Plan}
 use Rattle.statement.specs.declared.Answer.{Answer}
@@ -23,7 +22,7 @@ use Rattle.statement.specs.Lowering.{Gives, too-many, too-far, wrote}
 
 -- the tables stand for some state, and have no more variables than there is room for
 pub record Lowered (sheet : Bytes) (a b : List ℕ) (m : Mem) : Type 0 where
-  pub met : m .ctx .mapped ≤ 5888
+  pub met : m .ctx .mapped ≤ 4352
   pub written : Written
   pub state : LowerCtx
   pub rep : Rep sheet a b written state m
@@ -52,7 +51,7 @@ module _ {sheet : Bytes} {a b : List ℕ} {m : Mem} {W : Written} {s : LowerCtx}
   pub full-numbers : (slice : Bytes) → 2048 < m .ctx .next → Gives slice slice Answer.PlanFull (testPlan s)
   full-numbers slice h = too-far slice s (rw (next-count r) at h)
 
-  module _ (slice slice′ : Bytes) (p : Plan) (met : m .ctx .mapped ≤ 5888) (ops : m .ctx .ops ≤ 2048) (next : m .ctx .next ≤ 2048) (w : WrotePlan sheet a b (m .ops) (m .rest) (m .ctx .ops) (m .ctx .mapped) slice slice′ p) where
+  module _ (slice slice′ : Bytes) (p : Plan) (met : m .ctx .mapped ≤ 4352) (ops : m .ctx .ops ≤ 2048) (next : m .ctx .next ≤ 2048) (w : WrotePlan sheet a b (m .ops) (m .rest) (m .ctx .ops) (m .ctx .mapped) slice slice′ p) where
     told : (x : Answer) → answerOf x ≡ Whole.answerOf p → Gives slice slice′ x (testPlan s)
     told x e = wrote slice s slice′ x (rw (ops-count r) at ops) (rw (next-count r) at next) (subst (λ (z : Call.Answer). _≡_ {A = Outcome} (record { answer = z; slice = slice′ }) (written (planSheet s) slice)) (sym e) (w s (tables-of r ops met)))
 

@@ -2,13 +2,12 @@
 ghost use mathlib.Core.Path.{_≡_};
 ghost use mathlib.Core.Bool.{false};
 ghost use mathlib.Core.List.{List, [], _∷_};
-ghost use Prim.Native.Nat.{ℕ, _≤_};
+ghost use Prim.Native.Nat.{ℕ};
 ghost use lib.ListN.{length};
 ghost use Rattle.model.specs.Kind.{statement};
 ghost use Rattle.model.specs.Tree.{Tree};
-ghost use Rattle.model.specs.Lower.{LowerCtx as State, lowerStatement};
+ghost use Rattle.model.specs.Lower.{LowerCtx as State};
 ghost use Rattle.model.specs.Call.{short, planned, testPlan, maxDepth, lowerCall};
-ghost use Rattle.words.specs.Words.{Roomy};
 ghost use Rattle.words.specs.Held.{Held, HeldSome};
 ghost use Rattle.lower.specs.Rep.{mem, Rep, Written};
 ghost use Rattle.plan_sheet.specs.Due.{Room};

@@ -1,18 +1,18 @@
 -- The reader's promise: a tree's records stand in the words from a record on, one after another in sheet order, within a depth. The crates above rest on this alone. Assumes nothing: these are definitions.
 use mathlib.Core.Path.{_≡_}
-use Prim.Native.Nat.{ℕ, zero, suc, _+_, _-_, _<_, _≤_}
+use Prim.Native.Nat.{ℕ, suc, _+_, _-_, _<_, _≤_}
 use mathlib.Core.Bool.{cond}
 use mathlib.Core.List.{List, [], _∷_}
-use mathlib.Core.Option.{Option, some}
+use mathlib.Core.Option.{some}
 use lib.ListN.{length, getD}
 use lib.Seq.{slice}
 use Rattle.model.specs.Text.{Bytes}
 use Rattle.model.specs.Field.{Form, Fields, num, flag, var, varOrAbsent, numOrAbsent, int, float, text, alias, span, spell}
 use Rattle.model.specs.Field
-use Rattle.model.specs.Kind.{Sort, Kind, statement}
-use Rattle.model.specs.Record.{Group, forms, children, beside}
+use Rattle.model.specs.Kind.{Sort, Kind}
+use Rattle.model.specs.Record.{Group, forms, beside}
 use Rattle.model.specs.Tree.{Tree, Trees, Forest, node, []ᵗ, _∷ᵗ_, end, _▸_}
-use Rattle.words.specs.Words.{part, decode, fieldOf, piecesOf, Roomy, maxRecords}
+use Rattle.words.specs.Words.{part, decode, fieldOf, piecesOf, maxRecords}
 
 -- a flag's word is 0 or 1
 abbrev pub Flag : Form → ℕ → Type 0

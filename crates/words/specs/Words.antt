@@ -1,12 +1,11 @@
 -- How words hold records: sixteen words a record, the first 1,024 records in one slice and the others in a second. Word 0 is the number of the record's kind; field g is words 2g + 2 and 2g + 3; a text is its place in the sheet. One function reads a record of a sort off its words, and the crates above cite that. Assumes nothing: these are definitions.
-use mathlib.Core.Path.{_≡_}
-use Prim.Native.Nat.{ℕ, zero, suc, _+_, _*_, _-_, _≤_, _<_}
-use mathlib.Core.Bool.{Bool, true, false, cond}
-use mathlib.Core.List.{List, [], _∷_, _++_}
+use Prim.Native.Nat.{ℕ, zero, suc, _+_, _*_, _-_, _≤_}
+use mathlib.Core.Bool.{cond}
+use mathlib.Core.List.{List, [], _∷_}
 use mathlib.Core.Option.{Option, none, some}
 use lib.Dec.{eqb, ltb}
 use lib.IntN.{ℤ, pos, negsuc}
-use lib.ListN.{length, getD, take, drop}
+use lib.ListN.{length, getD}
 use lib.Seq.{slice}
 use Rattle.model.specs.Text.{Bytes, unescape, split, tab}
 use Rattle.model.specs.Field.{Form, num, flag, var, varOrAbsent, numOrAbsent, int, float, text, alias, span, Fields, Val, meaning}

@@ -19,7 +19,7 @@ use Rattle.lower.proofs.Named
 use Rattle.lower.proofs.Arms
 use Rattle.lower.specs.Exprs
 use Rattle.lower.proofs.Room
-use mathlib.Core.Path.{_≡_, refl, sym, ap, _∙_}
+use mathlib.Core.Path.{refl, sym, ap, _∙_}
 use native.Mathlib.Omega.{arith}
 use Prim.Native.Nat.{_+_, _*_}
 use borrow.Author.Needs.{needs}

@@ -4,7 +4,6 @@ use Rattle.plan_writer.proofs.WholeLaws
 use Rattle.output.specs.Page.{on}
 use Prim.Native.Nat.{_-_}
 use native.Mathlib.Omega.{arith}
-use mathlib.Core.Path.{_≡_, sym, _∙_}
 use borrow.Author.Needs.{needs}
 use Rattle.plan_writer.proofs.write_ops.Statement.{statement}
 use Rattle.plan_writer.proofs.write_ops.Tie as tie

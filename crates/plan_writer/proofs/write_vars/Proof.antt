@@ -3,8 +3,6 @@ use Rattle.plan_writer.proofs.WholeLaws
 use Rattle.output.specs.Writes.{same}
 use Rattle.output.specs.Page.{on}
 use Prim.Native.Nat.{_-_}
-use native.Mathlib.Omega.{arith}
-use mathlib.Core.Path.{_≡_, refl, sym, ap, _∙_}
 use borrow.Author.Needs.{needs}
 use Rattle.plan_writer.proofs.write_vars.Statement.{statement}
 use Rattle.plan_writer.proofs.write_vars.Tie as tie

@@ -1,7 +1,6 @@
 use Rattle.lower.proofs.Counting
 use Prim.Native.Nat.{_-_, _≤_}
 use native.Mathlib.Omega.{arith}
-use borrow.Author.Needs.{needs}
 use Rattle.lower.proofs.records.skip.Statement.{statement}
 use Rattle.lower.proofs.records.skip.Tie as tie
 use Rattle.lower.proofs.records.skip.Reads as reads

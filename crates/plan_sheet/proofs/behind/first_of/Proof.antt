@@ -1,8 +1,6 @@
 -- `first_of` meets its contract. Assumes nothing.
-use Rattle.plan_sheet.specs.Behind.{firstBy, manyBy}
+use Rattle.plan_sheet.specs.Behind.{firstBy}
 use Rattle.plan_sheet.proofs.BehindLaws
-use mathlib.Core.Path.{_≡_, refl, sym, ap, _∙_}
-use native.Mathlib.Omega.{arith}
 use borrow.Author.Needs.{needs}
 use Rattle.plan_sheet.proofs.behind.first_of.Statement.{statement}
 use Rattle.plan_sheet.proofs.behind.first_of.Tie as tie

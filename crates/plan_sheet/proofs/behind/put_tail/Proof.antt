@@ -1,8 +1,5 @@
 -- `put_tail` meets its contract. Assumes nothing.
 use Rattle.plan_sheet.proofs.BehindLaws
-use Rattle.output.specs.Page.{on}
-use Rattle.output.specs.Writes.{_⨾_, same}
-use mathlib.Core.Path.{_≡_, refl, sym, ap, _∙_}
 use native.Mathlib.Omega.{arith}
 use borrow.Author.Needs.{needs}
 use Rattle.plan_sheet.proofs.behind.put_tail.Statement.{statement}

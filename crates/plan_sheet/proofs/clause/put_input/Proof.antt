@@ -1,11 +1,5 @@
 -- `put_input` meets its contract. Assumes nothing.
 use Rattle.plan_line.proofs.RowLaws
-use Rattle.words.specs.Words.{optionOf}
-use Rattle.model.specs.Field.{spellOption}
-use Rattle.output.specs.Page.{on}
-use Rattle.output.specs.Writes.{_⨾_, same}
-use mathlib.Core.Path.{_≡_, refl, sym, ap, _∙_}
-use native.Mathlib.Omega.{arith}
 use borrow.Author.Needs.{needs}
 use Rattle.plan_sheet.proofs.clause.put_input.Statement.{statement}
 use Rattle.plan_sheet.proofs.clause.put_input.Tie as tie

@@ -1,9 +1,6 @@
 -- `put_procedure` meets its contract. Assumes nothing.
 use Rattle.plan_line.specs.Row.{callText}
-use Rattle.output.specs.Page.{on}
-use Rattle.output.specs.Writes.{_⨾_, same}
-use mathlib.Core.Path.{_≡_, refl, sym, ap, _∙_}
-use native.Mathlib.Omega.{arith}
+use Rattle.output.specs.Writes.{_⨾_}
 use borrow.Author.Needs.{needs}
 use Rattle.plan_sheet.proofs.clause.put_procedure.Statement.{statement}
 use Rattle.plan_sheet.proofs.clause.put_procedure.Tie as tie

@@ -1,7 +1,7 @@
 -- `put_expr` meets its contract. Assumes nothing.
 use Rattle.plan_sheet.proofs.HeadLaws
 use native.Mathlib.Omega.{arith}
-use mathlib.Core.Path.{_≡_, sym, _∙_}
+use mathlib.Core.Path.{sym, _∙_}
 use borrow.Author.Needs.{needs}
 use Rattle.plan_sheet.proofs.head.put_expr.Statement.{statement}
 use Rattle.plan_sheet.proofs.head.put_expr.Tie as tie

@@ -1,10 +1,6 @@
 -- `put_id_name` meets its contract. Assumes nothing.
 use Rattle.plan_sheet.proofs.HeadLaws
 use Rattle.plan_sheet.proofs.ItemLaws
-use Rattle.output.specs.Page.{on}
-use Rattle.output.specs.Writes.{_⨾_, same}
-use mathlib.Core.Path.{_≡_, refl, sym, ap, _∙_}
-use native.Mathlib.Omega.{arith}
 use borrow.Author.Needs.{needs}
 use Rattle.plan_sheet.proofs.item.put_id_name.Statement.{statement}
 use Rattle.plan_sheet.proofs.item.put_id_name.Tie as tie

@@ -1,8 +1,4 @@
 -- `put_own_name` meets its contract. Assumes nothing.
-use Rattle.output.specs.Page.{on}
-use Rattle.output.specs.Writes.{_⨾_, same}
-use mathlib.Core.Path.{_≡_, refl, sym, ap, _∙_}
-use native.Mathlib.Omega.{arith}
 use borrow.Author.Needs.{needs}
 use Rattle.plan_sheet.proofs.item.put_own_name.Statement.{statement}
 use Rattle.plan_sheet.proofs.item.put_own_name.Tie as tie

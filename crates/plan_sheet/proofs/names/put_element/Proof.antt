@@ -1,9 +1,6 @@
 -- `put_element` meets its contract. Assumes nothing.
 use Rattle.plan_sheet.proofs.NameLaws
-use Rattle.output.specs.Writes.{_⨾_, same}
-use Rattle.output.specs.Page.{on}
-use native.Mathlib.Omega.{arith}
-use mathlib.Core.Path.{_≡_, sym, _∙_}
+use mathlib.Core.Path.{sym, _∙_}
 use borrow.Author.Needs.{needs}
 use Rattle.plan_sheet.proofs.names.put_element.Statement.{statement}
 use Rattle.plan_sheet.proofs.names.put_element.Tie as tie

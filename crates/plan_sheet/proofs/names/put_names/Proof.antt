@@ -1,9 +1,8 @@
 -- `put_names` meets its contract. Assumes nothing.
 use Rattle.plan_sheet.proofs.NameLaws
-use Rattle.output.specs.Writes.{_⨾_, same}
+use Rattle.output.specs.Writes.{same}
 use Rattle.output.specs.Page.{on}
 use native.Mathlib.Omega.{arith}
-use mathlib.Core.Path.{_≡_, sym, _∙_}
 use borrow.Author.Needs.{needs}
 use Rattle.plan_sheet.proofs.names.put_names.Statement.{statement}
 use Rattle.plan_sheet.proofs.names.put_names.Tie as tie

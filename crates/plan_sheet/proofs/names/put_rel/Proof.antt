@@ -1,10 +1,7 @@
 -- `put_rel` meets its contract. Assumes nothing.
 use Rattle.plan_line.specs.Row.{relText}
 use Rattle.plan_sheet.proofs.NameLaws
-use Rattle.output.specs.Writes.{_⨾_, same}
-use Rattle.output.specs.Page.{on}
-use native.Mathlib.Omega.{arith}
-use mathlib.Core.Path.{_≡_, sym, _∙_}
+use Rattle.output.specs.Writes.{_⨾_}
 use borrow.Author.Needs.{needs}
 use Rattle.plan_sheet.proofs.names.put_rel.Statement.{statement}
 use Rattle.plan_sheet.proofs.names.put_rel.Tie as tie

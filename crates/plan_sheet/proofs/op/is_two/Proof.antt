@@ -1,9 +1,5 @@
 -- `is_two` meets its contract. Assumes nothing.
-use Rattle.model.specs.Record.{one}
 use borrow.Author.Tests.{eq-eqb, ne-eqb}
-use native.Mathlib.Omega.{arith}
-use mathlib.Core.Path.{_≡_, refl, sym, ap, _∙_}
-use borrow.Author.Needs.{needs}
 use Rattle.plan_sheet.proofs.op.is_two.Statement.{statement}
 use Rattle.plan_sheet.proofs.op.is_two.Tie as tie
 use Rattle.plan_sheet.proofs.op.is_two.Reads as reads

@@ -1,7 +1,6 @@
 -- `props_of` meets its contract. Assumes nothing.
 use borrow.Author.Tests.{eq-eqb, ne-eqb}
-use native.Mathlib.Omega.{arith}
-use mathlib.Core.Path.{_≡_, sym, _∙_}
+use mathlib.Core.Path.{_∙_}
 use borrow.Author.Needs.{needs}
 use Rattle.plan_sheet.proofs.op.props_of.Statement.{statement}
 use Rattle.plan_sheet.proofs.op.props_of.Tie as tie

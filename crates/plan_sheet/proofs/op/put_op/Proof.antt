@@ -1,9 +1,6 @@
 -- `put_op` meets its contract. Assumes nothing.
 use Rattle.plan_sheet.proofs.HeadLaws
 use Rattle.plan_sheet.proofs.OpLaws
-use Rattle.output.specs.Page.{on}
-use Rattle.output.specs.Writes.{_⨾_, same}
-use mathlib.Core.Path.{_≡_, refl, sym, ap, _∙_}
 use native.Mathlib.Omega.{arith}
 use borrow.Author.Needs.{needs}
 use Rattle.plan_sheet.proofs.op.put_op.Statement.{statement}

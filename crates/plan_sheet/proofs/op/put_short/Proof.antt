@@ -1,6 +1,4 @@
 -- `put_short` meets its contract. Assumes nothing.
-use native.Mathlib.Omega.{arith}
-use mathlib.Core.Path.{_≡_, refl, sym, ap, _∙_}
 use borrow.Author.Needs.{needs}
 use Rattle.plan_sheet.proofs.op.put_short.Statement.{statement}
 use Rattle.plan_sheet.proofs.op.put_short.Tie as tie

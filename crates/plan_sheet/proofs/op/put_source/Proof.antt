@@ -1,6 +1,4 @@
 -- `put_source` meets its contract. Assumes nothing.
-use native.Mathlib.Omega.{arith}
-use mathlib.Core.Path.{_≡_, sym, _∙_}
 use borrow.Author.Needs.{needs}
 use Rattle.plan_sheet.proofs.op.put_source.Statement.{statement}
 use Rattle.plan_sheet.proofs.op.put_source.Tie as tie

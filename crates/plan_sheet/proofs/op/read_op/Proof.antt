@@ -1,9 +1,5 @@
 -- `read_op` meets its contract. Assumes nothing.
 use Rattle.context.specs.Tables.{opAt}
-use Rattle.output.specs.Page.{on}
-use Rattle.output.specs.Writes.{_⨾_, same}
-use mathlib.Core.Path.{_≡_, refl, sym, ap, _∙_}
-use native.Mathlib.Omega.{arith}
 use borrow.Author.Needs.{needs}
 use Rattle.plan_sheet.proofs.op.read_op.Statement.{statement}
 use Rattle.plan_sheet.proofs.op.read_op.Tie as tie

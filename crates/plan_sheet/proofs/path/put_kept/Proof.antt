@@ -1,7 +1,5 @@
 -- `put_kept` meets its contract. Assumes nothing.
 use Rattle.plan_sheet.proofs.PathLaws
-use native.Mathlib.Omega.{arith}
-use mathlib.Core.Path.{_≡_, refl, sym, ap, _∙_}
 use borrow.Author.Needs.{needs}
 use Rattle.plan_sheet.proofs.path.put_kept.Statement.{statement}
 use Rattle.plan_sheet.proofs.path.put_kept.Tie as tie

@@ -2,7 +2,6 @@
 use Rattle.plan_sheet.proofs.PathLaws
 use Rattle.output.specs.Page.{on}
 use native.Mathlib.Omega.{arith}
-use mathlib.Core.Path.{_≡_, refl, sym, ap, _∙_}
 use borrow.Author.Needs.{needs}
 use Rattle.plan_sheet.proofs.path.put_path.Statement.{statement}
 use Rattle.plan_sheet.proofs.path.put_path.Tie as tie

@@ -1,7 +1,5 @@
 -- `put_step` meets its contract. Assumes nothing.
 use Rattle.plan_sheet.proofs.PathLaws
-use native.Mathlib.Omega.{arith}
-use mathlib.Core.Path.{_≡_, refl, sym, ap, _∙_}
 use borrow.Author.Needs.{needs}
 use Rattle.plan_sheet.proofs.path.put_step.Statement.{statement}
 use Rattle.plan_sheet.proofs.path.put_step.Tie as tie

@@ -1,5 +1,5 @@
 -- The writers of expressions, elements, items and operators meet their contracts; the operator's number falls, and below it the depth left. Assumes nothing.
-use mathlib.Core.Path.{_≡_, sym, _∙_}
+use mathlib.Core.Path.{sym, _∙_}
 use native.Mathlib.Omega.{arith}
 use Prim.Native.Nat.{_+_, _*_, _-_}
 use Rattle.output.specs.Page.{on}
