@@ -1,0 +1,119 @@
+#!/usr/bin/env python3
+"""Whether the cost of a record grows with the sheet.
+
+    python3 tools/growth.py
+
+makes sheets of many shapes, each in three sizes, has valgrind's callgrind count
+the instructions of target/bin/plan on each (`rt check plan` makes it), and
+prints them for one byte read or written, less what the program needs for a
+sheet with no clause. Plans hold copies and so can be far longer than their
+sheet: hence bytes of both. A shape whose figure grows with the size is marked.
+"""
+
+import re
+import subprocess
+
+SIZES = [94, 375, 1500]
+SPAN = (0, 1)
+PROGRAM = "target/bin/plan"
+
+
+def record(*fields):
+    return "\t".join(map(str, fields)) + "\n"
+
+
+STMT = record("stmt", 1, 0)
+NULL = record("null")
+NODE = record("node", "-", 0, 0, *SPAN)
+
+
+def rel(props):
+    return record("rel", "-", 0, 0, "one", "-", "-", props, *SPAN)
+
+
+def match(parts, optional=0):
+    return record("match", optional, len(parts), *SPAN) + "".join(parts)
+
+
+def part(elements, name="-", shortest=0):
+    return record("part", name, shortest, len(elements)) + "".join(elements)
+
+
+def where(expr):
+    return record("where", *SPAN) + expr
+
+
+def of_list(exprs):
+    return record("list", len(exprs)) + "".join(exprs)
+
+
+def projection(items, keys=()):
+    return record("return", len(items), 0, len(keys), 0, 0, *SPAN) + "".join(items) + "".join(keys)
+
+
+def clauses(cs):
+    return record("stmt", len(cs), 0) + "".join(cs)
+
+
+def nested(levels):
+    """Patterns within the properties of a relationship, one in the other."""
+    if levels == 0:
+        return NULL
+    return record("pat", 1) + part([NODE, rel(1) + nested(levels - 1), NODE])
+
+
+def shapes(n):
+    """Sheets of about n records by the name of their shape."""
+    half, third = n // 2, n // 3
+    chain = [rel(0) if i % 2 else NODE for i in range(half * 2 - 1)]
+    single = part([NODE])
+    return {
+        "a chain": STMT + match([part(chain)]),
+        "a chain with a path": STMT + match([part(chain, name=5)]),
+        "parts": STMT + match([single] * half),
+        "shortest parts": STMT + match([part([NODE, rel(0), NODE], shortest=1)] * (n // 4)),
+        "matches": clauses([match([single])] * third),
+        "optional matches": clauses([match([single], optional=1)] * third),
+        "filters": clauses([where(NULL)] * half),
+        "arms": record("stmt", 0, half) + (record("arm", 0, 1) + match([])) * half,
+        "items": STMT + projection([record("item", "-") + record("prop", "t") + record("var", 7)] * third),
+        "aggregates": STMT + projection([record("item", "-") + record("fn", "count", 1, 0) + NULL] * third),
+        "items of a with": STMT + record("with", half, 0, 0, 0, 0, *SPAN) + (record("item", "=a") + NULL) * half,
+        "keys": STMT + projection([], [record("key", 0) + NULL] * half),
+        "labels": STMT + match([part([record("node", "-", n, 0, *SPAN) + record("name", "L") * n])]),
+        "a list": STMT + where(of_list([NULL] * n)),
+        "a map": STMT + where(record("map", half) + (record("name", "a") + NULL) * half),
+        "a case": STMT + where(record("case", 0, half, 0) + NULL * (2 * half)),
+        "yields": STMT + record("call", "p", 0, n, 0, *SPAN) + "".join(record("yield", "c", i) for i in range(n)),
+        "variables": STMT + where(of_list([record("var", i) for i in range(n)])),
+        "variables 1,024 apart": STMT + where(of_list([record("var", i * 1024) for i in range(n)])),
+        "patterns": STMT + where(of_list([record("pat", 1) + single] * third)),
+        "55 deep": STMT + where(of_list([record("un", 0) * 55 + NULL] * max(1, n // 56))),
+        "nested patterns": STMT + where(of_list([nested(3)] * (n // 16))),
+    }
+
+
+def count(sheet):
+    """Instructions and what the program prints."""
+    command = ["valgrind", "--tool=callgrind", "--callgrind-out-file=/dev/null", PROGRAM]
+    run = subprocess.run(command, input=sheet.encode(), capture_output=True, check=True)
+    return int(re.search(r"Collected : (\d+)", run.stderr.decode()).group(1)), run.stdout
+
+
+def main():
+    start, _ = count(record("stmt", 0, 0))
+    sheets = [shapes(n) for n in SIZES]
+    print(f"{'instructions for a byte':28}" + "".join(f"{n:>8}" for n in SIZES))
+    for name in sheets[0]:
+        figures = []
+        for of_size in sheets:
+            instructions, printed = count(of_size[name])
+            if printed.startswith(b"refused"):
+                raise SystemExit(f"{name}: {printed.decode()}")
+            figures.append((instructions - start) / (len(of_size[name]) + len(printed)))
+        grows = "  grows" if figures[-1] > 1.25 * figures[0] else ""
+        print(f"{name:28}" + "".join(f"{f:8.0f}" for f in figures) + grows, flush=True)
+
+
+if __name__ == "__main__":
+    main()
