@@ -1,12 +1,12 @@
 -- A word of a record by its number, and a part of a slice as the code takes it. Assumes nothing: every law is proved.
 use mathlib.Core.Path.{_≡_, _∙_}
-use Prim.Native.Nat.{ℕ, zero, suc, _+_, _*_, _-_, _<_}
+use Prim.Native.Nat.{ℕ, _+_, _*_, _-_, _<_}
 use native.Mathlib.Omega.{arith}
 use mathlib.Core.Bool.{Bool, true, false, cond}
-use mathlib.Core.List.{List, [], _∷_}
+use mathlib.Core.List.{List}
 use lib.Dec.{ltb}
-use lib.ListN.{getD, take, drop}
-use lib.Seq.{slice, take-nil, getD-drop, getD-take}
+use lib.ListN.{getD, take}
+use lib.Seq.{slice, getD-drop, getD-take}
 use Rattle.words.specs.Words.{cell, part}
 
 in-part : (l : List ℕ) (f c : ℕ) → c < 16 → getD (slice f (f + 16) l) c 0 ≡ getD l (f + c) 0

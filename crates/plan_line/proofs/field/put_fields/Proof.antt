@@ -4,11 +4,8 @@ use Rattle.plan_line.proofs.FieldLaws
 use Rattle.words.specs.Words.{part}
 use Rattle.output.specs.Page.{on}
 use mathlib.Core.Path.{sym, _∙_}
-use lib.ListN.{length, getD}
-use native.Mathlib.Nat.{add-zero}
 use native.Mathlib.Omega.{arith}
-use Prim.Native.Nat.{_+_, _-_}
-use borrow.Author.Needs.{needs}
+use Prim.Native.Nat.{_-_}
 use Rattle.plan_line.proofs.field.put_fields.Statement.{statement}
 use Rattle.plan_line.proofs.field.put_fields.Tie as tie
 use Rattle.plan_line.proofs.field.put_fields.Reads as reads
