@@ -1,28 +1,31 @@
 //! A second reading of document 01, in Rust: it answers both calls for all
-//! arguments. It was written from the document's text, and no line of it is
-//! copied from the definitions or the code of the Rattle crates; but its author
-//! had seen an earlier program that asked the Rust, the calls
-//! (model/specs/Call.antt, statement/src/lib.rt), a part of the check and the
-//! start of docs/FORMAT.md before. Where the text leaves something open the Rust
-//! settled it: the props of a special shortest part's rel are lowered right
-//! after its number; the keys of `agg` are expressions without names; those of
-//! `order` are `key` records.
+//! arguments.
+//!
+//! What the Rust has no word on, refusals 1 to 5 and the lines of 6 to 8
+//! (`sheet`, `check`, `refusals`), was written by somebody who had read document 01
+//! and the types of `sheet`, and nothing else of this project. The lowering is
+//! held to the Rust, plan and count of variable numbers, on every sheet that can
+//! be put to it; its author had seen `model/specs/Call.antt` and a part of the
+//! check. Where the text leaves something open there the Rust settled it: the
+//! props of a special shortest part's rel are lowered right after its number; the
+//! keys of `agg` are expressions without names; those of `order` are `key`
+//! records.
 
 pub mod branch;
 pub mod check;
 pub mod lowering;
+pub mod refusals;
 pub mod sheet;
 #[cfg(test)]
 mod worked;
 
 use lowering::Lowered;
-use sheet::{Fault, Form, Record, Why};
+use refusals::{Refused, at_line, before_lowering};
+use sheet::{Record, Why};
 
 /// Number, line, start, end, kind and length.
 pub type Answer = [usize; 6];
 
-const WORK_WORDS: usize = 16_384;
-const SHEET_BYTES: usize = 32_768;
 const PLAN_SIZE: usize = 2_048;
 
 /// What the tests make of a sheet.
@@ -37,42 +40,24 @@ pub struct Verdict<'s> {
     pub why: Option<Why>,
 }
 
-fn refused(number: usize, line: usize) -> Answer {
-    [number, line, 0, 0, 0, 0]
-}
-
 /// Tests 1 to 9, with work slices of these lengths.
 pub fn judge<'s>(sheet: &'s [u8], work: [usize; 4]) -> Verdict<'s> {
-    let stopped = |records, answer| Verdict { records, lowered: None, answer, why: None };
-    if work.iter().any(|&words| words < WORK_WORDS) {
-        return stopped(Vec::new(), refused(1, 0));
-    }
-    if sheet.len() > SHEET_BYTES {
-        return stopped(Vec::new(), refused(2, 0));
-    }
-    let records = match sheet::read(sheet) {
+    let records = match before_lowering(sheet, work) {
         Ok(records) => records,
-        Err(Fault { number, line, why }) => {
-            let refused = stopped(Vec::new(), refused(number, line));
-            return Verdict { why: Some(why), ..refused };
+        Err(Refused { answer, why, records }) => {
+            return Verdict { records, lowered: None, answer, why };
         }
     };
-    if let Some(place) = records.iter().position(|r| matches!(r.form, Form::Write { .. })) {
-        return stopped(records, refused(5, place + 1));
-    }
-    if let Some(answer) = check::first_fault(&records) {
-        return stopped(records, answer);
-    }
     let lowered = lowering::lower(&records);
     let full = lowered.operators > PLAN_SIZE || lowered.numbers as usize > PLAN_SIZE;
-    let answer = if full { refused(9, 0) } else { [0, 0, 0, 0, 0, lowered.plan.len()] };
+    let answer = if full { at_line(9, 0) } else { [0, 0, 0, 0, 0, lowered.plan.len()] };
     Verdict { records, lowered: Some(lowered), answer, why: None }
 }
 
 impl Verdict<'_> {
     /// Test 10: the lowering call's answer with a plan slice of this length.
     pub fn with_room(&self, room: usize) -> Answer {
-        if self.answer[0] == 0 && self.answer[5] > room { refused(10, 0) } else { self.answer }
+        if self.answer[0] == 0 && self.answer[5] > room { at_line(10, 0) } else { self.answer }
     }
 
     /// Whether the sizing call may give this answer.
