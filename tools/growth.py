@@ -5,9 +5,11 @@
 
 makes sheets of many shapes, each in three sizes, has valgrind's callgrind count
 the instructions of target/bin/plan on each (`rt check plan` makes it), and
-prints them for one byte read or written, less what the program needs for a
-sheet with no clause. Plans hold copies and so can be far longer than their
-sheet: hence bytes of both. A shape whose figure grows with the size is marked.
+prints them for one record of the sheet and for one byte read or written, less
+what the program needs for a sheet with no clause. A record's cost rises with the
+length of the plan lines that it makes (numbers get more digits, copies nest);
+the figure for a byte leaves that out. A figure that is a quarter larger for the
+largest sheet than for the smallest is marked.
 """
 
 import re
@@ -100,19 +102,26 @@ def count(sheet):
     return int(re.search(r"Collected : (\d+)", run.stderr.decode()).group(1)), run.stdout
 
 
+def shown(figures):
+    mark = "*" if figures[-1] > 1.25 * figures[0] else " "
+    return "".join(f"{f:7.0f}" for f in figures) + mark
+
+
 def main():
     start, _ = count(record("stmt", 0, 0))
     sheets = [shapes(n) for n in SIZES]
-    print(f"{'instructions for a byte':28}" + "".join(f"{n:>8}" for n in SIZES))
+    heads = "".join(f"{n:>7}" for n in SIZES) + " "
+    print(f"{'instructions':24}   for a record:{'':12}for a byte:\n{'':24}{heads}   {heads}")
     for name in sheets[0]:
-        figures = []
+        records, octets = [], []
         for of_size in sheets:
-            instructions, printed = count(of_size[name])
+            sheet = of_size[name]
+            instructions, printed = count(sheet)
             if printed.startswith(b"refused"):
                 raise SystemExit(f"{name}: {printed.decode()}")
-            figures.append((instructions - start) / (len(of_size[name]) + len(printed)))
-        grows = "  grows" if figures[-1] > 1.25 * figures[0] else ""
-        print(f"{name:28}" + "".join(f"{f:8.0f}" for f in figures) + grows, flush=True)
+            records.append((instructions - start) / sheet.count("\n"))
+            octets.append((instructions - start) / (len(sheet) + len(printed)))
+        print(f"{name:24}{shown(records)}   {shown(octets)}", flush=True)
 
 
 if __name__ == "__main__":

@@ -2,8 +2,9 @@
 //! arguments.
 //!
 //! What the Rust has no word on, refusals 1 to 5 and the lines of 6 to 8
-//! (`sheet`, `check`, `refusals`), was written by somebody who had read document 01
-//! and the types of `sheet`, and nothing else of this project. The lowering is
+//! (`sheet`, `check`, `refusals`), was written by somebody who had been given
+//! document 01 and the types of `sheet`, and nothing else of this project; how
+//! `refusals` hands the records on was changed afterwards. The lowering is
 //! held to the Rust, plan and count of variable numbers, on every sheet that can
 //! be put to it; its author had seen `model/specs/Call.antt` and a part of the
 //! check. Where the text leaves something open there the Rust settled it: the
