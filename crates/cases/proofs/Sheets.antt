@@ -1,6 +1,6 @@
 -- What the writes of a sheet's head, parts and tail join to. Assumes nothing.
-use mathlib.Core.Path.{_≡_, ap, _∙_}
-use mathlib.Core.Bool.{true, cond}
+use mathlib.Core.Path.{_≡_}
+use mathlib.Core.Bool.{cond}
 use mathlib.Core.List.{[], _∷_}
 use Prim.Native.Nat.{ℕ, _+_, _≤_, _<_}
 use native.Mathlib.Omega.{arith}
@@ -14,10 +14,9 @@ use Rattle.record.specs.Answer.{decimalOf}
 use Rattle.record.specs.AnswerLaws.{decimal-read}
 use Rattle.record.specs.declared.Decimal.{Decimal}
 use Rattle.model.specs.Text.{Bytes}
-use Rattle.output.specs.declared.Out.{Out}
-use Rattle.output.specs.Page.{Page, on, start, Puts}
+use Rattle.output.specs.Page.{Page, on, most, Puts}
 use Rattle.output.specs.Writes.{_⨾_, stay}
-use Rattle.output.specs.Whole.{put-at, wrote}
+use Rattle.output.specs.Whole.{wrote}
 use Rattle.cases.specs.Text.{again, place, star, between, repeated, parted, sheetOf}
 
 module _ (t : Bytes) where
@@ -52,13 +51,13 @@ module _ (t : Bytes) (head number part : ℕ) (h : head ≡ place star 0 t) (n :
     filled times e a b c = rw (sheet-parted, lt-ltb part (length t) k, decimal-read (read (Form.num 32768) (between (head + 1) number t ∷ [])) r d, e) ((a ⨾ b) ⨾ c)
 
 -- a page from its start
-module _ (t p q : Bytes) (o : Out) (e : Puts t (on p (start true)) (on q o)) where
-  pub too-long : length p < o .at → take 0 q ≡ cond (ltb (length p) (length t)) [] t
-  too-long h = let at = ap (λ (g : Page). g .out .at) (e .is) ∙ put-at t (on p (start true)) (omega arith) in rw (lt-ltb (length p) (length t) (omega arith))
+module _ (t p q : Bytes) (o : ℕ) (e : Puts t (on p 0) (on q o)) (small : length p < most) where
+  pub too-long : length p < o → take 0 q ≡ cond (ltb (length p) (length t)) [] t
+  too-long h = let next = e .next in rw (lt-ltb (length p) (length t) (omega arith))
 
-  pub long-enough : o .at ≤ length p → take (o .at) q ≡ cond (ltb (length p) (length t)) [] t
+  pub long-enough : o ≤ length p → take o q ≡ cond (ltb (length p) (length t)) [] t
   long-enough h =
-      let at = ap (λ (g : Page). g .out .at) (e .is) ∙ put-at t (on p (start true)) (omega arith) in
+      let next = e .next in
       let fits : length t ≤ length p = omega arith in
-      let w = wrote fits e in
+      let w = wrote e small fits in
       rw (le-ltb (length p) (length t) fits, w .slice, w .at) (take-append-seam t (drop (length t) p))

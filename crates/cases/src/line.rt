@@ -9,13 +9,12 @@ ghost use Rattle.model.specs.Text.{decimal};
 ghost use Rattle.output.specs.Page.{on, Puts};
 ghost use Rattle.values.specs.Told.{told};
 ghost use Rattle.cases.specs.Values.{refusalText, valuesText};
-use output::Out;
 use output::put_byte;
 use output::put_decimal;
 use values::Values;
 
 // A number behind a separator.
-fn put_number(page: &mut [u8], out: Out, separator: u8, n: u64) -> Out
+fn put_number(page: &mut [u8], out: usize, separator: u8, n: u64) -> usize
     ensures { λ r. ⌜ Puts (separator ∷ decimal n) (on (now (page .entry)) out) (on (now (page .exit)) r) ⌝ }
 {
     let o = put_byte(page, out, separator);
@@ -23,7 +22,7 @@ fn put_number(page: &mut [u8], out: Out, separator: u8, n: u64) -> Out
 }
 
 // All but the length.
-fn put_refusal(page: &mut [u8], out: Out, separator: u8, v: Values) -> Out
+fn put_refusal(page: &mut [u8], out: usize, separator: u8, v: Values) -> usize
     ensures { λ r. ⌜ Puts (refusalText separator (told v)) (on (now (page .entry)) out) (on (now (page .exit)) r) ⌝ }
 {
     let o = put_number(page, out, separator, v.number as u64);
@@ -38,11 +37,11 @@ pub fn write_refusal(page: &mut [u8], separator: u8, v: Values) -> usize
     ensures { λ r. ⌜ r ≤ length (now (page .entry)) ⌝ }
     ensures { λ r. ⌜ take r (now (page .exit)) ≡ cond (ltb (length (now (page .entry))) (length (refusalText separator (told v)))) [] (refusalText separator (told v)) ⌝ }
 {
-    let out = put_refusal(page, Out { at: 0, live: true }, separator, v);
-    if out.at > page.len() {
+    let out = put_refusal(page, 0, separator, v);
+    if out > page.len() {
         return 0;
     }
-    out.at
+    out
 }
 
 // All six values in the same way.
@@ -51,10 +50,10 @@ pub fn write_values(page: &mut [u8], separator: u8, v: Values) -> usize
     ensures { λ r. ⌜ take r (now (page .exit)) ≡ cond (ltb (length (now (page .entry))) (length (valuesText separator (told v)))) [] (valuesText separator (told v)) ⌝ }
 {
     let length = v.length as u64;
-    let o = put_refusal(page, Out { at: 0, live: true }, separator, v);
+    let o = put_refusal(page, 0, separator, v);
     let out = put_number(page, o, separator, length);
-    if out.at > page.len() {
+    if out > page.len() {
         return 0;
     }
-    out.at
+    out
 }

@@ -8,7 +8,6 @@ ghost use lib.ListN.{length, take};
 ghost use Rattle.output.specs.Page.{on, Puts};
 ghost use Rattle.cases.specs.Text.{again, place, sheetOf};
 use bytes::scan::find;
-use output::Out;
 use output::put_part;
 use record::Decimal;
 use record::number::decimal;
@@ -25,7 +24,7 @@ pub fn next(text: &[u8], at: usize, byte: u8) -> usize
 }
 
 // A text so many times.
-pub fn put_times(page: &mut [u8], out: Out, text: &[u8], times: u64) -> Out
+pub fn put_times(page: &mut [u8], out: usize, text: &[u8], times: u64) -> usize
     ensures { λ r. ⌜ Puts (again times (now (text .entry))) (on (now (page .entry)) out) (on (now (page .exit)) r) ⌝ }
 {
     let mut o = out;
@@ -38,7 +37,7 @@ pub fn put_times(page: &mut [u8], out: Out, text: &[u8], times: u64) -> Out
 }
 
 // The sheet that a text of the list stands for.
-fn put_sheet(page: &mut [u8], out: Out, text: &[u8]) -> Out
+fn put_sheet(page: &mut [u8], out: usize, text: &[u8]) -> usize
     requires { ⌜ length (now text) ≤ 32768 ⌝ }
     ensures { λ r. ⌜ Puts (sheetOf (now (text .entry))) (on (now (page .entry)) out) (on (now (page .exit)) r) ⌝ }
 {
@@ -62,9 +61,9 @@ pub fn build_sheet(text: &[u8], page: &mut [u8]) -> usize
     ensures { λ r. ⌜ r ≤ length (now (page .entry)) ⌝ }
     ensures { λ r. ⌜ take r (now (page .exit)) ≡ cond (ltb (length (now (page .entry))) (length (sheetOf (now (text .entry))))) [] (sheetOf (now (text .entry))) ⌝ }
 {
-    let out = put_sheet(page, Out { at: 0, live: true }, text);
-    if out.at > page.len() {
+    let out = put_sheet(page, 0, text);
+    if out > page.len() {
         return 0;
     }
-    out.at
+    out
 }

@@ -15,11 +15,16 @@ use Rattle.lower.specs.Pieces.{SomeTree}
 use Rattle.lower.specs.Chains.{givenIf}
 use Rattle.lower.specs.Clauses.{Stands, Leaves, LowersClause}
 use Rattle.lower.specs.State.{to-refl, to-wider}
+use Rattle.clauses.specs.Asked.{ClauseAsked, ReadingAsked}
 use Rattle.clauses.proofs.Moves.{sub-both}
 use Rattle.clauses.proofs.Opened.{a-write, call-kind}
 
 pub some-tree : {sheet : Bytes} {a b : List ℕ} {s : Sort} {d i : ℕ} → HeldSome sheet a b s d i → SomeTree a b s d i
 some-tree {sheet} x = record { sheet = sheet; tree = x .tree; held = x .is }
+
+-- what the function of one kind asks
+pub asked : {sheet : Bytes} {a b : List ℕ} {k d i has last : ℕ} {m : Mem} → ReadingAsked sheet a b d i has last m → cell a b i 0 ≡ k → ClauseAsked k a b d i has last m
+asked g e = record { room = g .room; tree = some-tree (g .held); kind = e; ready = g .ready; shallow = g .shallow; input = g .input; stands = g .stands }
 
 pub seven : {sheet : Bytes} {a b : List ℕ} {d i : ℕ} → Roomy a b → HeldSome sheet a b clause d i → ((cell a b i 0 ≡ 2) → ⊥) → ((cell a b i 0 ≡ 3) → ⊥) → ((cell a b i 0 ≡ 4) → ⊥) → ((cell a b i 0 ≡ 5) → ⊥) → ((cell a b i 0 ≡ 6) → ⊥) → ((cell a b i 0 ≡ 8) → ⊥) → cell a b i 0 ≡ 7
 seven {sheet} {d = d} {i = i} room x n2 n3 n4 n5 n6 n8 = call-kind sheet d i room (x .tree) (x .is) n2 n3 n4 n5 n6 n8

@@ -21,6 +21,7 @@ use Rattle.lower.specs.Clauses.{BothBlank, Leaves, LowersClause}
 use Rattle.lower.specs.State.{blank-within, back, to-then, push-to}
 use Rattle.lower.specs.Below.{below-more}
 use Rattle.lower.specs.Fits.{tree-low}
+use Rattle.clauses.specs.Asked.{ClauseAsked}
 use Rattle.clauses.specs.Steps.{Input}
 use Rattle.clauses.proofs.Moves.{sub-first}
 use Rattle.clauses.proofs.Opened.{a-where}
@@ -29,8 +30,8 @@ use Rattle.clauses.proofs.Matching.{leaves}
 abbrev pub filterOp : (i input d : ℕ) → Op
 filterOp i input d = record { kind = 2; idx = i; input = input; x = 0; y = 0; left = d - 1; base = 0 }
 
-pub some-predicate : {a b : List ℕ} {d i : ℕ} → Roomy a b → cell a b i 0 ≡ 3 → SomeTree a b clause d i → SomeTree a b expr (d - 1) (i + 1)
-some-predicate room k3 x = let v = a-where room (x .tree) (x .held) k3 in record { sheet = x .sheet; tree = v .tree; held = v .held }
+pub some-predicate : {a b : List ℕ} {d i has last : ℕ} {m : Mem} → ClauseAsked 3 a b d i has last m → SomeTree a b expr (d - 1) (i + 1)
+some-predicate g = let v = a-where (g .room) (g .tree .tree) (g .tree .held) (g .kind) in record { sheet = g .tree .sheet; tree = v .tree; held = v .held }
 
 filter-is : (k k′ : ℕ) (rs rs′ : Recs) → k ≡ k′ → rs ≡ rs′ → filter k′ rs′ ≡ op ReadOp.Filter (k, tt) ∷ rs
 unfolding filter
@@ -41,10 +42,11 @@ where-def : (tree : Tree expr) (o : Option ℕ) (s : State) → _≡_ {A = Optio
 unfolding _>>=_ push ret
 where-def tree o s = refl
 
-module _ {a b : List ℕ} {k e : ℕ} {c : LowerCtx} {os : List ℕ} {m m₁ m₂ : Mem} (d i has last : ℕ) (room : Roomy a b) (k3 : cell a b i 0 ≡ 3) (sh : d ≤ 64) (x : LowersExpr a b (d - 1) 0 (i + 1) e m m₁) (sr : Input (orSourceAll (givenIf has last)) k m₁ m₂) (pf : Pushed (m₂ .ctx) c (m₂ .ops) os (filterOp (i + 1) k d)) (lo : length os ≡ length (m₂ .ops)) where
+module _ {a b : List ℕ} {d i has last k e : ℕ} {c : LowerCtx} {os : List ℕ} {m m₁ m₂ : Mem} (g : ClauseAsked 3 a b d i has last m) (x : LowersExpr a b (d - 1) 0 (i + 1) e m m₁) (sr : Input (orSourceAll (givenIf has last)) k m₁ m₂) (pf : Pushed (m₂ .ctx) c (m₂ .ops) os (filterOp (i + 1) k d)) (lo : length os ≡ length (m₂ .ops)) where
   where-run : (sheet : Bytes) (t : Tree clause) → Held sheet a b t d i → (W : Written) (s : State) → Rep sheet a b W s m → BothBlank W (suc i) (suc e) → Leaves sheet a b W (λ s. lowerClause t (givenIf has last) s) (some (m₂ .ctx .ops)) (suc i) (suc e) s m (mem c os (m₂ .rest))
   where-run sheet t hd W s r bl =
-      let v = a-where room t hd k3 in
+      let v = a-where (g .room) t hd (g .kind) in
+      let sh = g .shallow in
       let y = x .run sheet (v .tree) (v .held) W s r (blank-within (omega arith) (omega arith) (bl .first)) in
       let z = sr .run sheet a b _ _ (y .to .rep) in
       let s₂ : State = orSourceAll (givenIf has last) (lowerExpr (v .tree) s .1) .1 in
@@ -67,6 +69,6 @@ module _ {a b : List ℕ} {k e : ℕ} {c : LowerCtx} {os : List ℕ} {m m₁ m�
       record {
         moved = record { up = omega (arith, v .up); here = v .here; few = omega (arith, v .few, v .up, sr .few, pf .count); low = omega (arith, v .low, v .up, sr .next, pf .next); met = omega (arith, v .met, v .up, sr .mapped, pf .mapped); in-ops = lo ∙ sr .in-ops ∙ v .in-ops; in-rest = ap length (sr .rest) ∙ v .in-rest; index = λ z. rw (pf .mapped, sr .mapped, sr .rest) (v .index z) };
         stands = omega (arith, pf .count);
-        next = λ t hd. (let w = a-where room t hd k3 in let y = x .next sheet (w .tree) (w .held) in let z = w .sized in omega arith);
+        next = λ t hd. (let w = a-where (g .room) t hd (g .kind) in let y = x .next sheet (w .tree) (w .held) in let z = w .sized in omega arith);
         run = where-run sheet;
       }

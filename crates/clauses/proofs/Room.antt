@@ -14,6 +14,7 @@ use Rattle.lower.specs.Pieces.{SomeTree}
 use Rattle.lower.specs.Chains.{givenIf, OrSource}
 use Rattle.lower.specs.Clauses.{Ready}
 use Rattle.lower.specs.State.{to-refl}
+use Rattle.clauses.specs.Asked.{ClauseAsked}
 use Rattle.clauses.specs.Steps.{Input}
 use Rattle.clauses.proofs.Moves.{few-ready, some-given}
 
@@ -35,8 +36,11 @@ pub record Bounds (d i ops last : ℕ) : Type 0 where
   pub few : ops ≤ 8192
   pub input : last ≤ ops
 
-pub bounds : {a b : List ℕ} {s : Sort} {d i last : ℕ} {m : Mem} → SomeTree a b s d i → Ready i m → d ≤ 64 → last ≤ m .ctx .ops → Bounds d i (m .ctx .ops) last
-bounds x g h l = record { low = low x; deep = deep x; shallow = h; few = few-ready g; input = l }
+pub bounds-of : {a b : List ℕ} {s : Sort} {d i last : ℕ} {m : Mem} → SomeTree a b s d i → Ready i m → d ≤ 64 → last ≤ m .ctx .ops → Bounds d i (m .ctx .ops) last
+bounds-of x g h l = record { low = low x; deep = deep x; shallow = h; few = few-ready g; input = l }
+
+pub bounds : {a b : List ℕ} {k d i has last : ℕ} {m : Mem} → ClauseAsked k a b d i has last m → Bounds d i (m .ctx .ops) last
+bounds g = bounds-of (g .tree) (g .ready) (g .shallow) (g .input)
 
 -- ── an operator before, or a source of everything ──
 

@@ -23,6 +23,7 @@ use Rattle.lower.specs.Clauses.{BothBlank, bothPasses, Leaves, LowersClause}
 use Rattle.lower.specs.State.{sub-within, blank-within, blank-before, back, to-then, push-to, Given, number-to}
 use Rattle.lower.specs.Below.{below-more}
 use Rattle.lower.specs.Fits.{tree-low}
+use Rattle.clauses.specs.Asked.{ClauseAsked}
 use Rattle.clauses.proofs.Moves.{sub-first}
 use Rattle.clauses.proofs.Opened.{an-unwind}
 use Rattle.clauses.proofs.Matching.{leaves}
@@ -30,8 +31,12 @@ use Rattle.clauses.proofs.Matching.{leaves}
 abbrev pub unwindOp : (i input number d : ℕ) → Op
 unwindOp i input number d = record { kind = 14; idx = i; input = input; x = number; y = 0; left = d - 1; base = 0 }
 
-pub some-list : {a b : List ℕ} {d i : ℕ} → Roomy a b → cell a b i 0 ≡ 6 → SomeTree a b clause d i → SomeTree a b expr (d - 1) (i + 1)
-some-list room k6 x = let v = an-unwind room (x .tree) (x .held) k6 in record { sheet = x .sheet; tree = v .tree; held = v .held }
+pub some-list : {a b : List ℕ} {d i has last : ℕ} {m : Mem} → ClauseAsked 6 a b d i has last m → SomeTree a b expr (d - 1) (i + 1)
+some-list g = let v = an-unwind (g .room) (g .tree .tree) (g .tree .held) (g .kind) in record { sheet = g .tree .sheet; tree = v .tree; held = v .held }
+
+-- the number of a variable whose name is known by another name
+pub numbered : {id id′ place : ℕ} {c : LowerCtx} {r r′ : List ℕ} {n : Numbered} → id ≡ id′ → Numbers (mapVar id) place c r r′ n → Numbers (mapVar id′) place c r r′ n
+numbered e x = rw e at x
 
 unwind-is : (k k′ x x′ : ℕ) (rs rs′ : Recs) → k ≡ k′ → x ≡ x′ → rs ≡ rs′ → _≡_ {A = Recs} (op ReadOp.Unwind (k′, (x′, tt)) ∷ rs′) (op ReadOp.Unwind (k, (x, tt)) ∷ rs)
 unwind-is k k′ x x′ rs rs′ e e′ e″ = rw (e, e′, e″)
@@ -54,10 +59,16 @@ module _ (id : ℕ) (tree : Tree expr) (o : Option ℕ) (s : State) where
   unfolding _>>=_ push ret
   unwind-def = refl
 
-module _ {a b : List ℕ} {k e : ℕ} {c : LowerCtx} {os rest₃ : List ℕ} {r₃ : Numbered} {m m₁ m₂ : Mem} (d i has last : ℕ) (room : Roomy a b) (k6 : cell a b i 0 ≡ 6) (sh : d ≤ 64) (sr : OrSource (orSourceAll (givenIf has last)) k m m₁) (x : LowersExpr a b (d - 1) 0 (i + 1) e m₁ m₂) (nm : Numbers (mapVar (cell a b i 2)) (i + 1) (m₂ .ctx) (m₂ .rest) rest₃ r₃) (lr : length rest₃ ≡ length (m₂ .rest)) (pu : Pushed (r₃ .ctx) c (m₂ .ops) os (unwindOp (i + 1) k (r₃ .number) d)) (lo : length os ≡ length (m₂ .ops)) where
+module _ {a b : List ℕ} {d i has last k e : ℕ} {c : LowerCtx} {os rest₃ : List ℕ} {r₃ : Numbered} {m m₁ m₂ : Mem}
+    (asked : ClauseAsked 6 a b d i has last m)
+    (sr : OrSource (orSourceAll (givenIf has last)) k m m₁)
+    (x : LowersExpr a b (d - 1) 0 (i + 1) e m₁ m₂)
+    (nm : Numbers (mapVar (cell a b i 2)) (i + 1) (m₂ .ctx) (m₂ .rest) rest₃ r₃) (lr : length rest₃ ≡ length (m₂ .rest))
+    (pu : Pushed (r₃ .ctx) c (m₂ .ops) os (unwindOp (i + 1) k (r₃ .number) d)) (lo : length os ≡ length (m₂ .ops)) where
   unwind-run : (sheet : Bytes) (t : Tree clause) → Held sheet a b t d i → (W : Written) (s : State) → Rep sheet a b W s m → BothBlank W (suc i) (suc e) → Leaves sheet a b W (λ s. lowerClause t (givenIf has last) s) (some (r₃ .ctx .ops)) (suc i) (suc e) s m (mem c os rest₃)
   unwind-run sheet t hd W s r bl =
-      let v = an-unwind room t hd k6 in
+      let v = an-unwind (asked .room) t hd (asked .kind) in
+      let sh = asked .shallow in
       let o : Option ℕ = givenIf has last in
       let id : ℕ = cell a b i 2 in
       let up = x .moved .up in
@@ -88,6 +99,6 @@ module _ {a b : List ℕ} {k e : ℕ} {c : LowerCtx} {os rest₃ : List ℕ} {r�
       record {
         moved = record { up = omega (arith, v .up); here = v .here; few = omega (arith, v .few, v .up, sr .few, n .ops, pu .count); low = omega (arith, v .low, v .up, sr .next, n .low, pu .next); met = omega (arith, v .met, v .up, sr .mapped, n .met, pu .mapped); in-ops = lo ∙ v .in-ops ∙ sr .in-ops; in-rest = lr ∙ v .in-rest ∙ ap length (sr .rest); index = λ z. rw (pu .mapped) (n .index (v .index (rw (sr .mapped, sr .rest) z))) };
         stands = omega (arith, pu .count);
-        next = λ t hd. (let w = an-unwind room t hd k6 in let y = x .next sheet (w .tree) (w .held) in let z = w .sized in omega arith);
+        next = λ t hd. (let w = an-unwind (asked .room) t hd (asked .kind) in let y = x .next sheet (w .tree) (w .held) in let z = w .sized in omega arith);
         run = unwind-run sheet;
       }

@@ -1,3 +1,4 @@
 pub mod Turns
 pub mod Steps
+pub mod Asked
 pub mod Statement

@@ -1,20 +1,16 @@
 // The clauses that read, each behind the operator before: has and last are that operator, if has is not 0. left is how deep a tree may be; notes stand at the records' own lines.
-ghost use mathlib.Core.Path.{_≡_};
 ghost use Prim.Native.Nat.{ℕ, _+_, _≤_, _<_};
 ghost use mathlib.Core.List.{List};
 ghost use mathlib.Core.Option.{some};
 ghost use lib.ListN.{length, drop};
 ghost use Rattle.model.specs.Text.{Bytes};
-ghost use Rattle.model.specs.Kind.{clause};
-ghost use Rattle.model.specs.Lower.{orSourceAll};
-ghost use Rattle.words.specs.Words.{Roomy, cell};
-ghost use Rattle.words.specs.Held.{HeldSome};
+ghost use Rattle.words.specs.Words.{Roomy};
 ghost use Rattle.context.specs.Tables.{Indexed};
 ghost use Rattle.lower.specs.Rep.{mem};
-ghost use Rattle.lower.specs.Pieces.{SomeTree};
 ghost use Rattle.lower.specs.Chains.{givenIf};
-ghost use Rattle.lower.specs.Clauses.{Ready, LowersClause};
-ghost use Rattle.clauses.specs.Steps.{Input, SomeYields, LowersYields};
+ghost use Rattle.lower.specs.Clauses.{LowersClause};
+ghost use Rattle.clauses.specs.Asked.{ClauseAsked, ReadingAsked, InputLeft};
+ghost use Rattle.clauses.specs.Steps.{SomeYields, LowersYields};
 use context::LowerCtx;
 use lower::Root;
 use lower::Step;
@@ -22,7 +18,7 @@ use lower::Step;
 // As lower::or_source_all, for an operator before that is not known to be below the count here.
 pub fn input_or_source(ops: &mut [u32], ctx: LowerCtx, has: u32, last: usize, next: usize) -> Root
     requires { ⌜ (ctx .ops < 65535) × (16384 ≤ length (now ops)) ⌝ }
-    ensures { λ r. ⌜ (r .next ≡ next) × (r .op ≤ last + r .ctx .ops) × ((rest : List ℕ) → Input (orSourceAll (givenIf has last)) (r .op) (mem ctx (now (ops .entry)) rest) (mem (r .ctx) (now (ops .exit)) rest)) ⌝ }
+    ensures { λ r. ⌜ InputLeft has last next (r .next) (r .op) ctx (r .ctx) (now (ops .entry)) (now (ops .exit)) ⌝ }
 {
     if has != 0 {
         return Root {
@@ -74,10 +70,7 @@ pub fn lower_match(
     i: usize,
     left: usize,
 ) -> Root
-    requires { ⌜ Roomy (now a) (now b) ⌝ }
-    requires { ⌜ SomeTree (now a) (now b) clause left i × (cell (now a) (now b) i 0 ≡ 2) ⌝ }
-    requires { ⌜ Ready i (mem ctx (now ops) (now rest)) × (left ≤ 64) ⌝ }
-    requires { ⌜ (last ≤ ctx .ops) × ((has ≡ 0 → ⊥) → last < ctx .ops) ⌝ }
+    requires { ⌜ ClauseAsked 2 (now a) (now b) left i has last (mem ctx (now ops) (now rest)) ⌝ }
     ensures { λ r. ⌜ ((sheet : Bytes) → LowersClause sheet (now (a .entry)) (now (b .entry)) left i (r .next) (givenIf has last) (some (r .op)) (mem ctx (now (ops .entry)) (now (rest .entry))) (mem (r .ctx) (now (ops .exit)) (now (rest .exit)))) ⌝ }
 {
     let optional = words::word(a, b, i, 2);
@@ -113,10 +106,7 @@ pub fn lower_where(
     i: usize,
     left: usize,
 ) -> Root
-    requires { ⌜ Roomy (now a) (now b) ⌝ }
-    requires { ⌜ SomeTree (now a) (now b) clause left i × (cell (now a) (now b) i 0 ≡ 3) ⌝ }
-    requires { ⌜ Ready i (mem ctx (now ops) (now rest)) × (left ≤ 64) ⌝ }
-    requires { ⌜ (last ≤ ctx .ops) × ((has ≡ 0 → ⊥) → last < ctx .ops) ⌝ }
+    requires { ⌜ ClauseAsked 3 (now a) (now b) left i has last (mem ctx (now ops) (now rest)) ⌝ }
     ensures { λ r. ⌜ ((sheet : Bytes) → LowersClause sheet (now (a .entry)) (now (b .entry)) left i (r .next) (givenIf has last) (some (r .op)) (mem ctx (now (ops .entry)) (now (rest .entry))) (mem (r .ctx) (now (ops .exit)) (now (rest .exit)))) ⌝ }
 {
     let first = i + 1;
@@ -146,10 +136,7 @@ pub fn lower_unwind(
     i: usize,
     left: usize,
 ) -> Root
-    requires { ⌜ Roomy (now a) (now b) ⌝ }
-    requires { ⌜ SomeTree (now a) (now b) clause left i × (cell (now a) (now b) i 0 ≡ 6) ⌝ }
-    requires { ⌜ Ready i (mem ctx (now ops) (now rest)) × (left ≤ 64) ⌝ }
-    requires { ⌜ (last ≤ ctx .ops) × ((has ≡ 0 → ⊥) → last < ctx .ops) ⌝ }
+    requires { ⌜ ClauseAsked 6 (now a) (now b) left i has last (mem ctx (now ops) (now rest)) ⌝ }
     ensures { λ r. ⌜ ((sheet : Bytes) → LowersClause sheet (now (a .entry)) (now (b .entry)) left i (r .next) (givenIf has last) (some (r .op)) (mem ctx (now (ops .entry)) (now (rest .entry))) (mem (r .ctx) (now (ops .exit)) (now (rest .exit)))) ⌝ }
 {
     let id = words::word(a, b, i, 2);
@@ -191,10 +178,7 @@ pub fn lower_call(
     i: usize,
     left: usize,
 ) -> Root
-    requires { ⌜ Roomy (now a) (now b) ⌝ }
-    requires { ⌜ SomeTree (now a) (now b) clause left i × (cell (now a) (now b) i 0 ≡ 7) ⌝ }
-    requires { ⌜ Ready i (mem ctx (now ops) (now rest)) × (left ≤ 64) ⌝ }
-    requires { ⌜ (last ≤ ctx .ops) × ((has ≡ 0 → ⊥) → last < ctx .ops) ⌝ }
+    requires { ⌜ ClauseAsked 7 (now a) (now b) left i has last (mem ctx (now ops) (now rest)) ⌝ }
     ensures { λ r. ⌜ ((sheet : Bytes) → LowersClause sheet (now (a .entry)) (now (b .entry)) left i (r .next) (givenIf has last) (some (r .op)) (mem ctx (now (ops .entry)) (now (rest .entry))) (mem (r .ctx) (now (ops .exit)) (now (rest .exit)))) ⌝ }
 {
     let args = lower::records::count(a, b, i, 4);
@@ -226,10 +210,7 @@ pub fn lower_reading_clause(
     i: usize,
     left: usize,
 ) -> Root
-    requires { ⌜ Roomy (now a) (now b) ⌝ }
-    requires { ⌜ HeldSome (now sheet) (now a) (now b) clause left i × ((cell (now a) (now b) i 0 ≡ 8) → ⊥) ⌝ }
-    requires { ⌜ Ready i (mem ctx (now ops) (now rest)) × (left ≤ 64) ⌝ }
-    requires { ⌜ (last ≤ ctx .ops) × ((has ≡ 0 → ⊥) → last < ctx .ops) ⌝ }
+    requires { ⌜ ReadingAsked (now sheet) (now a) (now b) left i has last (mem ctx (now ops) (now rest)) ⌝ }
     ensures { λ r. ⌜ LowersClause (now (sheet .entry)) (now (a .entry)) (now (b .entry)) left i (r .next) (givenIf has last) (some (r .op)) (mem ctx (now (ops .entry)) (now (rest .entry))) (mem (r .ctx) (now (ops .exit)) (now (rest .exit))) ⌝ }
 {
     let kind = words::word(a, b, i, 0);

@@ -1,2 +1,2 @@
-pub mod Digits
 pub mod Signed
+pub mod Storing

@@ -1,3 +1,4 @@
 pub mod Page
 pub mod Writes
 pub mod Whole
+pub mod Wide

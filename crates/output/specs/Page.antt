@@ -1,37 +1,29 @@
 -- A lent slice with a cursor in it, and what putting a text there does to both. Assumes nothing: these are definitions.
 use mathlib.Core.Path.{_≡_}
-use mathlib.Core.Bool.{Bool, cond}
-use mathlib.Core.List.{[], _∷_}
-use Prim.Native.Nat.{ℕ, _+_, min}
-use lib.ListN.{length, set}
+use Prim.Native.Nat.{ℕ, _+_, _<_, _≤_, min}
+use lib.ListN.{length}
+use lib.Seq.{sets}
 use Rattle.model.specs.Text.{Bytes}
-use Rattle.output.specs.declared.Out.{Out}
 
--- what stands in the slice, and the cursor
+-- what stands in the slice, and the place of the next byte
 pub record Page : Type 0 where
   pub bytes : Bytes
-  pub out : Out
+  pub out : ℕ
 
-abbrev pub on : Bytes → Out → Page
+abbrev pub on : Bytes → ℕ → Page
 on p o = record { bytes = p; out = o }
 
--- a cursor at the start, which writes or only counts
-abbrev pub start : Bool → Out
-start l = record { at = 0; live = l }
+-- the largest cursor, which stands for itself and all that is more
+abbrev pub most : ℕ
+most = 18446744073709551615
 
--- one byte: it is stored if the cursor is live and inside the slice; the cursor goes on by one, and no further than one behind the slice's end
-unfoldable pub step : ℕ → Page → Page
-step b g =
-    record {
-      bytes = cond (g .out .live) (set (g .bytes) (g .out .at) b) (g .bytes);
-      out = record { at = min (g .out .at + 1) (length (g .bytes) + 1); live = g .out .live };
-    }
+-- n bytes more are inside the slice
+pub record Fits (n : ℕ) (g : Page) : Type 0 where
+  pub inside : g .out + n ≤ length (g .bytes)
+  pub small : g .out + n < most
 
--- a text, byte by byte
-unfoldable pub put : Bytes → Page → Page
-put [] g = g
-put (b ∷ t) g = put t (step b g)
-
--- the contract of every writer: putting the text t takes the page g to g′
+-- the contract of every writer, by which the text t takes the page g to g′: the cursor goes on by the text's length, up to `most`, and a text that fits is stored. What one that does not fit leaves inside the slice is not promised.
 pub record Puts (t : Bytes) (g g′ : Page) : Type 0 where
-  pub is : g′ ≡ put t g
+  pub long : length (g′ .bytes) ≡ length (g .bytes)
+  pub next : min (g′ .out) most ≡ min (g .out + length t) most
+  pub stored : Fits (length t) g → g′ .bytes ≡ sets (g .bytes) (g .out) t

@@ -1,71 +1,164 @@
-// Bytes into a lent slice, in two passes over the same code: the first counts, the second writes.
+// Bytes into a lent slice. A text that does not fit is only counted, so that the same code measures, on an empty part of a slice, and writes.
 ghost use mathlib.Core.Path.{_≡_};
 ghost use mathlib.Core.List.{[], _∷_};
-ghost use Prim.Native.Nat.{_<_};
+ghost use Prim.Native.Nat.{_+_, _<_, _≤_, min};
 ghost use lib.IntN.{natAbs};
-ghost use Rattle.model.specs.Text.{digits, decimal, signed, hexDigit, hexDigits};
-ghost use Rattle.output.specs.Page.{on, Puts};
+ghost use lib.ListN.{length};
+ghost use lib.Seq.{sets};
+ghost use Rattle.model.specs.Text.{decimal, signed, hexDigit, hexDigits};
+ghost use Rattle.output.specs.Page.{most, on, Puts};
+ghost use Rattle.output.specs.Wide.{Counted, tens, sixteens};
 
-// A cursor: the place of the next byte, and whether bytes are written or only counted.
-pub struct Out {
-    pub at: usize,
-    pub live: bool,
+// The cursor behind n bytes more. It stays at the largest number, so that no count overflows.
+pub fn more(at: usize, n: usize) -> usize
+    ensures { λ r. ⌜ r ≡ min (at + n) most ⌝ }
+{
+    if 18446744073709551615 - at < n {
+        return 18446744073709551615;
+    }
+    at + n
 }
 
-// One byte. Behind the slice's end nothing is written, and the cursor stays one behind it, so that no place overflows.
-pub fn put_byte(plan: &mut [u8], out: Out, b: u8) -> Out
+// One byte.
+pub fn put_byte(plan: &mut [u8], out: usize, b: u8) -> usize
     ensures { λ r. ⌜ Puts (b ∷ []) (on (now (plan .entry)) out) (on (now (plan .exit)) r) ⌝ }
 {
-    let at = out.at;
-    let live = out.live;
-    if at < plan.len() {
-        let next = at + 1;
-        if live {
-            plan[at] = b;
-            Out { at: next, live }
-        } else {
-            Out { at: next, live }
-        }
-    } else {
-        let past = plan.len() + 1;
-        Out { at: past, live }
+    let end = more(out, 1);
+    if plan.len() < end {
+        return end;
+    }
+    plan[out] = b;
+    end
+}
+
+// A whole slice, inside the other.
+fn store_part(plan: &mut [u8], at: usize, s: &[u8])
+    requires { ⌜ at + length (now s) ≤ length (now plan) ⌝ }
+    ensures { λ r. ⌜ now (plan .exit) ≡ sets (now (plan .entry)) at (now (s .entry)) ⌝ }
+{
+    let mut i = 0;
+    while i < s.len() {
+        plan[at + i] = s[i];
+        i += 1;
     }
 }
 
 // A whole byte slice: a part of the sheet, or a byte string.
-pub fn put_part(plan: &mut [u8], out: Out, s: &[u8]) -> Out
+pub fn put_part(plan: &mut [u8], out: usize, s: &[u8]) -> usize
     ensures { λ r. ⌜ Puts (now (s .entry)) (on (now (plan .entry)) out) (on (now (plan .exit)) r) ⌝ }
 {
-    let mut o = out;
-    let mut i = 0;
-    while i < s.len() {
-        o = put_byte(plan, o, s[i]);
-        i += 1;
+    let end = more(out, s.len());
+    if plan.len() < end {
+        return end;
     }
-    o
+    store_part(plan, out, s);
+    end
 }
 
-// The last decimal digits of n, at most `left` of them, with no spare zero.
-fn put_digits(plan: &mut [u8], out: Out, n: u64, left: usize) -> Out
-    ensures { λ r. ⌜ Puts (digits left n) (on (now (plan .entry)) out) (on (now (plan .exit)) r) ⌝ }
+// How many decimal digits a number has.
+fn count(n: u64) -> usize
+    ensures { λ r. ⌜ Counted n r ⌝ }
 {
-    if left == 0 {
-        return out;
-    }
     if n < 10 {
-        let only = n as u8;
-        return put_byte(plan, out, 48 + only);
+        return 1;
     }
-    let o = put_digits(plan, out, n / 10, left - 1);
-    let last = (n % 10) as u8;
-    put_byte(plan, o, 48 + last)
+    if n < 100 {
+        return 2;
+    }
+    if n < 1000 {
+        return 3;
+    }
+    if n < 10000 {
+        return 4;
+    }
+    if n < 100000 {
+        return 5;
+    }
+    if n < 1000000 {
+        return 6;
+    }
+    if n < 10000000 {
+        return 7;
+    }
+    if n < 100000000 {
+        return 8;
+    }
+    if n < 1000000000 {
+        return 9;
+    }
+    if n < 10000000000 {
+        return 10;
+    }
+    if n < 100000000000 {
+        return 11;
+    }
+    if n < 1000000000000 {
+        return 12;
+    }
+    if n < 10000000000000 {
+        return 13;
+    }
+    if n < 100000000000000 {
+        return 14;
+    }
+    if n < 1000000000000000 {
+        return 15;
+    }
+    if n < 10000000000000000 {
+        return 16;
+    }
+    if n < 100000000000000000 {
+        return 17;
+    }
+    if n < 1000000000000000000 {
+        return 18;
+    }
+    if n < 10000000000000000000 {
+        return 19;
+    }
+    20
 }
 
-// A number of 64 bits has 20 digits at most.
-pub fn put_decimal(plan: &mut [u8], out: Out, n: u64) -> Out
+// The last d decimal digits of n, inside the slice.
+fn store_digits(plan: &mut [u8], at: usize, n: u64, d: usize)
+    requires { ⌜ at + d ≤ length (now plan) ⌝ }
+    ensures { λ r. ⌜ now (plan .exit) ≡ sets (now (plan .entry)) at (tens d n) ⌝ }
+{
+    let mut v = n;
+    let mut k = d;
+    while k != 0 {
+        k -= 1;
+        let last = (v % 10) as u8;
+        plan[at + k] = 48 + last;
+        v = v / 10;
+    }
+}
+
+// A number.
+pub fn put_decimal(plan: &mut [u8], out: usize, n: u64) -> usize
     ensures { λ r. ⌜ Puts (decimal n) (on (now (plan .entry)) out) (on (now (plan .exit)) r) ⌝ }
 {
-    put_digits(plan, out, n, 20)
+    let d = count(n);
+    let end = more(out, d);
+    if plan.len() < end {
+        return end;
+    }
+    store_digits(plan, out, n, d);
+    end
+}
+
+// A number behind a tab.
+pub fn put_tabbed(plan: &mut [u8], out: usize, n: u64) -> usize
+    ensures { λ r. ⌜ Puts (9 ∷ decimal n) (on (now (plan .entry)) out) (on (now (plan .exit)) r) ⌝ }
+{
+    let d = count(n);
+    let end = more(out, d + 1);
+    if plan.len() < end {
+        return end;
+    }
+    plan[out] = 9;
+    store_digits(plan, out + 1, n, d);
+    end
 }
 
 // How far n is from 0; the least number, too, since one is added only behind the cast.
@@ -81,7 +174,7 @@ fn magnitude(n: i64) -> u64
 }
 
 // A signed number: a minus sign before the magnitude of one that is less than 0.
-pub fn put_signed(plan: &mut [u8], out: Out, n: i64) -> Out
+pub fn put_signed(plan: &mut [u8], out: usize, n: i64) -> usize
     ensures { λ r. ⌜ Puts (signed n) (on (now (plan .entry)) out) (on (now (plan .exit)) r) ⌝ }
 {
     let m = magnitude(n);
@@ -100,22 +193,29 @@ fn hex_digit(d: u8) -> u8
     if d < 10 { 48 + d } else { 87 + d }
 }
 
-// The last `left` hexadecimal digits of n.
-fn put_hex_digits(plan: &mut [u8], out: Out, n: u64, left: usize) -> Out
-    ensures { λ r. ⌜ Puts (hexDigits left n) (on (now (plan .entry)) out) (on (now (plan .exit)) r) ⌝ }
+// The last 16 hexadecimal digits of n, inside the slice.
+fn store_hex(plan: &mut [u8], at: usize, n: u64)
+    requires { ⌜ at + 16 ≤ length (now plan) ⌝ }
+    ensures { λ r. ⌜ now (plan .exit) ≡ sets (now (plan .entry)) at (sixteens 16 n) ⌝ }
 {
-    if left == 0 {
-        return out;
+    let mut v = n;
+    let mut k = 16;
+    while k != 0 {
+        k -= 1;
+        let last = (v % 16) as u8;
+        plan[at + k] = hex_digit(last);
+        v = v / 16;
     }
-    let o = put_hex_digits(plan, out, n / 16, left - 1);
-    let last = (n % 16) as u8;
-    let b = hex_digit(last);
-    put_byte(plan, o, b)
 }
 
 // All 64 bits, in 16 hexadecimal digits.
-pub fn put_hex(plan: &mut [u8], out: Out, n: u64) -> Out
+pub fn put_hex(plan: &mut [u8], out: usize, n: u64) -> usize
     ensures { λ r. ⌜ Puts (hexDigits 16 n) (on (now (plan .entry)) out) (on (now (plan .exit)) r) ⌝ }
 {
-    put_hex_digits(plan, out, n, 16)
+    let end = more(out, 16);
+    if plan.len() < end {
+        return end;
+    }
+    store_hex(plan, out, n);
+    end
 }

@@ -1,16 +1,18 @@
--- The keywords as numbers, and their bytes put one by one. Assumes nothing: every law is proved.
-use mathlib.Core.Path.{_≡_, refl}
-use Prim.Native.Nat.{ℕ, zero, suc, _/_, _%_, _<_}
+-- The keywords as numbers, and their bytes stored one by one. Assumes nothing: every law is proved.
+use mathlib.Core.Path.{_≡_, refl, sym, ap, _∙_}
+use Prim.Native.Nat.{ℕ, zero, suc, _+_, _/_, _%_, _<_, _≤_}
 use native.Mathlib.Omega.{arith}
 use mathlib.Core.Bool.{Bool}
-use mathlib.Core.List.{[], _∷_}
-use lib.ListN.{getD}
+use mathlib.Core.List.{[], _∷_, _++_, append-nil, append-assoc}
+use lib.ListN.{length, set, getD, length-append, length-set}
+use lib.Seq.{sets}
 use borrow.Author.Tests.{eq-eqb, ne-eqb}
-use Rattle.model.specs.Text.{bytes, bytesFrom, same, sameBy}
+use Rattle.model.specs.Text.{Bytes, bytes, bytesFrom, same, sameBy}
 use Rattle.laws.specs.TextLaws.{same-sound}
 use Rattle.line.specs.TableLaws.{passesTo, passes-at}
 use Rattle.output.specs.Page.{Page, Puts}
-use Rattle.output.specs.Writes.{stay, _⨾_}
+use Rattle.output.specs.Writes.{sets-append}
+use Rattle.output.specs.Wide.{power}
 use Rattle.plan_line.specs.Keywords.{word, letters, numbers, unpacked}
 
 -- ── numbers ──
@@ -29,31 +31,84 @@ abbrev Bytewise : ℕ → ℕ → Type 0
 Bytewise zero v = v ≡ 0
 Bytewise (suc n) v = Bytewise n (v / 256)
 
--- the bytes of w are put but for those of v
-pub record Unpacking (w v : ℕ) (g h : Page) : Type 0 where
+-- how many there are
+none-unpacked : (k : ℕ) → unpacked k 0 ≡ []
+unfolding unpacked
+none-unpacked zero = refl
+none-unpacked (suc k) = refl
+
+unpacked-long : (k d w : ℕ) → d < k → power 256 d ≤ w → w < power 256 (suc d) → length (unpacked k w) ≡ suc d
+unfolding unpacked
+unpacked-long zero d w few low high = absurd (omega arith)
+unpacked-long (suc k) zero w few low high =
+    let z : w / 256 ≡ 0 = omega arith in
+    rw (ne-eqb w 0 (λ e. omega arith), z, none-unpacked k)
+unpacked-long (suc k) (suc d) w few low high =
+    let some = power-some d in
+    rw (ne-eqb w 0 (λ e. omega arith)) (ap suc (unpacked-long k d (w / 256) (omega arith) (omega arith) (omega arith)))
+  where
+    power-some : (d : ℕ) → 0 < power 256 d
+    power-some zero = omega arith
+    power-some (suc d) = let h = power-some d in omega arith
+
+pub no-bytes : {w : ℕ} → w ≡ 0 → 0 ≡ length (unpacked 8 w)
+no-bytes e = rw (e, none-unpacked 8)
+
+pub so-many : (d : ℕ) {w : ℕ} → d < 8 → power 256 d ≤ w → w < power 256 (suc d) → suc d ≡ length (unpacked 8 w)
+so-many d {w} few low high = sym (unpacked-long 8 d w few low high)
+
+-- the bytes of w are stored but for those of v
+pub record Unpacking (w : ℕ) (p : Bytes) (at k v : ℕ) (q : Bytes) : Type 0 where
   pub left : ℕ
   pub few : Bytewise left v
-  pub rest : (i : Page) → Puts (unpacked left v) h i → Puts (unpacked 8 w) g i
+  pub done : Bytes
+  pub text : done ++ unpacked left v ≡ unpacked 8 w
+  pub here : k ≡ at + length done
+  pub page : q ≡ sets p at done
+  pub long : length q ≡ length p
+  pub low : k ≤ length p
 
-pub unpack-start : (w : ℕ) {g : Page} → w < 18446744073709551616 → Unpacking w w g g
-unpack-start w h = record { left = 8; few = omega arith; rest = λ i p. p }
+pub unpack-start : (w : ℕ) {p : Bytes} {at : ℕ} → w < 18446744073709551616 → at ≤ length p → Unpacking w p at at w p
+unpack-start w h l = record { left = 8; few = omega arith; done = []; text = refl; here = omega arith; page = refl; long = refl; low = l }
 
-module _ {w v : ℕ} {g h : Page} (u : Unpacking w v g h) where
-  pub unpack-more : (v ≡ 0 → ⊥) → {i : Page} → Puts (v % 256 ∷ []) h i → Unpacking w (v / 256) g i
+module _ {w : ℕ} {p : Bytes} {at k v : ℕ} {q : Bytes} (u : Unpacking w p at k v q) where
+  -- there is room for the next
+  pub unpack-room : (v ≡ 0 → ⊥) → at + length (unpacked 8 w) ≤ length p → k < length q
   unfolding unpacked
-  unpack-more b {i} p = go (u .left) (u .few) (u .rest)
+  unpack-room b fits = go (u .left) (u .few) (u .text)
     where
-      go : (n : ℕ) → Bytewise n v → ((j : Page) → Puts (unpacked n v) h j → Puts (unpacked 8 w) g j) → Unpacking w (v / 256) g i
-      go zero f r = absurd (b f)
-      go (suc n) f r = record { left = n; few = f; rest = λ j q. r j (rw (ne-eqb v 0 b) (p ⨾ q)) }
+      go : (n : ℕ) → Bytewise n v → u .done ++ unpacked n v ≡ unpacked 8 w → k < length q
+      go zero f t = absurd (b f)
+      go (suc n) f t =
+          let e : u .done ++ (v % 256 ∷ unpacked n (v / 256)) ≡ unpacked 8 w = rw (ne-eqb v 0 b) at t in
+          let l = ap length e in
+          let m = length-append (u .done) (v % 256 ∷ unpacked n (v / 256)) in
+          let here = u .here in
+          let long = u .long in
+          omega arith
 
-  pub unpack-done : v ≡ 0 → Puts (unpacked 8 w) g h
+  pub unpack-more : (v ≡ 0 → ⊥) → at + length (unpacked 8 w) ≤ length p → Unpacking w p at (k + 1) (v / 256) (set q k (v % 256))
   unfolding unpacked
-  unpack-done e = u .rest h (go (u .left))
+  unpack-more b fits = go (u .left) (u .few) (u .text)
     where
-      go : (n : ℕ) → Puts (unpacked n v) h h
-      go zero = stay
-      go (suc n) = rw (eq-eqb v 0 e) stay
+      go : (n : ℕ) → Bytewise n v → u .done ++ unpacked n v ≡ unpacked 8 w → Unpacking w p at (k + 1) (v / 256) (set q k (v % 256))
+      go zero f t = absurd (b f)
+      go (suc n) f t =
+          record {
+            left = n;
+            few = f;
+            done = u .done ++ (v % 256 ∷ []);
+            text = append-assoc (u .done) (v % 256 ∷ []) (unpacked n (v / 256)) ∙ rw (ne-eqb v 0 b) at t;
+            here = let l = length-append (u .done) (v % 256 ∷ []) in let here = u .here in omega arith;
+            page = rw (sets-append (u .done) (v % 256 ∷ []) p at, u .page, u .here);
+            long = length-set q k (v % 256) ∙ u .long;
+            low = let room = unpack-room b fits in let long = u .long in omega arith;
+          }
+
+  pub unpack-done : v ≡ 0 → q ≡ sets p at (unpacked 8 w)
+  unpack-done e =
+      let t : u .done ++ unpacked (u .left) 0 ≡ unpacked 8 w = rw e at (u .text) in
+      u .page ∙ ap (sets p at) (sym (append-nil (u .done)) ∙ rw (none-unpacked (u .left)) at t)
 
 -- the bytes of a keyword's number are the keyword
 pub put-word : {g h : Page} (k w : ℕ) → k < 46 → w ≡ getD numbers k 0 → Puts (unpacked 8 w) g h → Puts (word k) g h

@@ -13,7 +13,6 @@ ghost use Rattle.line.specs.Table.{formOf, formsAt};
 ghost use Rattle.plan_line.specs.Keywords.{word};
 ghost use Rattle.plan_line.specs.Field.{plain, fieldText, fieldsText, Fielded, lineText};
 use line::table::form_code;
-use output::Out;
 
 // The 64 bits of two words.
 fn bits(low: u32, high: u32) -> u64
@@ -36,15 +35,14 @@ fn signed_of(low: u32, high: u32) -> i64
 }
 
 // A number.
-pub fn put_number(plan: &mut [u8], out: Out, n: u32) -> Out
+pub fn put_number(plan: &mut [u8], out: usize, n: u32) -> usize
     ensures { λ r. ⌜ Puts (9 ∷ decimal n) (on (now (plan .entry)) out) (on (now (plan .exit)) r) ⌝ }
 {
-    let o = output::put_byte(plan, out, 9);
-    output::put_decimal(plan, o, n as u64)
+    output::put_tabbed(plan, out, n as u64)
 }
 
 // A signed number.
-fn put_int(plan: &mut [u8], out: Out, low: u32, high: u32) -> Out
+fn put_int(plan: &mut [u8], out: usize, low: u32, high: u32) -> usize
     ensures { λ r. ⌜ Puts (9 ∷ signed (intOf low high)) (on (now (plan .entry)) out) (on (now (plan .exit)) r) ⌝ }
 {
     let n = signed_of(low, high);
@@ -53,7 +51,7 @@ fn put_int(plan: &mut [u8], out: Out, low: u32, high: u32) -> Out
 }
 
 // The bits of a float.
-fn put_float(plan: &mut [u8], out: Out, low: u32, high: u32) -> Out
+fn put_float(plan: &mut [u8], out: usize, low: u32, high: u32) -> usize
     ensures { λ r. ⌜ Puts (9 ∷ hexDigits 16 (high * 4294967296 + low)) (on (now (plan .entry)) out) (on (now (plan .exit)) r) ⌝ }
 {
     let n = bits(low, high);
@@ -62,7 +60,7 @@ fn put_float(plan: &mut [u8], out: Out, low: u32, high: u32) -> Out
 }
 
 // A part of the sheet, which is spelled there as it is here.
-pub fn put_text(plan: &mut [u8], out: Out, sheet: &[u8], x: u32, y: u32) -> Out
+pub fn put_text(plan: &mut [u8], out: usize, sheet: &[u8], x: u32, y: u32) -> usize
     requires { ⌜ (x ≤ y) × (y ≤ length (now sheet)) ⌝ }
     ensures { λ r. ⌜ Puts (9 ∷ slice x y (now (sheet .entry))) (on (now (plan .entry)) out) (on (now (plan .exit)) r) ⌝ }
 {
@@ -71,7 +69,7 @@ pub fn put_text(plan: &mut [u8], out: Out, sheet: &[u8], x: u32, y: u32) -> Out
 }
 
 // A field by the code of its form: a flag is spelled as a number is.
-fn put_field(plan: &mut [u8], out: Out, sheet: &[u8], code: u32, x: u32, y: u32) -> Out
+fn put_field(plan: &mut [u8], out: usize, sheet: &[u8], code: u32, x: u32, y: u32) -> usize
     requires { ⌜ Flag (formOf code) x ⌝ }
     requires { ⌜ Text (formOf code) (now sheet) x y ⌝ }
     requires { ⌜ plain (formOf code) ≡ true ⌝ }
@@ -89,13 +87,13 @@ fn put_field(plan: &mut [u8], out: Out, sheet: &[u8], code: u32, x: u32, y: u32)
 // The fields of record i, by the table's row of its kind.
 pub fn put_fields(
     plan: &mut [u8],
-    out: Out,
+    out: usize,
     sheet: &[u8],
     a: &[u32],
     b: &[u32],
     i: usize,
     kind: usize,
-) -> Out
+) -> usize
     requires { ⌜ Roomy (now a) (now b) ⌝ }
     requires { ⌜ (i < 2048) × Fielded (now sheet) (now a) (now b) i kind ⌝ }
     ensures { λ r. ⌜ Puts (fieldsText (formsAt kind) (now (sheet .entry)) (part (now (a .entry)) (now (b .entry)) i) 0) (on (now (plan .entry)) out) (on (now (plan .exit)) r) ⌝ }
@@ -116,14 +114,14 @@ pub fn put_fields(
 // A whole line: keyword k, and the fields of record i.
 pub fn put_line(
     plan: &mut [u8],
-    out: Out,
+    out: usize,
     sheet: &[u8],
     a: &[u32],
     b: &[u32],
     i: usize,
     kind: usize,
     k: usize,
-) -> Out
+) -> usize
     requires { ⌜ Roomy (now a) (now b) ⌝ }
     requires { ⌜ (i < 2048) × Fielded (now sheet) (now a) (now b) i kind ⌝ }
     requires { ⌜ k < 46 ⌝ }

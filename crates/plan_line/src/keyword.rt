@@ -1,11 +1,10 @@
 // The keywords of the plan sheet.
 ghost use mathlib.Core.Path.{_≡_};
-ghost use Prim.Native.Nat.{_<_, _≤_};
+ghost use Prim.Native.Nat.{_+_, _<_, _≤_};
 ghost use lib.ListN.{length, getD};
-ghost use lib.Seq.{slice};
+ghost use lib.Seq.{slice, sets};
 ghost use Rattle.output.specs.Page.{on, Puts};
 ghost use Rattle.plan_line.specs.Keywords.{word, numbers, unpacked};
-use output::Out;
 
 // Keyword k as one number, its first byte the lowest. A number and no byte string, since the compiler writes a byte string anew at each use and reads the arms of a match from constant data.
 fn keyword_number(k: usize) -> u64
@@ -62,22 +61,65 @@ fn keyword_number(k: usize) -> u64
     }
 }
 
-// The bytes of a number from the lowest on, up to a 0.
-fn put_packed(plan: &mut [u8], out: Out, w: u64) -> Out
-    ensures { λ r. ⌜ Puts (unpacked 8 w) (on (now (plan .entry)) out) (on (now (plan .exit)) r) ⌝ }
+// How many bytes a number has.
+fn packed_count(w: u64) -> usize
+    ensures { λ r. ⌜ r ≡ length (unpacked 8 w) ⌝ }
 {
-    let mut o = out;
+    if w == 0 {
+        return 0;
+    }
+    if w < 256 {
+        return 1;
+    }
+    if w < 65536 {
+        return 2;
+    }
+    if w < 16777216 {
+        return 3;
+    }
+    if w < 4294967296 {
+        return 4;
+    }
+    if w < 1099511627776 {
+        return 5;
+    }
+    if w < 281474976710656 {
+        return 6;
+    }
+    if w < 72057594037927936 {
+        return 7;
+    }
+    8
+}
+
+// The bytes of a number from the lowest on, up to a 0, inside the slice.
+fn store_packed(plan: &mut [u8], at: usize, w: u64)
+    requires { ⌜ at + length (unpacked 8 w) ≤ length (now plan) ⌝ }
+    ensures { λ r. ⌜ now (plan .exit) ≡ sets (now (plan .entry)) at (unpacked 8 w) ⌝ }
+{
+    let mut k = at;
     let mut v = w;
     while v != 0 {
-        let b = (v % 256) as u8;
-        o = output::put_byte(plan, o, b);
+        plan[k] = (v % 256) as u8;
+        k += 1;
         v = v / 256;
     }
-    o
+}
+
+// The bytes of a number from the lowest on, up to a 0.
+fn put_packed(plan: &mut [u8], out: usize, w: u64) -> usize
+    ensures { λ r. ⌜ Puts (unpacked 8 w) (on (now (plan .entry)) out) (on (now (plan .exit)) r) ⌝ }
+{
+    let end = output::more(out, packed_count(w));
+    if plan.len() < end {
+        return end;
+    }
+    store_packed(plan, out, w);
+    end
 }
 
 // The bytes of s from one place up to another.
-pub fn put_within(plan: &mut [u8], out: Out, s: &[u8], from: usize, to: usize) -> Out
+pub fn put_within(plan: &mut [u8], out: usize, s: &[u8], from: usize, to: usize) -> usize
     requires { ⌜ (from ≤ to) × (to ≤ length (now s)) ⌝ }
     ensures { λ r. ⌜ Puts (slice from to (now (s .entry))) (on (now (plan .entry)) out) (on (now (plan .exit)) r) ⌝ }
 {
@@ -85,7 +127,7 @@ pub fn put_within(plan: &mut [u8], out: Out, s: &[u8], from: usize, to: usize) -
 }
 
 // Keyword k.
-pub fn put_keyword(plan: &mut [u8], out: Out, k: usize) -> Out
+pub fn put_keyword(plan: &mut [u8], out: usize, k: usize) -> usize
     requires { ⌜ k < 46 ⌝ }
     ensures { λ r. ⌜ Puts (word k) (on (now (plan .entry)) out) (on (now (plan .exit)) r) ⌝ }
 {

@@ -7,10 +7,9 @@ ghost use lib.Seq.{slice};
 ghost use Rattle.model.specs.Text.{decimal};
 ghost use Rattle.output.specs.Page.{on, Puts};
 ghost use Rattle.plan_line.specs.Row.{numbersText, rowText, namedText};
-use output::Out;
 
 // A number, if there is one.
-fn put_if(plan: &mut [u8], out: Out, there: bool, n: u32) -> Out
+fn put_if(plan: &mut [u8], out: usize, there: bool, n: u32) -> usize
     ensures { λ r. ⌜ Puts (cond there (9 ∷ decimal n) []) (on (now (plan .entry)) out) (on (now (plan .exit)) r) ⌝ }
 {
     if there {
@@ -22,14 +21,14 @@ fn put_if(plan: &mut [u8], out: Out, there: bool, n: u32) -> Out
 // The first of five numbers, as many as there are.
 pub fn put_numbers(
     plan: &mut [u8],
-    out: Out,
+    out: usize,
     many: usize,
     x: u32,
     y: u32,
     z: u32,
     u: u32,
     v: u32,
-) -> Out
+) -> usize
     requires { ⌜ many ≤ 5 ⌝ }
     ensures { λ r. ⌜ Puts (numbersText (take many (x ∷ y ∷ z ∷ u ∷ v ∷ []))) (on (now (plan .entry)) out) (on (now (plan .exit)) r) ⌝ }
 {
@@ -43,7 +42,7 @@ pub fn put_numbers(
 // Keyword k and numbers.
 pub fn put_row(
     plan: &mut [u8],
-    out: Out,
+    out: usize,
     k: usize,
     many: usize,
     x: u32,
@@ -51,7 +50,7 @@ pub fn put_row(
     z: u32,
     u: u32,
     v: u32,
-) -> Out
+) -> usize
     requires { ⌜ (k < 46) × (many ≤ 5) ⌝ }
     ensures { λ r. ⌜ Puts (rowText k (take many (x ∷ y ∷ z ∷ u ∷ v ∷ []))) (on (now (plan .entry)) out) (on (now (plan .exit)) r) ⌝ }
 {
@@ -63,7 +62,7 @@ pub fn put_row(
 // Keyword k, a part of the sheet, and numbers.
 pub fn put_named(
     plan: &mut [u8],
-    out: Out,
+    out: usize,
     k: usize,
     sheet: &[u8],
     s: u32,
@@ -71,7 +70,7 @@ pub fn put_named(
     many: usize,
     x: u32,
     y: u32,
-) -> Out
+) -> usize
     requires { ⌜ (k < 46) × (many ≤ 2) ⌝ }
     requires { ⌜ (s ≤ e) × (e ≤ length (now sheet)) ⌝ }
     ensures { λ r. ⌜ Puts (namedText k (slice s e (now (sheet .entry))) (take many (x ∷ y ∷ []))) (on (now (plan .entry)) out) (on (now (plan .exit)) r) ⌝ }

@@ -11,7 +11,6 @@ use cases::text::put_times;
 use libc::STDOUT_FILENO;
 use list::LIST;
 use list::MORE;
-use output::Out;
 use record::Decimal;
 use record::number::decimal;
 use statement::lowering::lower_statement;
@@ -64,7 +63,7 @@ fn show_within(
     if n > plan.len() {
         return;
     }
-    put_times(plan, Out { at: 0, live: true }, b"#", bytes);
+    put_times(plan, 0, b"#", bytes);
     show(label, sheet, a, b, c, d, &mut plan[0..n]);
 }
 

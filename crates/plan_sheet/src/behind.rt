@@ -7,7 +7,6 @@ ghost use Rattle.words.specs.Words.{Roomy};
 ghost use Rattle.plan_sheet.specs.Due.{wordsOf};
 ghost use Rattle.plan_sheet.specs.Behind.{manyOf, firstOf, Yields, WroteYields, SomeTail, WroteTail};
 use crate::op::OpWords;
-use output::Out;
 
 // How many expressions an operator has.
 pub fn many_of(a: &[u32], b: &[u32], w: OpWords) -> usize
@@ -52,7 +51,7 @@ pub fn first_of(w: OpWords) -> usize
 // The n yields from record i on, with the numbers that are noted at them.
 fn put_yields(
     plan: &mut [u8],
-    out: Out,
+    out: usize,
     sheet: &[u8],
     a: &[u32],
     b: &[u32],
@@ -60,7 +59,7 @@ fn put_yields(
     base: usize,
     i: usize,
     n: usize,
-) -> Out
+) -> usize
     requires { ⌜ Roomy (now a) (now b) ⌝ }
     requires { ⌜ (16384 ≤ length (now rest)) × (base ≤ 2048) ⌝ }
     requires { ⌜ Yields (now sheet) (now a) (now b) n i ⌝ }
@@ -83,14 +82,14 @@ fn put_yields(
 // What is behind the expressions of an operator, from record i on.
 pub fn put_tail(
     plan: &mut [u8],
-    out: Out,
+    out: usize,
     sheet: &[u8],
     a: &[u32],
     b: &[u32],
     rest: &[u32],
     w: OpWords,
     i: usize,
-) -> Out
+) -> usize
     requires { ⌜ Roomy (now a) (now b) ⌝ }
     requires { ⌜ (16384 ≤ length (now rest)) × (w .base ≤ 2048) × (w .idx < 2048) ⌝ }
     requires { ⌜ SomeTail (now sheet) (now a) (now b) (now rest) (wordsOf w) i ⌝ }

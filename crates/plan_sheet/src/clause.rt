@@ -9,10 +9,9 @@ ghost use Rattle.words.specs.Words.{Roomy, cell, optionOf};
 ghost use Rattle.plan_sheet.specs.Due.{wordsOf, OpShown, WroteFirst};
 ghost use Rattle.plan_line.specs.Row.{rowText, callText};
 use crate::op::OpWords;
-use output::Out;
 
 // A `with`: how many items it has, and whether it filters.
-fn put_with(plan: &mut [u8], out: Out, a: &[u32], b: &[u32], i: usize, input: u32) -> Out
+fn put_with(plan: &mut [u8], out: usize, a: &[u32], b: &[u32], i: usize, input: u32) -> usize
     requires { ⌜ Roomy (now a) (now b) ⌝ }
     requires { ⌜ i < 2048 ⌝ }
     ensures { λ r. ⌜ Puts (rowText 31 (input ∷ cell (now (a .entry)) (now (b .entry)) i 2 ∷ cell (now (a .entry)) (now (b .entry)) i 4 ∷ [])) (on (now (plan .entry)) out) (on (now (plan .exit)) r) ⌝ }
@@ -23,7 +22,7 @@ fn put_with(plan: &mut [u8], out: Out, a: &[u32], b: &[u32], i: usize, input: u3
 }
 
 // A `return`: how many items it has.
-fn put_project(plan: &mut [u8], out: Out, a: &[u32], b: &[u32], i: usize, input: u32) -> Out
+fn put_project(plan: &mut [u8], out: usize, a: &[u32], b: &[u32], i: usize, input: u32) -> usize
     requires { ⌜ Roomy (now a) (now b) ⌝ }
     requires { ⌜ i < 2048 ⌝ }
     ensures { λ r. ⌜ Puts (rowText 23 (input ∷ cell (now (a .entry)) (now (b .entry)) i 2 ∷ [])) (on (now (plan .entry)) out) (on (now (plan .exit)) r) ⌝ }
@@ -33,7 +32,7 @@ fn put_project(plan: &mut [u8], out: Out, a: &[u32], b: &[u32], i: usize, input:
 }
 
 // The input of a procedure, or that it has none.
-fn put_input(plan: &mut [u8], out: Out, there: u32, input: u32) -> Out
+fn put_input(plan: &mut [u8], out: usize, there: u32, input: u32) -> usize
     ensures { λ r. ⌜ Puts (9 ∷ spellOption (optionOf there input)) (on (now (plan .entry)) out) (on (now (plan .exit)) r) ⌝ }
 {
     if there == 0 {
@@ -46,14 +45,14 @@ fn put_input(plan: &mut [u8], out: Out, there: u32, input: u32) -> Out
 // A `call`: its input, its procedure's name, and the numbers of arguments and yields.
 fn put_procedure(
     plan: &mut [u8],
-    out: Out,
+    out: usize,
     sheet: &[u8],
     a: &[u32],
     b: &[u32],
     i: usize,
     there: u32,
     input: u32,
-) -> Out
+) -> usize
     requires { ⌜ Roomy (now a) (now b) ⌝ }
     requires { ⌜ i < 2048 ⌝ }
     requires { ⌜ (cell (now a) (now b) i 2 ≤ cell (now a) (now b) i 3) × (cell (now a) (now b) i 3 ≤ length (now sheet)) ⌝ }
@@ -74,13 +73,13 @@ fn put_procedure(
 // The first line of an operator of kind 6 or more.
 pub fn put_clause_op(
     plan: &mut [u8],
-    out: Out,
+    out: usize,
     sheet: &[u8],
     a: &[u32],
     b: &[u32],
     rest: &[u32],
     w: OpWords,
-) -> Out
+) -> usize
     requires { ⌜ Roomy (now a) (now b) ⌝ }
     requires { ⌜ 5 < w .kind ⌝ }
     requires { ⌜ OpShown (now sheet) (now a) (now b) (now rest) (wordsOf w) ⌝ }

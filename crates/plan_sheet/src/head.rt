@@ -9,12 +9,11 @@ ghost use Rattle.output.specs.Page.{on, Puts};
 ghost use Rattle.words.specs.Words.{Roomy, cell};
 ghost use Rattle.plan_line.specs.Row.{rowText, namedText};
 ghost use Rattle.plan_sheet.specs.Due.{exprHead, ExprAt, SomeLine, WroteLine};
-use output::Out;
 
 // Where the text ended, and the record behind what was written.
 pub struct Wrote {
     pub next: usize,
-    pub out: Out,
+    pub out: usize,
 }
 
 // What is noted at a place.
@@ -26,7 +25,7 @@ pub fn note(rest: &[u32], at: usize) -> u32
 }
 
 // A function's name and how many arguments it has.
-fn put_call(plan: &mut [u8], out: Out, sheet: &[u8], a: &[u32], b: &[u32], i: usize) -> Out
+fn put_call(plan: &mut [u8], out: usize, sheet: &[u8], a: &[u32], b: &[u32], i: usize) -> usize
     requires { ⌜ Roomy (now a) (now b) ⌝ }
     requires { ⌜ i < 2048 ⌝ }
     requires { ⌜ (cell (now a) (now b) i 2 ≤ cell (now a) (now b) i 3) × (cell (now a) (now b) i 3 ≤ length (now sheet)) ⌝ }
@@ -39,7 +38,7 @@ fn put_call(plan: &mut [u8], out: Out, sheet: &[u8], a: &[u32], b: &[u32], i: us
 }
 
 // A list predicate, whose variable has the number n.
-fn put_any(plan: &mut [u8], out: Out, a: &[u32], b: &[u32], i: usize, n: u32) -> Out
+fn put_any(plan: &mut [u8], out: usize, a: &[u32], b: &[u32], i: usize, n: u32) -> usize
     requires { ⌜ Roomy (now a) (now b) ⌝ }
     requires { ⌜ i < 2048 ⌝ }
     ensures { λ r. ⌜ Puts (rowText 19 (cell (now (a .entry)) (now (b .entry)) i 2 ∷ n ∷ cell (now (a .entry)) (now (b .entry)) i 6 ∷ [])) (on (now (plan .entry)) out) (on (now (plan .exit)) r) ⌝ }
@@ -52,14 +51,14 @@ fn put_any(plan: &mut [u8], out: Out, a: &[u32], b: &[u32], i: usize, n: u32) ->
 // The first line of the expression at record i, at which the number n is noted.
 pub fn put_expr(
     plan: &mut [u8],
-    out: Out,
+    out: usize,
     sheet: &[u8],
     a: &[u32],
     b: &[u32],
     i: usize,
     kind: u32,
     n: u32,
-) -> Out
+) -> usize
     requires { ⌜ Roomy (now a) (now b) ⌝ }
     requires { ⌜ ExprAt (now sheet) (now a) (now b) i ⌝ }
     requires { ⌜ kind ≡ cell (now a) (now b) i 0 ⌝ }
@@ -81,7 +80,14 @@ pub fn put_expr(
 }
 
 // The line before an expression, if record i is one: a map's name, a sort key, or an item's name.
-pub fn put_before(plan: &mut [u8], out: Out, sheet: &[u8], a: &[u32], b: &[u32], i: usize) -> Wrote
+pub fn put_before(
+    plan: &mut [u8],
+    out: usize,
+    sheet: &[u8],
+    a: &[u32],
+    b: &[u32],
+    i: usize,
+) -> Wrote
     requires { ⌜ Roomy (now a) (now b) ⌝ }
     requires { ⌜ SomeLine (now sheet) (now a) (now b) i ⌝ }
     ensures { λ r. ⌜ WroteLine (now (sheet .entry)) (now (a .entry)) (now (b .entry)) i (on (now (plan .entry)) out) (r .next) (on (now (plan .exit)) (r .out)) ⌝ }

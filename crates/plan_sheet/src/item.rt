@@ -9,10 +9,9 @@ ghost use Rattle.output.specs.Page.{on, Puts};
 ghost use Rattle.words.specs.Words.{Roomy, cell};
 ghost use Rattle.plan_line.specs.Row.{namedText};
 ghost use Rattle.plan_sheet.specs.Due.{ExprAt, nameBy, ItemAt, namedRec, itemName};
-use output::Out;
 
 // The name that stands at words 2 and 3 of record i.
-fn put_own_name(plan: &mut [u8], out: Out, sheet: &[u8], a: &[u32], b: &[u32], i: usize) -> Out
+fn put_own_name(plan: &mut [u8], out: usize, sheet: &[u8], a: &[u32], b: &[u32], i: usize) -> usize
     requires { ⌜ Roomy (now a) (now b) ⌝ }
     requires { ⌜ i < 2048 ⌝ }
     requires { ⌜ (cell (now a) (now b) i 2 ≤ cell (now a) (now b) i 3) × (cell (now a) (now b) i 3 ≤ length (now sheet)) ⌝ }
@@ -24,7 +23,7 @@ fn put_own_name(plan: &mut [u8], out: Out, sheet: &[u8], a: &[u32], b: &[u32], i
 }
 
 // `_v` and a variable's id.
-fn put_id_name(plan: &mut [u8], out: Out, id: u32) -> Out
+fn put_id_name(plan: &mut [u8], out: usize, id: u32) -> usize
     ensures { λ r. ⌜ Puts (namedText 39 (95 ∷ 118 ∷ decimal id) []) (on (now (plan .entry)) out) (on (now (plan .exit)) r) ⌝ }
 {
     let o = plan_line::keyword::put_keyword(plan, out, 39);
@@ -36,7 +35,7 @@ fn put_id_name(plan: &mut [u8], out: Out, id: u32) -> Out
 }
 
 // `_` alone.
-fn put_no_name(plan: &mut [u8], out: Out) -> Out
+fn put_no_name(plan: &mut [u8], out: usize) -> usize
     ensures { λ r. ⌜ Puts (namedText 39 (95 ∷ []) []) (on (now (plan .entry)) out) (on (now (plan .exit)) r) ⌝ }
 {
     let o = plan_line::keyword::put_keyword(plan, out, 39);
@@ -46,7 +45,14 @@ fn put_no_name(plan: &mut [u8], out: Out) -> Out
 }
 
 // The name of an item without an alias, whose expression is at record i.
-fn put_synthesised(plan: &mut [u8], out: Out, sheet: &[u8], a: &[u32], b: &[u32], i: usize) -> Out
+fn put_synthesised(
+    plan: &mut [u8],
+    out: usize,
+    sheet: &[u8],
+    a: &[u32],
+    b: &[u32],
+    i: usize,
+) -> usize
     requires { ⌜ Roomy (now a) (now b) ⌝ }
     requires { ⌜ ExprAt (now sheet) (now a) (now b) i ⌝ }
     ensures { λ r. ⌜ ((h : ExprAt (now (sheet .entry)) (now (a .entry)) (now (b .entry)) i) → Puts (spellRec (namedRec (nameBy (h .kind) (h .fields)))) (on (now (plan .entry)) out) (on (now (plan .exit)) r)) ⌝ }
@@ -62,7 +68,7 @@ fn put_synthesised(plan: &mut [u8], out: Out, sheet: &[u8], a: &[u32], b: &[u32]
 }
 
 // The item at record i.
-pub fn put_item(plan: &mut [u8], out: Out, sheet: &[u8], a: &[u32], b: &[u32], i: usize) -> Out
+pub fn put_item(plan: &mut [u8], out: usize, sheet: &[u8], a: &[u32], b: &[u32], i: usize) -> usize
     requires { ⌜ Roomy (now a) (now b) ⌝ }
     requires { ⌜ ItemAt (now sheet) (now a) (now b) i ⌝ }
     ensures { λ r. ⌜ ((h : ItemAt (now (sheet .entry)) (now (a .entry)) (now (b .entry)) i) → Puts (spellRec (namedRec (itemName h))) (on (now (plan .entry)) out) (on (now (plan .exit)) r)) ⌝ }
@@ -75,7 +81,7 @@ pub fn put_item(plan: &mut [u8], out: Out, sheet: &[u8], a: &[u32], b: &[u32], i
 }
 
 // An aggregate: its function's name, how many arguments it has, and whether they are distinct.
-pub fn put_agg(plan: &mut [u8], out: Out, sheet: &[u8], a: &[u32], b: &[u32], i: usize) -> Out
+pub fn put_agg(plan: &mut [u8], out: usize, sheet: &[u8], a: &[u32], b: &[u32], i: usize) -> usize
     requires { ⌜ Roomy (now a) (now b) ⌝ }
     requires { ⌜ i < 2048 ⌝ }
     requires { ⌜ (cell (now a) (now b) i 2 ≤ cell (now a) (now b) i 3) × (cell (now a) (now b) i 3 ≤ length (now sheet)) ⌝ }

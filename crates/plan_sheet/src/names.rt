@@ -11,12 +11,11 @@ ghost use Rattle.lower.specs.Render.{specRec};
 ghost use Rattle.plan_sheet.specs.Due.{Names, namesRecs, ElementAt};
 ghost use Rattle.plan_line.specs.Row.{rowText, relText};
 use crate::head::Wrote;
-use output::Out;
 
 // The n names from record i on.
 pub fn put_names(
     plan: &mut [u8],
-    out: Out,
+    out: usize,
     sheet: &[u8],
     a: &[u32],
     b: &[u32],
@@ -39,7 +38,7 @@ pub fn put_names(
 }
 
 // A rel without its variable and its span.
-fn put_rel(plan: &mut [u8], out: Out, sheet: &[u8], a: &[u32], b: &[u32], i: usize) -> Out
+fn put_rel(plan: &mut [u8], out: usize, sheet: &[u8], a: &[u32], b: &[u32], i: usize) -> usize
     requires { ⌜ Roomy (now a) (now b) ⌝ }
     requires { ⌜ i < 2048 ⌝ }
     requires { ⌜ (cell (now a) (now b) i 8 ≤ cell (now a) (now b) i 9) × (cell (now a) (now b) i 9 ≤ length (now sheet)) ⌝ }
@@ -59,7 +58,7 @@ fn put_rel(plan: &mut [u8], out: Out, sheet: &[u8], a: &[u32], b: &[u32], i: usi
 }
 
 // A node without its variable and its span.
-fn put_node(plan: &mut [u8], out: Out, a: &[u32], b: &[u32], i: usize) -> Out
+fn put_node(plan: &mut [u8], out: usize, a: &[u32], b: &[u32], i: usize) -> usize
     requires { ⌜ Roomy (now a) (now b) ⌝ }
     requires { ⌜ i < 2048 ⌝ }
     ensures { λ r. ⌜ Puts (rowText 38 (cell (now (a .entry)) (now (b .entry)) i 4 ∷ cell (now (a .entry)) (now (b .entry)) i 6 ∷ [])) (on (now (plan .entry)) out) (on (now (plan .exit)) r) ⌝ }
@@ -72,13 +71,13 @@ fn put_node(plan: &mut [u8], out: Out, a: &[u32], b: &[u32], i: usize) -> Out
 // The element at record i, a node if it is of kind 12.
 pub fn put_element(
     plan: &mut [u8],
-    out: Out,
+    out: usize,
     sheet: &[u8],
     a: &[u32],
     b: &[u32],
     i: usize,
     kind: u32,
-) -> Out
+) -> usize
     requires { ⌜ Roomy (now a) (now b) ⌝ }
     requires { ⌜ ElementAt (now sheet) (now a) (now b) i ⌝ }
     requires { ⌜ kind ≡ cell (now a) (now b) i 0 ⌝ }

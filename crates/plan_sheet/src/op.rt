@@ -11,7 +11,6 @@ ghost use Rattle.words.specs.Words.{Roomy, cell};
 ghost use Rattle.context.specs.Tables.{opAt};
 ghost use Rattle.plan_sheet.specs.Due.{wordsOf, OpShown, WroteFirst};
 ghost use Rattle.plan_line.specs.Row.{rowText};
-use output::Out;
 
 // An operator's kind, record, input and two numbers, the depth left and the pass of its expressions.
 pub struct OpWords {
@@ -71,13 +70,13 @@ pub fn props_of(a: &[u32], b: &[u32], i: usize, kind: u32) -> usize
 // The first line of an expand, whose numbers are noted at the rel and its far node.
 fn put_expand(
     plan: &mut [u8],
-    out: Out,
+    out: usize,
     rest: &[u32],
     input: u32,
     x: u32,
     rel: usize,
     far: usize,
-) -> Out
+) -> usize
     requires { ⌜ (rel < length (now rest)) × (far < length (now rest)) ⌝ }
     ensures { λ r. ⌜ Puts (rowText 21 (input ∷ x ∷ getD (now (rest .entry)) rel 0 ∷ getD (now (rest .entry)) far 0 ∷ [])) (on (now (plan .entry)) out) (on (now (plan .exit)) r) ⌝ }
 {
@@ -99,7 +98,7 @@ fn is_two(x: u32) -> u32
 // The first line of a shortest part at record i, whose far node is at record y.
 fn put_short(
     plan: &mut [u8],
-    out: Out,
+    out: usize,
     a: &[u32],
     b: &[u32],
     rest: &[u32],
@@ -107,7 +106,7 @@ fn put_short(
     input: u32,
     y: usize,
     base: usize,
-) -> Out
+) -> usize
     requires { ⌜ Roomy (now a) (now b) ⌝ }
     requires { ⌜ (i < 2048) × (y < 2048) × (base ≤ 2048) ⌝ }
     requires { ⌜ 16384 ≤ length (now rest) ⌝ }
@@ -121,7 +120,7 @@ fn put_short(
 }
 
 // The first line of a source by labels.
-fn put_source(plan: &mut [u8], out: Out, a: &[u32], b: &[u32], i: usize, x: u32) -> Out
+fn put_source(plan: &mut [u8], out: usize, a: &[u32], b: &[u32], i: usize, x: u32) -> usize
     requires { ⌜ Roomy (now a) (now b) ⌝ }
     requires { ⌜ i < 2048 ⌝ }
     ensures { λ r. ⌜ Puts (rowText 20 (x ∷ cell (now (a .entry)) (now (b .entry)) i 4 ∷ [])) (on (now (plan .entry)) out) (on (now (plan .exit)) r) ⌝ }
@@ -133,13 +132,13 @@ fn put_source(plan: &mut [u8], out: Out, a: &[u32], b: &[u32], i: usize, x: u32)
 // The first line of an operator: of a pattern's here, of a clause's there.
 pub fn put_op(
     plan: &mut [u8],
-    out: Out,
+    out: usize,
     sheet: &[u8],
     a: &[u32],
     b: &[u32],
     rest: &[u32],
     w: OpWords,
-) -> Out
+) -> usize
     requires { ⌜ Roomy (now a) (now b) ⌝ }
     requires { ⌜ 16384 ≤ length (now rest) ⌝ }
     requires { ⌜ OpShown (now sheet) (now a) (now b) (now rest) (wordsOf w) ⌝ }

@@ -9,17 +9,23 @@ ghost use Rattle.lower.specs.Render.{keptRel};
 ghost use Rattle.lower.specs.Shows.{shift};
 ghost use Rattle.plan_sheet.specs.Due.{noted};
 ghost use Rattle.plan_sheet.specs.Path.{waitsOf, Stepped, Elements, WrotePath};
-use output::Out;
 
 // So far: whether there was a node, the line of the rel that waits for its far node (0 for none), and the cursor.
 pub struct Path {
     pub seen: bool,
     pub waits: usize,
-    pub out: Out,
+    pub out: usize,
 }
 
 // The number of the rel that waits, if it is kept.
-fn put_kept(plan: &mut [u8], out: Out, rest: &[u32], base: usize, seen: bool, waits: usize) -> Out
+fn put_kept(
+    plan: &mut [u8],
+    out: usize,
+    rest: &[u32],
+    base: usize,
+    seen: bool,
+    waits: usize,
+) -> usize
     requires { ⌜ (16384 ≤ length (now rest)) × (base ≤ 2048) × (waits ≤ 2048) ⌝ }
     ensures { λ r. ⌜ Puts (spellRecs (pathElements (keptRel (shift (noted (now (rest .entry))) base) seen (waitsOf waits)))) (on (now (plan .entry)) out) (on (now (plan .exit)) r) ⌝ }
 {
@@ -36,7 +42,7 @@ fn put_kept(plan: &mut [u8], out: Out, rest: &[u32], base: usize, seen: bool, wa
 // The element at record i, a node if it is of kind 12.
 fn put_step(
     plan: &mut [u8],
-    out: Out,
+    out: usize,
     rest: &[u32],
     base: usize,
     i: usize,
@@ -68,7 +74,7 @@ fn put_step(
 // The n elements from record i on.
 pub fn put_path(
     plan: &mut [u8],
-    out: Out,
+    out: usize,
     sheet: &[u8],
     a: &[u32],
     b: &[u32],
@@ -76,7 +82,7 @@ pub fn put_path(
     base: usize,
     i: usize,
     n: usize,
-) -> Out
+) -> usize
     requires { ⌜ Roomy (now a) (now b) ⌝ }
     requires { ⌜ (16384 ≤ length (now rest)) × (base ≤ 2048) ⌝ }
     requires { ⌜ Elements (now sheet) (now a) (now b) n i ⌝ }

@@ -4,12 +4,11 @@ ghost use Rattle.output.specs.Page.{on};
 ghost use Rattle.plan_sheet.specs.Due.{Room, One, Many, Element, SomePlan, WroteOne, WroteMany, WroteElement, WroteOp};
 ghost use Rattle.plan_sheet.specs.Parted.{Items, WrotePart, WroteParts};
 use crate::head::Wrote;
-use output::Out;
 
 // The expression at record i, which is at most `left` deep and copies operators below `below`.
 fn write_expr(
     plan: &mut [u8],
-    out: Out,
+    out: usize,
     sheet: &[u8],
     a: &[u32],
     b: &[u32],
@@ -54,7 +53,7 @@ fn write_expr(
 // The n expressions from record i on, each behind its line if it has one.
 fn write_exprs(
     plan: &mut [u8],
-    out: Out,
+    out: usize,
     sheet: &[u8],
     a: &[u32],
     b: &[u32],
@@ -99,7 +98,7 @@ fn write_exprs(
 // The element at record i: its line, its names and its props.
 fn write_element(
     plan: &mut [u8],
-    out: Out,
+    out: usize,
     sheet: &[u8],
     a: &[u32],
     b: &[u32],
@@ -109,7 +108,7 @@ fn write_element(
     i: usize,
     left: usize,
     below: usize,
-) -> Out
+) -> usize
     requires { ⌜ Room (now a) (now b) (now ops) (now rest) ⌝ }
     requires { ⌜ (base ≤ 2048) × (left ≤ 64) ⌝ }
     requires { ⌜ Element (now sheet) (now a) (now b) (now ops) (now rest) below base left i ⌝ }
@@ -140,7 +139,7 @@ fn write_element(
 // The item's expression at record i, as an aggregate or as a key, if it is one: of an aggregate the arguments alone are expressions.
 fn write_part(
     plan: &mut [u8],
-    out: Out,
+    out: usize,
     sheet: &[u8],
     a: &[u32],
     b: &[u32],
@@ -186,7 +185,7 @@ fn write_part(
 // The aggregates, or the keys, among the n items from record i on.
 fn write_parts(
     plan: &mut [u8],
-    out: Out,
+    out: usize,
     sheet: &[u8],
     a: &[u32],
     b: &[u32],
@@ -198,7 +197,7 @@ fn write_parts(
     below: usize,
     n: usize,
     aggs: bool,
-) -> Out
+) -> usize
     requires { ⌜ Room (now a) (now b) (now ops) (now rest) ⌝ }
     requires { ⌜ (base ≤ 2048) × (left ≤ 64) ⌝ }
     requires { ⌜ Items (now sheet) (now a) (now b) (now ops) (now rest) below base left n i ⌝ }
@@ -232,14 +231,14 @@ fn write_parts(
 // Operator k.
 pub fn write_op(
     plan: &mut [u8],
-    out: Out,
+    out: usize,
     sheet: &[u8],
     a: &[u32],
     b: &[u32],
     ops: &[u32],
     rest: &[u32],
     k: usize,
-) -> Out
+) -> usize
     requires { ⌜ Room (now a) (now b) (now ops) (now rest) ⌝ }
     requires { ⌜ SomePlan (now sheet) (now a) (now b) (now ops) (now rest) (k + 1) ⌝ }
     ensures { λ r. ⌜ WroteOp (now (sheet .entry)) (now (a .entry)) (now (b .entry)) (now (ops .entry)) (now (rest .entry)) k (on (now (plan .entry)) out) (on (now (plan .exit)) r) ⌝ }

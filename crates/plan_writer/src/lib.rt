@@ -4,7 +4,6 @@ ghost use lib.ListN.{length};
 ghost use Rattle.output.specs.Page.{on};
 ghost use Rattle.plan_sheet.specs.Due.{Room, SomePlan};
 ghost use Rattle.plan_writer.specs.Whole.{SomeTables, WroteOps, WroteVars, WroteSheet, WrotePlan};
-use output::Out;
 
 // What became of the plan: it did not fit, or it has so many bytes.
 pub enum Plan {
@@ -15,14 +14,14 @@ pub enum Plan {
 // The first n operators.
 fn write_ops(
     plan: &mut [u8],
-    out: Out,
+    out: usize,
     sheet: &[u8],
     a: &[u32],
     b: &[u32],
     ops: &[u32],
     rest: &[u32],
     n: usize,
-) -> Out
+) -> usize
     requires { ⌜ Room (now a) (now b) (now ops) (now rest) ⌝ }
     requires { ⌜ SomePlan (now sheet) (now a) (now b) (now ops) (now rest) n ⌝ }
     ensures { λ r. ⌜ WroteOps (now (sheet .entry)) (now (a .entry)) (now (b .entry)) (now (ops .entry)) (now (rest .entry)) n n (on (now (plan .entry)) out) (on (now (plan .exit)) r) ⌝ }
@@ -37,7 +36,7 @@ fn write_ops(
 }
 
 // The first n named variables.
-fn write_vars(plan: &mut [u8], out: Out, rest: &[u32], n: usize) -> Out
+fn write_vars(plan: &mut [u8], out: usize, rest: &[u32], n: usize) -> usize
     requires { ⌜ (16384 ≤ length (now rest)) × (n ≤ 4352) ⌝ }
     ensures { λ r. ⌜ WroteVars (now (rest .entry)) n (on (now (plan .entry)) out) (on (now (plan .exit)) r) ⌝ }
 {
@@ -56,7 +55,7 @@ fn write_vars(plan: &mut [u8], out: Out, rest: &[u32], n: usize) -> Out
 // The first line, n operators and the named variables.
 fn write_sheet(
     plan: &mut [u8],
-    out: Out,
+    out: usize,
     sheet: &[u8],
     a: &[u32],
     b: &[u32],
@@ -64,7 +63,7 @@ fn write_sheet(
     rest: &[u32],
     n: usize,
     mapped: usize,
-) -> Out
+) -> usize
     requires { ⌜ Room (now a) (now b) (now ops) (now rest) ⌝ }
     requires { ⌜ SomeTables (now sheet) (now a) (now b) (now ops) (now rest) n mapped ⌝ }
     ensures { λ r. ⌜ WroteSheet (now (sheet .entry)) (now (a .entry)) (now (b .entry)) (now (ops .entry)) (now (rest .entry)) n mapped (on (now (plan .entry)) out) (on (now (plan .exit)) r) ⌝ }
@@ -89,13 +88,10 @@ pub fn write_plan(
     requires { ⌜ SomeTables (now sheet) (now a) (now b) (now ops) (now rest) n mapped ⌝ }
     ensures { λ r. ⌜ WrotePlan (now (sheet .entry)) (now (a .entry)) (now (b .entry)) (now (ops .entry)) (now (rest .entry)) n mapped (now (plan .entry)) (now (plan .exit)) r ⌝ }
 {
-    let first = Out { at: 0, live: false };
-    let measured = write_sheet(plan, first, sheet, a, b, ops, rest, n, mapped);
-    let long = measured.at;
+    let long = write_sheet(&mut plan[0..0], 0, sheet, a, b, ops, rest, n, mapped);
     if plan.len() < long {
         return Plan::NoRoom;
     }
-    let again = Out { at: 0, live: true };
-    let done = write_sheet(plan, again, sheet, a, b, ops, rest, n, mapped);
-    Plan::Written(done.at)
+    let done = write_sheet(plan, 0, sheet, a, b, ops, rest, n, mapped);
+    Plan::Written(done)
 }

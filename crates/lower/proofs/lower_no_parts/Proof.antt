@@ -3,30 +3,32 @@ use mathlib.Core.Path.{refl}
 use borrow.Author.Needs.{needs}
 use Rattle.lower.proofs.lower_no_parts.Statement.{statement}
 use Rattle.lower.proofs.lower_no_parts.Tie as tie
-use Rattle.lower.proofs.lower_no_parts.Reads as reads
-use Rattle.lower.proofs.lower_no_parts.Lts as lts
-use Rattle.context.proofs.LowerCtx.fresh.Reads as fresh-reads
-use Rattle.context.proofs.LowerCtx.push.Reads as push-reads
 
--- src/lib.rt:89:9
-fresh-requires : tie.Need-fresh-requires
-fresh-requires c κs = search needs
+-- the ways back, from place to place
+abbrev back-push : tie.After-push → tie.After-fresh
+back-push c = search
 
--- src/lib.rt:91:9
-push-requires : tie.Need-push-requires
-push-requires c κs = search needs
+abbrev back-fresh : tie.After-fresh → tie.Start
+back-fresh c = search
 
--- src/lib.rt:93:15
-add-t10 : tie.Need-add-t10
-add-t10 c = search needs
+ruleset ways = (back-push, back-fresh)
 
--- src/lib.rt:84:1
-same-length : tie.Need-same-length
-same-length c = search needs
-
--- src/lib.rt:84:1
 returns : tie.Need-returns
-returns c = (refl, λ a b d base rest. Parts.no-law d base _ _ _ _ _ ((c .before .before .before .before .before .before .before .pre .3)) (c .before .before .before .before .before .fresh .ensures) (c .before .before .push .ensures) ((c .before .before .push .kept .1 .0)))
+returns c =
+    let after-push : tie.After-push = search ways in
+    let after-fresh : tie.After-fresh = search ways in
+    let start : tie.Start = search ways in (
+      refl,
+      λ a b d base rest.
+          Parts.no-law d base _ _ _ _ _ (start .pre .3) (after-fresh .fresh .ensures) (after-push .push .ensures) (after-push .push .kept .1 .0),
+    )
 
 pub lower-no-parts-spec : {M : Type 1} → statement M
-lower-no-parts-spec = tie.close (tie.spec fresh-requires push-requires add-t10 same-length returns)
+lower-no-parts-spec =
+    tie.close
+    (tie.spec
+    (λ c κs. search needs)
+    (λ c κs. search needs)
+    (λ c. search needs)
+    (λ c. search needs)
+    returns)

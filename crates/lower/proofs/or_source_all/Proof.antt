@@ -3,25 +3,32 @@ use mathlib.Core.Path.{refl}
 use borrow.Author.Needs.{needs}
 use Rattle.lower.proofs.or_source_all.Statement.{statement}
 use Rattle.lower.proofs.or_source_all.Tie as tie
-use Rattle.lower.proofs.or_source_all.Reads as reads
-use Rattle.lower.proofs.or_source_all.Lts as lts
-use Rattle.context.proofs.LowerCtx.push.Reads as push-reads
 
--- src/lib.rt:67:9
+-- the ways back, from place to place
+abbrev back-push : tie.After-push → tie.Else1
+back-push c = search
+
+abbrev back-else1 : tie.Else1 → tie.Start
+back-else1 c = search
+
+ruleset ways = (back-push, back-else1)
+
 returns : tie.Need-returns
-returns c = (refl, λ rest. Chaining.source-there _ _ _ (c .if1 .taken) ((c .before .before .pre .1) (c .if1 .taken)))
+returns c =
+    let start : tie.Start = search ways in
+    (refl, λ rest. Chaining.source-there _ _ _ (c .if1 .taken) ((start .pre .1) (c .if1 .taken)))
 
--- src/lib.rt:75:9
-push-requires : tie.Need-push-requires
-push-requires c κs = search needs
-
--- src/lib.rt:61:1
-same-length : tie.Need-same-length
-same-length c = search needs
-
--- src/lib.rt:61:1
 returns-2 : tie.Need-returns-2
-returns-2 c = (refl, λ rest. Chaining.source-new _ _ _ _ _ (c .before .before .before .before .if1 .left) (c .before .before .push .ensures) ((c .before .before .push .kept .1 .0)))
+returns-2 c =
+    let after-push : tie.After-push = search ways in
+    let else1 : tie.Else1 = search ways in
+    (refl, λ rest. Chaining.source-new _ _ _ _ _ (else1 .if1 .left) (after-push .push .ensures) (after-push .push .kept .1 .0))
 
 pub or-source-all-spec : {M : Type 1} → statement M
-or-source-all-spec = tie.close (tie.spec returns push-requires same-length returns-2)
+or-source-all-spec =
+    tie.close
+    (tie.spec
+    returns
+    (λ c κs. search needs)
+    (λ c. search needs)
+    returns-2)

@@ -3,21 +3,27 @@ use mathlib.Core.Path.{sym, _∙_}
 use borrow.Author.Needs.{needs}
 use Rattle.lower.proofs.read_element.Statement.{statement}
 use Rattle.lower.proofs.read_element.Tie as tie
-use Rattle.lower.proofs.read_element.Reads as reads
-use Rattle.lower.proofs.read_element.Lts as lts
-use Rattle.words.proofs.word.Reads as word-reads
 
--- src/lib.rt:53:9
-word-requires : tie.Need-word-requires
-word-requires c κs = search needs
+-- the ways back, from place to place
+abbrev back-word : tie.After-word → tie.Start
+back-word c = search
 
--- src/lib.rt:55:9
+ruleset ways = (back-word)
+
 returns : tie.Need-returns
-returns c = rw (eq-eqb _ _ (sym (c .before .word .ensures) ∙ (c .if1 .taken)))
+returns c =
+    let after-word : tie.After-word = search ways in
+    rw (eq-eqb _ _ (sym (after-word .word .ensures) ∙ (c .if1 .taken)))
 
--- src/lib.rt:48:1
 returns-2 : tie.Need-returns-2
-returns-2 c = rw (ne-eqb _ _ (λ e. (c .if1 .left) ((c .before .word .ensures) ∙ e)))
+returns-2 c =
+    let after-word : tie.After-word = search ways in
+    rw (ne-eqb _ _ (λ e. (c .if1 .left) ((after-word .word .ensures) ∙ e)))
 
 pub read-element-spec : {M : Type 1} → statement M
-read-element-spec = tie.close (tie.spec word-requires returns returns-2)
+read-element-spec =
+    tie.close
+    (tie.spec
+    (λ c κs. search needs)
+    returns
+    returns-2)

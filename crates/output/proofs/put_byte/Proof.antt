@@ -1,6 +1,7 @@
--- `put_byte` meets its contract: a byte inside the slice is written or counted, one behind it is only counted. Assumes nothing.
+-- `put_byte` meets its contract: a byte inside the slice is stored, one behind it is only counted. Assumes nothing.
+use mathlib.Core.Path.{refl}
 use borrow.Author.Needs.{needs}
-use Rattle.output.specs.Writes.{written-inside, counted-inside, behind}
+use Rattle.output.specs.Writes.{counted, stored}
 use Rattle.output.proofs.put_byte.Statement.{statement}
 use Rattle.output.proofs.put_byte.Tie as tie
 
@@ -8,10 +9,8 @@ pub put-byte-spec : {M : Type 1} → statement M
 put-byte-spec =
     tie.close
     (tie.spec
+    (λ c κs. search needs)
+    (λ c. search (counted, needs))
     (λ c. search needs)
     (λ c. search needs)
-    (λ c. search needs)
-    (λ c. search needs)
-    (λ c. search (written-inside, needs))
-    (λ c. search (counted-inside, needs))
-    (λ c. search (behind, needs)))
+    (λ c. search needs))

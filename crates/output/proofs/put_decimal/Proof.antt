@@ -1,12 +1,17 @@
--- `put_decimal` meets its contract: `decimal` is 20 digits at most. Assumes nothing.
+-- `put_decimal` meets its contract. Assumes nothing.
 use borrow.Author.Needs.{needs}
-use Rattle.model.specs.Text.{decimal}
+use Rattle.output.specs.Writes.{counted, stored}
+use Rattle.output.specs.Wide.{length-wide, spell-decimal}
 use Rattle.output.proofs.put_decimal.Statement.{statement}
 use Rattle.output.proofs.put_decimal.Tie as tie
 
-returns : tie.Need-returns
-unfolding decimal
-returns c = search needs
-
 pub put-decimal-spec : {M : Type 1} → statement M
-put-decimal-spec = tie.close (tie.spec (λ c κs. search needs) (λ c. search needs) returns)
+put-decimal-spec =
+    tie.close
+    (tie.spec
+    (λ c κs. search needs)
+    (λ c κs. search needs)
+    (λ c. search (spell-decimal, counted, length-wide, needs))
+    (λ c κs. search needs)
+    (λ c. search needs)
+    (λ c. search (spell-decimal, stored, length-wide, needs)))

@@ -12,10 +12,10 @@ use Rattle.plan_writer.proofs.write_ops.Lts as lts
 use Rattle.plan_sheet.proofs.write.write_op.Reads as write-op-reads
 
 abbrev Inv-loop : tie.InvT-loop
-Inv-loop plan₀ sheet a b ops rest n k₀ o₀ plan k o = WholeLaws.Writing sheet a b ops rest n (on plan₀ o₀) k (on plan o)
+Inv-loop plan₀ out sheet a b ops rest n k₀ o₀ plan k o = WholeLaws.Writing sheet a b ops rest n (on plan₀ o₀) k (on plan o)
 
 abbrev μ-loop : tie.MeasureT-loop
-μ-loop plan₀ sheet a b ops rest n k₀ o₀ plan k o = n - k
+μ-loop plan₀ out sheet a b ops rest n k₀ o₀ plan k o = n - k
 
 -- src/lib.rt:24:5
 loop-holds : tie.Need-loop-holds Inv-loop μ-loop

@@ -12,10 +12,10 @@ use Rattle.plan_sheet.proofs.head.note.Reads as note-reads
 use Rattle.plan_line.proofs.row.put_row.Reads as put-row-reads
 
 abbrev Inv-loop : tie.InvT-loop
-Inv-loop plan₀ rest n k₀ o₀ plan k o = WholeLaws.Listing rest n (on plan₀ o₀) k (on plan o)
+Inv-loop plan₀ out rest n k₀ o₀ plan k o = WholeLaws.Listing rest n (on plan₀ o₀) k (on plan o)
 
 abbrev μ-loop : tie.MeasureT-loop
-μ-loop plan₀ rest n k₀ o₀ plan k o = n - k
+μ-loop plan₀ out rest n k₀ o₀ plan k o = n - k
 
 -- src/lib.rt:38:5
 loop-holds : tie.Need-loop-holds Inv-loop μ-loop

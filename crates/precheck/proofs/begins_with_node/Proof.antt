@@ -5,21 +5,58 @@ use Rattle.precheck.proofs.Patterns.{begins-not, begins-low, begins-nod
 use Rattle.precheck.proofs.begins_with_node.Statement.{statement}
 use Rattle.precheck.proofs.begins_with_node.Tie as tie
 
+-- the ways back, from place to place
+abbrev back-word2 : tie.After-word2 → tie.Else1
+back-word2 c = search
+
+abbrev back-else1 : tie.Else1 → tie.After-word
+back-else1 c = search
+
+abbrev back-word : tie.After-word → tie.Start
+back-word c = search
+
+ruleset ways = (back-word2, back-else1, back-word)
+
 returns : tie.Need-returns
-returns c = begins-not (c .before .before .before .before .pre .0) (c .before .word .ensures) (c .if1 .taken)
+returns c =
+    let after-word : tie.After-word = search ways in
+    let start : tie.Start = search ways in
+    begins-not (start .pre .0) (after-word .word .ensures) (c .if1 .taken)
 
 add-word : tie.Need-add-word
-add-word c = omega (arith, (c .before .before .before .before .pre .1 .low))
+add-word c =
+    let start : tie.Start = search ways in
+    omega (arith, start .pre .1 .low)
 
 word-requires-2 : tie.Need-word-requires-2
-word-requires-2 c κs = (begins-low (c .before .before .before .before .pre .0) (c .before .word .ensures) (c .if1 .left) (c .before .before .before .before .pre .1), search needs)
+word-requires-2 c κs =
+    let after-word : tie.After-word = search ways in
+    let start : tie.Start = search ways in
+    (begins-low (start .pre .0) (after-word .word .ensures) (c .if1 .left) (start .pre .1), search needs)
 
 returns-2 : tie.Need-returns-2
-returns-2 c = begins-node (c .before .before .before .before .before .before .pre .0) (c .before .before .before .word .ensures) (c .before .before .if1 .left) (c .before .word2 .ensures) (c .if2 .taken)
+returns-2 c =
+    let after-word2 : tie.After-word2 = search ways in
+    let else1 : tie.Else1 = search ways in
+    let after-word : tie.After-word = search ways in
+    let start : tie.Start = search ways in
+    begins-node (start .pre .0) (after-word .word .ensures) (else1 .if1 .left) (after-word2 .word2 .ensures) (c .if2 .taken)
 
 returns-3 : tie.Need-returns-3
-returns-3 c = begins-rel (c .before .before .before .before .before .before .pre .0) (c .before .before .before .word .ensures) (c .before .before .if1 .left) (c .before .word2 .ensures) (c .if2 .left)
+returns-3 c =
+    let after-word2 : tie.After-word2 = search ways in
+    let else1 : tie.Else1 = search ways in
+    let after-word : tie.After-word = search ways in
+    let start : tie.Start = search ways in
+    begins-rel (start .pre .0) (after-word .word .ensures) (else1 .if1 .left) (after-word2 .word2 .ensures) (c .if2 .left)
 
 pub begins-with-node-spec : {M : Type 1} → statement M
 begins-with-node-spec =
-    tie.close (tie.spec (λ c κs. search needs) returns add-word word-requires-2 returns-2 returns-3)
+    tie.close
+    (tie.spec
+    (λ c κs. search needs)
+    returns
+    add-word
+    word-requires-2
+    returns-2
+    returns-3)

@@ -16,17 +16,55 @@ Inv-loop a b i n left at₀ m₀ at m = Laws.Left (At a b unionArm left noSpan) 
 abbrev μ-loop : tie.MeasureT-loop
 μ-loop a b i n left at₀ m₀ at m = m
 
-loop-holds : tie.Need-loop-holds Inv-loop μ-loop
+-- a place or a need, at the loops' invariants and measures
+abbrev here : (tie.InvT-loop → tie.MeasureT-loop → Type 0) → Type 0
+here X = X Inv-loop μ-loop
+
+-- the ways back, from place to place
+abbrev back-in-loop : here tie.In-loop → here tie.At-loop
+back-in-loop c = search
+
+abbrev back-at-loop : here tie.At-loop → here tie.Start
+back-at-loop c = search
+
+ruleset ways = (back-in-loop, back-at-loop)
+
+loop-holds : here tie.Need-loop-holds
 loop-holds c = Laws.whole
 
-count-requires : tie.Need-count-requires Inv-loop μ-loop
-count-requires c κs = (standing (c .before .before .before .before .pre .0) (Laws.child (c .before .loop .inv) (c .loop-test .taken) (c .before .before .before .before .pre .1 .1)) .low, search needs)
+count-requires : here tie.Need-count-requires
+count-requires c κs =
+    let at-loop : here tie.At-loop = search ways in
+    let start : here tie.Start = search ways in
+    (standing (start .pre .0) (Laws.child (at-loop .loop .inv) (c .loop-test .taken) (start .pre .1 .1)) .low, search needs)
 
-add-first : tie.Need-add-first Inv-loop μ-loop
-add-first c = omega (arith, standing (c .before .before .before .before .before .pre .0) (Laws.child (c .before .before .loop .inv) (c .before .loop-test .taken) (c .before .before .before .before .before .pre .1 .1)) .low)
+add-first : here tie.Need-add-first
+add-first c =
+    let in-loop : here tie.In-loop = search ways in
+    let at-loop : here tie.At-loop = search ways in
+    let start : here tie.Start = search ways in
+    omega (arith, standing (start .pre .0) (Laws.child (at-loop .loop .inv) (in-loop .loop-test .taken) (start .pre .1 .1)) .low)
 
-check-clauses-requires : tie.Need-check-clauses-requires Inv-loop μ-loop
-check-clauses-requires c κs = ((c .before .before .before .before .before .pre .0), (omega arith, some-turned (as-arm (c .before .before .before .before .before .pre .0) (c .count .ensures .0)) (Laws.child (c .before .before .loop .inv) (c .before .loop-test .taken) (c .before .before .before .before .before .pre .1 .1))))
+check-clauses-requires : here tie.Need-check-clauses-requires
+check-clauses-requires c κs =
+    let in-loop : here tie.In-loop = search ways in
+    let at-loop : here tie.At-loop = search ways in
+    let start : here tie.Start = search ways in (
+      start .pre .0,
+      (
+        omega arith,
+        some-turned (as-arm (start .pre .0) (c .count .ensures .0)) (Laws.child (at-loop .loop .inv) (in-loop .loop-test .taken) (start .pre .1 .1)),
+      ),
+    )
+
+returns : here tie.Need-returns
+returns c = search (Laws.stop, walks-turned, as-arm, needs)
+
+loop-again : here tie.Need-loop-again
+loop-again c = search (Laws.again, walks-turned, as-arm, needs)
+
+returns-2 : here tie.Need-returns-2
+returns-2 c = search (Laws.done, needs)
 
 pub check-arms-spec : {M : Type 1} → statement M
 check-arms-spec =
@@ -41,8 +79,8 @@ check-arms-spec =
     check-clauses-requires
     (λ c. search needs)
     (λ c. search needs)
-    (λ c. search (Laws.stop, walks-turned, as-arm, needs))
+    returns
     (λ c. search needs)
     (λ c. search needs)
-    (λ c. search (Laws.again, walks-turned, as-arm, needs))
-    (λ c. search (Laws.done, needs)))
+    loop-again
+    returns-2)

@@ -14,11 +14,33 @@ Inv-loop a b i n left at₀ m₀ at m = Laws.Left (At a b clause left noSpan) n 
 abbrev μ-loop : tie.MeasureT-loop
 μ-loop a b i n left at₀ m₀ at m = m
 
-loop-holds : tie.Need-loop-holds Inv-loop μ-loop
+-- a place or a need, at the loops' invariants and measures
+abbrev here : (tie.InvT-loop → tie.MeasureT-loop → Type 0) → Type 0
+here X = X Inv-loop μ-loop
+
+-- the ways back, from place to place
+abbrev back-at-loop : here tie.At-loop → here tie.Start
+back-at-loop c = search
+
+ruleset ways = (back-at-loop)
+
+loop-holds : here tie.Need-loop-holds
 loop-holds c = Laws.whole
 
-check-clause-requires : tie.Need-check-clause-requires Inv-loop μ-loop
-check-clause-requires c κs = ((c .before .before .before .before .pre .0), ((c .before .before .before .before .pre .1 .0), standing (c .before .before .before .before .pre .0) (Laws.child (c .before .loop .inv) (c .loop-test .taken) (c .before .before .before .before .pre .1 .1))))
+check-clause-requires : here tie.Need-check-clause-requires
+check-clause-requires c κs =
+    let at-loop : here tie.At-loop = search ways in
+    let start : here tie.Start = search ways in
+    (start .pre .0, (start .pre .1 .0, standing (start .pre .0) (Laws.child (at-loop .loop .inv) (c .loop-test .taken) (start .pre .1 .1))))
+
+returns : here tie.Need-returns
+returns c = search (Laws.stop, needs)
+
+loop-again : here tie.Need-loop-again
+loop-again c = search (Laws.again, needs)
+
+returns-2 : here tie.Need-returns-2
+returns-2 c = search (Laws.done, needs)
 
 pub check-clauses-spec : {M : Type 1} → statement M
 check-clauses-spec =
@@ -30,8 +52,8 @@ check-clauses-spec =
     check-clause-requires
     (λ c. search needs)
     (λ c. search needs)
-    (λ c. search (Laws.stop, needs))
+    returns
     (λ c. search needs)
     (λ c. search needs)
-    (λ c. search (Laws.again, needs))
-    (λ c. search (Laws.done, needs)))
+    loop-again
+    returns-2)

@@ -7,6 +7,18 @@ use Rattle.precheck.proofs.Counting.{counts, childless, arityOf, exprAr
 use Rattle.precheck.proofs.children_of.Statement.{statement}
 use Rattle.precheck.proofs.children_of.Tie as tie
 
+-- the ways back, from place to place
+abbrev back-count3 : tie.After-count3 → tie.After-count2
+back-count3 c = search
+
+abbrev back-count2 : tie.After-count2 → tie.After-count
+back-count2 c = search
+
+abbrev back-count : tie.After-count → tie.Start
+back-count c = search
+
+ruleset ways = (back-count3, back-count2, back-count)
+
 returns : tie.Need-returns
 unfolding kindOf nth kinds sames firstKind arityOf exprArity sameArity
 returns c = search (counts, needs)
@@ -60,7 +72,18 @@ unfolding kindOf nth kinds sames firstKind arityOf exprArity sameArity
 returns-13 c = search (counts, needs)
 
 returns-14 : tie.Need-returns-14
-returns-14 c = counts (c .before .before .before .before .before .before .pre .1 .1) (c .before .before .before .count .ensures .0) (c .before .before .count2 .ensures .0) (c .before .count3 .ensures .0) refl (childless _ _ _ _ (c .match .rest))
+returns-14 c =
+    let after-count3 : tie.After-count3 = search ways in
+    let after-count2 : tie.After-count2 = search ways in
+    let after-count : tie.After-count = search ways in
+    let start : tie.Start = search ways in
+    counts
+    (start .pre .1 .1)
+    (after-count .count .ensures .0)
+    (after-count2 .count2 .ensures .0)
+    (after-count3 .count3 .ensures .0)
+    refl
+    (childless _ _ _ _ (c .match .rest))
 
 pub children-of-spec : {M : Type 1} → statement M
 children-of-spec =

@@ -7,17 +7,92 @@ use Rattle.precheck.proofs.Laws
 use Rattle.precheck.proofs.precheck_statement.Statement.{statement}
 use Rattle.precheck.proofs.precheck_statement.Tie as tie
 
+-- the ways back, from place to place
+abbrev back-check-arms : tie.After-check-arms → tie.After-head
+back-check-arms c = search
+
+abbrev back-head : tie.After-head → tie.After-check-clauses
+back-head c = search
+
+abbrev back-enum-told : tie.After-enum-told → tie.After-check-clauses
+back-enum-told c = search
+
+abbrev back-check-clauses : tie.After-check-clauses → tie.After-count2
+back-check-clauses c = search
+
+abbrev back-count2 : tie.After-count2 → tie.After-count
+back-count2 c = search
+
+abbrev back-count : tie.After-count → tie.Start
+back-count c = search
+
+ruleset ways = (back-check-arms, back-head, back-enum-told, back-check-clauses, back-count2, back-count)
+
 check-clauses-requires : tie.Need-check-clauses-requires
-check-clauses-requires c κs = ((c .before .before .before .before .pre .0), (omega arith, Laws.first-of (some-turned (as-statement (c .before .before .before .before .pre .0) (c .before .count .ensures .0) (c .count2 .ensures .0)) (some-held (c .before .before .before .before .pre .1)))))
+check-clauses-requires c κs =
+    let after-count : tie.After-count = search ways depth 7 in
+    let start : tie.Start = search ways depth 7 in (
+      start .pre .0,
+      (
+        omega arith,
+        Laws.first-of
+            (some-turned (as-statement (start .pre .0) (after-count .count .ensures .0) (c .count2 .ensures .0)) (some-held (start .pre .1))),
+      ),
+    )
 
 returns : tie.Need-returns
-returns c = λ sheet t h. (c .answer .ensures) _ _ (walks-turned (as-statement (c .before .before .before .before .before .before .before .before .pre .0) (c .before .before .before .before .before .count .ensures .0) (c .before .before .before .before .count2 .ensures .0)) (Laws.then-stopped (c .before .before .before .check-clauses .ensures) (c .before .enum-told .given .1)) .each _ _ (held-at sheet t h))
+returns c =
+    let after-enum-told : tie.After-enum-told = search ways depth 7 in
+    let after-check-clauses : tie.After-check-clauses = search ways depth 7 in
+    let after-count2 : tie.After-count2 = search ways depth 7 in
+    let after-count : tie.After-count = search ways depth 7 in
+    let start : tie.Start = search ways depth 7 in
+    λ sheet t h.
+    (c .answer .ensures)
+    _
+    _
+    (walks-turned
+    (as-statement (start .pre .0) (after-count .count .ensures .0) (after-count2 .count2 .ensures .0))
+    (Laws.then-stopped (after-check-clauses .check-clauses .ensures) (after-enum-told .enum-told .given .1)) .each
+    _
+    _
+    (held-at sheet t h))
 
 check-arms-requires : tie.Need-check-arms-requires
-check-arms-requires c κs = ((c .before .before .before .before .before .before .before .before .pre .0), (omega arith, Laws.after (c .before .before .before .check-clauses .ensures) (c .before .head .given .1) (some-turned (as-statement (c .before .before .before .before .before .before .before .before .pre .0) (c .before .before .before .before .before .count .ensures .0) (c .before .before .before .before .count2 .ensures .0)) (some-held (c .before .before .before .before .before .before .before .before .pre .1)))))
+check-arms-requires c κs =
+    let after-head : tie.After-head = search ways depth 7 in
+    let after-check-clauses : tie.After-check-clauses = search ways depth 7 in
+    let after-count2 : tie.After-count2 = search ways depth 7 in
+    let after-count : tie.After-count = search ways depth 7 in
+    let start : tie.Start = search ways depth 7 in (
+      start .pre .0,
+      (
+        omega arith,
+        Laws.after
+            (after-check-clauses .check-clauses .ensures)
+            (after-head .head .given .1)
+            (some-turned (as-statement (start .pre .0) (after-count .count .ensures .0) (after-count2 .count2 .ensures .0)) (some-held (start .pre .1))),
+      ),
+    )
 
 returns-2 : tie.Need-returns-2
-returns-2 c = λ sheet t h. (c .answer2 .ensures) _ _ (walks-turned (as-statement (c .before .before .before .before .before .before .before .before .before .before .pre .0) (c .before .before .before .before .before .before .before .count .ensures .0) (c .before .before .before .before .before .before .count2 .ensures .0)) (Laws.then-walks (c .before .before .before .before .before .check-clauses .ensures) (c .before .before .before .head .given .1) (c .before .check-arms .ensures)) .each _ _ (held-at sheet t h))
+returns-2 c =
+    let after-check-arms : tie.After-check-arms = search ways depth 7 in
+    let after-head : tie.After-head = search ways depth 7 in
+    let after-check-clauses : tie.After-check-clauses = search ways depth 7 in
+    let after-count2 : tie.After-count2 = search ways depth 7 in
+    let after-count : tie.After-count = search ways depth 7 in
+    let start : tie.Start = search ways depth 7 in
+    λ sheet t h.
+    (c .answer2 .ensures)
+    _
+    _
+    (walks-turned
+    (as-statement (start .pre .0) (after-count .count .ensures .0) (after-count2 .count2 .ensures .0))
+    (Laws.then-walks (after-check-clauses .check-clauses .ensures) (after-head .head .given .1) (after-check-arms .check-arms .ensures)) .each
+    _
+    _
+    (held-at sheet t h))
 
 pub precheck-statement-spec : {M : Type 1} → statement M
 precheck-statement-spec =

@@ -10,4 +10,4 @@ use Rattle.cases.proofs.line.put_refusal.Reads as put-refusal-reads
 
 pub write-refusal-spec : {M : Type 1} → statement M
 write-refusal-spec =
-    tie.close (tie.spec (λ c κs. search needs) (λ c. search needs) (λ c. (omega arith, too-long _ _ _ _ (c .before .before .before .before .put-refusal .ensures) (omega (arith, (c .if1 .taken), same (c .before .before .before .before .put-refusal .ensures))))) (λ c. search needs) (λ c. (omega (arith, (c .if1 .left), same (c .before .before .before .before .put-refusal .ensures)), long-enough _ _ _ _ (c .before .before .before .before .put-refusal .ensures) (omega (arith, (c .if1 .left), same (c .before .before .before .before .put-refusal .ensures))))))
+    tie.close (tie.spec (λ c κs. search needs) (λ c. search needs) (λ c. (omega arith, too-long _ _ _ _ (c .before .before .before .put-refusal .ensures) (omega arith) (omega (arith, (c .if1 .taken), same (c .before .before .before .put-refusal .ensures))))) (λ c. search needs) (λ c. (omega (arith, (c .if1 .left), same (c .before .before .before .put-refusal .ensures)), long-enough _ _ _ _ (c .before .before .before .put-refusal .ensures) (omega arith) (omega (arith, (c .if1 .left), same (c .before .before .before .put-refusal .ensures))))))

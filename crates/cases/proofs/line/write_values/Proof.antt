@@ -13,4 +13,4 @@ use Rattle.cases.proofs.line.put_refusal.Reads as put-refusal-reads
 pub write-values-spec : {M : Type 1} → statement M
 write-values-spec =
     tie.close
-    (tie.spec (λ c κs. search needs) (λ c κs. search needs) (λ c. search needs) (λ c. let w = six _ _ (c .before .before .before .before .before .before .before .before .put-refusal .ensures) (c .before .before .before .before .put-number .ensures) in (omega arith, too-long _ _ _ _ w (omega (arith, (c .if1 .taken), same w)))) (λ c. search needs) (λ c. let w = six _ _ (c .before .before .before .before .before .before .before .before .put-refusal .ensures) (c .before .before .before .before .put-number .ensures) in (omega (arith, (c .if1 .left), same w), long-enough _ _ _ _ w (omega (arith, (c .if1 .left), same w)))))
+    (tie.spec (λ c κs. search needs) (λ c κs. search needs) (λ c. search needs) (λ c. let w = six _ _ (c .before .before .before .before .before .before .before .put-refusal .ensures) (c .before .before .before .put-number .ensures) in (omega arith, too-long _ _ _ _ w (omega arith) (omega (arith, (c .if1 .taken), same w)))) (λ c. search needs) (λ c. let w = six _ _ (c .before .before .before .before .before .before .before .put-refusal .ensures) (c .before .before .before .put-number .ensures) in (omega (arith, (c .if1 .left), same w), long-enough _ _ _ _ w (omega arith) (omega (arith, (c .if1 .left), same w)))))

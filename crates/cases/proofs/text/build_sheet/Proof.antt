@@ -8,4 +8,4 @@ use Rattle.cases.proofs.text.build_sheet.Tie as tie
 
 pub build-sheet-spec : {M : Type 1} → statement M
 build-sheet-spec =
-    tie.close (tie.spec (λ c κs. search needs) (λ c. search needs) (λ c. (omega arith, too-long _ _ _ _ ((c .before .before .before .before .put-sheet .ensures)) (omega (arith, (c .if1 .taken), same ((c .before .before .before .before .put-sheet .ensures)))))) (λ c. search needs) (λ c. (omega (arith, (c .if1 .left), same ((c .before .before .before .before .put-sheet .ensures))), long-enough _ _ _ _ ((c .before .before .before .before .put-sheet .ensures)) (omega (arith, (c .if1 .left), same ((c .before .before .before .before .put-sheet .ensures)))))))
+    tie.close (tie.spec (λ c κs. search needs) (λ c. search needs) (λ c. (omega arith, too-long _ _ _ _ ((c .before .before .before .put-sheet .ensures)) (omega arith) (omega (arith, (c .if1 .taken), same ((c .before .before .before .put-sheet .ensures)))))) (λ c. search needs) (λ c. (omega (arith, (c .if1 .left), same ((c .before .before .before .put-sheet .ensures))), long-enough _ _ _ _ ((c .before .before .before .put-sheet .ensures)) (omega arith) (omega (arith, (c .if1 .left), same ((c .before .before .before .put-sheet .ensures)))))))

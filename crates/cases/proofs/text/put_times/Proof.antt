@@ -10,10 +10,10 @@ use Rattle.cases.proofs.text.put_times.Statement.{statement}
 use Rattle.cases.proofs.text.put_times.Tie as tie
 
 abbrev Inv-loop : tie.InvT-loop
-Inv-loop page₀ text times o₀ i₀ page o i = (i ≤ times) × Puts (again i text) (on page₀ o₀) (on page o)
+Inv-loop page₀ out text times o₀ i₀ page o i = (i ≤ times) × Puts (again i text) (on page₀ o₀) (on page o)
 
 abbrev μ-loop : tie.MeasureT-loop
-μ-loop page₀ text times o₀ i₀ page o i = times - i
+μ-loop page₀ out text times o₀ i₀ page o i = times - i
 
 pub put-times-spec : {M : Type 1} → statement M
 put-times-spec =

@@ -1,37 +1,131 @@
+-- `clauses::reading::lower_reading_clause` meets its contract. An answer names a place by its type, and `search` finds the way back to it.
+use mathlib.Core.Path.{sym, _∙_}
+use native.Mathlib.Omega.{arith}
+use borrow.Author.Needs.{needs}
 use Rattle.clauses.proofs.Clausing
 use Rattle.clauses.proofs.Room
-use native.Mathlib.Omega.{arith}
-use mathlib.Core.Path.{sym, _∙_}
-use borrow.Author.Needs.{needs}
 use Rattle.clauses.proofs.reading.lower_reading_clause.Statement.{statement}
 use Rattle.clauses.proofs.reading.lower_reading_clause.Tie as tie
+
+word-requires : tie.Need-word-requires
+word-requires c κs =
+    let s : tie.Start = search in
+    (Room.low (Clausing.some-tree (s .pre .held)), (omega arith, s .pre .room))
+
+lower-match-requires : tie.Need-lower-match-requires
+lower-match-requires c κs =
+    let m : tie.At-match-keys1 = search in
+    let w : tie.After-word = search in
+    let s : tie.Start = search in
+    Clausing.asked (s .pre) (sym (w .word .ensures) ∙ m .match .keys1)
+
+lower-where-requires : tie.Need-lower-where-requires
+lower-where-requires c κs =
+    let m : tie.At-match-keys2 = search in
+    let w : tie.After-word = search in
+    let s : tie.Start = search in
+    Clausing.asked (s .pre) (sym (w .word .ensures) ∙ m .match .keys2)
+
+lower-with-requires : tie.Need-lower-with-requires
+lower-with-requires c κs =
+    let m : tie.At-match-keys3 = search in
+    let w : tie.After-word = search in
+    let s : tie.Start = search in
+    (s .pre .room, ((Clausing.some-tree (s .pre .held), sym (w .word .ensures) ∙ m .match .keys3), ((s .pre .ready, s .pre .shallow), s .pre .stands)))
+
+lower-return-requires : tie.Need-lower-return-requires
+lower-return-requires c κs =
+    let m : tie.At-match-keys4 = search in
+    let w : tie.After-word = search in
+    let s : tie.Start = search in
+    (s .pre .room, ((s .pre .held, sym (w .word .ensures) ∙ m .match .keys4), ((s .pre .ready, s .pre .shallow), s .pre .stands)))
+
+lower-unwind-requires : tie.Need-lower-unwind-requires
+lower-unwind-requires c κs =
+    let m : tie.At-match-keys5 = search in
+    let w : tie.After-word = search in
+    let s : tie.Start = search in
+    Clausing.asked (s .pre) (sym (w .word .ensures) ∙ m .match .keys5)
+
+lower-call-requires : tie.Need-lower-call-requires
+lower-call-requires c κs =
+    let m : tie.At-match-rest = search in
+    let w : tie.After-word = search in
+    let s : tie.Start = search in
+    let other = m .match .rest in
+    let not-2 = other .0 .0 .0 .0 .1 in
+    let not-3 = other .0 .0 .0 .1 in
+    let not-4 = other .0 .0 .1 in
+    let not-5 = other .0 .1 in
+    let not-6 = other .1 in
+    let is = w .word .ensures in
+    Clausing.asked (s .pre)
+    (Clausing.seven
+    (s .pre .room)
+    (s .pre .held)
+    (λ e. not-2 (is ∙ e))
+    (λ e. not-3 (is ∙ e))
+    (λ e. not-4 (is ∙ e))
+    (λ e. not-5 (is ∙ e))
+    (λ e. not-6 (is ∙ e))
+    (s .pre .reads))
+
+returns : tie.Need-returns
+returns c =
+    let x : tie.After-lower-match = search in
+    x .lower-match .ensures _
+
+returns-2 : tie.Need-returns-2
+returns-2 c =
+    let x : tie.After-lower-where = search in
+    x .lower-where .ensures _
+
+returns-3 : tie.Need-returns-3
+returns-3 c =
+    let x : tie.After-lower-with = search in
+    x .lower-with .ensures _
+
+returns-4 : tie.Need-returns-4
+returns-4 c =
+    let x : tie.After-lower-return = search in
+    x .lower-return .ensures
+
+returns-5 : tie.Need-returns-5
+returns-5 c =
+    let x : tie.After-lower-unwind = search in
+    x .lower-unwind .ensures _
+
+returns-6 : tie.Need-returns-6
+returns-6 c =
+    let x : tie.After-lower-call = search in
+    x .lower-call .ensures _
 
 pub lower-reading-clause-spec : {M : Type 1} → statement M
 lower-reading-clause-spec =
     tie.close
     (tie.spec
-    (λ c κs. (Room.low (Clausing.some-tree ((c .before .before .before .before .before .pre .1 .0 .0))), (omega arith, ((c .before .before .before .before .before .pre .0)))))
-    (λ c κs. (((c .before .before .before .before .before .before .before .before .before .pre .0)), (((Clausing.some-tree ((c .before .before .before .before .before .before .before .before .before .pre .1 .0 .0))), sym ((c .before .before .before .word .ensures)) ∙ (c .before .before .match .keys1)), ((((c .before .before .before .before .before .before .before .before .before .pre .1 .1 .0 .0)), ((c .before .before .before .before .before .before .before .before .before .pre .1 .1 .0 .1))), ((c .before .before .before .before .before .before .before .before .before .pre .1 .1 .1))))))
-    (λ c κs. (((c .before .before .before .before .before .before .before .before .before .pre .0)), (((Clausing.some-tree ((c .before .before .before .before .before .before .before .before .before .pre .1 .0 .0))), sym ((c .before .before .before .word .ensures)) ∙ (c .before .before .match .keys2)), ((((c .before .before .before .before .before .before .before .before .before .pre .1 .1 .0 .0)), ((c .before .before .before .before .before .before .before .before .before .pre .1 .1 .0 .1))), ((c .before .before .before .before .before .before .before .before .before .pre .1 .1 .1))))))
-    (λ c κs. (((c .before .before .before .before .before .before .before .before .before .pre .0)), (((Clausing.some-tree ((c .before .before .before .before .before .before .before .before .before .pre .1 .0 .0))), sym ((c .before .before .before .word .ensures)) ∙ (c .before .before .match .keys3)), ((((c .before .before .before .before .before .before .before .before .before .pre .1 .1 .0 .0)), ((c .before .before .before .before .before .before .before .before .before .pre .1 .1 .0 .1))), ((c .before .before .before .before .before .before .before .before .before .pre .1 .1 .1)) .1))))
-    (λ c κs. (((c .before .before .before .before .before .before .before .before .before .pre .0)), ((((c .before .before .before .before .before .before .before .before .before .pre .1 .0 .0)), sym ((c .before .before .before .word .ensures)) ∙ (c .before .before .match .keys4)), ((((c .before .before .before .before .before .before .before .before .before .pre .1 .1 .0 .0)), ((c .before .before .before .before .before .before .before .before .before .pre .1 .1 .0 .1))), ((c .before .before .before .before .before .before .before .before .before .pre .1 .1 .1)) .1))))
-    (λ c κs. (((c .before .before .before .before .before .before .before .before .before .pre .0)), (((Clausing.some-tree ((c .before .before .before .before .before .before .before .before .before .pre .1 .0 .0))), sym ((c .before .before .before .word .ensures)) ∙ (c .before .before .match .keys5)), ((((c .before .before .before .before .before .before .before .before .before .pre .1 .1 .0 .0)), ((c .before .before .before .before .before .before .before .before .before .pre .1 .1 .0 .1))), ((c .before .before .before .before .before .before .before .before .before .pre .1 .1 .1))))))
-    (λ c κs. (((c .before .before .before .before .before .before .before .before .before .pre .0)), (((Clausing.some-tree ((c .before .before .before .before .before .before .before .before .before .pre .1 .0 .0))), Clausing.seven ((c .before .before .before .before .before .before .before .before .before .pre .0)) ((c .before .before .before .before .before .before .before .before .before .pre .1 .0 .0)) (λ e. (c .before .before .match .rest .0 .0 .0 .0 .1) ((c .before .before .before .word .ensures) ∙ e)) (λ e. (c .before .before .match .rest .0 .0 .0 .1) ((c .before .before .before .word .ensures) ∙ e)) (λ e. (c .before .before .match .rest .0 .0 .1) ((c .before .before .before .word .ensures) ∙ e)) (λ e. (c .before .before .match .rest .0 .1) ((c .before .before .before .word .ensures) ∙ e)) (λ e. (c .before .before .match .rest .1) ((c .before .before .before .word .ensures) ∙ e)) ((c .before .before .before .before .before .before .before .before .before .pre .1 .0 .1))), ((((c .before .before .before .before .before .before .before .before .before .pre .1 .1 .0 .0)), ((c .before .before .before .before .before .before .before .before .before .pre .1 .1 .0 .1))), ((c .before .before .before .before .before .before .before .before .before .pre .1 .1 .1))))))
+    word-requires
+    lower-match-requires
+    lower-where-requires
+    lower-with-requires
+    lower-return-requires
+    lower-unwind-requires
+    lower-call-requires
     (λ c. search needs)
     (λ c. search needs)
-    (λ c. (c .before .before .before .before .lower-match .ensures) _)
+    returns
     (λ c. search needs)
     (λ c. search needs)
-    (λ c. (c .before .before .before .before .lower-where .ensures) _)
+    returns-2
     (λ c. search needs)
     (λ c. search needs)
-    (λ c. (c .before .before .before .before .lower-with .ensures) _)
+    returns-3
     (λ c. search needs)
     (λ c. search needs)
-    (λ c. (c .before .before .before .before .lower-return .ensures))
+    returns-4
     (λ c. search needs)
     (λ c. search needs)
-    (λ c. (c .before .before .before .before .lower-unwind .ensures) _)
+    returns-5
     (λ c. search needs)
     (λ c. search needs)
-    (λ c. (c .before .before .before .before .lower-call .ensures) _))
+    returns-6)

@@ -16,19 +16,113 @@ Inv-loop a b rest₀ i n at₀ m₀ cur₀ rest at m cur = Yields.Left a b (λ e
 abbrev μ-loop : tie.MeasureT-loop
 μ-loop a b rest₀ i n at₀ m₀ cur₀ rest at m cur = m
 
+-- a place or a need, at the loops' invariants and measures
+abbrev here : (tie.InvT-loop → tie.MeasureT-loop → Type 0) → Type 0
+here X = X Inv-loop μ-loop
+
+-- the ways back, from place to place
+abbrev back-number : here tie.After-number → here tie.After-word
+back-number c = search
+
+abbrev back-word : here tie.After-word → here tie.In-loop
+back-word c = search
+
+abbrev back-in-loop : here tie.In-loop → here tie.At-loop
+back-in-loop c = search
+
+abbrev back-at-loop : here tie.At-loop → here tie.Start
+back-at-loop c = search
+
+ruleset ways = (back-number, back-word, back-in-loop, back-at-loop)
+
+loop-holds : here tie.Need-loop-holds
+loop-holds c =
+    let start : here tie.Start = search ways in (
+      record {
+        some = (start .pre .1 .0);
+        fits = (start .pre .1 .1 .0);
+        met = (start .pre .1 .1 .1);
+        low = (start .pre .1 .1 .2);
+        in-rest = (start .pre .1 .1 .3);
+        index = (start .pre .1 .1 .4);
+        rest = λ e c′ rest′ q. q;
+      },
+      refl,
+    )
+
+word-requires : here tie.Need-word-requires
+word-requires c κs =
+    let at-loop : here tie.At-loop = search ways in
+    let start : here tie.Start = search ways in
+    let x = at-loop .loop .inv .0 .fits in
+    let y = c .loop-test .taken in
+    (omega arith, (omega arith, start .pre .0))
+
+add-number : here tie.Need-add-number
+add-number c =
+    let in-loop : here tie.In-loop = search ways in
+    let at-loop : here tie.At-loop = search ways in
+    let x = at-loop .loop .inv .0 .fits in
+    let y = in-loop .loop-test .taken in
+    omega arith
+
+number-requires : here tie.Need-number-requires
+number-requires c κs =
+    let in-loop : here tie.In-loop = search ways in
+    let at-loop : here tie.At-loop = search ways in
+    let x = at-loop .loop .inv .0 .met in
+    let y = in-loop .loop-test .taken in
+    let x′ = at-loop .loop .inv .0 .low in
+    let x′′ = at-loop .loop .inv .0 .fits in
+    (omega arith, omega arith, omega arith, at-loop .loop .inv .0 .in-rest, at-loop .loop .inv .0 .index)
+
+add-at : here tie.Need-add-at
+add-at c =
+    let in-loop : here tie.In-loop = search ways in
+    let at-loop : here tie.At-loop = search ways in
+    let x = at-loop .loop .inv .0 .fits in
+    let y = in-loop .loop-test .taken in
+    omega arith
+
+loop-again : here tie.Need-loop-again
+loop-again c =
+    let start : here tie.Start = search in
+    let at-loop : here tie.At-loop = search in
+    let in-loop : here tie.In-loop = search in
+    let after-word : here tie.After-word = search in
+    let after-number : here tie.After-number = search in (
+      Yields.again
+          (start .pre .0)
+          (in-loop .loop-test .taken)
+          (at-loop .loop .inv .0)
+          (rw (after-word .word .ensures) at (after-number .number .ensures))
+          (after-number .number .kept .1 .0),
+      (after-number .number .kept .1 .0) ∙ (at-loop .loop .inv .1),
+    )
+
+same-length : here tie.Need-same-length
+same-length c =
+    let at-loop : here tie.At-loop = search ways in
+    at-loop .loop .inv .1
+
+returns : here tie.Need-returns
+returns c =
+    let at-loop : here tie.At-loop = search ways in
+    Yields.done (c .loop-test .left) (at-loop .loop .inv .0)
+
 pub lower-yields-spec : {M : Type 1} → statement M
 lower-yields-spec =
     tie.close
     (tie.spec
     Inv-loop
     μ-loop
-    (λ c. (record { some = (c .before .before .before .pre .1 .0); fits = (c .before .before .before .pre .1 .1 .0); met = (c .before .before .before .pre .1 .1 .1); low = (c .before .before .before .pre .1 .1 .2); in-rest = (c .before .before .before .pre .1 .1 .3); index = (c .before .before .before .pre .1 .1 .4); rest = λ e c′ rest′ q. q }, refl))
-    (λ c κs. ((let x = (c .before .loop .inv .0 .fits) in let y = (c .loop-test .taken) in omega arith), (omega arith, (c .before .before .before .before .before .pre .0))))
-    (λ c. (let x = (c .before .before .before .loop .inv .0 .fits) in let y = (c .before .before .loop-test .taken) in omega arith))
-    (λ c κs. (let x = (c .before .before .before .loop .inv .0 .met) in let y = (c .before .before .loop-test .taken) in omega arith, let x = (c .before .before .before .loop .inv .0 .low) in let y = (c .before .before .loop-test .taken) in omega arith, (let x = (c .before .before .before .loop .inv .0 .fits) in let y = (c .before .before .loop-test .taken) in omega arith), (c .before .before .before .loop .inv .0 .in-rest), (c .before .before .before .loop .inv .0 .index)))
-    (λ c. (let x = (c .before .before .before .before .before .before .loop .inv .0 .fits) in let y = (c .before .before .before .before .before .loop-test .taken) in omega arith))
+    loop-holds
+    word-requires
+    add-number
+    number-requires
+    add-at
     (λ c. search needs)
     (λ c. search needs)
-    (λ c. (Yields.again ((c .before .before .before .before .before .before .before .before .before .before .before .pre .0)) ((c .before .before .before .before .before .before .loop-test .taken)) ((c .before .before .before .before .before .before .before .loop .inv .0)) (rw ((c .before .before .before .before .before .word .ensures)) at ((c .before .before .before .number .ensures))) ((c .before .before .before .number .kept .1 .0)), (c .before .before .before .number .kept .1 .0) ∙ (c .before .before .before .before .before .before .before .loop .inv .1)))
-    (λ c. (c .before .loop .inv .1))
-    (λ c. Yields.done ((c .loop-test .left)) ((c .before .loop .inv .0))))
+    loop-again
+    same-length
+    returns)

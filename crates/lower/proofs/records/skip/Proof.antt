@@ -3,9 +3,6 @@ use Prim.Native.Nat.{_-_, _≤_}
 use native.Mathlib.Omega.{arith}
 use Rattle.lower.proofs.records.skip.Statement.{statement}
 use Rattle.lower.proofs.records.skip.Tie as tie
-use Rattle.lower.proofs.records.skip.Reads as reads
-use Rattle.lower.proofs.records.skip.Lts as lts
-use Rattle.lower.proofs.records.children.Reads as children-reads
 
 abbrev Inv-loop : tie.InvT-loop
 Inv-loop a b i at₀ due₀ at due = (at ≤ 2048) × Counting.Left a b i due at
@@ -13,37 +10,67 @@ Inv-loop a b i at₀ due₀ at due = (at ≤ 2048) × Counting.Left a b i due at
 abbrev μ-loop : tie.MeasureT-loop
 μ-loop a b i at₀ due₀ at due = 2048 - at
 
--- src/records.rt:58:5
-loop-holds : tie.Need-loop-holds Inv-loop μ-loop
-loop-holds c = (Counting.start-low ((c .before .before .pre .1)), Counting.first ((c .before .before .pre .0)) _)
+-- a place or a need, at the loops' invariants and measures
+abbrev here : (tie.InvT-loop → tie.MeasureT-loop → Type 0) → Type 0
+here X = X Inv-loop μ-loop
 
--- src/records.rt:59:13
-children-requires : tie.Need-children-requires Inv-loop μ-loop
-children-requires c κs = (Counting.in-range ((c .before .before .before .before .pre .0)) ((c .before .before .before .before .pre .1)) ((c .before .loop .inv .1)) (c .loop-test .taken), (c .before .before .before .before .pre .0))
+-- the ways back, from place to place
+abbrev back-in-loop : here tie.In-loop → here tie.At-loop
+back-in-loop c = search
 
--- src/records.rt:60:15
-sub-due : tie.Need-sub-due Inv-loop μ-loop
+abbrev back-at-loop : here tie.At-loop → here tie.Start
+back-at-loop c = search
+
+ruleset ways = (back-in-loop, back-at-loop)
+
+loop-holds : here tie.Need-loop-holds
+loop-holds c =
+    let start : here tie.Start = search ways in
+    (Counting.start-low (start .pre .1), Counting.first (start .pre .0) _)
+
+children-requires : here tie.Need-children-requires
+children-requires c κs =
+    let at-loop : here tie.At-loop = search ways in
+    let start : here tie.Start = search ways in
+    (Counting.in-range (start .pre .0) (start .pre .1) (at-loop .loop .inv .1) (c .loop-test .taken), start .pre .0)
+
+sub-due : here tie.Need-sub-due
 sub-due c = omega arith
 
--- src/records.rt:60:15
-add-due : tie.Need-add-due Inv-loop μ-loop
-add-due c = (let p = Counting.few ((c .before .before .before .before .before .pre .0)) ((c .before .before .before .before .before .pre .1)) ((c .before .before .loop .inv .1)) ((c .before .before .loop .inv .0)) in omega (arith, (c .children .ensures .1)))
+add-due : here tie.Need-add-due
+add-due c =
+    let at-loop : here tie.At-loop = search ways in
+    let start : here tie.Start = search ways in
+    let p = Counting.few (start .pre .0) (start .pre .1) (at-loop .loop .inv .1) (at-loop .loop .inv .0) in
+    omega (arith, c .children .ensures .1)
 
--- src/records.rt:61:9
-add-at : tie.Need-add-at Inv-loop μ-loop
-add-at c = (let p = (c .before .before .loop .inv .0) in omega arith)
+add-at : here tie.Need-add-at
+add-at c =
+    let at-loop : here tie.At-loop = search ways in
+    let p = at-loop .loop .inv .0 in
+    omega arith
 
--- src/records.rt:58:5
-loop-less : tie.Need-loop-less Inv-loop μ-loop
-loop-less c = (let p = Counting.in-range ((c .before .before .before .before .before .pre .0)) ((c .before .before .before .before .before .pre .1)) ((c .before .before .loop .inv .1)) (c .before .loop-test .taken) in omega arith)
+loop-less : here tie.Need-loop-less
+loop-less c =
+    let in-loop : here tie.In-loop = search ways in
+    let at-loop : here tie.At-loop = search ways in
+    let start : here tie.Start = search ways in
+    let p = Counting.in-range (start .pre .0) (start .pre .1) (at-loop .loop .inv .1) (in-loop .loop-test .taken) in
+    omega arith
 
--- src/records.rt:58:5
-loop-again : tie.Need-loop-again Inv-loop μ-loop
-loop-again c = (let p = Counting.in-range ((c .before .before .before .before .before .pre .0)) ((c .before .before .before .before .before .pre .1)) ((c .before .before .loop .inv .1)) (c .before .loop-test .taken) in omega arith, Counting.again ((c .before .before .before .before .before .pre .0)) (c .before .loop-test .taken) ((c .children .ensures .0)) ((c .before .before .loop .inv .1)))
+loop-again : here tie.Need-loop-again
+loop-again c =
+    let in-loop : here tie.In-loop = search ways in
+    let at-loop : here tie.At-loop = search ways in
+    let start : here tie.Start = search ways in
+    let p = Counting.in-range (start .pre .0) (start .pre .1) (at-loop .loop .inv .1) (in-loop .loop-test .taken) in
+    (omega arith, Counting.again (start .pre .0) (in-loop .loop-test .taken) (c .children .ensures .0) (at-loop .loop .inv .1))
 
--- src/records.rt:51:1
-returns : tie.Need-returns Inv-loop μ-loop
-returns c = Counting.done ((c .before .before .before .before .pre .0)) (c .loop-test .left) ((c .before .loop .inv .1))
+returns : here tie.Need-returns
+returns c =
+    let at-loop : here tie.At-loop = search ways in
+    let start : here tie.Start = search ways in
+    Counting.done (start .pre .0) (c .loop-test .left) (at-loop .loop .inv .1)
 
 pub skip-spec : {M : Type 1} → statement M
 skip-spec =

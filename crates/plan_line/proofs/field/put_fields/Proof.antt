@@ -14,10 +14,10 @@ use Rattle.plan_line.proofs.field.put_field.Reads as put-field-reads
 use Rattle.words.proofs.word.Reads as word-reads
 
 abbrev Inv-loop : tie.InvT-loop
-Inv-loop plan₀ sheet a b i kind o₀ g₀ code₀ plan o g code = FieldLaws.Left sheet (part a b i) kind (on plan₀ o₀) g code (on plan o)
+Inv-loop plan₀ out sheet a b i kind o₀ g₀ code₀ plan o g code = FieldLaws.Left sheet (part a b i) kind (on plan₀ o₀) g code (on plan o)
 
 abbrev μ-loop : tie.MeasureT-loop
-μ-loop plan₀ sheet a b i kind o₀ g₀ code₀ plan o g code = 7 - g
+μ-loop plan₀ out sheet a b i kind o₀ g₀ code₀ plan o g code = 7 - g
 
 -- src/field.rt:105:9
 form-code-requires : tie.Need-form-code-requires Inv-loop μ-loop

@@ -4,78 +4,81 @@ use Rattle.plan_sheet.proofs.BehindLaws
 use borrow.Author.Needs.{needs}
 use Rattle.plan_sheet.proofs.behind.many_of.Statement.{statement}
 use Rattle.plan_sheet.proofs.behind.many_of.Tie as tie
-use Rattle.plan_sheet.proofs.behind.many_of.Reads as reads
-use Rattle.plan_sheet.proofs.behind.many_of.Lts as lts
-use Rattle.lower.proofs.records.count.Reads as count-reads
 
--- src/behind.rt:19:9
-count-requires : tie.Need-count-requires
-count-requires c κs = search needs
+-- the ways back, from place to place
+abbrev back-count2 : tie.After-count2 → tie.After-count
+back-count2 c = search
 
--- src/behind.rt:20:9
-count-requires-2 : tie.Need-count-requires-2
-count-requires-2 c κs = search needs
+abbrev back-count : tie.After-count → tie.Start
+back-count c = search
 
--- src/behind.rt:21:13
-cast-x : tie.Need-cast-x
-cast-x c = search needs
+ruleset ways = (back-count2, back-count)
 
--- src/behind.rt:24:14
-add-result : tie.Need-add-result
-add-result c = search needs
-
--- src/behind.rt:13:1
 returns : tie.Need-returns
 unfolding manyBy
-returns c = rw ((c .match .keys1))
+returns c = rw (c .match .keys1)
 
--- src/behind.rt:13:1
 returns-2 : tie.Need-returns-2
 unfolding manyBy
-returns-2 c = rw ((c .match .keys2), (c .before .before .before .count .ensures .0), (c .before .before .count2 .ensures .0))
+returns-2 c =
+    let after-count : tie.After-count = search in
+    let after-count2 : tie.After-count2 = search in
+    rw (c .match .keys2, after-count .count .ensures .0, after-count2 .count2 .ensures .0)
 
--- src/behind.rt:13:1
 returns-3 : tie.Need-returns-3
 unfolding manyBy
-returns-3 c = rw ((c .match .keys3), (c .before .before .before .count .ensures .0))
+returns-3 c =
+    let after-count : tie.After-count = search ways in
+    rw (c .match .keys3, after-count .count .ensures .0)
 
--- src/behind.rt:13:1
 returns-4 : tie.Need-returns-4
 unfolding manyBy
-returns-4 c = rw ((c .match .keys4))
+returns-4 c = rw (c .match .keys4)
 
--- src/behind.rt:13:1
 returns-5 : tie.Need-returns-5
 unfolding manyBy
-returns-5 c = rw ((c .match .keys5))
+returns-5 c = rw (c .match .keys5)
 
--- src/behind.rt:13:1
 returns-6 : tie.Need-returns-6
 unfolding manyBy
-returns-6 c = rw ((c .match .keys6))
+returns-6 c = rw (c .match .keys6)
 
--- src/behind.rt:13:1
 returns-7 : tie.Need-returns-7
 unfolding manyBy
-returns-7 c = rw ((c .match .keys7))
+returns-7 c = rw (c .match .keys7)
 
--- src/behind.rt:13:1
 returns-8 : tie.Need-returns-8
 unfolding manyBy
-returns-8 c = rw ((c .match .keys8), (c .before .before .count2 .ensures .0))
+returns-8 c =
+    let after-count2 : tie.After-count2 = search ways in
+    rw (c .match .keys8, after-count2 .count2 .ensures .0)
 
--- src/behind.rt:13:1
 returns-9 : tie.Need-returns-9
-returns-9 c = let r = (c .match .rest) in BehindLaws.none-at _ _ _ _ _ (r .0 .0 .0 .0 .0 .0 .0 .1) (r .0 .0 .0 .0 .0 .0 .1) (r .0 .0 .0 .0 .0 .1) (r .0 .0 .0 .0 .1) (r .0 .0 .0 .1) (r .0 .0 .1) (r .0 .1) (r .1)
+returns-9 c =
+    let r = c .match .rest in
+    BehindLaws.none-at
+    _
+    _
+    _
+    _
+    _
+    (r .0 .0 .0 .0 .0 .0 .0 .1)
+    (r .0 .0 .0 .0 .0 .0 .1)
+    (r .0 .0 .0 .0 .0 .1)
+    (r .0 .0 .0 .0 .1)
+    (r .0 .0 .0 .1)
+    (r .0 .0 .1)
+    (r .0 .1)
+    (r .1)
 
 pub many-of-spec : {M : Type 1} → statement M
 many-of-spec =
     tie.close
     (tie.spec
-    count-requires
-    count-requires-2
-    cast-x
-    add-result
+    (λ c κs. search needs)
+    (λ c κs. search needs)
+    (λ c. search needs)
+    (λ c. search needs)
     returns
     returns-2
     returns-3

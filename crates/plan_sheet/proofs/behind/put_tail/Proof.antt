@@ -4,60 +4,107 @@ use native.Mathlib.Omega.{arith}
 use borrow.Author.Needs.{needs}
 use Rattle.plan_sheet.proofs.behind.put_tail.Statement.{statement}
 use Rattle.plan_sheet.proofs.behind.put_tail.Tie as tie
-use Rattle.plan_sheet.proofs.behind.put_tail.Reads as reads
-use Rattle.plan_sheet.proofs.behind.put_tail.Lts as lts
-use Rattle.lower.proofs.records.count.Reads as count-reads
-use Rattle.plan_sheet.proofs.behind.put_yields.Reads as put-yields-reads
-use Rattle.plan_sheet.proofs.names.put_names.Reads as put-names-reads
-use Rattle.plan_sheet.proofs.path.put_path.Reads as put-path-reads
 
--- src/behind.rt:119:9
+-- the ways back, from place to place
+abbrev back-put-yields : tie.After-put-yields → tie.At-match-keys3
+back-put-yields c = search
+
+abbrev back-put-path : tie.After-put-path → tie.At-match-keys2
+back-put-path c = search
+
+abbrev back-put-names : tie.After-put-names → tie.At-match-keys1
+back-put-names c = search
+
+abbrev back-at-match-keys3 : tie.At-match-keys3 → tie.After-count2
+back-at-match-keys3 c = search
+
+abbrev back-at-match-keys2 : tie.At-match-keys2 → tie.After-count2
+back-at-match-keys2 c = search
+
+abbrev back-at-match-keys1 : tie.At-match-keys1 → tie.After-count2
+back-at-match-keys1 c = search
+
+abbrev back-count2 : tie.After-count2 → tie.After-count
+back-count2 c = search
+
+abbrev back-count : tie.After-count → tie.Start
+back-count c = search
+
+ruleset ways = (
+  back-put-yields,
+  back-put-path,
+  back-put-names,
+  back-at-match-keys3,
+  back-at-match-keys2,
+  back-at-match-keys1,
+  back-count2,
+  back-count,
+)
+
 count-requires : tie.Need-count-requires
-count-requires c κs = ((c .before .before .before .before .before .pre .1 .0 .2), (omega arith, (c .before .before .before .before .before .pre .0)))
+count-requires c κs =
+    let start : tie.Start = search ways in
+    (start .pre .1 .0 .2, (omega arith, start .pre .0))
 
--- src/behind.rt:120:9
 count-requires-2 : tie.Need-count-requires-2
-count-requires-2 c κs = ((c .before .before .before .before .before .before .pre .1 .0 .2), (omega arith, (c .before .before .before .before .before .before .pre .0)))
+count-requires-2 c κs =
+    let start : tie.Start = search ways in
+    (start .pre .1 .0 .2, (omega arith, start .pre .0))
 
--- src/behind.rt:123:17
 put-names-requires : tie.Need-put-names-requires
-put-names-requires c κs = ((c .before .before .before .before .before .before .before .before .before .pre .0), BehindLaws.labels-there (c .before .match .keys1) ((c .before .before .before .count .ensures .0)) ((c .before .before .before .before .before .before .before .before .before .pre .1 .1)))
+put-names-requires c κs =
+    let at-match-keys1 : tie.At-match-keys1 = search ways in
+    let after-count : tie.After-count = search ways in
+    let start : tie.Start = search ways in
+    (start .pre .0, BehindLaws.labels-there (at-match-keys1 .match .keys1) (after-count .count .ensures .0) (start .pre .1 .1))
 
--- src/behind.rt:126:14
 put-path-requires : tie.Need-put-path-requires
-put-path-requires c κs = ((c .before .before .before .before .before .before .before .before .before .pre .0), (((c .before .before .before .before .before .before .before .before .before .pre .1 .0 .0), (c .before .before .before .before .before .before .before .before .before .pre .1 .0 .1)), BehindLaws.path-there (c .before .match .keys2) ((c .before .before .count2 .ensures .0)) ((c .before .before .before .before .before .before .before .before .before .pre .1 .1))))
+put-path-requires c κs =
+    let at-match-keys2 : tie.At-match-keys2 = search ways in
+    let after-count2 : tie.After-count2 = search ways in
+    let start : tie.Start = search ways in (
+      start .pre .0,
+      (
+        (start .pre .1 .0 .0, start .pre .1 .0 .1),
+        BehindLaws.path-there (at-match-keys2 .match .keys2) (after-count2 .count2 .ensures .0) (start .pre .1 .1),
+      ),
+    )
 
--- src/behind.rt:127:15
 put-yields-requires : tie.Need-put-yields-requires
-put-yields-requires c κs = ((c .before .before .before .before .before .before .before .before .before .pre .0), (((c .before .before .before .before .before .before .before .before .before .pre .1 .0 .0), (c .before .before .before .before .before .before .before .before .before .pre .1 .0 .1)), BehindLaws.yields-there (c .before .match .keys3) ((c .before .before .count2 .ensures .0)) ((c .before .before .before .before .before .before .before .before .before .pre .1 .1))))
+put-yields-requires c κs =
+    let at-match-keys3 : tie.At-match-keys3 = search ways in
+    let after-count2 : tie.After-count2 = search ways in
+    let start : tie.Start = search ways in (
+      start .pre .0,
+      (
+        (start .pre .1 .0 .0, start .pre .1 .0 .1),
+        BehindLaws.yields-there (at-match-keys3 .match .keys3) (after-count2 .count2 .ensures .0) (start .pre .1 .1),
+      ),
+    )
 
--- src/behind.rt:102:1
-same-length : tie.Need-same-length
-same-length c = search needs
-
--- src/behind.rt:102:1
 returns : tie.Need-returns
-returns c = BehindLaws.labels-wrote (c .before .before .before .before .before .match .keys1) ((c .before .before .before .before .before .before .before .count .ensures .0)) (c .before .before .before .put-names .ensures)
+returns c =
+    let after-put-names : tie.After-put-names = search ways in
+    let at-match-keys1 : tie.At-match-keys1 = search ways in
+    let after-count : tie.After-count = search ways in
+    BehindLaws.labels-wrote (at-match-keys1 .match .keys1) (after-count .count .ensures .0) (after-put-names .put-names .ensures)
 
--- src/behind.rt:102:1
-same-length-2 : tie.Need-same-length-2
-same-length-2 c = search needs
-
--- src/behind.rt:102:1
 returns-2 : tie.Need-returns-2
-returns-2 c = BehindLaws.path-wrote (c .before .before .before .before .match .keys2) ((c .before .before .before .before .before .count2 .ensures .0)) (c .before .before .put-path .ensures)
+returns-2 c =
+    let after-put-path : tie.After-put-path = search ways in
+    let at-match-keys2 : tie.At-match-keys2 = search ways in
+    let after-count2 : tie.After-count2 = search ways in
+    BehindLaws.path-wrote (at-match-keys2 .match .keys2) (after-count2 .count2 .ensures .0) (after-put-path .put-path .ensures)
 
--- src/behind.rt:102:1
-same-length-3 : tie.Need-same-length-3
-same-length-3 c = search needs
-
--- src/behind.rt:102:1
 returns-3 : tie.Need-returns-3
-returns-3 c = BehindLaws.yields-wrote (c .before .before .before .before .match .keys3) ((c .before .before .before .before .before .count2 .ensures .0)) (c .before .before .put-yields .ensures)
+returns-3 c =
+    let after-put-yields : tie.After-put-yields = search ways in
+    let at-match-keys3 : tie.At-match-keys3 = search ways in
+    let after-count2 : tie.After-count2 = search ways in
+    BehindLaws.yields-wrote (at-match-keys3 .match .keys3) (after-count2 .count2 .ensures .0) (after-put-yields .put-yields .ensures)
 
--- src/behind.rt:102:1
 returns-4 : tie.Need-returns-4
-returns-4 c = BehindLaws.nothing-wrote ((c .match .rest .0 .0 .1)) ((c .match .rest .0 .1)) ((c .match .rest .1))
+returns-4 c = BehindLaws.nothing-wrote (c .match .rest .0 .0 .1) (c .match .rest .0 .1) (c .match .rest .1)
 
 pub put-tail-spec : {M : Type 1} → statement M
 put-tail-spec =
@@ -68,10 +115,10 @@ put-tail-spec =
     put-names-requires
     put-path-requires
     put-yields-requires
-    same-length
+    (λ c. search needs)
     returns
-    same-length-2
+    (λ c. search needs)
     returns-2
-    same-length-3
+    (λ c. search needs)
     returns-3
     returns-4)

@@ -6,65 +6,115 @@ use native.Mathlib.Omega.{arith}
 use borrow.Author.Needs.{needs}
 use Rattle.plan_sheet.proofs.behind.put_yields.Statement.{statement}
 use Rattle.plan_sheet.proofs.behind.put_yields.Tie as tie
-use Rattle.plan_sheet.proofs.behind.put_yields.Reads as reads
-use Rattle.plan_sheet.proofs.behind.put_yields.Lts as lts
-use Rattle.plan_sheet.proofs.head.note.Reads as note-reads
-use Rattle.plan_line.proofs.row.put_named.Reads as put-named-reads
-use Rattle.words.proofs.word.Reads as word-reads
 
 abbrev Inv-loop : tie.InvT-loop
-Inv-loop plan₀ sheet a b rest base i n at₀ left₀ o₀ plan at left o = BehindLaws.YieldsGoing sheet a b rest base n i (on plan₀ o₀) left at (on plan o)
+Inv-loop plan₀ out sheet a b rest base i n at₀ left₀ o₀ plan at left o = BehindLaws.YieldsGoing sheet a b rest base n i (on plan₀ o₀) left at (on plan o)
 
 abbrev μ-loop : tie.MeasureT-loop
-μ-loop plan₀ sheet a b rest base i n at₀ left₀ o₀ plan at left o = left
+μ-loop plan₀ out sheet a b rest base i n at₀ left₀ o₀ plan at left o = left
 
--- src/behind.rt:90:5
-loop-holds : tie.Need-loop-holds Inv-loop μ-loop
-loop-holds c = BehindLaws.yields-going ((c .before .before .before .before .before .pre .1 .1))
+-- a place or a need, at the loops' invariants and measures
+abbrev here : (tie.InvT-loop → tie.MeasureT-loop → Type 0) → Type 0
+here X = X Inv-loop μ-loop
 
--- src/behind.rt:91:13
-word-requires : tie.Need-word-requires Inv-loop μ-loop
-word-requires c κs = (BehindLaws.yield-low (c .loop-test .taken) ((c .before .loop .inv .some)), (omega arith, (c .before .before .before .before .before .before .before .pre .0)))
+-- the ways back, from place to place
+abbrev back-put-named : here tie.After-put-named → here tie.After-note
+back-put-named c = search
 
--- src/behind.rt:92:13
-word-requires-2 : tie.Need-word-requires-2 Inv-loop μ-loop
-word-requires-2 c κs = (BehindLaws.yield-low (c .before .loop-test .taken) ((c .before .before .loop .inv .some)), (omega arith, (c .before .before .before .before .before .before .before .before .pre .0)))
+abbrev back-note : here tie.After-note → here tie.After-word2
+back-note c = search
 
--- src/behind.rt:93:9
-add-at : tie.Need-add-at Inv-loop μ-loop
-add-at c = omega (arith, BehindLaws.yield-low (c .before .before .loop-test .taken) ((c .before .before .before .loop .inv .some)))
+abbrev back-word2 : here tie.After-word2 → here tie.After-word
+back-word2 c = search
 
--- src/behind.rt:94:46
-add-note : tie.Need-add-note Inv-loop μ-loop
-add-note c = omega (arith, BehindLaws.yield-low (c .before .before .loop-test .taken) ((c .before .before .before .loop .inv .some)), (c .before .before .before .before .before .before .before .before .before .pre .1 .0 .1))
+abbrev back-word : here tie.After-word → here tie.In-loop
+back-word c = search
 
--- src/behind.rt:94:13
-note-requires : tie.Need-note-requires Inv-loop μ-loop
-note-requires c κs = omega (arith, BehindLaws.yield-low (c .before .before .loop-test .taken) ((c .before .before .before .loop .inv .some)), (c .before .before .before .before .before .before .before .before .before .pre .1 .0 .0), (c .before .before .before .before .before .before .before .before .before .pre .1 .0 .1))
+abbrev back-in-loop : here tie.In-loop → here tie.At-loop
+back-in-loop c = search
 
--- src/behind.rt:95:9
-put-named-requires : tie.Need-put-named-requires Inv-loop μ-loop
-put-named-requires c κs = ((omega arith, omega arith), rw ((c .before .before .before .word .ensures), (c .before .before .word2 .ensures)) (BehindLaws.yield-in ((c .before .before .before .before .before .before .before .before .before .before .before .pre .0)) (c .before .before .before .before .loop-test .taken) ((c .before .before .before .before .before .loop .inv .some))))
+abbrev back-at-loop : here tie.At-loop → here tie.Start
+back-at-loop c = search
 
--- src/behind.rt:96:9
-sub-left : tie.Need-sub-left Inv-loop μ-loop
-sub-left c = search needs
+ruleset ways = (back-put-named, back-note, back-word2, back-word, back-in-loop, back-at-loop)
 
--- src/behind.rt:90:5
-loop-less : tie.Need-loop-less Inv-loop μ-loop
-loop-less c = search needs
+loop-holds : here tie.Need-loop-holds
+loop-holds c =
+    let start : here tie.Start = search ways depth 8 in
+    BehindLaws.yields-going (start .pre .1 .1)
 
--- src/behind.rt:90:5
-loop-again : tie.Need-loop-again Inv-loop μ-loop
-loop-again c = BehindLaws.yields-again ((c .before .before .before .before .before .before .before .before .before .before .before .before .before .before .pre .0)) (c .before .before .before .before .before .before .before .loop-test .taken) (c .before .before .before .before .before .before .before .before .loop .inv) (c .before .before .before .before .note .ensures) (rw ((c .before .before .before .before .before .before .word .ensures), (c .before .before .before .before .before .word2 .ensures)) at (c .before .before .put-named .ensures)) (same (c .before .before .put-named .ensures))
+word-requires : here tie.Need-word-requires
+word-requires c κs =
+    let at-loop : here tie.At-loop = search ways depth 8 in
+    let start : here tie.Start = search ways depth 8 in
+    (BehindLaws.yield-low (c .loop-test .taken) (at-loop .loop .inv .some), (omega arith, start .pre .0))
 
--- src/behind.rt:71:1
-same-length : tie.Need-same-length Inv-loop μ-loop
-same-length c = (c .before .loop .inv .long)
+word-requires-2 : here tie.Need-word-requires-2
+word-requires-2 c κs =
+    let in-loop : here tie.In-loop = search ways depth 8 in
+    let at-loop : here tie.At-loop = search ways depth 8 in
+    let start : here tie.Start = search ways depth 8 in
+    (BehindLaws.yield-low (in-loop .loop-test .taken) (at-loop .loop .inv .some), (omega arith, start .pre .0))
 
--- src/behind.rt:71:1
-returns : tie.Need-returns Inv-loop μ-loop
-returns c = BehindLaws.yields-done (c .loop-test .left) (c .before .loop .inv)
+add-at : here tie.Need-add-at
+add-at c =
+    let in-loop : here tie.In-loop = search ways depth 8 in
+    let at-loop : here tie.At-loop = search ways depth 8 in
+    omega (arith, BehindLaws.yield-low (in-loop .loop-test .taken) (at-loop .loop .inv .some))
+
+add-note : here tie.Need-add-note
+add-note c =
+    let in-loop : here tie.In-loop = search ways depth 8 in
+    let at-loop : here tie.At-loop = search ways depth 8 in
+    let start : here tie.Start = search ways depth 8 in
+    omega (arith, BehindLaws.yield-low (in-loop .loop-test .taken) (at-loop .loop .inv .some), start .pre .1 .0 .1)
+
+note-requires : here tie.Need-note-requires
+note-requires c κs =
+    let in-loop : here tie.In-loop = search ways depth 8 in
+    let at-loop : here tie.At-loop = search ways depth 8 in
+    let start : here tie.Start = search ways depth 8 in
+    omega (arith, BehindLaws.yield-low (in-loop .loop-test .taken) (at-loop .loop .inv .some), start .pre .1 .0 .0, start .pre .1 .0 .1)
+
+put-named-requires : here tie.Need-put-named-requires
+put-named-requires c κs =
+    let start : here tie.Start = search in
+    let at-loop : here tie.At-loop = search in
+    let in-loop : here tie.In-loop = search in
+    let after-word : here tie.After-word = search in
+    let after-word2 : here tie.After-word2 = search in (
+      (omega arith, omega arith),
+      rw
+          (after-word .word .ensures, after-word2 .word2 .ensures)
+          (BehindLaws.yield-in (start .pre .0) (in-loop .loop-test .taken) (at-loop .loop .inv .some)),
+    )
+
+loop-again : here tie.Need-loop-again
+loop-again c =
+    let start : here tie.Start = search in
+    let at-loop : here tie.At-loop = search in
+    let in-loop : here tie.In-loop = search in
+    let after-word : here tie.After-word = search in
+    let after-word2 : here tie.After-word2 = search in
+    let after-note : here tie.After-note = search in
+    let after-put-named : here tie.After-put-named = search in
+    BehindLaws.yields-again
+    (start .pre .0)
+    (in-loop .loop-test .taken)
+    (at-loop .loop .inv)
+    (after-note .note .ensures)
+    (rw (after-word .word .ensures, after-word2 .word2 .ensures) at (after-put-named .put-named .ensures))
+    (same (after-put-named .put-named .ensures))
+
+same-length : here tie.Need-same-length
+same-length c =
+    let at-loop : here tie.At-loop = search ways depth 8 in
+    at-loop .loop .inv .long
+
+returns : here tie.Need-returns
+returns c =
+    let at-loop : here tie.At-loop = search ways depth 8 in
+    BehindLaws.yields-done (c .loop-test .left) (at-loop .loop .inv)
 
 pub put-yields-spec : {M : Type 1} → statement M
 put-yields-spec =
@@ -79,8 +129,8 @@ put-yields-spec =
     add-note
     note-requires
     put-named-requires
-    sub-left
-    loop-less
+    (λ c. search needs)
+    (λ c. search needs)
     loop-again
     same-length
     returns)

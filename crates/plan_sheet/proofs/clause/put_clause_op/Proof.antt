@@ -1,182 +1,262 @@
 -- `put_clause_op` meets its contract. Assumes nothing.
-use Rattle.plan_sheet.proofs.HeadLaws
 use Rattle.plan_sheet.proofs.OpLaws
 use borrow.Author.Needs.{needs}
 use Rattle.plan_sheet.proofs.clause.put_clause_op.Statement.{statement}
 use Rattle.plan_sheet.proofs.clause.put_clause_op.Tie as tie
-use Rattle.plan_sheet.proofs.clause.put_clause_op.Reads as reads
-use Rattle.plan_sheet.proofs.clause.put_clause_op.Lts as lts
-use Rattle.plan_sheet.proofs.clause.put_procedure.Reads as put-procedure-reads
-use Rattle.plan_sheet.proofs.clause.put_project.Reads as put-project-reads
-use Rattle.plan_sheet.proofs.clause.put_with.Reads as put-with-reads
-use Rattle.plan_line.proofs.row.put_row.Reads as put-row-reads
 
--- src/clause.rt:93:14
-put-row-requires : tie.Need-put-row-requires
-put-row-requires c κs = search needs
+-- the ways back, from place to place
+abbrev back-put-with : tie.After-put-with → tie.At-match-keys2
+back-put-with c = search
 
--- src/clause.rt:94:14
+abbrev back-put-row8 : tie.After-put-row8 → tie.At-match-keys10
+back-put-row8 c = search
+
+abbrev back-put-row7 : tie.After-put-row7 → tie.At-match-keys9
+back-put-row7 c = search
+
+abbrev back-put-row6 : tie.After-put-row6 → tie.At-match-keys8
+back-put-row6 c = search
+
+abbrev back-put-row5 : tie.After-put-row5 → tie.At-match-keys7
+back-put-row5 c = search
+
+abbrev back-put-row4 : tie.After-put-row4 → tie.At-match-keys6
+back-put-row4 c = search
+
+abbrev back-put-row3 : tie.After-put-row3 → tie.At-match-keys5
+back-put-row3 c = search
+
+abbrev back-put-row2 : tie.After-put-row2 → tie.At-match-keys4
+back-put-row2 c = search
+
+abbrev back-put-row : tie.After-put-row → tie.At-match-keys1
+back-put-row c = search
+
+abbrev back-put-project : tie.After-put-project → tie.At-match-keys3
+back-put-project c = search
+
+abbrev back-put-procedure : tie.After-put-procedure → tie.At-match-rest
+back-put-procedure c = search
+
+abbrev back-at-match-rest : tie.At-match-rest → tie.Start
+back-at-match-rest c = search
+
+abbrev back-at-match-keys9 : tie.At-match-keys9 → tie.Start
+back-at-match-keys9 c = search
+
+abbrev back-at-match-keys8 : tie.At-match-keys8 → tie.Start
+back-at-match-keys8 c = search
+
+abbrev back-at-match-keys7 : tie.At-match-keys7 → tie.Start
+back-at-match-keys7 c = search
+
+abbrev back-at-match-keys6 : tie.At-match-keys6 → tie.Start
+back-at-match-keys6 c = search
+
+abbrev back-at-match-keys5 : tie.At-match-keys5 → tie.Start
+back-at-match-keys5 c = search
+
+abbrev back-at-match-keys4 : tie.At-match-keys4 → tie.Start
+back-at-match-keys4 c = search
+
+abbrev back-at-match-keys3 : tie.At-match-keys3 → tie.Start
+back-at-match-keys3 c = search
+
+abbrev back-at-match-keys2 : tie.At-match-keys2 → tie.Start
+back-at-match-keys2 c = search
+
+abbrev back-at-match-keys10 : tie.At-match-keys10 → tie.Start
+back-at-match-keys10 c = search
+
+abbrev back-at-match-keys1 : tie.At-match-keys1 → tie.Start
+back-at-match-keys1 c = search
+
+ruleset ways = (
+  back-put-with,
+  back-put-row8,
+  back-put-row7,
+  back-put-row6,
+  back-put-row5,
+  back-put-row4,
+  back-put-row3,
+  back-put-row2,
+  back-put-row,
+  back-put-project,
+  back-put-procedure,
+  back-at-match-rest,
+  back-at-match-keys9,
+  back-at-match-keys8,
+  back-at-match-keys7,
+  back-at-match-keys6,
+  back-at-match-keys5,
+  back-at-match-keys4,
+  back-at-match-keys3,
+  back-at-match-keys2,
+  back-at-match-keys10,
+  back-at-match-keys1,
+)
+
 put-with-requires : tie.Need-put-with-requires
-put-with-requires c κs = ((c .before .before .before .before .before .before .before .pre .0), ((c .before .before .before .before .before .before .before .pre .1 .1)) .stored .sane .low)
+put-with-requires c κs =
+    let start : tie.Start = search ways in
+    (start .pre .0, (start .pre .1 .1) .stored .sane .low)
 
--- src/clause.rt:95:14
 put-project-requires : tie.Need-put-project-requires
-put-project-requires c κs = ((c .before .before .before .before .before .before .before .pre .0), ((c .before .before .before .before .before .before .before .pre .1 .1)) .stored .sane .low)
+put-project-requires c κs =
+    let start : tie.Start = search ways in
+    (start .pre .0, (start .pre .1 .1) .stored .sane .low)
 
--- src/clause.rt:96:14
-put-row-requires-2 : tie.Need-put-row-requires-2
-put-row-requires-2 c κs = search needs
-
--- src/clause.rt:97:15
-put-row-requires-3 : tie.Need-put-row-requires-3
-put-row-requires-3 c κs = search needs
-
--- src/clause.rt:98:15
-put-row-requires-4 : tie.Need-put-row-requires-4
-put-row-requires-4 c κs = search needs
-
--- src/clause.rt:99:15
-put-row-requires-5 : tie.Need-put-row-requires-5
-put-row-requires-5 c κs = search needs
-
--- src/clause.rt:100:15
-put-row-requires-6 : tie.Need-put-row-requires-6
-put-row-requires-6 c κs = search needs
-
--- src/clause.rt:101:15
-put-row-requires-7 : tie.Need-put-row-requires-7
-put-row-requires-7 c κs = search needs
-
--- src/clause.rt:102:15
-put-row-requires-8 : tie.Need-put-row-requires-8
-put-row-requires-8 c κs = search needs
-
--- src/clause.rt:103:14
 put-procedure-requires : tie.Need-put-procedure-requires
-put-procedure-requires c κs = let r = (c .before .match .rest) in ((c .before .before .before .before .before .before .before .pre .0), (((c .before .before .before .before .before .before .before .pre .1 .1)) .stored .sane .low, OpLaws.procedure-in ((c .before .before .before .before .before .before .before .pre .0)) ((c .before .before .before .before .before .before .before .pre .1 .1)) (OpLaws.is-call ((c .before .before .before .before .before .before .before .pre .1 .1)) (OpLaws.above-fifteen _ ((c .before .before .before .before .before .before .before .pre .1 .0)) (r .0 .0 .0 .0 .0 .0 .0 .0 .0 .1) (r .0 .0 .0 .0 .0 .0 .0 .0 .1) (r .0 .0 .0 .0 .0 .0 .0 .1) (r .0 .0 .0 .0 .0 .0 .1) (r .0 .0 .0 .0 .0 .1) (r .0 .0 .0 .0 .1) (r .0 .0 .0 .1) (r .0 .0 .1) (r .0 .1) (r .1)))))
+put-procedure-requires c κs =
+    let at-match-rest : tie.At-match-rest = search ways in
+    let start : tie.Start = search ways in
+    let r = at-match-rest .match .rest in (
+      start .pre .0,
+      (
+        (start .pre .1 .1) .stored .sane .low,
+        OpLaws.procedure-in
+            (start .pre .0)
+            (start .pre .1 .1)
+            (OpLaws.is-call
+            (start .pre .1 .1)
+            (OpLaws.above-fifteen
+            _
+            (start .pre .1 .0)
+            (r .0 .0 .0 .0 .0 .0 .0 .0 .0 .1)
+            (r .0 .0 .0 .0 .0 .0 .0 .0 .1)
+            (r .0 .0 .0 .0 .0 .0 .0 .1)
+            (r .0 .0 .0 .0 .0 .0 .1)
+            (r .0 .0 .0 .0 .0 .1)
+            (r .0 .0 .0 .0 .1)
+            (r .0 .0 .0 .1)
+            (r .0 .0 .1)
+            (r .0 .1)
+            (r .1))),
+      ),
+    )
 
--- src/clause.rt:75:1
-same-length : tie.Need-same-length
-same-length c = search needs
-
--- src/clause.rt:75:1
 returns : tie.Need-returns
-returns c = λ h. rw (OpLaws.optional-line h (c .before .before .before .before .match .keys1)) (c .before .before .put-row .ensures)
+returns c =
+    let after-put-row : tie.After-put-row = search ways in
+    let at-match-keys1 : tie.At-match-keys1 = search ways in
+    λ h. rw (OpLaws.optional-line h (at-match-keys1 .match .keys1)) (after-put-row .put-row .ensures)
 
--- src/clause.rt:75:1
-same-length-2 : tie.Need-same-length-2
-same-length-2 c = search needs
-
--- src/clause.rt:75:1
 returns-2 : tie.Need-returns-2
-returns-2 c = λ h. rw (OpLaws.with-line h (c .before .before .before .before .match .keys2)) (c .before .before .put-with .ensures)
+returns-2 c =
+    let after-put-with : tie.After-put-with = search ways in
+    let at-match-keys2 : tie.At-match-keys2 = search ways in
+    λ h. rw (OpLaws.with-line h (at-match-keys2 .match .keys2)) (after-put-with .put-with .ensures)
 
--- src/clause.rt:75:1
-same-length-3 : tie.Need-same-length-3
-same-length-3 c = search needs
-
--- src/clause.rt:75:1
 returns-3 : tie.Need-returns-3
-returns-3 c = λ h. rw (OpLaws.project-line h (c .before .before .before .before .match .keys3)) (c .before .before .put-project .ensures)
+returns-3 c =
+    let after-put-project : tie.After-put-project = search ways in
+    let at-match-keys3 : tie.At-match-keys3 = search ways in
+    λ h. rw (OpLaws.project-line h (at-match-keys3 .match .keys3)) (after-put-project .put-project .ensures)
 
--- src/clause.rt:75:1
-same-length-4 : tie.Need-same-length-4
-same-length-4 c = search needs
-
--- src/clause.rt:75:1
 returns-4 : tie.Need-returns-4
-returns-4 c = λ h. rw (OpLaws.aggregate-line h (c .before .before .before .before .match .keys4)) (c .before .before .put-row2 .ensures)
+returns-4 c =
+    let after-put-row2 : tie.After-put-row2 = search ways in
+    let at-match-keys4 : tie.At-match-keys4 = search ways in
+    λ h. rw (OpLaws.aggregate-line h (at-match-keys4 .match .keys4)) (after-put-row2 .put-row2 .ensures)
 
--- src/clause.rt:75:1
-same-length-5 : tie.Need-same-length-5
-same-length-5 c = search needs
-
--- src/clause.rt:75:1
 returns-5 : tie.Need-returns-5
-returns-5 c = λ h. rw (OpLaws.order-line h (c .before .before .before .before .match .keys5)) (c .before .before .put-row3 .ensures)
+returns-5 c =
+    let after-put-row3 : tie.After-put-row3 = search ways in
+    let at-match-keys5 : tie.At-match-keys5 = search ways in
+    λ h. rw (OpLaws.order-line h (at-match-keys5 .match .keys5)) (after-put-row3 .put-row3 .ensures)
 
--- src/clause.rt:75:1
-same-length-6 : tie.Need-same-length-6
-same-length-6 c = search needs
-
--- src/clause.rt:75:1
 returns-6 : tie.Need-returns-6
-returns-6 c = λ h. rw (OpLaws.skip-line h (c .before .before .before .before .match .keys6)) (c .before .before .put-row4 .ensures)
+returns-6 c =
+    let after-put-row4 : tie.After-put-row4 = search ways in
+    let at-match-keys6 : tie.At-match-keys6 = search ways in
+    λ h. rw (OpLaws.skip-line h (at-match-keys6 .match .keys6)) (after-put-row4 .put-row4 .ensures)
 
--- src/clause.rt:75:1
-same-length-7 : tie.Need-same-length-7
-same-length-7 c = search needs
-
--- src/clause.rt:75:1
 returns-7 : tie.Need-returns-7
-returns-7 c = λ h. rw (OpLaws.limit-line h (c .before .before .before .before .match .keys7)) (c .before .before .put-row5 .ensures)
+returns-7 c =
+    let after-put-row5 : tie.After-put-row5 = search ways in
+    let at-match-keys7 : tie.At-match-keys7 = search ways in
+    λ h. rw (OpLaws.limit-line h (at-match-keys7 .match .keys7)) (after-put-row5 .put-row5 .ensures)
 
--- src/clause.rt:75:1
-same-length-8 : tie.Need-same-length-8
-same-length-8 c = search needs
-
--- src/clause.rt:75:1
 returns-8 : tie.Need-returns-8
-returns-8 c = λ h. rw (OpLaws.distinct-line h (c .before .before .before .before .match .keys8)) (c .before .before .put-row6 .ensures)
+returns-8 c =
+    let after-put-row6 : tie.After-put-row6 = search ways in
+    let at-match-keys8 : tie.At-match-keys8 = search ways in
+    λ h. rw (OpLaws.distinct-line h (at-match-keys8 .match .keys8)) (after-put-row6 .put-row6 .ensures)
 
--- src/clause.rt:75:1
-same-length-9 : tie.Need-same-length-9
-same-length-9 c = search needs
-
--- src/clause.rt:75:1
 returns-9 : tie.Need-returns-9
-returns-9 c = λ h. rw (OpLaws.unwind-line h (c .before .before .before .before .match .keys9)) (c .before .before .put-row7 .ensures)
+returns-9 c =
+    let after-put-row7 : tie.After-put-row7 = search ways in
+    let at-match-keys9 : tie.At-match-keys9 = search ways in
+    λ h. rw (OpLaws.unwind-line h (at-match-keys9 .match .keys9)) (after-put-row7 .put-row7 .ensures)
 
--- src/clause.rt:75:1
-same-length-10 : tie.Need-same-length-10
-same-length-10 c = search needs
-
--- src/clause.rt:75:1
 returns-10 : tie.Need-returns-10
-returns-10 c = λ h. rw (OpLaws.union-line h (c .before .before .before .before .match .keys10)) (c .before .before .put-row8 .ensures)
+returns-10 c =
+    let after-put-row8 : tie.After-put-row8 = search ways in
+    let at-match-keys10 : tie.At-match-keys10 = search ways in
+    λ h. rw (OpLaws.union-line h (at-match-keys10 .match .keys10)) (after-put-row8 .put-row8 .ensures)
 
--- src/clause.rt:75:1
-same-length-11 : tie.Need-same-length-11
-same-length-11 c = search needs
-
--- src/clause.rt:75:1
 returns-11 : tie.Need-returns-11
-returns-11 c = let r = (c .before .before .before .before .match .rest) in λ h. rw (OpLaws.call-line ((c .before .before .before .before .before .before .before .before .before .before .pre .0)) h (OpLaws.is-call ((c .before .before .before .before .before .before .before .before .before .before .pre .1 .1)) (OpLaws.above-fifteen _ ((c .before .before .before .before .before .before .before .before .before .before .pre .1 .0)) (r .0 .0 .0 .0 .0 .0 .0 .0 .0 .1) (r .0 .0 .0 .0 .0 .0 .0 .0 .1) (r .0 .0 .0 .0 .0 .0 .0 .1) (r .0 .0 .0 .0 .0 .0 .1) (r .0 .0 .0 .0 .0 .1) (r .0 .0 .0 .0 .1) (r .0 .0 .0 .1) (r .0 .0 .1) (r .0 .1) (r .1)))) (c .before .before .put-procedure .ensures)
+returns-11 c =
+    let after-put-procedure : tie.After-put-procedure = search ways in
+    let at-match-rest : tie.At-match-rest = search ways in
+    let start : tie.Start = search ways in
+    let r = at-match-rest .match .rest in
+    λ h.
+    rw
+    (OpLaws.call-line
+    (start .pre .0)
+    h
+    (OpLaws.is-call
+    (start .pre .1 .1)
+    (OpLaws.above-fifteen
+    _
+    (start .pre .1 .0)
+    (r .0 .0 .0 .0 .0 .0 .0 .0 .0 .1)
+    (r .0 .0 .0 .0 .0 .0 .0 .0 .1)
+    (r .0 .0 .0 .0 .0 .0 .0 .1)
+    (r .0 .0 .0 .0 .0 .0 .1)
+    (r .0 .0 .0 .0 .0 .1)
+    (r .0 .0 .0 .0 .1)
+    (r .0 .0 .0 .1)
+    (r .0 .0 .1)
+    (r .0 .1)
+    (r .1))))
+    (after-put-procedure .put-procedure .ensures)
 
 pub put-clause-op-spec : {M : Type 1} → statement M
 put-clause-op-spec =
     tie.close
     (tie.spec
-    put-row-requires
+    (λ c κs. search needs)
     put-with-requires
     put-project-requires
-    put-row-requires-2
-    put-row-requires-3
-    put-row-requires-4
-    put-row-requires-5
-    put-row-requires-6
-    put-row-requires-7
-    put-row-requires-8
+    (λ c κs. search needs)
+    (λ c κs. search needs)
+    (λ c κs. search needs)
+    (λ c κs. search needs)
+    (λ c κs. search needs)
+    (λ c κs. search needs)
+    (λ c κs. search needs)
     put-procedure-requires
-    same-length
+    (λ c. search needs)
     returns
-    same-length-2
+    (λ c. search needs)
     returns-2
-    same-length-3
+    (λ c. search needs)
     returns-3
-    same-length-4
+    (λ c. search needs)
     returns-4
-    same-length-5
+    (λ c. search needs)
     returns-5
-    same-length-6
+    (λ c. search needs)
     returns-6
-    same-length-7
+    (λ c. search needs)
     returns-7
-    same-length-8
+    (λ c. search needs)
     returns-8
-    same-length-9
+    (λ c. search needs)
     returns-9
-    same-length-10
+    (λ c. search needs)
     returns-10
-    same-length-11
+    (λ c. search needs)
     returns-11)

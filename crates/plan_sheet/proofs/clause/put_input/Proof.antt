@@ -3,47 +3,48 @@ use Rattle.plan_line.proofs.RowLaws
 use borrow.Author.Needs.{needs}
 use Rattle.plan_sheet.proofs.clause.put_input.Statement.{statement}
 use Rattle.plan_sheet.proofs.clause.put_input.Tie as tie
-use Rattle.plan_sheet.proofs.clause.put_input.Reads as reads
-use Rattle.plan_sheet.proofs.clause.put_input.Lts as lts
-use Rattle.output.proofs.put_byte.Reads as put-byte-reads
-use Rattle.plan_line.proofs.field.put_number.Reads as put-number-reads
 
--- src/clause.rt:41:13
-put-byte-requires : tie.Need-put-byte-requires
-put-byte-requires c κs = search needs
+-- the ways back, from place to place
+abbrev back-put-byte2 : tie.After-put-byte2 → tie.After-put-byte
+back-put-byte2 c = search
 
--- src/clause.rt:42:9
-put-byte-requires-2 : tie.Need-put-byte-requires-2
-put-byte-requires-2 c κs = search needs
+abbrev back-put-number : tie.After-put-number → tie.Else1
+back-put-number c = search
 
--- src/clause.rt:42:9
-same-length : tie.Need-same-length
-same-length c = search needs
+abbrev back-put-byte : tie.After-put-byte → tie.Then1
+back-put-byte c = search
 
--- src/clause.rt:42:9
+abbrev back-then1 : tie.Then1 → tie.Start
+back-then1 c = search
+
+abbrev back-else1 : tie.Else1 → tie.Start
+back-else1 c = search
+
+ruleset ways = (back-put-byte2, back-put-number, back-put-byte, back-then1, back-else1)
+
 returns : tie.Need-returns
-returns c = RowLaws.input-none _ ((c .before .before .before .before .before .before .before .before .before .before .args .input)) (c .before .before .before .before .before .before .before .before .if1 .taken) (c .before .before .before .before .before .before .put-byte .ensures) (c .before .before .put-byte2 .ensures)
+returns c =
+    let after-put-byte2 : tie.After-put-byte2 = search ways in
+    let after-put-byte : tie.After-put-byte = search ways in
+    let then1 : tie.Then1 = search ways in
+    let start : tie.Start = search ways in
+    RowLaws.input-none _ (start .args .input) (then1 .if1 .taken) (after-put-byte .put-byte .ensures) (after-put-byte2 .put-byte2 .ensures)
 
--- src/clause.rt:44:5
-put-number-requires : tie.Need-put-number-requires
-put-number-requires c κs = search needs
-
--- src/clause.rt:37:1
-same-length-2 : tie.Need-same-length-2
-same-length-2 c = search needs
-
--- src/clause.rt:37:1
 returns-2 : tie.Need-returns-2
-returns-2 c = RowLaws.input-there _ ((c .before .before .before .before .before .before .args .input)) (c .before .before .before .before .if1 .left) (c .before .before .put-number .ensures)
+returns-2 c =
+    let after-put-number : tie.After-put-number = search ways in
+    let else1 : tie.Else1 = search ways in
+    let start : tie.Start = search ways in
+    RowLaws.input-there _ (start .args .input) (else1 .if1 .left) (after-put-number .put-number .ensures)
 
 pub put-input-spec : {M : Type 1} → statement M
 put-input-spec =
     tie.close
     (tie.spec
-    put-byte-requires
-    put-byte-requires-2
-    same-length
+    (λ c κs. search needs)
+    (λ c κs. search needs)
+    (λ c. search needs)
     returns
-    put-number-requires
-    same-length-2
+    (λ c κs. search needs)
+    (λ c. search needs)
     returns-2)

@@ -2,31 +2,32 @@
 use borrow.Author.Needs.{needs}
 use Rattle.plan_sheet.proofs.clause.put_with.Statement.{statement}
 use Rattle.plan_sheet.proofs.clause.put_with.Tie as tie
-use Rattle.plan_sheet.proofs.clause.put_with.Reads as reads
-use Rattle.plan_sheet.proofs.clause.put_with.Lts as lts
-use Rattle.plan_line.proofs.row.put_row.Reads as put-row-reads
-use Rattle.words.proofs.word.Reads as word-reads
 
--- src/clause.rt:21:9
-word-requires : tie.Need-word-requires
-word-requires c κs = search needs
+-- the ways back, from place to place
+abbrev back-put-row : tie.After-put-row → tie.After-word2
+back-put-row c = search
 
--- src/clause.rt:22:9
-word-requires-2 : tie.Need-word-requires-2
-word-requires-2 c κs = search needs
+abbrev back-word2 : tie.After-word2 → tie.After-word
+back-word2 c = search
 
--- src/clause.rt:23:5
-put-row-requires : tie.Need-put-row-requires
-put-row-requires c κs = search needs
+abbrev back-word : tie.After-word → tie.Start
+back-word c = search
 
--- src/clause.rt:16:1
-same-length : tie.Need-same-length
-same-length c = search needs
+ruleset ways = (back-put-row, back-word2, back-word)
 
--- src/clause.rt:16:1
 returns : tie.Need-returns
-returns c = rw ((c .before .before .before .before .before .word .ensures), (c .before .before .before .before .word2 .ensures)) at (c .before .before .put-row .ensures)
+returns c =
+    let after-word : tie.After-word = search in
+    let after-word2 : tie.After-word2 = search in
+    let after-put-row : tie.After-put-row = search in
+    rw (after-word .word .ensures, after-word2 .word2 .ensures) at (after-put-row .put-row .ensures)
 
 pub put-with-spec : {M : Type 1} → statement M
 put-with-spec =
-    tie.close (tie.spec word-requires word-requires-2 put-row-requires same-length returns)
+    tie.close
+    (tie.spec
+    (λ c κs. search needs)
+    (λ c κs. search needs)
+    (λ c κs. search needs)
+    (λ c. search needs)
+    returns)

@@ -1,72 +1,130 @@
 -- `put_before` meets its contract. Assumes nothing.
 use Rattle.plan_sheet.proofs.HeadLaws
-use Rattle.plan_sheet.proofs.OpLaws
 use mathlib.Core.Path.{sym, _∙_}
 use native.Mathlib.Omega.{arith}
 use borrow.Author.Needs.{needs}
 use Rattle.plan_sheet.proofs.head.put_before.Statement.{statement}
 use Rattle.plan_sheet.proofs.head.put_before.Tie as tie
-use Rattle.plan_sheet.proofs.head.put_before.Reads as reads
-use Rattle.plan_sheet.proofs.head.put_before.Lts as lts
-use Rattle.plan_line.proofs.field.put_line.Reads as put-line-reads
-use Rattle.plan_sheet.proofs.item.put_item.Reads as put-item-reads
-use Rattle.words.proofs.word.Reads as word-reads
 
--- src/head.rt:89:9
+-- the ways back, from place to place
+abbrev back-put-line2 : tie.After-put-line2 → tie.At-match-keys2
+back-put-line2 c = search
+
+abbrev back-put-line : tie.After-put-line → tie.At-match-keys1
+back-put-line c = search
+
+abbrev back-put-item : tie.After-put-item → tie.At-match-keys3
+back-put-item c = search
+
+abbrev back-at-match-keys3 : tie.At-match-keys3 → tie.After-word
+back-at-match-keys3 c = search
+
+abbrev back-at-match-keys2 : tie.At-match-keys2 → tie.After-word
+back-at-match-keys2 c = search
+
+abbrev back-at-match-keys1 : tie.At-match-keys1 → tie.After-word
+back-at-match-keys1 c = search
+
+abbrev back-word : tie.After-word → tie.Start
+back-word c = search
+
+ruleset ways = (back-put-line2, back-put-line, back-put-item, back-at-match-keys3, back-at-match-keys2, back-at-match-keys1, back-word)
+
 word-requires : tie.Need-word-requires
-word-requires c κs = (HeadLaws.line-low ((c .before .before .before .before .pre .0)) ((c .before .before .before .before .pre .1 .line)), (omega arith, (c .before .before .before .before .pre .0)))
+word-requires c κs =
+    let start : tie.Start = search ways in
+    (HeadLaws.line-low (start .pre .0) (start .pre .1 .line), (omega arith, start .pre .0))
 
--- src/head.rt:92:24
 add-next : tie.Need-add-next
-add-next c = omega (arith, HeadLaws.line-low ((c .before .before .before .before .before .before .pre .0)) ((c .before .before .before .before .before .before .pre .1 .line)))
+add-next c =
+    let start : tie.Start = search ways in
+    omega (arith, HeadLaws.line-low (start .pre .0) (start .pre .1 .line))
 
--- src/head.rt:93:17
 put-line-requires : tie.Need-put-line-requires
-put-line-requires c κs = ((c .before .before .before .before .before .before .before .pre .0), ((HeadLaws.line-low ((c .before .before .before .before .before .before .before .pre .0)) ((c .before .before .before .before .before .before .before .pre .1 .line)), HeadLaws.named-line ((c .before .before .before .before .before .before .before .pre .0)) (sym (c .before .before .word .ensures) ∙ (c .before .match .keys1)) ((c .before .before .before .before .before .before .before .pre .1 .line))), omega arith))
+put-line-requires c κs =
+    let at-match-keys1 : tie.At-match-keys1 = search ways in
+    let after-word : tie.After-word = search ways in
+    let start : tie.Start = search ways in (
+      start .pre .0,
+      (
+        (
+          HeadLaws.line-low (start .pre .0) (start .pre .1 .line),
+          HeadLaws.named-line (start .pre .0) (sym (after-word .word .ensures) ∙ (at-match-keys1 .match .keys1)) (start .pre .1 .line),
+        ),
+        omega arith,
+      ),
+    )
 
--- src/head.rt:97:24
 add-next-2 : tie.Need-add-next-2
-add-next-2 c = omega (arith, HeadLaws.line-low ((c .before .before .before .before .before .before .pre .0)) ((c .before .before .before .before .before .before .pre .1 .line)))
+add-next-2 c =
+    let start : tie.Start = search ways in
+    omega (arith, HeadLaws.line-low (start .pre .0) (start .pre .1 .line))
 
--- src/head.rt:98:17
 put-line-requires-2 : tie.Need-put-line-requires-2
-put-line-requires-2 c κs = ((c .before .before .before .before .before .before .before .pre .0), ((HeadLaws.line-low ((c .before .before .before .before .before .before .before .pre .0)) ((c .before .before .before .before .before .before .before .pre .1 .line)), HeadLaws.keyed-line ((c .before .before .before .before .before .before .before .pre .0)) (sym (c .before .before .word .ensures) ∙ (c .before .match .keys2)) ((c .before .before .before .before .before .before .before .pre .1 .line))), omega arith))
+put-line-requires-2 c κs =
+    let at-match-keys2 : tie.At-match-keys2 = search ways in
+    let after-word : tie.After-word = search ways in
+    let start : tie.Start = search ways in (
+      start .pre .0,
+      (
+        (
+          HeadLaws.line-low (start .pre .0) (start .pre .1 .line),
+          HeadLaws.keyed-line (start .pre .0) (sym (after-word .word .ensures) ∙ (at-match-keys2 .match .keys2)) (start .pre .1 .line),
+        ),
+        omega arith,
+      ),
+    )
 
--- src/head.rt:102:24
 add-next-3 : tie.Need-add-next-3
-add-next-3 c = omega (arith, HeadLaws.line-low ((c .before .before .before .before .before .before .pre .0)) ((c .before .before .before .before .before .before .pre .1 .line)))
+add-next-3 c =
+    let start : tie.Start = search ways in
+    omega (arith, HeadLaws.line-low (start .pre .0) (start .pre .1 .line))
 
--- src/head.rt:103:17
 put-item-requires : tie.Need-put-item-requires
-put-item-requires c κs = ((c .before .before .before .before .before .before .before .pre .0), HeadLaws.item-there ((c .before .before .before .before .before .before .before .pre .0)) (sym (c .before .before .word .ensures) ∙ (c .before .match .keys3)) ((c .before .before .before .before .before .before .before .pre .1 .line)))
+put-item-requires c κs =
+    let at-match-keys3 : tie.At-match-keys3 = search ways in
+    let after-word : tie.After-word = search ways in
+    let start : tie.Start = search ways in
+    (start .pre .0, HeadLaws.item-there (start .pre .0) (sym (after-word .word .ensures) ∙ (at-match-keys3 .match .keys3)) (start .pre .1 .line))
 
--- src/head.rt:84:1
-same-length : tie.Need-same-length
-same-length c = search needs
-
--- src/head.rt:84:1
 returns : tie.Need-returns
-returns c = λ recs j l. HeadLaws.named-put ((c .before .before .before .before .before .before .before .before .before .before .pre .0)) (sym (c .before .before .before .before .before .word .ensures) ∙ (c .before .before .before .before .match .keys1)) l (c .before .before .put-line .ensures)
+returns c =
+    let after-put-line : tie.After-put-line = search ways in
+    let at-match-keys1 : tie.At-match-keys1 = search ways in
+    let after-word : tie.After-word = search ways in
+    let start : tie.Start = search ways in
+    λ recs j l.
+    HeadLaws.named-put (start .pre .0) (sym (after-word .word .ensures) ∙ (at-match-keys1 .match .keys1)) l (after-put-line .put-line .ensures)
 
--- src/head.rt:84:1
-same-length-2 : tie.Need-same-length-2
-same-length-2 c = search needs
-
--- src/head.rt:84:1
 returns-2 : tie.Need-returns-2
-returns-2 c = λ recs j l. HeadLaws.keyed-put ((c .before .before .before .before .before .before .before .before .before .before .pre .0)) (sym (c .before .before .before .before .before .word .ensures) ∙ (c .before .before .before .before .match .keys2)) l (c .before .before .put-line2 .ensures)
+returns-2 c =
+    let after-put-line2 : tie.After-put-line2 = search ways in
+    let at-match-keys2 : tie.At-match-keys2 = search ways in
+    let after-word : tie.After-word = search ways in
+    let start : tie.Start = search ways in
+    λ recs j l.
+    HeadLaws.keyed-put (start .pre .0) (sym (after-word .word .ensures) ∙ (at-match-keys2 .match .keys2)) l (after-put-line2 .put-line2 .ensures)
 
--- src/head.rt:84:1
-same-length-3 : tie.Need-same-length-3
-same-length-3 c = search needs
-
--- src/head.rt:84:1
 returns-3 : tie.Need-returns-3
-returns-3 c = λ recs j l. HeadLaws.aliased-put ((c .before .before .before .before .before .before .before .before .before .before .pre .0)) (sym (c .before .before .before .before .before .word .ensures) ∙ (c .before .before .before .before .match .keys3)) l (c .before .before .put-item .ensures)
+returns-3 c =
+    let after-put-item : tie.After-put-item = search ways in
+    let at-match-keys3 : tie.At-match-keys3 = search ways in
+    let after-word : tie.After-word = search ways in
+    let start : tie.Start = search ways in
+    λ recs j l.
+    HeadLaws.aliased-put (start .pre .0) (sym (after-word .word .ensures) ∙ (at-match-keys3 .match .keys3)) l (after-put-item .put-item .ensures)
 
--- src/head.rt:84:1
 returns-4 : tie.Need-returns-4
-returns-4 c = λ recs j l. HeadLaws.bare-put ((c .before .before .before .before .before .before .pre .0)) (λ e. ((c .match .rest .0 .0 .1)) ((c .before .word .ensures) ∙ e)) (λ e. ((c .match .rest .0 .1)) ((c .before .word .ensures) ∙ e)) (λ e. ((c .match .rest .1)) ((c .before .word .ensures) ∙ e)) l
+returns-4 c =
+    let after-word : tie.After-word = search ways in
+    let start : tie.Start = search ways in
+    λ recs j l.
+    HeadLaws.bare-put
+    (start .pre .0)
+    (λ e. (c .match .rest .0 .0 .1) ((after-word .word .ensures) ∙ e))
+    (λ e. (c .match .rest .0 .1) ((after-word .word .ensures) ∙ e))
+    (λ e. (c .match .rest .1) ((after-word .word .ensures) ∙ e))
+    l
 
 pub put-before-spec : {M : Type 1} → statement M
 put-before-spec =
@@ -79,10 +137,10 @@ put-before-spec =
     put-line-requires-2
     add-next-3
     put-item-requires
-    same-length
+    (λ c. search needs)
     returns
-    same-length-2
+    (λ c. search needs)
     returns-2
-    same-length-3
+    (λ c. search needs)
     returns-3
     returns-4)

@@ -2,36 +2,44 @@
 use borrow.Author.Needs.{needs}
 use Rattle.plan_sheet.proofs.head.put_call.Statement.{statement}
 use Rattle.plan_sheet.proofs.head.put_call.Tie as tie
-use Rattle.plan_sheet.proofs.head.put_call.Reads as reads
-use Rattle.plan_sheet.proofs.head.put_call.Lts as lts
-use Rattle.plan_line.proofs.row.put_named.Reads as put-named-reads
-use Rattle.words.proofs.word.Reads as word-reads
 
--- src/head.rt:37:9
-word-requires : tie.Need-word-requires
-word-requires c κs = search needs
+-- the ways back, from place to place
+abbrev back-put-named : tie.After-put-named → tie.After-word3
+back-put-named c = search
 
--- src/head.rt:38:9
-word-requires-2 : tie.Need-word-requires-2
-word-requires-2 c κs = search needs
+abbrev back-word3 : tie.After-word3 → tie.After-word2
+back-word3 c = search
 
--- src/head.rt:39:9
-word-requires-3 : tie.Need-word-requires-3
-word-requires-3 c κs = search needs
+abbrev back-word2 : tie.After-word2 → tie.After-word
+back-word2 c = search
 
--- src/head.rt:40:5
+abbrev back-word : tie.After-word → tie.Start
+back-word c = search
+
+ruleset ways = (back-put-named, back-word3, back-word2, back-word)
+
 put-named-requires : tie.Need-put-named-requires
-put-named-requires c κs = rw ((c .before .before .before .word .ensures), (c .before .before .word2 .ensures)) (search needs, (c .before .before .before .before .before .before .before .before .pre .1 .1))
+put-named-requires c κs =
+    let start : tie.Start = search in
+    let after-word : tie.After-word = search in
+    let after-word2 : tie.After-word2 = search in
+    rw (after-word .word .ensures, after-word2 .word2 .ensures) (search needs, start .pre .1 .1)
 
--- src/head.rt:31:1
-same-length : tie.Need-same-length
-same-length c = search needs
-
--- src/head.rt:31:1
 returns : tie.Need-returns
-returns c = rw ((c .before .before .before .before .before .before .word .ensures), (c .before .before .before .before .before .word2 .ensures), (c .before .before .before .before .word3 .ensures)) at (c .before .before .put-named .ensures)
+returns c =
+    let after-word : tie.After-word = search in
+    let after-word2 : tie.After-word2 = search in
+    let after-word3 : tie.After-word3 = search in
+    let after-put-named : tie.After-put-named = search in
+    rw (after-word .word .ensures, after-word2 .word2 .ensures, after-word3 .word3 .ensures) at (after-put-named .put-named .ensures)
 
 pub put-call-spec : {M : Type 1} → statement M
 put-call-spec =
     tie.close
-    (tie.spec word-requires word-requires-2 word-requires-3 put-named-requires same-length returns)
+    (tie.spec
+    (λ c κs. search needs)
+    (λ c κs. search needs)
+    (λ c κs. search needs)
+    put-named-requires
+    (λ c. search needs)
+    returns)

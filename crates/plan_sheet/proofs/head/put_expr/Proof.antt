@@ -5,139 +5,218 @@ use mathlib.Core.Path.{sym, _∙_}
 use borrow.Author.Needs.{needs}
 use Rattle.plan_sheet.proofs.head.put_expr.Statement.{statement}
 use Rattle.plan_sheet.proofs.head.put_expr.Tie as tie
-use Rattle.plan_sheet.proofs.head.put_expr.Reads as reads
-use Rattle.plan_sheet.proofs.head.put_expr.Lts as lts
-use Rattle.plan_line.proofs.field.put_line.Reads as put-line-reads
-use Rattle.plan_sheet.proofs.head.put_any.Reads as put-any-reads
-use Rattle.plan_sheet.proofs.head.put_call.Reads as put-call-reads
-use Rattle.plan_line.proofs.row.put_row.Reads as put-row-reads
 
--- src/head.rt:62:15
-put-row-requires : tie.Need-put-row-requires
-put-row-requires c κs = search needs
+-- the ways back, from place to place
+abbrev back-put-row4 : tie.After-put-row4 → tie.At-match-keys7
+back-put-row4 c = search
 
--- src/head.rt:63:15
+abbrev back-put-row3 : tie.After-put-row3 → tie.At-match-keys6
+back-put-row3 c = search
+
+abbrev back-put-row2 : tie.After-put-row2 → tie.At-match-keys4
+back-put-row2 c = search
+
+abbrev back-put-row : tie.After-put-row → tie.At-match-keys1
+back-put-row c = search
+
+abbrev back-put-line2 : tie.After-put-line2 → tie.At-match-rest
+back-put-line2 c = search
+
+abbrev back-put-line : tie.After-put-line → tie.At-match-keys2
+back-put-line c = search
+
+abbrev back-put-call : tie.After-put-call → tie.At-match-keys3
+back-put-call c = search
+
+abbrev back-put-any : tie.After-put-any → tie.At-match-keys5
+back-put-any c = search
+
+abbrev back-at-match-rest : tie.At-match-rest → tie.Start
+back-at-match-rest c = search
+
+abbrev back-at-match-keys7 : tie.At-match-keys7 → tie.Start
+back-at-match-keys7 c = search
+
+abbrev back-at-match-keys6 : tie.At-match-keys6 → tie.Start
+back-at-match-keys6 c = search
+
+abbrev back-at-match-keys5 : tie.At-match-keys5 → tie.Start
+back-at-match-keys5 c = search
+
+abbrev back-at-match-keys4 : tie.At-match-keys4 → tie.Start
+back-at-match-keys4 c = search
+
+abbrev back-at-match-keys3 : tie.At-match-keys3 → tie.Start
+back-at-match-keys3 c = search
+
+abbrev back-at-match-keys2 : tie.At-match-keys2 → tie.Start
+back-at-match-keys2 c = search
+
+abbrev back-at-match-keys1 : tie.At-match-keys1 → tie.Start
+back-at-match-keys1 c = search
+
+ruleset ways = (
+  back-put-row4,
+  back-put-row3,
+  back-put-row2,
+  back-put-row,
+  back-put-line2,
+  back-put-line,
+  back-put-call,
+  back-put-any,
+  back-at-match-rest,
+  back-at-match-keys7,
+  back-at-match-keys6,
+  back-at-match-keys5,
+  back-at-match-keys4,
+  back-at-match-keys3,
+  back-at-match-keys2,
+  back-at-match-keys1,
+)
+
 put-line-requires : tie.Need-put-line-requires
-put-line-requires c κs = let m = HeadLaws.map-head ((c .before .before .before .before .before .before .pre .0)) 0 (sym ((c .before .before .before .before .before .before .pre .1 .1)) ∙ (c .before .match .keys2)) ((c .before .before .before .before .before .before .pre .1 .0)) in (((c .before .before .before .before .before .before .pre .0)), (((c .before .before .before .before .before .before .pre .1 .0 .at .low), m .fields), m .low))
+put-line-requires c κs =
+    let at-match-keys2 : tie.At-match-keys2 = search ways in
+    let start : tie.Start = search ways in
+    let m = HeadLaws.map-head (start .pre .0) 0 (sym (start .pre .1 .1) ∙ (at-match-keys2 .match .keys2)) (start .pre .1 .0) in
+    (start .pre .0, ((start .pre .1 .0 .at .low, m .fields), m .low))
 
--- src/head.rt:64:15
 put-call-requires : tie.Need-put-call-requires
-put-call-requires c κs = (((c .before .before .before .before .before .before .pre .0)), ((c .before .before .before .before .before .before .pre .1 .0 .at .low), HeadLaws.call-in ((c .before .before .before .before .before .before .pre .0)) 0 ((c .before .before .before .before .before .before .pre .1 .0)) (sym ((c .before .before .before .before .before .before .pre .1 .1)) ∙ (c .before .match .keys3))))
+put-call-requires c κs =
+    let at-match-keys3 : tie.At-match-keys3 = search ways in
+    let start : tie.Start = search ways in (
+      start .pre .0,
+      (start .pre .1 .0 .at .low, HeadLaws.call-in (start .pre .0) 0 (start .pre .1 .0) (sym (start .pre .1 .1) ∙ (at-match-keys3 .match .keys3))),
+    )
 
--- src/head.rt:65:15
-put-row-requires-2 : tie.Need-put-row-requires-2
-put-row-requires-2 c κs = search needs
-
--- src/head.rt:66:15
 put-any-requires : tie.Need-put-any-requires
-put-any-requires c κs = (((c .before .before .before .before .before .before .pre .0)), (c .before .before .before .before .before .before .pre .1 .0 .at .low))
+put-any-requires c κs =
+    let start : tie.Start = search ways in
+    (start .pre .0, start .pre .1 .0 .at .low)
 
--- src/head.rt:67:15
-put-row-requires-3 : tie.Need-put-row-requires-3
-put-row-requires-3 c κs = search needs
-
--- src/head.rt:68:15
-put-row-requires-4 : tie.Need-put-row-requires-4
-put-row-requires-4 c κs = search needs
-
--- src/head.rt:71:66
 sub-put-line : tie.Need-sub-put-line
-sub-put-line c = omega (arith, (c .before .before .before .before .before .before .pre .1 .1), HeadLaws.expr-high ((c .before .before .before .before .before .before .pre .0)) ((c .before .before .before .before .before .before .pre .1 .0)))
+sub-put-line c =
+    let start : tie.Start = search ways in
+    omega (arith, start .pre .1 .1, HeadLaws.expr-high (start .pre .0) (start .pre .1 .0))
 
--- src/head.rt:71:13
 put-line-requires-2 : tie.Need-put-line-requires-2
-put-line-requires-2 c κs = let m = HeadLaws.over-head ((c .before .before .before .before .before .before .pre .0)) 0 (λ e. ((c .before .match .rest .0 .0 .0 .0 .0 .0 .1)) ((c .before .before .before .before .before .before .pre .1 .1) ∙ e)) (λ e. ((c .before .match .rest .0 .0 .0 .0 .0 .1)) ((c .before .before .before .before .before .before .pre .1 .1) ∙ e)) (λ e. ((c .before .match .rest .0 .0 .0 .0 .1)) ((c .before .before .before .before .before .before .pre .1 .1) ∙ e)) (λ e. ((c .before .match .rest .0 .0 .0 .1)) ((c .before .before .before .before .before .before .pre .1 .1) ∙ e)) (λ e. ((c .before .match .rest .0 .0 .1)) ((c .before .before .before .before .before .before .pre .1 .1) ∙ e)) (λ e. ((c .before .match .rest .0 .1)) ((c .before .before .before .before .before .before .pre .1 .1) ∙ e)) (λ e. ((c .before .match .rest .1)) ((c .before .before .before .before .before .before .pre .1 .1) ∙ e)) ((c .before .before .before .before .before .before .pre .1 .0)) in (((c .before .before .before .before .before .before .pre .0)), (((c .before .before .before .before .before .before .pre .1 .0 .at .low), rw ((c .before .before .before .before .before .before .pre .1 .1)) (m .fields)), rw ((c .before .before .before .before .before .before .pre .1 .1)) (m .low)))
+put-line-requires-2 c κs =
+    let at-match-rest : tie.At-match-rest = search ways in
+    let start : tie.Start = search ways in
+    let m =
+    HeadLaws.over-head
+    (start .pre .0)
+    0
+    (λ e. (at-match-rest .match .rest .0 .0 .0 .0 .0 .0 .1) ((start .pre .1 .1) ∙ e))
+    (λ e. (at-match-rest .match .rest .0 .0 .0 .0 .0 .1) ((start .pre .1 .1) ∙ e))
+    (λ e. (at-match-rest .match .rest .0 .0 .0 .0 .1) ((start .pre .1 .1) ∙ e))
+    (λ e. (at-match-rest .match .rest .0 .0 .0 .1) ((start .pre .1 .1) ∙ e))
+    (λ e. (at-match-rest .match .rest .0 .0 .1) ((start .pre .1 .1) ∙ e))
+    (λ e. (at-match-rest .match .rest .0 .1) ((start .pre .1 .1) ∙ e))
+    (λ e. (at-match-rest .match .rest .1) ((start .pre .1 .1) ∙ e))
+    (start .pre .1 .0)
+    in
+    (start .pre .0, ((start .pre .1 .0 .at .low, rw (start .pre .1 .1) (m .fields)), rw (start .pre .1 .1) (m .low)))
 
--- src/head.rt:55:1
-same-length : tie.Need-same-length
-same-length c = search needs
-
--- src/head.rt:55:1
 returns : tie.Need-returns
-returns c = λ h. rw (HeadLaws.var-head ((c .before .before .before .before .before .before .before .before .before .pre .0)) _ h (sym ((c .before .before .before .before .before .before .before .before .before .pre .1 .1)) ∙ (c .before .before .before .before .match .keys1))) (c .before .before .put-row .ensures)
+returns c =
+    let after-put-row : tie.After-put-row = search ways in
+    let at-match-keys1 : tie.At-match-keys1 = search ways in
+    let start : tie.Start = search ways in
+    λ h. rw (HeadLaws.var-head (start .pre .0) _ h (sym (start .pre .1 .1) ∙ (at-match-keys1 .match .keys1))) (after-put-row .put-row .ensures)
 
--- src/head.rt:55:1
-same-length-2 : tie.Need-same-length-2
-same-length-2 c = search needs
-
--- src/head.rt:55:1
 returns-2 : tie.Need-returns-2
-returns-2 c = λ h. rw (← HeadLaws.map-head ((c .before .before .before .before .before .before .before .before .before .pre .0)) _ (sym ((c .before .before .before .before .before .before .before .before .before .pre .1 .1)) ∙ (c .before .before .before .before .match .keys2)) h .is) (c .before .before .put-line .ensures)
+returns-2 c =
+    let after-put-line : tie.After-put-line = search ways in
+    let at-match-keys2 : tie.At-match-keys2 = search ways in
+    let start : tie.Start = search ways in
+    λ h.
+    rw (← HeadLaws.map-head (start .pre .0) _ (sym (start .pre .1 .1) ∙ (at-match-keys2 .match .keys2)) h .is) (after-put-line .put-line .ensures)
 
--- src/head.rt:55:1
-same-length-3 : tie.Need-same-length-3
-same-length-3 c = search needs
-
--- src/head.rt:55:1
 returns-3 : tie.Need-returns-3
-returns-3 c = λ h. rw (HeadLaws.call-head ((c .before .before .before .before .before .before .before .before .before .pre .0)) _ h (sym ((c .before .before .before .before .before .before .before .before .before .pre .1 .1)) ∙ (c .before .before .before .before .match .keys3))) (c .before .before .put-call .ensures)
+returns-3 c =
+    let after-put-call : tie.After-put-call = search ways in
+    let at-match-keys3 : tie.At-match-keys3 = search ways in
+    let start : tie.Start = search ways in
+    λ h. rw (HeadLaws.call-head (start .pre .0) _ h (sym (start .pre .1 .1) ∙ (at-match-keys3 .match .keys3))) (after-put-call .put-call .ensures)
 
--- src/head.rt:55:1
-same-length-4 : tie.Need-same-length-4
-same-length-4 c = search needs
-
--- src/head.rt:55:1
 returns-4 : tie.Need-returns-4
-returns-4 c = λ h. rw (HeadLaws.exists-head ((c .before .before .before .before .before .before .before .before .before .pre .0)) _ h (sym ((c .before .before .before .before .before .before .before .before .before .pre .1 .1)) ∙ (c .before .before .before .before .match .keys4))) (c .before .before .put-row2 .ensures)
+returns-4 c =
+    let after-put-row2 : tie.After-put-row2 = search ways in
+    let at-match-keys4 : tie.At-match-keys4 = search ways in
+    let start : tie.Start = search ways in
+    λ h. rw (HeadLaws.exists-head (start .pre .0) _ h (sym (start .pre .1 .1) ∙ (at-match-keys4 .match .keys4))) (after-put-row2 .put-row2 .ensures)
 
--- src/head.rt:55:1
-same-length-5 : tie.Need-same-length-5
-same-length-5 c = search needs
-
--- src/head.rt:55:1
 returns-5 : tie.Need-returns-5
-returns-5 c = λ h. rw (HeadLaws.any-head ((c .before .before .before .before .before .before .before .before .before .pre .0)) _ h (sym ((c .before .before .before .before .before .before .before .before .before .pre .1 .1)) ∙ (c .before .before .before .before .match .keys5))) (c .before .before .put-any .ensures)
+returns-5 c =
+    let after-put-any : tie.After-put-any = search ways in
+    let at-match-keys5 : tie.At-match-keys5 = search ways in
+    let start : tie.Start = search ways in
+    λ h. rw (HeadLaws.any-head (start .pre .0) _ h (sym (start .pre .1 .1) ∙ (at-match-keys5 .match .keys5))) (after-put-any .put-any .ensures)
 
--- src/head.rt:55:1
-same-length-6 : tie.Need-same-length-6
-same-length-6 c = search needs
-
--- src/head.rt:55:1
 returns-6 : tie.Need-returns-6
-returns-6 c = λ h. rw (HeadLaws.unresolved-head ((c .before .before .before .before .before .before .before .before .before .pre .0)) _ h (sym ((c .before .before .before .before .before .before .before .before .before .pre .1 .1)) ∙ (c .before .before .before .before .match .keys6))) (c .before .before .put-row3 .ensures)
+returns-6 c =
+    let after-put-row3 : tie.After-put-row3 = search ways in
+    let at-match-keys6 : tie.At-match-keys6 = search ways in
+    let start : tie.Start = search ways in
+    λ h.
+    rw (HeadLaws.unresolved-head (start .pre .0) _ h (sym (start .pre .1 .1) ∙ (at-match-keys6 .match .keys6))) (after-put-row3 .put-row3 .ensures)
 
--- src/head.rt:55:1
-same-length-7 : tie.Need-same-length-7
-same-length-7 c = search needs
-
--- src/head.rt:55:1
 returns-7 : tie.Need-returns-7
-returns-7 c = λ h. rw (HeadLaws.undesugared-head ((c .before .before .before .before .before .before .before .before .before .pre .0)) _ h (sym ((c .before .before .before .before .before .before .before .before .before .pre .1 .1)) ∙ (c .before .before .before .before .match .keys7))) (c .before .before .put-row4 .ensures)
+returns-7 c =
+    let after-put-row4 : tie.After-put-row4 = search ways in
+    let at-match-keys7 : tie.At-match-keys7 = search ways in
+    let start : tie.Start = search ways in
+    λ h.
+    rw (HeadLaws.undesugared-head (start .pre .0) _ h (sym (start .pre .1 .1) ∙ (at-match-keys7 .match .keys7))) (after-put-row4 .put-row4 .ensures)
 
--- src/head.rt:55:1
-same-length-8 : tie.Need-same-length-8
-same-length-8 c = search needs
-
--- src/head.rt:55:1
 returns-8 : tie.Need-returns-8
-returns-8 c = λ h. rw (← HeadLaws.over-head ((c .before .before .before .before .before .before .before .before .before .pre .0)) _ (λ e. ((c .before .before .before .before .match .rest .0 .0 .0 .0 .0 .0 .1)) ((c .before .before .before .before .before .before .before .before .before .pre .1 .1) ∙ e)) (λ e. ((c .before .before .before .before .match .rest .0 .0 .0 .0 .0 .1)) ((c .before .before .before .before .before .before .before .before .before .pre .1 .1) ∙ e)) (λ e. ((c .before .before .before .before .match .rest .0 .0 .0 .0 .1)) ((c .before .before .before .before .before .before .before .before .before .pre .1 .1) ∙ e)) (λ e. ((c .before .before .before .before .match .rest .0 .0 .0 .1)) ((c .before .before .before .before .before .before .before .before .before .pre .1 .1) ∙ e)) (λ e. ((c .before .before .before .before .match .rest .0 .0 .1)) ((c .before .before .before .before .before .before .before .before .before .pre .1 .1) ∙ e)) (λ e. ((c .before .before .before .before .match .rest .0 .1)) ((c .before .before .before .before .before .before .before .before .before .pre .1 .1) ∙ e)) (λ e. ((c .before .before .before .before .match .rest .1)) ((c .before .before .before .before .before .before .before .before .before .pre .1 .1) ∙ e)) h .is) (rw ((c .before .before .before .before .before .before .before .before .before .pre .1 .1)) at (c .before .before .put-line2 .ensures))
+returns-8 c =
+    let start : tie.Start = search in
+    let at-match-rest : tie.At-match-rest = search in
+    let after-put-line2 : tie.After-put-line2 = search in
+    λ h.
+    rw
+    (←
+    HeadLaws.over-head
+    (start .pre .0)
+    _
+    (λ e. (at-match-rest .match .rest .0 .0 .0 .0 .0 .0 .1) ((start .pre .1 .1) ∙ e))
+    (λ e. (at-match-rest .match .rest .0 .0 .0 .0 .0 .1) ((start .pre .1 .1) ∙ e))
+    (λ e. (at-match-rest .match .rest .0 .0 .0 .0 .1) ((start .pre .1 .1) ∙ e))
+    (λ e. (at-match-rest .match .rest .0 .0 .0 .1) ((start .pre .1 .1) ∙ e))
+    (λ e. (at-match-rest .match .rest .0 .0 .1) ((start .pre .1 .1) ∙ e))
+    (λ e. (at-match-rest .match .rest .0 .1) ((start .pre .1 .1) ∙ e))
+    (λ e. (at-match-rest .match .rest .1) ((start .pre .1 .1) ∙ e))
+    h .is)
+    (rw (start .pre .1 .1) at (after-put-line2 .put-line2 .ensures))
 
 pub put-expr-spec : {M : Type 1} → statement M
 put-expr-spec =
     tie.close
     (tie.spec
-    put-row-requires
+    (λ c κs. search needs)
     put-line-requires
     put-call-requires
-    put-row-requires-2
+    (λ c κs. search needs)
     put-any-requires
-    put-row-requires-3
-    put-row-requires-4
+    (λ c κs. search needs)
+    (λ c κs. search needs)
     sub-put-line
     put-line-requires-2
-    same-length
+    (λ c. search needs)
     returns
-    same-length-2
+    (λ c. search needs)
     returns-2
-    same-length-3
+    (λ c. search needs)
     returns-3
-    same-length-4
+    (λ c. search needs)
     returns-4
-    same-length-5
+    (λ c. search needs)
     returns-5
-    same-length-6
+    (λ c. search needs)
     returns-6
-    same-length-7
+    (λ c. search needs)
     returns-7
-    same-length-8
+    (λ c. search needs)
     returns-8)

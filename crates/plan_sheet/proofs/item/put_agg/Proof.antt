@@ -2,47 +2,45 @@
 use borrow.Author.Needs.{needs}
 use Rattle.plan_sheet.proofs.item.put_agg.Statement.{statement}
 use Rattle.plan_sheet.proofs.item.put_agg.Tie as tie
-use Rattle.plan_sheet.proofs.item.put_agg.Reads as reads
-use Rattle.plan_sheet.proofs.item.put_agg.Lts as lts
-use Rattle.plan_line.proofs.row.put_named.Reads as put-named-reads
-use Rattle.words.proofs.word.Reads as word-reads
 
--- src/item.rt:85:9
-word-requires : tie.Need-word-requires
-word-requires c κs = search needs
+-- the ways back, from place to place
+abbrev back-put-named : tie.After-put-named → tie.After-word4
+back-put-named c = search
 
--- src/item.rt:86:9
-word-requires-2 : tie.Need-word-requires-2
-word-requires-2 c κs = search needs
+abbrev back-word4 : tie.After-word4 → tie.After-word3
+back-word4 c = search
 
--- src/item.rt:87:9
-word-requires-3 : tie.Need-word-requires-3
-word-requires-3 c κs = search needs
+abbrev back-word3 : tie.After-word3 → tie.After-word2
+back-word3 c = search
 
--- src/item.rt:88:9
-word-requires-4 : tie.Need-word-requires-4
-word-requires-4 c κs = search needs
+abbrev back-word2 : tie.After-word2 → tie.After-word
+back-word2 c = search
 
--- src/item.rt:89:5
-put-named-requires : tie.Need-put-named-requires
-put-named-requires c κs = search needs
+abbrev back-word : tie.After-word → tie.Start
+back-word c = search
 
--- src/item.rt:79:1
-same-length : tie.Need-same-length
-same-length c = search needs
+ruleset ways = (back-put-named, back-word4, back-word3, back-word2, back-word)
 
--- src/item.rt:79:1
 returns : tie.Need-returns
-returns c = rw ((c .before .before .before .before .before .before .before .word .ensures), (c .before .before .before .before .before .before .word2 .ensures), (c .before .before .before .before .before .word3 .ensures), (c .before .before .before .before .word4 .ensures)) at (c .before .before .put-named .ensures)
+returns c =
+    let after-word : tie.After-word = search in
+    let after-word2 : tie.After-word2 = search in
+    let after-word3 : tie.After-word3 = search in
+    let after-word4 : tie.After-word4 = search in
+    let after-put-named : tie.After-put-named = search in
+    rw
+    (after-word .word .ensures, after-word2 .word2 .ensures, after-word3 .word3 .ensures, after-word4 .word4 .ensures)
+    at
+    (after-put-named .put-named .ensures)
 
 pub put-agg-spec : {M : Type 1} → statement M
 put-agg-spec =
     tie.close
     (tie.spec
-    word-requires
-    word-requires-2
-    word-requires-3
-    word-requires-4
-    put-named-requires
-    same-length
+    (λ c κs. search needs)
+    (λ c κs. search needs)
+    (λ c κs. search needs)
+    (λ c κs. search needs)
+    (λ c κs. search needs)
+    (λ c. search needs)
     returns)

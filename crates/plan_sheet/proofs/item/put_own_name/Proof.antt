@@ -2,31 +2,32 @@
 use borrow.Author.Needs.{needs}
 use Rattle.plan_sheet.proofs.item.put_own_name.Statement.{statement}
 use Rattle.plan_sheet.proofs.item.put_own_name.Tie as tie
-use Rattle.plan_sheet.proofs.item.put_own_name.Reads as reads
-use Rattle.plan_sheet.proofs.item.put_own_name.Lts as lts
-use Rattle.plan_line.proofs.row.put_named.Reads as put-named-reads
-use Rattle.words.proofs.word.Reads as word-reads
 
--- src/item.rt:22:9
-word-requires : tie.Need-word-requires
-word-requires c κs = search needs
+-- the ways back, from place to place
+abbrev back-put-named : tie.After-put-named → tie.After-word2
+back-put-named c = search
 
--- src/item.rt:23:9
-word-requires-2 : tie.Need-word-requires-2
-word-requires-2 c κs = search needs
+abbrev back-word2 : tie.After-word2 → tie.After-word
+back-word2 c = search
 
--- src/item.rt:24:5
-put-named-requires : tie.Need-put-named-requires
-put-named-requires c κs = search needs
+abbrev back-word : tie.After-word → tie.Start
+back-word c = search
 
--- src/item.rt:16:1
-same-length : tie.Need-same-length
-same-length c = search needs
+ruleset ways = (back-put-named, back-word2, back-word)
 
--- src/item.rt:16:1
 returns : tie.Need-returns
-returns c = rw ((c .before .before .before .before .before .word .ensures), (c .before .before .before .before .word2 .ensures)) at (c .before .before .put-named .ensures)
+returns c =
+    let after-word : tie.After-word = search in
+    let after-word2 : tie.After-word2 = search in
+    let after-put-named : tie.After-put-named = search in
+    rw (after-word .word .ensures, after-word2 .word2 .ensures) at (after-put-named .put-named .ensures)
 
 pub put-own-name-spec : {M : Type 1} → statement M
 put-own-name-spec =
-    tie.close (tie.spec word-requires word-requires-2 put-named-requires same-length returns)
+    tie.close
+    (tie.spec
+    (λ c κs. search needs)
+    (λ c κs. search needs)
+    (λ c κs. search needs)
+    (λ c. search needs)
+    returns)

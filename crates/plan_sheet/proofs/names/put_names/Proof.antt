@@ -6,47 +6,71 @@ use native.Mathlib.Omega.{arith}
 use borrow.Author.Needs.{needs}
 use Rattle.plan_sheet.proofs.names.put_names.Statement.{statement}
 use Rattle.plan_sheet.proofs.names.put_names.Tie as tie
-use Rattle.plan_sheet.proofs.names.put_names.Reads as reads
-use Rattle.plan_sheet.proofs.names.put_names.Lts as lts
-use Rattle.plan_line.proofs.field.put_line.Reads as put-line-reads
 
 abbrev Inv-loop : tie.InvT-loop
-Inv-loop plan₀ sheet a b i n at₀ left₀ o₀ plan at left o = NameLaws.NamesGoing sheet a b n i (on plan₀ o₀) left at (on plan o)
+Inv-loop plan₀ out sheet a b i n at₀ left₀ o₀ plan at left o = NameLaws.NamesGoing sheet a b n i (on plan₀ o₀) left at (on plan o)
 
 abbrev μ-loop : tie.MeasureT-loop
-μ-loop plan₀ sheet a b i n at₀ left₀ o₀ plan at left o = left
+μ-loop plan₀ out sheet a b i n at₀ left₀ o₀ plan at left o = left
 
--- src/names.rt:26:5
-loop-holds : tie.Need-loop-holds Inv-loop μ-loop
-loop-holds c = NameLaws.names-going ((c .before .before .before .before .pre .1))
+-- a place or a need, at the loops' invariants and measures
+abbrev here : (tie.InvT-loop → tie.MeasureT-loop → Type 0) → Type 0
+here X = X Inv-loop μ-loop
 
--- src/names.rt:27:9
-put-line-requires : tie.Need-put-line-requires Inv-loop μ-loop
-put-line-requires c κs = let l = NameLaws.first-lined ((c .before .before .before .before .before .before .before .pre .0)) (c .before .loop-test .taken) ((c .before .before .loop .inv .some)) in (((c .before .before .before .before .before .before .before .pre .0)), ((NameLaws.first-low ((c .before .before .before .before .before .before .before .pre .0)) (c .before .loop-test .taken) ((c .before .before .loop .inv .some)), l .1 .fields), l .1 .low))
+-- the ways back, from place to place
+abbrev back-put-line : here tie.After-put-line → here tie.In-loop
+back-put-line c = search
 
--- src/names.rt:28:9
-add-at : tie.Need-add-at Inv-loop μ-loop
-add-at c = omega (arith, NameLaws.first-low ((c .before .before .before .before .before .before .before .before .before .before .pre .0)) (c .before .before .before .before .loop-test .taken) ((c .before .before .before .before .before .loop .inv .some)))
+abbrev back-in-loop : here tie.In-loop → here tie.At-loop
+back-in-loop c = search
 
--- src/names.rt:29:9
-sub-left : tie.Need-sub-left Inv-loop μ-loop
-sub-left c = search needs
+abbrev back-at-loop : here tie.At-loop → here tie.Start
+back-at-loop c = search
 
--- src/names.rt:26:5
-loop-less : tie.Need-loop-less Inv-loop μ-loop
-loop-less c = search needs
+ruleset ways = (back-put-line, back-in-loop, back-at-loop)
 
--- src/names.rt:26:5
-loop-again : tie.Need-loop-again Inv-loop μ-loop
-loop-again c = NameLaws.names-again ((c .before .before .before .before .before .before .before .before .before .before .pre .0)) (c .before .before .before .before .loop-test .taken) (c .before .before .before .before .before .loop .inv) (c .before .before .put-line .ensures) (same (c .before .before .put-line .ensures))
+loop-holds : here tie.Need-loop-holds
+loop-holds c =
+    let start : here tie.Start = search ways in
+    NameLaws.names-going (start .pre .1)
 
--- src/names.rt:18:1
-same-length : tie.Need-same-length Inv-loop μ-loop
-same-length c = (c .before .loop .inv .long)
+put-line-requires : here tie.Need-put-line-requires
+put-line-requires c κs =
+    let in-loop : here tie.In-loop = search ways in
+    let at-loop : here tie.At-loop = search ways in
+    let start : here tie.Start = search ways in
+    let l = NameLaws.first-lined (start .pre .0) (in-loop .loop-test .taken) (at-loop .loop .inv .some) in
+    (start .pre .0, ((NameLaws.first-low (start .pre .0) (in-loop .loop-test .taken) (at-loop .loop .inv .some), l .1 .fields), l .1 .low))
 
--- src/names.rt:18:1
-returns : tie.Need-returns Inv-loop μ-loop
-returns c = NameLaws.names-done (c .loop-test .left) (c .before .loop .inv)
+add-at : here tie.Need-add-at
+add-at c =
+    let in-loop : here tie.In-loop = search ways in
+    let at-loop : here tie.At-loop = search ways in
+    let start : here tie.Start = search ways in
+    omega (arith, NameLaws.first-low (start .pre .0) (in-loop .loop-test .taken) (at-loop .loop .inv .some))
+
+loop-again : here tie.Need-loop-again
+loop-again c =
+    let after-put-line : here tie.After-put-line = search ways in
+    let in-loop : here tie.In-loop = search ways in
+    let at-loop : here tie.At-loop = search ways in
+    let start : here tie.Start = search ways in
+    NameLaws.names-again
+    (start .pre .0)
+    (in-loop .loop-test .taken)
+    (at-loop .loop .inv)
+    (after-put-line .put-line .ensures)
+    (same (after-put-line .put-line .ensures))
+
+same-length : here tie.Need-same-length
+same-length c =
+    let at-loop : here tie.At-loop = search ways in
+    at-loop .loop .inv .long
+
+returns : here tie.Need-returns
+returns c =
+    let at-loop : here tie.At-loop = search ways in
+    NameLaws.names-done (c .loop-test .left) (at-loop .loop .inv)
 
 pub put-names-spec : {M : Type 1} → statement M
 put-names-spec =
@@ -57,8 +81,8 @@ put-names-spec =
     loop-holds
     put-line-requires
     add-at
-    sub-left
-    loop-less
+    (λ c. search needs)
+    (λ c. search needs)
     loop-again
     same-length
     returns)

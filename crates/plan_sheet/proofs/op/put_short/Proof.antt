@@ -2,84 +2,56 @@
 use borrow.Author.Needs.{needs}
 use Rattle.plan_sheet.proofs.op.put_short.Statement.{statement}
 use Rattle.plan_sheet.proofs.op.put_short.Tie as tie
-use Rattle.plan_sheet.proofs.op.put_short.Reads as reads
-use Rattle.plan_sheet.proofs.op.put_short.Lts as lts
-use Rattle.plan_sheet.proofs.head.note.Reads as note-reads
-use Rattle.plan_sheet.proofs.op.is_two.Reads as is-two-reads
-use Rattle.plan_line.proofs.row.put_row.Reads as put-row-reads
-use Rattle.words.proofs.word.Reads as word-reads
 
--- src/op.rt:73:40
-add-note : tie.Need-add-note
-add-note c = search needs
+-- the ways back, from place to place
+abbrev back-put-row : tie.After-put-row → tie.After-is-two
+back-put-row c = search
 
--- src/op.rt:73:40
-add-note-2 : tie.Need-add-note-2
-add-note-2 c = search needs
+abbrev back-is-two : tie.After-is-two → tie.After-word
+back-is-two c = search
 
--- src/op.rt:73:9
-note-requires : tie.Need-note-requires
-note-requires c κs = search needs
+abbrev back-word : tie.After-word → tie.After-note3
+back-word c = search
 
--- src/op.rt:74:38
-add-note-3 : tie.Need-add-note-3
-add-note-3 c = search needs
+abbrev back-note3 : tie.After-note3 → tie.After-note2
+back-note3 c = search
 
--- src/op.rt:74:38
-add-note-4 : tie.Need-add-note-4
-add-note-4 c = search needs
+abbrev back-note2 : tie.After-note2 → tie.After-note
+back-note2 c = search
 
--- src/op.rt:74:9
-note-requires-2 : tie.Need-note-requires-2
-note-requires-2 c κs = search needs
+abbrev back-note : tie.After-note → tie.Start
+back-note c = search
 
--- src/op.rt:75:40
-add-note-5 : tie.Need-add-note-5
-add-note-5 c = search needs
+ruleset ways = (back-put-row, back-is-two, back-word, back-note3, back-note2, back-note)
 
--- src/op.rt:75:40
-add-note-6 : tie.Need-add-note-6
-add-note-6 c = search needs
-
--- src/op.rt:75:9
-note-requires-3 : tie.Need-note-requires-3
-note-requires-3 c κs = search needs
-
--- src/op.rt:76:22
-word-requires : tie.Need-word-requires
-word-requires c κs = search needs
-
--- src/op.rt:76:9
-is-two-requires : tie.Need-is-two-requires
-is-two-requires c κs = search needs
-
--- src/op.rt:77:5
-put-row-requires : tie.Need-put-row-requires
-put-row-requires c κs = search needs
-
--- src/op.rt:67:1
-same-length : tie.Need-same-length
-same-length c = search needs
-
--- src/op.rt:67:1
 returns : tie.Need-returns
-returns c = rw ((c .before .before .before .before .before .before .before .before .note .ensures), (c .before .before .before .before .before .before .before .note2 .ensures), (c .before .before .before .before .before .before .note3 .ensures), (c .before .before .before .before .is-two .ensures), (c .before .before .before .before .before .word .ensures)) at (c .before .before .put-row .ensures)
+returns c =
+    let after-note : tie.After-note = search in
+    let after-note2 : tie.After-note2 = search in
+    let after-note3 : tie.After-note3 = search in
+    let after-word : tie.After-word = search in
+    let after-is-two : tie.After-is-two = search in
+    let after-put-row : tie.After-put-row = search in
+    rw
+    (after-note .note .ensures, after-note2 .note2 .ensures, after-note3 .note3 .ensures, after-is-two .is-two .ensures, after-word .word .ensures)
+    at
+    (after-put-row .put-row .ensures)
 
 pub put-short-spec : {M : Type 1} → statement M
 put-short-spec =
     tie.close
     (tie.spec
-    add-note
-    add-note-2
-    note-requires
-    add-note-3
-    add-note-4
-    note-requires-2
-    add-note-5
-    add-note-6
-    note-requires-3
-    word-requires
-    is-two-requires
-    put-row-requires
-    same-length
+    (λ c. search needs)
+    (λ c. search needs)
+    (λ c κs. search needs)
+    (λ c. search needs)
+    (λ c. search needs)
+    (λ c κs. search needs)
+    (λ c. search needs)
+    (λ c. search needs)
+    (λ c κs. search needs)
+    (λ c κs. search needs)
+    (λ c κs. search needs)
+    (λ c κs. search needs)
+    (λ c. search needs)
     returns)

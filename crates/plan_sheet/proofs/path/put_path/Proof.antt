@@ -5,53 +5,86 @@ use native.Mathlib.Omega.{arith}
 use borrow.Author.Needs.{needs}
 use Rattle.plan_sheet.proofs.path.put_path.Statement.{statement}
 use Rattle.plan_sheet.proofs.path.put_path.Tie as tie
-use Rattle.plan_sheet.proofs.path.put_path.Reads as reads
-use Rattle.plan_sheet.proofs.path.put_path.Lts as lts
-use Rattle.lower.proofs.records.skip.Reads as skip-reads
-use Rattle.plan_sheet.proofs.path.put_step.Reads as put-step-reads
-use Rattle.words.proofs.word.Reads as word-reads
 
 abbrev Inv-loop : tie.InvT-loop
-Inv-loop plan₀ sheet a b rest base i n at₀ due₀ seen₀ waits₀ o₀ plan at due seen waits o = PathLaws.Walking sheet a b rest base n i (on plan₀ o₀) due at seen waits (on plan o)
+Inv-loop plan₀ out sheet a b rest base i n at₀ due₀ seen₀ waits₀ o₀ plan at due seen waits o = PathLaws.Walking sheet a b rest base n i (on plan₀ o₀) due at seen waits (on plan o)
 
 abbrev μ-loop : tie.MeasureT-loop
-μ-loop plan₀ sheet a b rest base i n at₀ due₀ seen₀ waits₀ o₀ plan at due seen waits o = due
+μ-loop plan₀ out sheet a b rest base i n at₀ due₀ seen₀ waits₀ o₀ plan at due seen waits o = due
 
--- src/path.rt:66:5
-loop-holds : tie.Need-loop-holds Inv-loop μ-loop
-loop-holds c = PathLaws.walking ((c .before .before .before .before .before .pre .1 .1))
+-- a place or a need, at the loops' invariants and measures
+abbrev here : (tie.InvT-loop → tie.MeasureT-loop → Type 0) → Type 0
+here X = X Inv-loop μ-loop
 
--- src/path.rt:67:13
-word-requires : tie.Need-word-requires Inv-loop μ-loop
-word-requires c κs = (PathLaws.element-starts (c .loop-test .taken) ((c .before .loop .inv .some)) .1, (omega arith, (c .before .before .before .before .before .before .before .pre .0)))
+-- the ways back, from place to place
+abbrev back-put-step : here tie.After-put-step → here tie.After-word
+back-put-step c = search
 
--- src/path.rt:68:13
-put-step-requires : tie.Need-put-step-requires Inv-loop μ-loop
-put-step-requires c κs = ((c .before .before .before .before .before .before .before .before .before .pre .1 .0 .0), (c .before .before .before .before .before .before .before .before .before .pre .1 .0 .1), (c .before .before .before .loop .inv .low), PathLaws.element-starts (c .before .before .loop-test .taken) ((c .before .before .before .loop .inv .some)) .1)
+abbrev back-word : here tie.After-word → here tie.In-loop
+back-word c = search
 
--- src/path.rt:69:9
-skip-requires : tie.Need-skip-requires Inv-loop μ-loop
-skip-requires c κs = ((c .before .before .before .before .before .before .before .before .before .before .before .before .pre .0), PathLaws.element-starts (c .before .before .before .before .before .loop-test .taken) ((c .before .before .before .before .before .before .loop .inv .some)) .0)
+abbrev back-in-loop : here tie.In-loop → here tie.At-loop
+back-in-loop c = search
 
--- src/path.rt:73:9
-sub-due : tie.Need-sub-due Inv-loop μ-loop
-sub-due c = search needs
+abbrev back-at-loop : here tie.At-loop → here tie.Start
+back-at-loop c = search
 
--- src/path.rt:66:5
-loop-less : tie.Need-loop-less Inv-loop μ-loop
-loop-less c = search needs
+ruleset ways = (back-put-step, back-word, back-in-loop, back-at-loop)
 
--- src/path.rt:66:5
-loop-again : tie.Need-loop-again Inv-loop μ-loop
-loop-again c = PathLaws.walk-on ((c .before .before .before .before .before .before .before .before .before .before .before .before .before .before .pre .0)) (c .before .before .before .before .before .before .before .loop-test .taken) (c .before .before .before .before .before .before .before .before .loop .inv) (c .before .before .before .before .before .before .word .ensures) (c .before .before .before .before .put-step .ensures) (c .before .skip .ensures) ((c .before .before .before .before .put-step .kept .0))
+loop-holds : here tie.Need-loop-holds
+loop-holds c =
+    let start : here tie.Start = search ways in
+    PathLaws.walking (start .pre .1 .1)
 
--- src/path.rt:55:1
-same-length : tie.Need-same-length Inv-loop μ-loop
-same-length c = (c .before .loop .inv .long)
+word-requires : here tie.Need-word-requires
+word-requires c κs =
+    let at-loop : here tie.At-loop = search ways in
+    let start : here tie.Start = search ways in
+    (PathLaws.element-starts (c .loop-test .taken) (at-loop .loop .inv .some) .1, (omega arith, start .pre .0))
 
--- src/path.rt:55:1
-returns : tie.Need-returns Inv-loop μ-loop
-returns c = PathLaws.walk-done (c .loop-test .left) (c .before .loop .inv)
+put-step-requires : here tie.Need-put-step-requires
+put-step-requires c κs =
+    let in-loop : here tie.In-loop = search ways in
+    let at-loop : here tie.At-loop = search ways in
+    let start : here tie.Start = search ways in (
+      start .pre .1 .0 .0,
+      start .pre .1 .0 .1,
+      at-loop .loop .inv .low,
+      PathLaws.element-starts (in-loop .loop-test .taken) (at-loop .loop .inv .some) .1,
+    )
+
+skip-requires : here tie.Need-skip-requires
+skip-requires c κs =
+    let in-loop : here tie.In-loop = search ways in
+    let at-loop : here tie.At-loop = search ways in
+    let start : here tie.Start = search ways in
+    (start .pre .0, PathLaws.element-starts (in-loop .loop-test .taken) (at-loop .loop .inv .some) .0)
+
+loop-again : here tie.Need-loop-again
+loop-again c =
+    let after-put-step : here tie.After-put-step = search ways in
+    let after-word : here tie.After-word = search ways in
+    let in-loop : here tie.In-loop = search ways in
+    let at-loop : here tie.At-loop = search ways in
+    let start : here tie.Start = search ways in
+    PathLaws.walk-on
+    (start .pre .0)
+    (in-loop .loop-test .taken)
+    (at-loop .loop .inv)
+    (after-word .word .ensures)
+    (after-put-step .put-step .ensures)
+    (c .skip .ensures)
+    (after-put-step .put-step .kept .0)
+
+same-length : here tie.Need-same-length
+same-length c =
+    let at-loop : here tie.At-loop = search ways in
+    at-loop .loop .inv .long
+
+returns : here tie.Need-returns
+returns c =
+    let at-loop : here tie.At-loop = search ways in
+    PathLaws.walk-done (c .loop-test .left) (at-loop .loop .inv)
 
 pub put-path-spec : {M : Type 1} → statement M
 put-path-spec =
@@ -63,8 +96,8 @@ put-path-spec =
     word-requires
     put-step-requires
     skip-requires
-    sub-due
-    loop-less
+    (λ c. search needs)
+    (λ c. search needs)
     loop-again
     same-length
     returns)

@@ -3,53 +3,54 @@ use Rattle.plan_sheet.proofs.PathLaws
 use borrow.Author.Needs.{needs}
 use Rattle.plan_sheet.proofs.path.put_step.Statement.{statement}
 use Rattle.plan_sheet.proofs.path.put_step.Tie as tie
-use Rattle.plan_sheet.proofs.path.put_step.Reads as reads
-use Rattle.plan_sheet.proofs.path.put_step.Lts as lts
-use Rattle.plan_sheet.proofs.head.note.Reads as note-reads
-use Rattle.plan_sheet.proofs.path.put_kept.Reads as put-kept-reads
-use Rattle.plan_line.proofs.row.put_row.Reads as put-row-reads
 
--- src/path.rt:44:16
-add-line : tie.Need-add-line
-add-line c = search needs
+-- the ways back, from place to place
+abbrev back-put-row : tie.After-put-row → tie.After-note
+back-put-row c = search
 
--- src/path.rt:46:13
-put-kept-requires : tie.Need-put-kept-requires
-put-kept-requires c κs = search needs
+abbrev back-note : tie.After-note → tie.After-put-kept
+back-note c = search
 
--- src/path.rt:47:41
-add-note : tie.Need-add-note
-add-note c = search needs
+abbrev back-put-kept : tie.After-put-kept → tie.Then1
+back-put-kept c = search
 
--- src/path.rt:47:13
-note-requires : tie.Need-note-requires
-note-requires c κs = search needs
+abbrev back-then1 : tie.Then1 → tie.Start
+back-then1 c = search
 
--- src/path.rt:48:13
-put-row-requires : tie.Need-put-row-requires
-put-row-requires c κs = search needs
+ruleset ways = (back-put-row, back-note, back-put-kept, back-then1)
 
--- src/path.rt:49:9
-same-length : tie.Need-same-length
-same-length c = search needs
-
--- src/path.rt:49:9
 returns : tie.Need-returns
-returns c = PathLaws.node-step ((c .before .before .before .before .before .before .before .before .before .before .before .before .args .rest .now)) ((c .before .before .before .before .before .before .before .before .before .before .before .before .args .base)) ((c .before .before .before .before .before .before .before .before .before .before .before .before .args .seen)) ((c .before .before .before .before .before .before .before .before .before .before .before .before .args .waits)) (c .before .before .before .before .before .before .before .before .before .if1 .taken) ((c .before .before .before .before .before .before .before .before .before .before .before .before .pre .3)) (c .before .before .before .before .before .before .before .put-kept .ensures) (c .before .before .before .before .note .ensures) (c .before .before .put-row .ensures)
+returns c =
+    let after-put-row : tie.After-put-row = search ways in
+    let after-note : tie.After-note = search ways in
+    let after-put-kept : tie.After-put-kept = search ways in
+    let then1 : tie.Then1 = search ways in
+    let start : tie.Start = search ways in
+    PathLaws.node-step
+    (start .args .rest .now)
+    (start .args .base)
+    (start .args .seen)
+    (start .args .waits)
+    (then1 .if1 .taken)
+    (start .pre .3)
+    (after-put-kept .put-kept .ensures)
+    (after-note .note .ensures)
+    (after-put-row .put-row .ensures)
 
--- src/path.rt:40:1
 returns-2 : tie.Need-returns-2
-returns-2 c = PathLaws.rel-step ((c .before .before .before .args .rest .now)) ((c .before .before .before .args .base)) ((c .before .before .before .args .seen)) ((c .before .before .before .args .waits)) (c .if1 .left) ((c .before .before .before .pre .3))
+returns-2 c =
+    let start : tie.Start = search ways in
+    PathLaws.rel-step (start .args .rest .now) (start .args .base) (start .args .seen) (start .args .waits) (c .if1 .left) (start .pre .3)
 
 pub put-step-spec : {M : Type 1} → statement M
 put-step-spec =
     tie.close
     (tie.spec
-    add-line
-    put-kept-requires
-    add-note
-    note-requires
-    put-row-requires
-    same-length
+    (λ c. search needs)
+    (λ c κs. search needs)
+    (λ c. search needs)
+    (λ c κs. search needs)
+    (λ c κs. search needs)
+    (λ c. search needs)
     returns
     returns-2)

@@ -3,28 +3,29 @@ use native.Mathlib.Omega.{arith}
 use borrow.Author.Needs.{needs}
 use Rattle.sheet.proofs.reader.finish.Statement.{statement}
 use Rattle.sheet.proofs.reader.finish.Tie as tie
-use Rattle.sheet.proofs.reader.finish.Reads as reads
-use Rattle.sheet.proofs.reader.finish.Lts as lts
 
--- src/reader.rt:22:30
-cast-t7 : tie.Need-cast-t7
-cast-t7 c = search needs
+-- the ways back, from place to place
+abbrev back-else1 : tie.Else1 → tie.Start
+back-else1 c = search
 
--- src/reader.rt:22:30
-add-t8 : tie.Need-add-t8
-add-t8 c = search needs
+ruleset ways = (back-else1)
 
--- src/reader.rt:22:9
-returns : tie.Need-returns
-returns c = ends-bad _ _ _ _ _ ((c .if1 .taken)) (omega arith)
-
--- src/reader.rt:25:9
 returns-2 : tie.Need-returns-2
-returns-2 c = ends-read _ _ _ _ ((c .before .if1 .left)) ((c .if2 .taken))
+returns-2 c =
+    let else1 : tie.Else1 = search ways in
+    ends-read _ _ _ _ (else1 .if1 .left) (c .if2 .taken)
 
--- src/reader.rt:17:1
 returns-3 : tie.Need-returns-3
-returns-3 c = ends-write _ _ _ _ ((c .before .if1 .left)) ((c .if2 .left))
+returns-3 c =
+    let else1 : tie.Else1 = search ways in
+    ends-write _ _ _ _ (else1 .if1 .left) (c .if2 .left)
 
 pub finish-spec : {M : Type 1} → statement M
-finish-spec = tie.close (tie.spec cast-t7 add-t8 returns returns-2 returns-3)
+finish-spec =
+    tie.close
+    (tie.spec
+    (λ c. search needs)
+    (λ c. search needs)
+    (λ c. ends-bad _ _ _ _ _ (c .if1 .taken) (omega arith))
+    returns-2
+    returns-3)

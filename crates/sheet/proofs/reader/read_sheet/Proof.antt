@@ -7,11 +7,6 @@ use Rattle.sheet.specs.Next.{loop-top, loop-done, next-more-is, next-bad
 use borrow.Author.Needs.{needs}
 use Rattle.sheet.proofs.reader.read_sheet.Statement.{statement}
 use Rattle.sheet.proofs.reader.read_sheet.Tie as tie
-use Rattle.sheet.proofs.reader.read_sheet.Reads as reads
-use Rattle.sheet.proofs.reader.read_sheet.Lts as lts
-use Rattle.sheet.proofs.reader.finish.Reads as finish-reads
-use Rattle.sheet.proofs.reader.read_next.Reads as read-next-reads
-use Rattle.sheet.proofs.stack.push.Reads as push-reads
 
 abbrev Inv-loop : tie.InvT-loop
 Inv-loop sheet a₀ b₀ stack₀ i₀ pos₀ due₀ write₀ a b stack i pos due write =
@@ -20,113 +15,106 @@ Inv-loop sheet a₀ b₀ stack₀ i₀ pos₀ due₀ write₀ a b stack i pos du
 abbrev μ-loop : tie.MeasureT-loop
 μ-loop sheet a₀ b₀ stack₀ i₀ pos₀ due₀ write₀ a b stack i pos due write = 2048 - i
 
--- src/reader.rt:104:5
-push-requires : tie.Need-push-requires Inv-loop μ-loop
-push-requires c κs = record { few = omega arith; long = (c .before .before .before .before .before .pre .1 .1) }
+-- a place or a need, at the loops' invariants and measures
+abbrev here : (tie.InvT-loop → tie.MeasureT-loop → Type 0) → Type 0
+here X = X Inv-loop μ-loop
 
--- src/reader.rt:109:5
-loop-holds : tie.Need-loop-holds Inv-loop μ-loop
-loop-holds c = (search needs, search needs, search needs, begin _ _ _ _ _ ((c .before .before .before .before .before .before .before .before .pre .1 .0)) ((c .before .before .before .before .before .before .before .before .pre .1 .1)) ((c .before .before .push .ensures)))
+-- the ways back, from place to place
+abbrev back-p : here tie.After-p → here tie.After-read-next
+back-p c = search
 
--- src/reader.rt:110:53
-sub-read-next : tie.Need-sub-read-next Inv-loop μ-loop
-sub-read-next c = search needs
+abbrev back-read-next : here tie.After-read-next → here tie.In-loop
+back-read-next c = search
 
--- src/reader.rt:110:15
-read-next-requires : tie.Need-read-next-requires Inv-loop μ-loop
-read-next-requires c κs = ((c .before .before .before .before .before .before .before .before .before .before .before .before .before .pre .0), loop-top _ _ _ _ _ _ _ _ ((c .before .before .before .before .loop .inv .3)) ((c .before .before .before .loop-test .taken)))
+abbrev back-in-loop : here tie.In-loop → here tie.At-loop
+back-in-loop c = search
 
--- src/reader.rt:111:24
-enum-known-p : tie.Need-enum-known-p Inv-loop μ-loop
-enum-known-p c = search needs
+abbrev back-loop : here tie.After-loop → here tie.At-loop
+back-loop c = search
 
--- src/reader.rt:115:17
-add-i : tie.Need-add-i Inv-loop μ-loop
-add-i c = omega (arith, ((c .before .before .before .before .before .before .before .before .before .before .before .before .before .before .loop .inv .3)) .few)
+abbrev back-at-loop : here tie.At-loop → here tie.After-push
+back-at-loop c = search
 
--- src/reader.rt:109:5
-loop-less : tie.Need-loop-less Inv-loop μ-loop
-loop-less c = omega (arith, (next-more-is _ _ _ _ _ _ _ _ _ ((c .before .p .given .1)) ((c .before .before .before .before .before .before .before .before .before .read-next .ensures))) .few)
+abbrev back-push : here tie.After-push → here tie.Start
+back-push c = search
 
--- src/reader.rt:109:5
-loop-again : tie.Need-loop-again Inv-loop μ-loop
-loop-again c = (search needs, search needs, search needs, (next-more-is _ _ _ _ _ _ _ _ _ ((c .before .p .given .1)) ((c .before .before .before .before .before .before .before .before .before .read-next .ensures))))
+ruleset ways = (back-p, back-read-next, back-in-loop, back-loop, back-at-loop, back-push)
 
--- src/reader.rt:118:38
-enum-told : tie.Need-enum-told Inv-loop μ-loop
-enum-told c = search needs
+push-requires : here tie.Need-push-requires
+push-requires c κs =
+    let start : here tie.Start = search ways depth 7 in
+    record { few = omega arith; long = (start .pre .1 .1) }
 
--- src/reader.rt:118:38
-cast-t24 : tie.Need-cast-t24 Inv-loop μ-loop
-cast-t24 c = omega (arith, ((c .before .before .before .before .before .before .before .before .before .before .before .before .before .loop .inv .3)) .few)
+loop-holds : here tie.Need-loop-holds
+loop-holds c =
+    let after-push : here tie.After-push = search ways depth 7 in
+    let start : here tie.Start = search ways depth 7 in
+    (search needs, search needs, search needs, begin _ _ _ _ _ (start .pre .1 .0) (start .pre .1 .1) (after-push .push .ensures))
 
--- src/reader.rt:118:38
-add-t25 : tie.Need-add-t25 Inv-loop μ-loop
-add-t25 c = omega (arith, ((c .before .before .before .before .before .before .before .before .before .before .before .before .before .loop .inv .3)) .few)
+read-next-requires : here tie.Need-read-next-requires
+read-next-requires c κs =
+    let in-loop : here tie.In-loop = search ways depth 7 in
+    let at-loop : here tie.At-loop = search ways depth 7 in
+    let start : here tie.Start = search ways depth 7 in
+    (start .pre .0, loop-top _ _ _ _ _ _ _ _ (at-loop .loop .inv .3) (in-loop .loop-test .taken))
 
--- src/reader.rt:118:17
-same-length : tie.Need-same-length Inv-loop μ-loop
-same-length c = search needs
+add-i : here tie.Need-add-i
+add-i c =
+    let at-loop : here tie.At-loop = search ways depth 7 in
+    omega (arith, (at-loop .loop .inv .3) .few)
 
--- src/reader.rt:118:17
-same-length-2 : tie.Need-same-length-2 Inv-loop μ-loop
-same-length-2 c = search needs
+loop-less : here tie.Need-loop-less
+loop-less c =
+    let after-p : here tie.After-p = search ways depth 7 in
+    let after-read-next : here tie.After-read-next = search ways depth 7 in
+    omega (arith, (next-more-is _ _ _ _ _ _ _ _ _ (after-p .p .given .1) (after-read-next .read-next .ensures)) .few)
 
--- src/reader.rt:118:17
-same-length-3 : tie.Need-same-length-3 Inv-loop μ-loop
-same-length-3 c = search needs
+loop-again : here tie.Need-loop-again
+loop-again c =
+    let after-p : here tie.After-p = search ways depth 7 in
+    let after-read-next : here tie.After-read-next = search ways depth 7 in
+    (search needs, search needs, search needs, next-more-is _ _ _ _ _ _ _ _ _ (after-p .p .given .1) (after-read-next .read-next .ensures))
 
--- src/reader.rt:118:17
-returns : tie.Need-returns Inv-loop μ-loop
-returns c = next-bad-is _ _ _ _ _ _ ((c .enum-told .given .1)) ((c .before .before .before .before .before .before .before .before .read-next .ensures))
+cast-t24 : here tie.Need-cast-t24
+cast-t24 c =
+    let at-loop : here tie.At-loop = search ways depth 7 in
+    omega (arith, (at-loop .loop .inv .3) .few)
 
--- src/reader.rt:121:38
-enum-told-2 : tie.Need-enum-told-2 Inv-loop μ-loop
-enum-told-2 c = search needs
+add-t25 : here tie.Need-add-t25
+add-t25 c =
+    let at-loop : here tie.At-loop = search ways depth 7 in
+    omega (arith, (at-loop .loop .inv .3) .few)
 
--- src/reader.rt:121:38
-cast-t26 : tie.Need-cast-t26 Inv-loop μ-loop
-cast-t26 c = omega (arith, ((c .before .before .before .before .before .before .before .before .before .before .before .before .before .loop .inv .3)) .few)
+returns : here tie.Need-returns
+returns c =
+    let after-read-next : here tie.After-read-next = search ways depth 7 in
+    next-bad-is _ _ _ _ _ _ (c .enum-told .given .1) (after-read-next .read-next .ensures)
 
--- src/reader.rt:121:38
-add-t27 : tie.Need-add-t27 Inv-loop μ-loop
-add-t27 c = omega (arith, ((c .before .before .before .before .before .before .before .before .before .before .before .before .before .loop .inv .3)) .few)
+cast-t26 : here tie.Need-cast-t26
+cast-t26 c =
+    let at-loop : here tie.At-loop = search ways depth 7 in
+    omega (arith, (at-loop .loop .inv .3) .few)
 
--- src/reader.rt:121:17
-same-length-4 : tie.Need-same-length-4 Inv-loop μ-loop
-same-length-4 c = search needs
+add-t27 : here tie.Need-add-t27
+add-t27 c =
+    let at-loop : here tie.At-loop = search ways depth 7 in
+    omega (arith, (at-loop .loop .inv .3) .few)
 
--- src/reader.rt:121:17
-same-length-5 : tie.Need-same-length-5 Inv-loop μ-loop
-same-length-5 c = search needs
+returns-2 : here tie.Need-returns-2
+returns-2 c =
+    let after-read-next : here tie.After-read-next = search ways depth 7 in
+    next-big-is _ _ _ _ _ _ (c .enum-told2 .given .1) (after-read-next .read-next .ensures)
 
--- src/reader.rt:121:17
-same-length-6 : tie.Need-same-length-6 Inv-loop μ-loop
-same-length-6 c = search needs
+finish-requires : here tie.Need-finish-requires
+finish-requires c κs =
+    let at-loop : here tie.At-loop = search ways depth 7 in
+    (at-loop .loop .inv .3) .few
 
--- src/reader.rt:121:17
-returns-2 : tie.Need-returns-2 Inv-loop μ-loop
-returns-2 c = next-big-is _ _ _ _ _ _ ((c .enum-told2 .given .1)) ((c .before .before .before .before .before .before .before .before .read-next .ensures))
-
--- src/reader.rt:125:5
-finish-requires : tie.Need-finish-requires Inv-loop μ-loop
-finish-requires c κs = ((c .before .loop .inv .3)) .few
-
--- src/reader.rt:98:1
-same-length-7 : tie.Need-same-length-7 Inv-loop μ-loop
-same-length-7 c = search needs
-
--- src/reader.rt:98:1
-same-length-8 : tie.Need-same-length-8 Inv-loop μ-loop
-same-length-8 c = search needs
-
--- src/reader.rt:98:1
-same-length-9 : tie.Need-same-length-9 Inv-loop μ-loop
-same-length-9 c = search needs
-
--- src/reader.rt:98:1
-returns-3 : tie.Need-returns-3 Inv-loop μ-loop
-returns-3 c = loop-done _ _ _ _ _ _ _ _ ((c .before .before .loop .inv .3)) (omega (arith, (c .before .loop-test .left))) _ ((c .finish .ensures))
+returns-3 : here tie.Need-returns-3
+returns-3 c =
+    let after-loop : here tie.After-loop = search ways depth 7 in
+    let at-loop : here tie.At-loop = search ways depth 7 in
+    loop-done _ _ _ _ _ _ _ _ (at-loop .loop .inv .3) (omega (arith, after-loop .loop-test .left)) _ (c .finish .ensures)
 
 pub read-sheet-spec : {M : Type 1} → statement M
 read-sheet-spec =
@@ -136,28 +124,28 @@ read-sheet-spec =
     μ-loop
     push-requires
     loop-holds
-    sub-read-next
+    (λ c. search needs)
     read-next-requires
-    enum-known-p
+    (λ c. search needs)
     add-i
     loop-less
     loop-again
-    enum-told
+    (λ c. search needs)
     cast-t24
     add-t25
-    same-length
-    same-length-2
-    same-length-3
+    (λ c. search needs)
+    (λ c. search needs)
+    (λ c. search needs)
     returns
-    enum-told-2
+    (λ c. search needs)
     cast-t26
     add-t27
-    same-length-4
-    same-length-5
-    same-length-6
+    (λ c. search needs)
+    (λ c. search needs)
+    (λ c. search needs)
     returns-2
     finish-requires
-    same-length-7
-    same-length-8
-    same-length-9
+    (λ c. search needs)
+    (λ c. search needs)
+    (λ c. search needs)
     returns-3)

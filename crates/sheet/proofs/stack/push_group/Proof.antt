@@ -4,48 +4,57 @@ use mathlib.Core.Path.{sym, _∙_}
 use borrow.Author.Needs.{needs}
 use Rattle.sheet.proofs.stack.push_group.Statement.{statement}
 use Rattle.sheet.proofs.stack.push_group.Tie as tie
-use Rattle.sheet.proofs.stack.push_group.Reads as reads
-use Rattle.sheet.proofs.stack.push_group.Lts as lts
-use Rattle.line.proofs.group.group_count.Reads as group-count-reads
-use Rattle.line.proofs.group.group_sort.Reads as group-sort-reads
-use Rattle.sheet.proofs.stack.push.Reads as push-reads
 
--- src/stack.rt:47:9
-group-count-requires : tie.Need-group-count-requires
-group-count-requires c κs = search needs
+-- the ways back, from place to place
+abbrev back-push : tie.After-push → tie.After-group-sort
+back-push c = search
 
--- src/stack.rt:49:9
+abbrev back-group-sort : tie.After-group-sort → tie.Else1
+back-group-sort c = search
+
+abbrev back-else1 : tie.Else1 → tie.After-group-count
+back-else1 c = search
+
+abbrev back-group-count : tie.After-group-count → tie.Start
+back-group-count c = search
+
+ruleset ways = (back-push, back-group-sort, back-else1, back-group-count)
+
 returns : tie.Need-returns
-returns c = grouped-none _ _ _ _ _ (sym ((c .before .group-count .ensures)) ∙ (c .if1 .taken))
+returns c =
+    let after-group-count : tie.After-group-count = search ways in
+    grouped-none _ _ _ _ _ (sym (after-group-count .group-count .ensures) ∙ (c .if1 .taken))
 
--- src/stack.rt:51:9
-group-sort-requires : tie.Need-group-sort-requires
-group-sort-requires c κs = search needs
-
--- src/stack.rt:52:5
-push-requires : tie.Need-push-requires
-push-requires c κs = search needs
-
--- src/stack.rt:53:5
-add-result : tie.Need-add-result
-add-result c = search needs
-
--- src/stack.rt:40:1
-same-length : tie.Need-same-length
-same-length c = search needs
-
--- src/stack.rt:40:1
 returns-2 : tie.Need-returns-2
-returns-2 c = grouped-push _ _ _ _ _ _ _ _ _ ((c .before .before .before .before .group-sort .ensures)) ((c .before .before .before .before .before .before .group-count .ensures)) ((c .before .before .before .before .before .if1 .left)) (omega arith) ((c .before .before .push .ensures))
+returns-2 c =
+    let after-push : tie.After-push = search ways in
+    let after-group-sort : tie.After-group-sort = search ways in
+    let else1 : tie.Else1 = search ways in
+    let after-group-count : tie.After-group-count = search ways in
+    grouped-push
+    _
+    _
+    _
+    _
+    _
+    _
+    _
+    _
+    _
+    (after-group-sort .group-sort .ensures)
+    (after-group-count .group-count .ensures)
+    (else1 .if1 .left)
+    (omega arith)
+    (after-push .push .ensures)
 
 pub push-group-spec : {M : Type 1} → statement M
 push-group-spec =
     tie.close
     (tie.spec
-    group-count-requires
+    (λ c κs. search needs)
     returns
-    group-sort-requires
-    push-requires
-    add-result
-    same-length
+    (λ c κs. search needs)
+    (λ c κs. search needs)
+    (λ c. search needs)
+    (λ c. search needs)
     returns-2)

@@ -5,9 +5,6 @@ use Rattle.sheet.specs.Dues.{Groups, groups-none, groups-step, groups-al
 use borrow.Author.Needs.{needs}
 use Rattle.sheet.proofs.stack.push_groups.Statement.{statement}
 use Rattle.sheet.proofs.stack.push_groups.Tie as tie
-use Rattle.sheet.proofs.stack.push_groups.Reads as reads
-use Rattle.sheet.proofs.stack.push_groups.Lts as lts
-use Rattle.sheet.proofs.stack.push_group.Reads as push-group-reads
 
 abbrev Inv-loop : tie.InvT-loop
 Inv-loop a b stack₀ m i kind room g₀ top₀ stack g top = (g ≤ 5) × Groups stack₀ stack kind (part a b i) g (5 - g) m room top
@@ -15,33 +12,56 @@ Inv-loop a b stack₀ m i kind room g₀ top₀ stack g top = (g ≤ 5) × Group
 abbrev μ-loop : tie.MeasureT-loop
 μ-loop a b stack₀ m i kind room g₀ top₀ stack g top = g
 
--- src/stack.rt:66:5
-loop-holds : tie.Need-loop-holds Inv-loop μ-loop
-loop-holds c = (omega arith, groups-none _ _ _ _ _ ((c .before .before .before .pre .1 .1 .1)))
+-- a place or a need, at the loops' invariants and measures
+abbrev here : (tie.InvT-loop → tie.MeasureT-loop → Type 0) → Type 0
+here X = X Inv-loop μ-loop
 
--- src/stack.rt:67:9
-sub-g : tie.Need-sub-g Inv-loop μ-loop
-sub-g c = search needs
+-- the ways back, from place to place
+abbrev back-push-group : here tie.After-push-group → here tie.In-loop
+back-push-group c = search
 
--- src/stack.rt:68:9
-push-group-requires : tie.Need-push-group-requires Inv-loop μ-loop
-push-group-requires c κs = search (room-left, needs)
+abbrev back-in-loop : here tie.In-loop → here tie.At-loop
+back-in-loop c = search
 
--- src/stack.rt:66:5
-loop-less : tie.Need-loop-less Inv-loop μ-loop
-loop-less c = search needs
+abbrev back-at-loop : here tie.At-loop → here tie.Start
+back-at-loop c = search
 
--- src/stack.rt:66:5
-loop-again : tie.Need-loop-again Inv-loop μ-loop
-loop-again c = (omega arith, groups-step _ _ _ _ _ _ _ _ ((c .before .before .before .before .before .before .before .before .before .pre .1 .1 .1)) ((c .before .before .before .before .loop-test .taken)) ((c .before .before .before .before .before .loop .inv .0)) ((c .before .before .before .before .before .loop .inv .1)) _ _ ((c .before .before .push-group .ensures)))
+ruleset ways = (back-push-group, back-in-loop, back-at-loop)
 
--- src/stack.rt:57:1
-same-length : tie.Need-same-length Inv-loop μ-loop
-same-length c = search needs
+loop-holds : here tie.Need-loop-holds
+loop-holds c =
+    let start : here tie.Start = search ways in
+    (omega arith, groups-none _ _ _ _ _ (start .pre .1 .1 .1))
 
--- src/stack.rt:57:1
-returns : tie.Need-returns Inv-loop μ-loop
-returns c = groups-all _ _ _ _ _ _ _ _ (omega (arith, (c .loop-test .left))) ((c .before .loop .inv .1))
+loop-again : here tie.Need-loop-again
+loop-again c =
+    let after-push-group : here tie.After-push-group = search ways in
+    let in-loop : here tie.In-loop = search ways in
+    let at-loop : here tie.At-loop = search ways in
+    let start : here tie.Start = search ways in (
+      omega arith,
+      groups-step
+          _
+          _
+          _
+          _
+          _
+          _
+          _
+          _
+          (start .pre .1 .1 .1)
+          (in-loop .loop-test .taken)
+          (at-loop .loop .inv .0)
+          (at-loop .loop .inv .1)
+          _
+          _
+          (after-push-group .push-group .ensures),
+    )
+
+returns : here tie.Need-returns
+returns c =
+    let at-loop : here tie.At-loop = search ways in
+    groups-all _ _ _ _ _ _ _ _ (omega (arith, c .loop-test .left)) (at-loop .loop .inv .1)
 
 pub push-groups-spec : {M : Type 1} → statement M
 push-groups-spec =
@@ -50,9 +70,9 @@ push-groups-spec =
     Inv-loop
     μ-loop
     loop-holds
-    sub-g
-    push-group-requires
-    loop-less
+    (λ c. search needs)
+    (λ c κs. search (room-left, needs))
+    (λ c. search needs)
     loop-again
-    same-length
+    (λ c. search needs)
     returns)

@@ -1,0 +1,115 @@
+-- `lower_exprs`, of the cycle.
+use Rattle.lower.specs.Pieces.{LowersExprs}
+use Rattle.lower.specs.Rep.{mem}
+use native.Mathlib.Nat.{le-refl}
+use Rattle.lower.specs.Exprs
+use Rattle.lower.proofs.Room
+use native.Mathlib.Omega.{arith}
+use Prim.Native.Nat.{ℕ}
+use borrow.Fn.Kinds.{In, Out}
+use Rattle.lower.proofs.lower_exprs.Reads as reads
+use Rattle.lower.proofs.lower_exprs.Kinds as kinds
+use Rattle.lower.proofs.+expand_to+lower_chain+lower_element+lower_elements+lower_expr+lower_exprs+lower_parts+lower_pattern_part+lower_rel_element+lower_shortest_path_part+start_chain+start_node.Lts-lower_exprs as lts
+use Rattle.lower.proofs.+expand_to+lower_chain+lower_element+lower_elements+lower_expr+lower_exprs+lower_parts+lower_pattern_part+lower_rel_element+lower_shortest_path_part+start_chain+start_node.Proof.Claims.{lower-exprs-at, lower-exprs-calls}
+
+abbrev Inv-loop : lts.InvT-loop
+Inv-loop a b ops₀ rest₀ base i n gap left at₀ m₀ cur₀ ops rest at m cur = Exprs.Left a b gap left base (λ e m′. LowersExprs a b n gap left base i e (mem cur₀ ops₀ rest₀) m′) m at (mem cur ops rest)
+
+abbrev μ-loop : lts.MeasureT-loop
+μ-loop a b ops₀ rest₀ base i n gap left at₀ m₀ cur₀ ops rest at m cur = m
+
+module _ (t : ℕ) where
+  -- a place or a need of this function, at the measure t
+  abbrev here : (lts.Claims → In 4 kinds.ps → Out 4 kinds.ps kinds.r → lts.InvT-loop → lts.MeasureT-loop → Type 0) → Type 0
+  here X = X (lower-exprs-calls t) (lower-exprs-at t) reads.Post Inv-loop μ-loop
+
+  -- the ways back, from place to place
+  abbrev back-lower-expr : here lts.After-lower-expr → here lts.In-loop
+  back-lower-expr c = search
+
+  abbrev back-in-loop : here lts.In-loop → here lts.At-loop
+  back-in-loop c = search
+
+  abbrev back-at-loop : here lts.At-loop → here lts.Start
+  back-at-loop c = search
+
+  ruleset ways = (back-lower-expr, back-in-loop, back-at-loop)
+
+  loop-holds : here lts.Need-loop-holds
+  loop-holds c =
+      let start : here lts.Start = search ways in
+      record { some = (start .pre .1 .1 .0); good = (start .pre .1 .1 .1 .0); rest = λ e m′ q. q }
+
+  add-lower-expr : here lts.Need-add-lower-expr
+  add-lower-expr c =
+      let at-loop : here lts.At-loop = search ways in
+      let start : here lts.Start = search ways in
+      let g = at-loop .loop .inv .good .here in
+      let h = start .pre .1 .1 .1 .3 in
+      omega arith
+
+  lower-expr-requires : here lts.Need-lower-expr-requires
+  lower-expr-requires c κs =
+      let in-loop : here lts.In-loop = search ways in
+      let at-loop : here lts.At-loop = search ways in
+      let start : here lts.Start = search ways in
+      let x = Exprs.child (in-loop .loop-test .taken) (at-loop .loop .inv) in
+      let l₀ = Room.low x in (
+        omega arith,
+        (
+          start .pre .1 .0,
+          (x, (Exprs.good-from (le-refl _) (omega arith) (omega arith) (at-loop .loop .inv .good), start .pre .1 .1 .1 .1, start .pre .1 .1 .1 .2)),
+        ),
+      )
+
+  sub-m : here lts.Need-sub-m
+  sub-m c =
+      let in-loop : here lts.In-loop = search ways in
+      let h = in-loop .loop-test .taken in
+      omega arith
+
+  loop-less : here lts.Need-loop-less
+  loop-less c =
+      let in-loop : here lts.In-loop = search ways in
+      let h = in-loop .loop-test .taken in
+      omega arith
+
+  loop-again : here lts.Need-loop-again
+  loop-again c =
+      let after-lower-expr : here lts.After-lower-expr = search ways in
+      let in-loop : here lts.In-loop = search ways in
+      let at-loop : here lts.At-loop = search ways in
+      Exprs.again (in-loop .loop-test .taken) (at-loop .loop .inv) (after-lower-expr .lower-expr .ensures)
+
+  same-length : here lts.Need-same-length
+  same-length c =
+      let at-loop : here lts.At-loop = search ways in
+      Exprs.done (c .loop-test .left) (at-loop .loop .inv) .moved .in-ops
+
+  same-length-2 : here lts.Need-same-length-2
+  same-length-2 c =
+      let at-loop : here lts.At-loop = search ways in
+      Exprs.done (c .loop-test .left) (at-loop .loop .inv) .moved .in-rest
+
+  returns : here lts.Need-returns
+  returns c =
+      let at-loop : here lts.At-loop = search ways in
+      Exprs.done (c .loop-test .left) (at-loop .loop .inv)
+
+  pub meets : {M : Type 1} → lts.Closed (lower-exprs-calls t) (lower-exprs-at t) reads.Post M
+  meets =
+      lts.spec
+      (lower-exprs-calls t)
+      (lower-exprs-at t)
+      reads.Post
+      Inv-loop
+      μ-loop
+      loop-holds
+      add-lower-expr
+      lower-expr-requires
+      sub-m
+      loop-less
+      loop-again
+      same-length
+      same-length-2
+      returns

@@ -1,0 +1,214 @@
+-- `lower_rel_element`, of the cycle.
+use native.Mathlib.Nat.{le-refl}
+use Prim.Native.Nat.{_+_, ℕ}
+use Rattle.lower.proofs.Room
+use mathlib.Core.Path.{refl, ap, _∙_}
+use native.Mathlib.Omega.{arith}
+use borrow.Fn.Kinds.{In, Out}
+use Rattle.lower.proofs.lower_rel_element.Reads as reads
+use Rattle.lower.proofs.lower_rel_element.Kinds as kinds
+use Rattle.lower.proofs.+expand_to+lower_chain+lower_element+lower_elements+lower_expr+lower_exprs+lower_parts+lower_pattern_part+lower_rel_element+lower_shortest_path_part+start_chain+start_node.Lts-lower_rel_element as lts
+use Rattle.lower.proofs.+expand_to+lower_chain+lower_element+lower_elements+lower_expr+lower_exprs+lower_parts+lower_pattern_part+lower_rel_element+lower_shortest_path_part+start_chain+start_node.Proof.Claims.{lower-rel-element-at, lower-rel-element-calls}
+
+module _ (t : ℕ) where
+  -- a place or a need of this function, at the measure t
+  abbrev here : (lts.Claims → In 4 kinds.ps → Out 4 kinds.ps kinds.r → Type 0) → Type 0
+  here X = X (lower-rel-element-calls t) (lower-rel-element-at t) reads.Post
+
+  -- the ways back, from place to place
+  abbrev back-lower-exprs : here lts.After-lower-exprs → here lts.After-count2
+  back-lower-exprs c = search
+
+  abbrev back-count2 : here lts.After-count2 → here lts.After-count
+  back-count2 c = search
+
+  abbrev back-count : here lts.After-count → here lts.After-endpoint-var
+  back-count c = search
+
+  abbrev back-endpoint-var : here lts.After-endpoint-var → here lts.After-word2
+  back-endpoint-var c = search
+
+  abbrev back-word2 : here lts.After-word2 → here lts.After-word
+  back-word2 c = search
+
+  abbrev back-word : here lts.After-word → here lts.Start
+  back-word c = search
+
+  ruleset ways = (back-lower-exprs, back-count2, back-count, back-endpoint-var, back-word2, back-word)
+
+  word-requires : here lts.Need-word-requires
+  word-requires c κs =
+      let start : here lts.Start = search ways depth 8 in
+      (Room.low (start .pre .1 .1 .0 .0), (omega arith, start .pre .1 .0))
+
+  word-requires-2 : here lts.Need-word-requires-2
+  word-requires-2 c κs =
+      let start : here lts.Start = search ways depth 8 in
+      (Room.low (start .pre .1 .1 .0 .0), (omega arith, start .pre .1 .0))
+
+  add-endpoint-var : here lts.Need-add-endpoint-var
+  add-endpoint-var c =
+      let start : here lts.Start = search ways depth 8 in
+      let l₀ = Room.low (start .pre .1 .1 .0 .0) in
+      let l₁ = start .pre .1 .1 .1 .3 in
+      let l₂ = start .pre .1 .1 .1 .1 in
+      let l₃ = start .pre .1 .1 .1 .2 in
+      omega arith
+
+  add-endpoint-var-2 : here lts.Need-add-endpoint-var-2
+  add-endpoint-var-2 c =
+      let start : here lts.Start = search ways depth 8 in
+      let l₀ = Room.low (start .pre .1 .1 .0 .0) in
+      let l₁ = start .pre .1 .1 .1 .3 in
+      let l₂ = start .pre .1 .1 .1 .1 in
+      let l₃ = start .pre .1 .1 .1 .2 in
+      omega arith
+
+  endpoint-var-requires : here lts.Need-endpoint-var-requires
+  endpoint-var-requires c κs =
+      let start : here lts.Start = search ways depth 8 in
+      let l₀ = Room.low (start .pre .1 .1 .0 .0) in
+      let l₁ = start .pre .1 .1 .1 .3 in
+      let l₂ = start .pre .1 .1 .1 .1 in
+      let l₃ = start .pre .1 .1 .1 .2 in
+      Room.can-number (start .pre .1 .1 .1 .0) _ _ _ (start .pre .1 .1 .1 .2) (omega arith) refl
+
+  count-requires : here lts.Need-count-requires
+  count-requires c κs =
+      let start : here lts.Start = search ways depth 8 in
+      (Room.low (start .pre .1 .1 .0 .0), (omega arith, start .pre .1 .0))
+
+  count-requires-2 : here lts.Need-count-requires-2
+  count-requires-2 c κs =
+      let start : here lts.Start = search ways depth 8 in
+      (Room.low (start .pre .1 .1 .0 .0), (omega arith, start .pre .1 .0))
+
+  add-lower-exprs : here lts.Need-add-lower-exprs
+  add-lower-exprs c =
+      let start : here lts.Start = search ways depth 8 in
+      let l₀ = Room.low (start .pre .1 .1 .0 .0) in
+      let l₁ = start .pre .1 .1 .1 .3 in
+      let l₂ = start .pre .1 .1 .1 .1 in
+      let l₃ = start .pre .1 .1 .1 .2 in
+      omega arith
+
+  add-lower-exprs-2 : here lts.Need-add-lower-exprs-2
+  add-lower-exprs-2 c =
+      let after-count : here lts.After-count = search ways depth 8 in
+      let start : here lts.Start = search ways depth 8 in
+      let l₀ = Room.names-low (start .pre .1 .0) (start .pre .1 .1 .0 .0) in
+      let l₁ = start .pre .1 .1 .1 .3 in
+      let l₂ = start .pre .1 .1 .1 .1 in
+      let l₃ = start .pre .1 .1 .1 .2 in
+      let n₀ = after-count .count .ensures .0 in
+      omega arith
+
+  sub-lower-exprs : here lts.Need-sub-lower-exprs
+  sub-lower-exprs c =
+      let start : here lts.Start = search ways depth 8 in
+      let l₀ = Room.low (start .pre .1 .1 .0 .0) in
+      let l₁ = start .pre .1 .1 .1 .3 in
+      let l₂ = start .pre .1 .1 .1 .1 in
+      let l₃ = start .pre .1 .1 .1 .2 in
+      omega arith
+
+  lower-exprs-requires : here lts.Need-lower-exprs-requires
+  lower-exprs-requires c κs =
+      let after-count2 : here lts.After-count2 = search ways depth 8 in
+      let after-count : here lts.After-count = search ways depth 8 in
+      let after-endpoint-var : here lts.After-endpoint-var = search ways depth 8 in
+      let start : here lts.Start = search ways depth 8 in
+      let l₀ = Room.low (start .pre .1 .1 .0 .0) in
+      let l₁ = start .pre .1 .1 .1 .3 in
+      let l₂ = start .pre .1 .1 .1 .1 in
+      let l₃ = start .pre .1 .1 .1 .2 in
+      let l₀′ = Room.names-low (start .pre .1 .0) (start .pre .1 .1 .0 .0) in
+      let n₀ = after-count .count .ensures .0 in (
+        omega arith,
+        (
+          start .pre .1 .0,
+          (
+            Room.prop-some
+                (start .pre .1 .0)
+                (start .pre .1 .1 .0 .0)
+                (start .pre .1 .1 .0 .1)
+                _
+                _
+                (after-count2 .count2 .ensures .0)
+                (ap (λ z. (start .args .i) + 1 + z) (after-count .count .ensures .0)),
+            (
+              Room.numbered-on
+                  (start .pre .1 .1 .1 .0)
+                  _
+                  _
+                  (after-endpoint-var .endpoint-var .ensures .issued)
+                  (after-endpoint-var .endpoint-var .kept .1 .0)
+                  (le-refl _)
+                  (omega arith)
+                  (omega arith),
+              omega arith,
+              start .pre .1 .1 .1 .2,
+              omega arith,
+            ),
+          ),
+        ),
+      )
+
+  same-length : here lts.Need-same-length
+  same-length c =
+      let after-lower-exprs : here lts.After-lower-exprs = search ways depth 8 in
+      after-lower-exprs .lower-exprs .kept .1 .1 .0
+
+  same-length-2 : here lts.Need-same-length-2
+  same-length-2 c =
+      let after-lower-exprs : here lts.After-lower-exprs = search ways depth 8 in
+      let after-endpoint-var : here lts.After-endpoint-var = search ways depth 8 in
+      (after-lower-exprs .lower-exprs .kept .1 .1 .1 .0) ∙ (after-endpoint-var .endpoint-var .kept .1 .0)
+
+  returns : here lts.Need-returns
+  returns c =
+      let after-lower-exprs : here lts.After-lower-exprs = c .before .before .before .before in
+      let after-count2 : here lts.After-count2 = c .before .before .before .before .before .before .before .before in
+      let after-count : here lts.After-count = c .before .before .before .before .before .before .before .before .before in
+      let after-endpoint-var : here lts.After-endpoint-var =
+      c .before .before .before .before .before .before .before .before .before .before .before .before
+      in
+      let after-word2 : here lts.After-word2 =
+      c .before .before .before .before .before .before .before .before .before .before .before .before .before .before
+      in
+      let after-word : here lts.After-word =
+      c .before .before .before .before .before .before .before .before .before .before .before .before .before .before .before
+      in
+      let start : here lts.Start =
+      c .before .before .before .before .before .before .before .before .before .before .before .before .before .before .before .before .before
+      .before .before .before
+      in
+      Room.rel-done
+      _
+      refl
+      (rw (after-word .word .ensures, after-word2 .word2 .ensures) at (after-endpoint-var .endpoint-var .ensures))
+      (after-endpoint-var .endpoint-var .kept .1 .0)
+      (after-count2 .count2 .ensures .0)
+      (ap (λ z. (start .args .i) + 1 + z) (after-count .count .ensures .0))
+      (after-lower-exprs .lower-exprs .ensures)
+
+  pub meets : {M : Type 1} → lts.Closed (lower-rel-element-calls t) (lower-rel-element-at t) reads.Post M
+  meets =
+      lts.spec
+      (lower-rel-element-calls t)
+      (lower-rel-element-at t)
+      reads.Post
+      word-requires
+      word-requires-2
+      add-endpoint-var
+      add-endpoint-var-2
+      endpoint-var-requires
+      count-requires
+      count-requires-2
+      add-lower-exprs
+      add-lower-exprs-2
+      sub-lower-exprs
+      lower-exprs-requires
+      same-length
+      same-length-2
+      returns

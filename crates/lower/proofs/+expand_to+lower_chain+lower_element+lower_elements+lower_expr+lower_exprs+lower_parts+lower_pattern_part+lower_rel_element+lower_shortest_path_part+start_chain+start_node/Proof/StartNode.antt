@@ -1,0 +1,299 @@
+-- `start_node`, of the cycle.
+use native.Mathlib.Nat.{le-refl}
+use Prim.Native.Nat.{_+_, ℕ}
+use Rattle.lower.proofs.Start
+use Rattle.lower.specs.Exprs
+use Rattle.lower.proofs.Room
+use mathlib.Core.Path.{sym, ap, _∙_}
+use native.Mathlib.Omega.{arith}
+use borrow.Fn.Kinds.{In, Out}
+use Rattle.lower.proofs.start_node.Reads as reads
+use Rattle.lower.proofs.start_node.Kinds as kinds
+use Rattle.lower.proofs.+expand_to+lower_chain+lower_element+lower_elements+lower_expr+lower_exprs+lower_parts+lower_pattern_part+lower_rel_element+lower_shortest_path_part+start_chain+start_node.Lts-start_node as lts
+use Rattle.lower.proofs.+expand_to+lower_chain+lower_element+lower_elements+lower_expr+lower_exprs+lower_parts+lower_pattern_part+lower_rel_element+lower_shortest_path_part+start_chain+start_node.Proof.Claims.{start-node-at, start-node-calls}
+
+module _ (t : ℕ) where
+  -- a place or a need of this function, at the measure t
+  abbrev here : (lts.Claims → In 4 kinds.ps → Out 4 kinds.ps kinds.r → Type 0) → Type 0
+  here X = X (start-node-calls t) (start-node-at t) reads.Post
+
+  -- the ways back, from place to place
+  abbrev back-push2 : here lts.After-push2 → here lts.After-lower-expr
+  back-push2 c = search
+
+  abbrev back-lower-expr : here lts.After-lower-expr → here lts.Else1
+  back-lower-expr c = search
+
+  abbrev back-else1 : here lts.Else1 → here lts.After-push
+  back-else1 c = search
+
+  abbrev back-push : here lts.After-push → here lts.After-word
+  back-push c = search
+
+  abbrev back-word : here lts.After-word → here lts.After-count
+  back-word c = search
+
+  abbrev back-count : here lts.After-count → here lts.Start
+  back-count c = search
+
+  ruleset ways = (back-push2, back-lower-expr, back-else1, back-push, back-word, back-count)
+
+  count-requires : here lts.Need-count-requires
+  count-requires c κs =
+      let start : here lts.Start = search ways depth 8 in
+      (Room.low (start .pre .1 .1 .0 .0), (omega arith, start .pre .1 .0))
+
+  word-requires : here lts.Need-word-requires
+  word-requires c κs =
+      let start : here lts.Start = search ways depth 8 in
+      (Room.low (start .pre .1 .1 .0 .0), (omega arith, start .pre .1 .0))
+
+  add-first : here lts.Need-add-first
+  add-first c =
+      let start : here lts.Start = search ways depth 8 in
+      let l₀ = Room.low (start .pre .1 .1 .0 .0) in
+      let l₁ = start .pre .1 .1 .1 .3 in
+      let l₂ = start .pre .1 .1 .1 .1 in
+      let l₃ = start .pre .1 .1 .1 .2 in
+      omega arith
+
+  add-first-2 : here lts.Need-add-first-2
+  add-first-2 c =
+      let after-count : here lts.After-count = search ways depth 8 in
+      let start : here lts.Start = search ways depth 8 in
+      let l₀ = Room.names-low (start .pre .1 .0) (start .pre .1 .1 .0 .0) in
+      let l₁ = start .pre .1 .1 .1 .3 in
+      let l₂ = start .pre .1 .1 .1 .1 in
+      let l₃ = start .pre .1 .1 .1 .2 in
+      let n₀ = after-count .count .ensures .0 in
+      omega arith
+
+  sub-less : here lts.Need-sub-less
+  sub-less c =
+      let start : here lts.Start = search ways depth 8 in
+      let l₀ = Room.low (start .pre .1 .1 .0 .0) in
+      let l₁ = start .pre .1 .1 .1 .3 in
+      let l₂ = start .pre .1 .1 .1 .1 in
+      let l₃ = start .pre .1 .1 .1 .2 in
+      omega arith
+
+  cast-push : here lts.Need-cast-push
+  cast-push c =
+      let start : here lts.Start = search ways depth 8 in
+      let l₀ = Room.low (start .pre .1 .1 .0 .0) in
+      let l₁ = start .pre .1 .1 .1 .3 in
+      let l₂ = start .pre .1 .1 .1 .1 in
+      let l₃ = start .pre .1 .1 .1 .2 in
+      omega arith
+
+  cast-push-2 : here lts.Need-cast-push-2
+  cast-push-2 c =
+      let start : here lts.Start = search ways depth 8 in
+      let l₀ = Room.low (start .pre .1 .1 .0 .0) in
+      let l₁ = start .pre .1 .1 .1 .3 in
+      let l₂ = start .pre .1 .1 .1 .1 in
+      let l₃ = start .pre .1 .1 .1 .2 in
+      omega arith
+
+  cast-push-3 : here lts.Need-cast-push-3
+  cast-push-3 c =
+      let start : here lts.Start = search ways depth 8 in
+      let l₀ = Room.low (start .pre .1 .1 .0 .0) in
+      let l₁ = start .pre .1 .1 .1 .3 in
+      let l₂ = start .pre .1 .1 .1 .1 in
+      let l₃ = start .pre .1 .1 .1 .2 in
+      omega arith
+
+  push-requires : here lts.Need-push-requires
+  push-requires c κs =
+      let start : here lts.Start = search ways depth 8 in
+      Room.can-push (start .pre .1 .1 .1 .0)
+
+  same-length : here lts.Need-same-length
+  same-length c =
+      let after-push : here lts.After-push = search ways depth 8 in
+      after-push .push .kept .1 .0
+
+  returns : here lts.Need-returns
+  returns c =
+      let after-push : here lts.After-push = search ways depth 8 in
+      let after-word : here lts.After-word = search ways depth 8 in
+      let after-count : here lts.After-count = search ways depth 8 in
+      let start : here lts.Start = search ways depth 8 in
+      rw
+      (ap (λ z. (start .args .i) + 1 + z) (after-count .count .ensures .0))
+      (Start.bare-law
+      _
+      _
+      (start .pre .1 .0)
+      (start .pre .1 .1 .0 .1)
+      (start .pre .1 .1 .1 .1, start .pre .1 .1 .1 .2)
+      (after-push .push .ensures)
+      (after-push .push .kept .1 .0)
+      (sym (after-word .word .ensures) ∙ (c .if1 .taken))
+      (start .pre .1 .1 .0 .0))
+
+  lower-expr-requires : here lts.Need-lower-expr-requires
+  lower-expr-requires c κs =
+      let else1 : here lts.Else1 = search ways depth 8 in
+      let after-push : here lts.After-push = search ways depth 8 in
+      let after-word : here lts.After-word = search ways depth 8 in
+      let after-count : here lts.After-count = search ways depth 8 in
+      let start : here lts.Start = search ways depth 8 in
+      let l₀ = Room.low (start .pre .1 .1 .0 .0) in
+      let l₁ = start .pre .1 .1 .1 .3 in
+      let l₂ = start .pre .1 .1 .1 .1 in
+      let l₃ = start .pre .1 .1 .1 .2 in
+      let l₀′ = Room.names-low (start .pre .1 .0) (start .pre .1 .1 .0 .0) in
+      let n₀ = after-count .count .ensures .0 in (
+        omega arith,
+        (
+          start .pre .1 .0,
+          (
+            rw
+                (ap (λ z. (start .args .i) + 1 + z) (after-count .count .ensures .0))
+                (Start.some-prop
+                _
+                _
+                (start .pre .1 .0)
+                (start .pre .1 .1 .0 .1)
+                (start .pre .1 .1 .0 .0)
+                (λ e. (else1 .if1 .left) ((after-word .word .ensures) ∙ e))),
+            (
+              Room.pushed-on
+                  (start .pre .1 .1 .1 .0)
+                  _
+                  _
+                  (after-push .push .ensures)
+                  (after-push .push .kept .1 .0)
+                  (le-refl _)
+                  (omega arith)
+                  (omega arith),
+              omega arith,
+              start .pre .1 .1 .1 .2,
+            ),
+          ),
+        ),
+      )
+
+  cast-push-4 : here lts.Need-cast-push-4
+  cast-push-4 c =
+      let after-count : here lts.After-count = search ways depth 8 in
+      let start : here lts.Start = search ways depth 8 in
+      let l₀ = Room.names-low (start .pre .1 .0) (start .pre .1 .1 .0 .0) in
+      let l₁ = start .pre .1 .1 .1 .3 in
+      let l₂ = start .pre .1 .1 .1 .1 in
+      let l₃ = start .pre .1 .1 .1 .2 in
+      let n₀ = after-count .count .ensures .0 in
+      omega arith
+
+  cast-push-5 : here lts.Need-cast-push-5
+  cast-push-5 c =
+      let start : here lts.Start = search ways depth 8 in
+      let g = Room.few-ops (start .pre .1 .1 .1 .0) in
+      omega arith
+
+  cast-push-6 : here lts.Need-cast-push-6
+  cast-push-6 c =
+      let start : here lts.Start = search ways depth 8 in
+      let l₀ = Room.low (start .pre .1 .1 .0 .0) in
+      let l₁ = start .pre .1 .1 .1 .3 in
+      let l₂ = start .pre .1 .1 .1 .1 in
+      let l₃ = start .pre .1 .1 .1 .2 in
+      omega arith
+
+  cast-push-7 : here lts.Need-cast-push-7
+  cast-push-7 c =
+      let start : here lts.Start = search ways depth 8 in
+      let l₀ = Room.low (start .pre .1 .1 .0 .0) in
+      let l₁ = start .pre .1 .1 .1 .3 in
+      let l₂ = start .pre .1 .1 .1 .1 in
+      let l₃ = start .pre .1 .1 .1 .2 in
+      omega arith
+
+  push-requires-2 : here lts.Need-push-requires-2
+  push-requires-2 c κs =
+      let after-lower-expr : here lts.After-lower-expr = search ways depth 8 in
+      let after-push : here lts.After-push = search ways depth 8 in
+      let after-count : here lts.After-count = search ways depth 8 in
+      let start : here lts.Start = search ways depth 8 in
+      let l₀ = Room.names-low (start .pre .1 .0) (start .pre .1 .1 .0 .0) in
+      let l₁ = start .pre .1 .1 .1 .3 in
+      let l₂ = start .pre .1 .1 .1 .1 in
+      let l₃ = start .pre .1 .1 .1 .2 in
+      let n₀ = after-count .count .ensures .0 in
+      Room.can-push
+      (Exprs.good-after
+      (after-lower-expr .lower-expr .ensures .moved)
+      (Room.pushed-on (start .pre .1 .1 .1 .0) _ _ (after-push .push .ensures) (after-push .push .kept .1 .0) (le-refl _) (omega arith) (omega arith)))
+
+  same-length-2 : here lts.Need-same-length-2
+  same-length-2 c =
+      let after-push2 : here lts.After-push2 = search ways depth 8 in
+      let after-lower-expr : here lts.After-lower-expr = search ways depth 8 in
+      let after-push : here lts.After-push = search ways depth 8 in
+      (after-push2 .push2 .kept .1 .0) ∙ (after-lower-expr .lower-expr .kept .1 .1 .0) ∙ (after-push .push .kept .1 .0)
+
+  same-length-3 : here lts.Need-same-length-3
+  same-length-3 c =
+      let after-lower-expr : here lts.After-lower-expr = search ways depth 8 in
+      after-lower-expr .lower-expr .kept .1 .1 .1 .0
+
+  returns-2 : here lts.Need-returns-2
+  returns-2 c =
+      let after-push2 : here lts.After-push2 = c .before .before in
+      let after-lower-expr : here lts.After-lower-expr = c .before .before .before .before .before .before .before .before .before in
+      let else1 : here lts.Else1 = c .before .before .before .before .before .before .before .before .before .before .before .before in
+      let after-push : here lts.After-push =
+      c .before .before .before .before .before .before .before .before .before .before .before .before .before .before .before
+      in
+      let after-word : here lts.After-word =
+      c .before .before .before .before .before .before .before .before .before .before .before .before .before .before .before .before .before
+      in
+      let after-count : here lts.After-count =
+      c .before .before .before .before .before .before .before .before .before .before .before .before .before .before .before .before .before
+      .before
+      in
+      let start : here lts.Start =
+      c .before .before .before .before .before .before .before .before .before .before .before .before .before .before .before .before .before
+      .before .before .before .before .before .before
+      in
+      Start.filtered-law
+      _
+      _
+      (start .pre .1 .0)
+      (start .pre .1 .1 .0 .1)
+      (start .pre .1 .1 .1 .1, start .pre .1 .1 .1 .2)
+      (after-push .push .ensures)
+      (after-push .push .kept .1 .0)
+      (λ e. (else1 .if1 .left) ((after-word .word .ensures) ∙ e))
+      (rw (ap (λ z. (start .args .i) + 1 + z) (after-count .count .ensures .0)) at (after-lower-expr .lower-expr .ensures))
+      (rw (ap (λ z. (start .args .i) + 1 + z) (after-count .count .ensures .0)) at (after-push2 .push2 .ensures))
+      (after-push2 .push2 .kept .1 .0)
+
+  pub meets : {M : Type 1} → lts.Closed (start-node-calls t) (start-node-at t) reads.Post M
+  meets =
+      lts.spec
+      (start-node-calls t)
+      (start-node-at t)
+      reads.Post
+      count-requires
+      word-requires
+      add-first
+      add-first-2
+      sub-less
+      cast-push
+      cast-push-2
+      cast-push-3
+      push-requires
+      same-length
+      returns
+      lower-expr-requires
+      cast-push-4
+      cast-push-5
+      cast-push-6
+      cast-push-7
+      push-requires-2
+      same-length-2
+      same-length-3
+      returns-2
