@@ -24,6 +24,11 @@ pub mod sheet;
 pub use answer::{Refusal, Span, Undesugared};
 pub use planner::Planner;
 
+/// The example of the README.
+#[cfg(doctest)]
+#[doc = include_str!("../README.md")]
+struct Readme;
+
 /// The identity of the kit that proved the linked archive, as `rt version`
 /// prints it; or `unknown` for an archive with no such file beside it.
 pub const KIT: &str = env!("DRESSERHAWK_KIT");
