@@ -8,8 +8,10 @@ import re, sys
 SPEC = open("crates/model/specs/Record.antt", encoding="utf-8").read()
 PAGE = open("docs/FORMAT.md", encoding="utf-8").read()
 
-# what a table calls a type: the forms of Field.antt
-TYPES = {"count": "count", "number": "number", "flag": "flag", "id": "var", "id?": "varOrAbsent", "number?": "numOrAbsent u32"}
+# what a table calls a type: the forms of the definitions, where they have another name
+TYPES = {"id": "var", "id?": "varOrAbsent", "op": "opId", "op?": "numberOrAbsent operator", "variable": "varId"}
+if "opId" not in SPEC:  # one form for both numbers
+    TYPES.update({"op": "number", "op?": "numOrAbsent u32", "variable": "number"})
 # what a table calls a group of children: their sorts in the statement sheet and in the plan sheet
 SORTS = {
     "clauses": ("clause", None), "arms": ("unionArm", None), "parts": ("patternPart", None),
@@ -66,8 +68,10 @@ def records():
         for sort, (comment, right) in definition(f).items():
             if "∷" in right and sort not in ("entry", "planEntry"):
                 add(sheet, definition(k)[sort][1], comment, right, groups(definition(c)[sort][1]))
-    # records of the statement sheet that stand in the plan sheet too
-    table["plan"].update({k: table["statement"][k] for k in ("name", "yield")})
+    # records of the statement sheet that stand in the plan sheet too; a yield's variable has its number there
+    table["plan"]["name"] = table["statement"]["name"]
+    names, types, children = table["statement"]["yield"]
+    table["plan"]["yield"] = (names, [TYPES["variable"] if f == "var" else f for f in types], children)
     return table
 
 
@@ -102,26 +106,30 @@ def children_shown(cell, plan):
     return out
 
 
+def compared(sheet, keyword, cell, kids, row):
+    """What a row of the tables says otherwise than the definition."""
+    (names, types), children = fields_shown(cell), children_shown(kids, sheet == "plan")
+    comment, right, groups = row
+    if types != right:
+        yield f"{sheet} {keyword}: types {types}, by the definition {right}"
+    if ", " in comment and names != comment.split(", "):
+        yield f"{sheet} {keyword}: fields {names}, by the definition {comment}"
+    if children != groups:
+        yield f"{sheet} {keyword}: children {children}, by the definition {groups}"
+
+
 def main():
-    table, wrong, seen = records(), [], {"statement": set(), "plan": set()}
+    table, wrong, count = records(), [], 0
     statement, plan = PAGE.split("## The plan sheet")
     for sheet, text in (("statement", statement.split("## The statement sheet")[1]), ("plan", plan)):
-        for keyword, cell, kids in re.findall(r"^\| `(\w+)` \| (.*?) \| (.*?) \|$", text, re.M):
-            seen[sheet].add(keyword)
-            names, types = fields_shown(cell)
-            comment, right, children = table[sheet][keyword]
-            same = lambda fs: ["number" if f == "var" and sheet == "plan" and keyword == "yield" else f for f in fs]
-            if types != same(right):
-                wrong.append(f"{sheet} {keyword}: types {types}, by the definition {right}")
-            if comment and ", " in comment and names != comment.split(", "):
-                wrong.append(f"{sheet} {keyword}: fields {names}, by the definition {comment}")
-            if children_shown(kids, sheet == "plan") != children:
-                wrong.append(f"{sheet} {keyword}: children {children_shown(kids, sheet == 'plan')}, by the definition {children}")
-    # a plan's map is the statement's
-    for sheet in table:
-        for keyword in sorted(set(table[sheet]) - seen[sheet] - ({"map"} if sheet == "plan" else set())):
-            wrong.append(f"{sheet} {keyword}: not in the tables")
-    print("\n".join(wrong) if wrong else f"docs/FORMAT.md: {sum(map(len, seen.values()))} records, fields, types and children as in Record.antt")
+        rows = re.findall(r"^\| `(\w+)` \| (.*?) \| (.*?) \|$", text, re.M)
+        for keyword, cell, kids in rows:
+            wrong += compared(sheet, keyword, cell, kids, table[sheet][keyword])
+        # a plan's map is the statement's
+        left_out = set(table[sheet]) - {keyword for keyword, _, _ in rows} - ({"map"} if sheet == "plan" else set())
+        wrong += [f"{sheet} {keyword}: not in the tables" for keyword in sorted(left_out)]
+        count += len(rows)
+    print("\n".join(wrong) if wrong else f"docs/FORMAT.md: {count} records, fields, types and children as in Record.antt")
     sys.exit(1 if wrong else 0)
 
 
