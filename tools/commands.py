@@ -32,6 +32,7 @@ COMMAND = re.compile(r" {4}(\$ |\(?cd |rt |cargo |python3 |make |target/|tools/|
 NOT_RUN = re.compile(r"# not run by the tests: .")
 STATUS = re.compile(r"# ends with status (\d+)$")
 NEEDS_CYRS = "# needs cyrs"
+SET_BY_CARGO = ("CARGO_PKG_", "CARGO_MANIFEST_", "CARGO_BIN_", "CARGO_CRATE_")
 
 
 def documents():
@@ -121,7 +122,7 @@ class Script:
 
 def environment():
     """The environment of a command: that of the caller without what cargo sets for a test, and with our command at hand."""
-    inherited = {name: value for name, value in os.environ.items() if not name.startswith("CARGO_") or name in ("CARGO_HOME", "CARGO_NET_OFFLINE")}
+    inherited = {name: value for name, value in os.environ.items() if not name.startswith(SET_BY_CARGO)}
     folders = [os.environ.get("DRESSERHAWK_BIN"), ROOT / "target/rust/release", ROOT / "target/rust/debug"]
     inherited["PATH"] = os.pathsep.join([str(folder) for folder in folders if folder] + [os.environ["PATH"]])
     return inherited
