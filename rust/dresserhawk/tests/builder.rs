@@ -99,6 +99,12 @@ fn each_clause_has_its_record() {
         clause(Clause::returns_tail([], true, tail(), at)),
         "return 0 1 1 1 1 3 9|key 1|int 1|int 2|int 3"
     );
+    let skip = || Tail { skip: Some(Expr::null()), ..Tail::default() };
+    let limit = || Tail { limit: Some(Expr::null()), ..Tail::default() };
+    assert_eq!(clause(Clause::returns_tail([], false, skip(), at)), "return 0 0 0 1 0 3 9|null");
+    assert_eq!(clause(Clause::returns_tail([], false, limit(), at)), "return 0 0 0 0 1 3 9|null");
+    assert_eq!(clause(Clause::with_tail([], None, skip(), at)), "with 0 0 0 1 0 3 9|null");
+    assert_eq!(clause(Clause::with_tail([], None, limit(), at)), "with 0 0 0 0 1 3 9|null");
     assert_eq!(clause(Clause::unwind(Expr::null(), 4, at)), "unwind 4 3 9|null");
     assert_eq!(
         clause(Clause::call("f", [Expr::null()], [("y", 5)], true, at)),
