@@ -1,4 +1,5 @@
 pub mod Words
+pub mod Places
 pub mod Held
 pub mod Cells
 pub mod Numbers

@@ -3,6 +3,27 @@ ghost use mathlib.Core.Path.{_≡_};
 ghost use Prim.Native.Nat.{_<_};
 ghost use Rattle.words.specs.Words.{Roomy, cell};
 
+pub mod field;
+pub mod kind;
+
+// A sheet has at most so many records.
+pub const MAX_RECORDS: usize = 2048;
+
+// A record has so many words.
+pub const RECORD_WORDS: usize = 16;
+
+// The first slice of two holds so many records.
+pub const FIRST_RECORDS: usize = 1024;
+
+// A sheet has at most so many bytes, so that a place in it fits a word.
+pub const MAX_BYTES: usize = 32768;
+
+// Each work slice has at least so many words.
+pub const WORK_WORDS: usize = 16384;
+
+// The first lowering takes trees of at most this depth; `stmt` has depth 1.
+pub const MAX_DEPTH: usize = 64;
+
 // Word c of record i.
 pub fn word(a: &[u32], b: &[u32], i: usize, c: usize) -> u32
     requires { ⌜ i < 2048 ⌝ }
@@ -10,10 +31,10 @@ pub fn word(a: &[u32], b: &[u32], i: usize, c: usize) -> u32
     requires { ⌜ Roomy (now a) (now b) ⌝ }
     ensures { λ r. ⌜ r ≡ cell (now (a .entry)) (now (b .entry)) i c ⌝ }
 {
-    if i < 1024 {
-        let at = i * 16 + c;
+    if i < FIRST_RECORDS {
+        let at = i * RECORD_WORDS + c;
         return a[at];
     }
-    let at = (i - 1024) * 16 + c;
+    let at = (i - FIRST_RECORDS) * RECORD_WORDS + c;
     b[at]
 }
