@@ -5,7 +5,7 @@ use borrow.Author.Tests.{lt-ltb, le-ltb}
 use lib.ListN.{length}
 use Rattle.bytes.specs.Bytes.{indexOf, slice}
 use Rattle.model.specs.Text.{Bytes}
-use Rattle.cases.specs.Text.{place}
+use Rattle.gate_cases.specs.Text.{place}
 
 module _ (b at : ℕ) (t : Bytes) where
   pub behind : length t < at → at ≡ place b at t

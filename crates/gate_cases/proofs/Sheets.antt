@@ -17,7 +17,7 @@ use Rattle.model.specs.Text.{Bytes}
 use Rattle.output.specs.Page.{Page, on, most, Puts}
 use Rattle.output.specs.Writes.{_⨾_, stay}
 use Rattle.output.specs.Whole.{wrote}
-use Rattle.cases.specs.Text.{again, place, star, between, repeated, parted, sheetOf}
+use Rattle.gate_cases.specs.Text.{again, place, star, between, repeated, parted, sheetOf}
 
 module _ (t : Bytes) where
   pub again-none : {g : Page} → Puts (again 0 t) g g

@@ -1,4 +1,2 @@
-// What the programs share: the texts of a list of cases, the lowering call with its answer's values, and these as text.
-pub mod call;
-pub mod line;
+// What the programs of the gate share: the texts of a list of cases.
 pub mod text;

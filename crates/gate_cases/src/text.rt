@@ -6,7 +6,7 @@ ghost use Prim.Native.Nat.{_+_, _≤_};
 ghost use lib.Dec.{ltb};
 ghost use lib.ListN.{length, take};
 ghost use Rattle.output.specs.Page.{on, Puts};
-ghost use Rattle.cases.specs.Text.{again, place, sheetOf};
+ghost use Rattle.gate_cases.specs.Text.{again, place, sheetOf};
 use bytes::scan::find;
 use output::put_part;
 use record::Decimal;

@@ -4,16 +4,16 @@ ghost use lib.ListN.{length};
 
 mod list;
 
-use cases::line::write_values;
-use cases::text::build_sheet;
-use cases::text::next;
-use cases::text::put_times;
+use gate_cases::text::build_sheet;
+use gate_cases::text::next;
+use gate_cases::text::put_times;
 use libc::STDOUT_FILENO;
 use list::LIST;
 use list::MORE;
 use record::Decimal;
 use record::number::decimal;
 use statement::lowering::lower_statement;
+use values::text::write_values;
 use values::values_of;
 
 // The first bytes of a slice, of a long one no more than this.

@@ -5,8 +5,8 @@ ghost use Rattle.words.specs.Words.{Roomy};
 
 mod list;
 
-use cases::text::build_sheet;
-use cases::text::next;
+use gate_cases::text::build_sheet;
+use gate_cases::text::next;
 use libc::STDOUT_FILENO;
 use list::LIST;
 use sheet::reader::Read;

@@ -1,11 +1,11 @@
 // The lowering call on the sheets of a file from standard input, an empty line behind each. For each: the number, line, start, end, kind and length of the answer, and the plan. What the gate feeds it and what it has to print, the Rust's answers, are made by `compare sample` (rust/README.md).
 ghost use Prim.Native.Nat.{_≤_, _<_};
 ghost use lib.ListN.{length};
-use cases::call::lower;
-use cases::line::write_values;
-use cases::text::next;
+use gate_cases::text::next;
 use libc::STDIN_FILENO;
 use libc::STDOUT_FILENO;
+use values::call::lower;
+use values::text::write_values;
 
 // Where the sheet that begins at `at` ends: at the next empty line, or with the file.
 fn sheet_end(file: &[u8], at: usize) -> usize

@@ -4,12 +4,12 @@ ghost use lib.ListN.{length};
 
 mod list;
 
-use cases::line::write_values;
-use cases::text::build_sheet;
-use cases::text::next;
+use gate_cases::text::build_sheet;
+use gate_cases::text::next;
 use libc::STDOUT_FILENO;
 use list::LIST;
 use statement::size_statement;
+use values::text::write_values;
 use values::values_of;
 
 // The answer to a sheet, with four work slices.

@@ -6,7 +6,7 @@ use Rattle.model.specs.Text.{Bytes, decimal}
 use Rattle.model.specs.Call.{Answer, Outcome}
 use Rattle.output.specs.Page.{Page, Puts}
 use Rattle.output.specs.Writes.{_⨾_}
-use Rattle.cases.specs.Values.{refusalText, valuesText}
+use Rattle.values.specs.Text.{refusalText, valuesText}
 
 module _ (s : ℕ) (a : Answer) where
   pub five : {g₀ g₁ g₂ g₃ g₄ g₅ : Page} → Puts (s ∷ decimal (a .number)) g₀ g₁ → Puts (s ∷ decimal (a .line)) g₁ g₂ → Puts (s ∷ decimal (a .start)) g₂ g₃ → Puts (s ∷ decimal (a .end)) g₃ g₄ → Puts (s ∷ decimal (a .kind)) g₄ g₅ → Puts (refusalText s a) g₀ g₅

@@ -4,10 +4,10 @@ ghost use mathlib.Core.List.{[], _∷_};
 ghost use Prim.Native.Nat.{_≤_};
 ghost use lib.ListN.{length};
 ghost use Rattle.model.specs.Call.{lowerCall};
 ghost use Rattle.values.specs.Told.{told};
+use crate::Values;
+use crate::values_of;
 use statement::lowering::lower_statement;
-use values::Values;
-use values::values_of;
 
 pub fn lower(
     sheet: &[u8],

@@ -7,11 +7,11 @@ ghost use lib.Dec.{ltb};
 ghost use lib.ListN.{length, take};
 ghost use Rattle.model.specs.Text.{decimal};
 ghost use Rattle.output.specs.Page.{on, Puts};
 ghost use Rattle.values.specs.Told.{told};
-ghost use Rattle.cases.specs.Values.{refusalText, valuesText};
+ghost use Rattle.values.specs.Text.{refusalText, valuesText};
+use crate::Values;
 use output::put_byte;
 use output::put_decimal;
-use values::Values;
 
 // A number behind a separator.
 fn put_number(page: &mut [u8], out: usize, separator: u8, n: u64) -> usize

@@ -4,8 +4,8 @@ use Prim.Native.Nat.{_-_}
 use native.Mathlib.Omega.{arith}
 use lib.ListN.{length}
 use borrow.Author.Needs.{needs}
-use Rattle.plan_list.proofs.show_each_short.Statement.{statement}
-use Rattle.plan_list.proofs.show_each_short.Tie as tie
+use Rattle.gate_plan.proofs.show_each_short.Statement.{statement}
+use Rattle.gate_plan.proofs.show_each_short.Tie as tie
 
 abbrev Inv-loop : tie.InvT-loop
 Inv-loop a₀ b₀ c₀ d₀ which₀ a b c d which = (length a ≡ length a₀) × (length b ≡ length b₀) × (length c ≡ length c₀) × (length d ≡ length d₀)

@@ -3,8 +3,8 @@ use mathlib.Core.Path.{_≡_}
 use Prim.Native.Nat.{_-_}
 use borrow.Author.Needs.{needs}
 use lib.ListN.{length}
-use Rattle.read_list.proofs.show_list.Statement.{statement}
-use Rattle.read_list.proofs.show_list.Tie as tie
+use Rattle.gate_read.proofs.show_list.Statement.{statement}
+use Rattle.gate_read.proofs.show_list.Tie as tie
 
 abbrev Inv-loop : tie.InvT-loop
 Inv-loop list sheet₀ a₀ b₀ stack₀ at₀ sheet a b stack at = (length sheet ≡ length sheet₀) × (length a ≡ length a₀) × (length b ≡ length b₀) × (length stack ≡ length stack₀)

@@ -4,8 +4,8 @@ use Prim.Native.Nat.{_-_}
 use native.Mathlib.Omega.{arith}
 use lib.ListN.{length}
 use borrow.Author.Needs.{needs}
-use Rattle.replay.proofs.show_all.Statement.{statement}
-use Rattle.replay.proofs.show_all.Tie as tie
+use Rattle.gate_replay.proofs.show_all.Statement.{statement}
+use Rattle.gate_replay.proofs.show_all.Tie as tie
 
 abbrev Inv-loop : tie.InvT-loop
 Inv-loop file a₀ b₀ c₀ d₀ plan₀ at₀ a b c d plan at = (length a ≡ length a₀) × (length b ≡ length b₀) × (length c ≡ length c₀) × (length d ≡ length d₀) × (length plan ≡ length plan₀)

@@ -4,8 +4,8 @@ use Prim.Native.Nat.{_-_}
 use native.Mathlib.Omega.{arith}
 use lib.ListN.{length}
 use borrow.Author.Needs.{needs}
-use Rattle.size_list.proofs.show_list.Statement.{statement}
-use Rattle.size_list.proofs.show_list.Tie as tie
+use Rattle.gate_size.proofs.show_list.Statement.{statement}
+use Rattle.gate_size.proofs.show_list.Tie as tie
 
 abbrev Inv-loop : tie.InvT-loop
 Inv-loop list page₀ a₀ b₀ c₀ d₀ at₀ page a b c d at = (length page ≡ length page₀) × (length a ≡ length a₀) × (length b ≡ length b₀) × (length c ≡ length c₀) × (length d ≡ length d₀)

@@ -1,10 +1,10 @@
 -- `build_sheet` meets its contract: the cursor says whether the sheet fits. Assumes nothing.
-use Rattle.cases.proofs.Sheets.{too-long, long-enough}
+use Rattle.gate_cases.proofs.Sheets.{too-long, long-enough}
 use Rattle.output.specs.Writes.{same}
 use native.Mathlib.Omega.{arith}
 use borrow.Author.Needs.{needs}
-use Rattle.cases.proofs.text.build_sheet.Statement.{statement}
-use Rattle.cases.proofs.text.build_sheet.Tie as tie
+use Rattle.gate_cases.proofs.text.build_sheet.Statement.{statement}
+use Rattle.gate_cases.proofs.text.build_sheet.Tie as tie
 
 pub build-sheet-spec : {M : Type 1} → statement M
 build-sheet-spec =

@@ -1,8 +1,8 @@
 -- `put_sheet` meets its contract: the text as it is, or its head, its part so many times, and its tail. Assumes nothing.
-use Rattle.cases.proofs.Sheets.{plain, unread, filled}
+use Rattle.gate_cases.proofs.Sheets.{plain, unread, filled}
 use borrow.Author.Needs.{needs}
-use Rattle.cases.proofs.text.put_sheet.Statement.{statement}
-use Rattle.cases.proofs.text.put_sheet.Tie as tie
+use Rattle.gate_cases.proofs.text.put_sheet.Statement.{statement}
+use Rattle.gate_cases.proofs.text.put_sheet.Tie as tie
 
 pub put-sheet-spec : {M : Type 1} → statement M
 put-sheet-spec =

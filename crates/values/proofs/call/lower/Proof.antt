@@ -1,13 +1,13 @@
-use Rattle.cases.proofs.Numbers.{with-values}
+use Rattle.values.proofs.Numbers.{with-values}
 use mathlib.Core.Path.{ap}
 use native.Mathlib.Omega.{arith}
 use Rattle.model.specs.Call.{Answer}
 use Rattle.statement.specs.Fits.{answer-fits}
 use borrow.Author.Needs.{needs}
-use Rattle.cases.proofs.call.lower.Statement.{statement}
-use Rattle.cases.proofs.call.lower.Tie as tie
-use Rattle.cases.proofs.call.lower.Reads as reads
-use Rattle.cases.proofs.call.lower.Lts as lts
+use Rattle.values.proofs.call.lower.Statement.{statement}
+use Rattle.values.proofs.call.lower.Tie as tie
+use Rattle.values.proofs.call.lower.Reads as reads
+use Rattle.values.proofs.call.lower.Lts as lts
 use Rattle.values.proofs.values_of.Reads as values-of-reads
 use Rattle.statement.proofs.lowering.lower_statement.Reads as lower-statement-reads
 

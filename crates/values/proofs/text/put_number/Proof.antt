@@ -1,9 +1,9 @@
 use Rattle.output.specs.Writes.{_⨾_}
 use borrow.Author.Needs.{needs}
-use Rattle.cases.proofs.line.put_number.Statement.{statement}
-use Rattle.cases.proofs.line.put_number.Tie as tie
-use Rattle.cases.proofs.line.put_number.Reads as reads
-use Rattle.cases.proofs.line.put_number.Lts as lts
+use Rattle.values.proofs.text.put_number.Statement.{statement}
+use Rattle.values.proofs.text.put_number.Tie as tie
+use Rattle.values.proofs.text.put_number.Reads as reads
+use Rattle.values.proofs.text.put_number.Lts as lts
 use Rattle.output.proofs.put_byte.Reads as put-byte-reads
 use Rattle.output.proofs.put_decimal.Reads as put-decimal-reads
 

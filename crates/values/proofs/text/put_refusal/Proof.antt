@@ -1,11 +1,11 @@
-use Rattle.cases.proofs.Numbers.{five}
+use Rattle.values.proofs.Numbers.{five}
 use mathlib.Core.Path.{_∙_}
 use borrow.Author.Needs.{needs}
-use Rattle.cases.proofs.line.put_refusal.Statement.{statement}
-use Rattle.cases.proofs.line.put_refusal.Tie as tie
-use Rattle.cases.proofs.line.put_refusal.Reads as reads
-use Rattle.cases.proofs.line.put_refusal.Lts as lts
-use Rattle.cases.proofs.line.put_number.Reads as put-number-reads
+use Rattle.values.proofs.text.put_refusal.Statement.{statement}
+use Rattle.values.proofs.text.put_refusal.Tie as tie
+use Rattle.values.proofs.text.put_refusal.Reads as reads
+use Rattle.values.proofs.text.put_refusal.Lts as lts
+use Rattle.values.proofs.text.put_number.Reads as put-number-reads
 
 pub put-refusal-spec : {M : Type 1} → statement M
 put-refusal-spec =

@@ -1,12 +1,12 @@
 use Rattle.output.specs.Writes.{same}
-use Rattle.cases.proofs.Sheets.{too-long, long-enough}
+use Rattle.values.proofs.Sheets.{too-long, long-enough}
 use native.Mathlib.Omega.{arith}
 use borrow.Author.Needs.{needs}
-use Rattle.cases.proofs.line.write_refusal.Statement.{statement}
-use Rattle.cases.proofs.line.write_refusal.Tie as tie
-use Rattle.cases.proofs.line.write_refusal.Reads as reads
-use Rattle.cases.proofs.line.write_refusal.Lts as lts
-use Rattle.cases.proofs.line.put_refusal.Reads as put-refusal-reads
+use Rattle.values.proofs.text.write_refusal.Statement.{statement}
+use Rattle.values.proofs.text.write_refusal.Tie as tie
+use Rattle.values.proofs.text.write_refusal.Reads as reads
+use Rattle.values.proofs.text.write_refusal.Lts as lts
+use Rattle.values.proofs.text.put_refusal.Reads as put-refusal-reads
 
 pub write-refusal-spec : {M : Type 1} → statement M
 write-refusal-spec =

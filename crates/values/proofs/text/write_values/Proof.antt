@@ -1,14 +1,14 @@
 use Rattle.output.specs.Writes.{same}
-use Rattle.cases.proofs.Numbers.{six}
-use Rattle.cases.proofs.Sheets.{too-long, long-enough}
+use Rattle.values.proofs.Numbers.{six}
+use Rattle.values.proofs.Sheets.{too-long, long-enough}
 use native.Mathlib.Omega.{arith}
 use borrow.Author.Needs.{needs}
-use Rattle.cases.proofs.line.write_values.Statement.{statement}
-use Rattle.cases.proofs.line.write_values.Tie as tie
-use Rattle.cases.proofs.line.write_values.Reads as reads
-use Rattle.cases.proofs.line.write_values.Lts as lts
-use Rattle.cases.proofs.line.put_number.Reads as put-number-reads
-use Rattle.cases.proofs.line.put_refusal.Reads as put-refusal-reads
+use Rattle.values.proofs.text.write_values.Statement.{statement}
+use Rattle.values.proofs.text.write_values.Tie as tie
+use Rattle.values.proofs.text.write_values.Reads as reads
+use Rattle.values.proofs.text.write_values.Lts as lts
+use Rattle.values.proofs.text.put_number.Reads as put-number-reads
+use Rattle.values.proofs.text.put_refusal.Reads as put-refusal-reads
 
 pub write-values-spec : {M : Type 1} → statement M
 write-values-spec =
