@@ -252,15 +252,24 @@ unfoldable pub lowerPatternPart : Option ℕ → ℕ → List Step → Lowering 
 lowerPatternPart namedAs zero steps = lowerChain namedAs steps
 lowerPatternPart namedAs (suc n) steps = lowerShaped namedAs (eqb n 1) steps (shapeOf steps)
 
--- the last part is the root, and the earlier ones stay unread
+-- how a further part goes with those before it: it is the root, and they stay unread
+unfoldable pub furtherPart : ℕ → ℕ → Lowering ℕ
+furtherPart before part = ret part
+
+unfoldable pub lowerFurther : ℕ → List (Lowering ℕ) → Lowering ℕ
+lowerFurther root [] = ret root
+lowerFurther root (p ∷ ps) = do
+  part ← p
+  both ← furtherPart root part
+  lowerFurther both ps
+
 unfoldable pub lowerParts : List (Lowering ℕ) → Lowering ℕ
 lowerParts [] = do
   bind ← fresh
   push (source bind [])
-lowerParts (p ∷ []) = p
-lowerParts (p ∷ q ∷ ps) = do
-  left ← p
-  lowerParts (q ∷ ps)
+lowerParts (p ∷ ps) = do
+  root ← p
+  lowerFurther root ps
 
 unfoldable pub optionalJoin : Bool → Option ℕ → ℕ → Lowering ℕ
 optionalJoin false current root = ret root
