@@ -1,0 +1,3 @@
+pub mod Sheets
+pub mod Operators
+pub mod Demand2
