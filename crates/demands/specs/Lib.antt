@@ -1,3 +1,4 @@
 pub mod Sheets
 pub mod Operators
 pub mod Demand2
+pub mod Demand1
