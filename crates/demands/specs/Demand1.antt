@@ -202,9 +202,9 @@ planned-tested : (work : List ℕ) (sheet : Bytes) → Tested (λ _. Unit {0}) (
 unfolding planned checked testWork testBytes testPlan
 planned-tested work sheet =
     then-tested (then-tested (choice-tested {P = λ _. Unit {0}} (short work) tt short-desk tt) λ _ _.
-      then-tested (choice-tested {P = λ _. Unit {0}} (ltb maxBytes (length sheet)) tt long-sheet tt) λ _ _.
-      then-tested (reading-tested sheet refl (sheet-numbered maxDepth sheet)) λ t e.
-      tree-tested t e) λ t _.
+    then-tested (choice-tested {P = λ _. Unit {0}} (ltb maxBytes (length sheet)) tt long-sheet tt) λ _ _.
+    then-tested (reading-tested sheet refl (sheet-numbered maxDepth sheet)) λ t e.
+    tree-tested t e) λ t _.
     choice-tested (ltb maxPlan (length (lowerStatement t .ops)) || ltb maxPlan (lowerStatement t .next)) (lowerStatement t) plan-full tt
 
 -- ── the demand ──

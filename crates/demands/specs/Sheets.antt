@@ -1,5 +1,5 @@
--- What the demands call a sheet: the words of document 01's section on refusals. Assumes nothing: these are definitions, and a law with its proof.
-use mathlib.Core.Path.{_≡_}
+-- What the demands call a sheet: the words of document 01's section on refusals. Assumes nothing: these are definitions, and laws with their proofs.
+use mathlib.Core.Path.{_≡_, _∙_}
 use Prim.Native.Nat.{ℕ, _≤_}
 use mathlib.Core.Bool.{false}
 use mathlib.Core.List.{List}
@@ -30,7 +30,11 @@ LongWork work = short work ≡ false
 abbrev pub answer : (number line start end kind length : ℕ) → Answer
 answer n l s e k m = record { number = n; line = l; start = s; end = e; kind = k; length = m }
 
--- what the tests 1 to 5 leave of a call with such a sheet
+-- what the tests 1 to 4 leave of a call with a well-formed sheet, and what test 5 leaves of one that is read-only too
+pub checked-from : (work : List ℕ) {sheet : Bytes} {t : Tree statement} → LongWork work → WellFormed sheet t → checked maxDepth work sheet ≡ then (testWrite t (firstWrite t)) λ u. testCheck u (precheckStatement u)
+unfolding checked then testWork testBytes testReading
+checked-from work {sheet} w h = rw (w, le-ltb maxBytes (length sheet) (h .bytes), h .reads)
+
 pub checked-is : (work : List ℕ) {sheet : Bytes} {t : Tree statement} → LongWork work → WellFormed sheet t → ReadOnly t → checked maxDepth work sheet ≡ testCheck t (precheckStatement t)
-unfolding checked then testWork testBytes testReading testWrite
-checked-is work {sheet} w h r = rw (w, le-ltb maxBytes (length sheet) (h .bytes), h .reads, r)
+unfolding then testWrite
+checked-is work w h r = checked-from work w h ∙ rw r
