@@ -1,0 +1,390 @@
+-- The places of the lowering that a checked tree never comes to: the Rust's `debug_assert!`, `panic!` and `unreachable!` places, and the defaults that the definitions have where the Rust has them. docs/DEMANDS.md lists the places beside the theorems. Whatever stands there, the lowering of a checked tree is the same. Assumes nothing: these are definitions, and theorems with their proofs.
+use mathlib.Core.Path.{_≡_, refl, sym, _∙_, ap, ap₂, subst, fun-ext}
+use Prim.Native.Nat.{ℕ, zero, suc, _+_, _*_, _≤_, _<_}
+use native.Mathlib.Omega.{arith}
+use mathlib.Core.Bool.{Bool, true, false, cond, _&&_}
+use mathlib.Core.List.{List, [], _∷_, _++_}
+use mathlib.Core.Option.{Option, none, some, Option·some-ne-none}
+use lib.Dec.{eqb, leb}
+use lib.ListN.{length}
+use borrow.Author.Tests.{eqb-true, eqb-false, leb-true, eq-eqb}
+use Rattle.model.specs.Text.{Bytes}
+use Rattle.model.specs.Field.{Fields, Span}
+use Rattle.model.specs.Kind.{Sort, Kind, Clause, PatternElement, Same, Expr, ReadOp, PlanExpr, statement, unionArm, clause, projection, orderItem, patternPart, patternElement, name, yieldItem, entry, expr, inPlan}
+use Rattle.model.specs.Record.{Rec, rec, Group, forms, exprForms, children, exprChildren}
+use Rattle.model.specs.Tree.{Tree, Trees, Forest, node, []ᵗ, _∷ᵗ_, end, _▸_, Many, toList, Results, fold, foldOf, foldIn}
+use Rattle.model.specs.Check.{Verdict, fine, violated, andThen, spanIn, ofExpr, ofElements, ofPart, ofRecord, check, checkOf, checkIn, noSpan, precheckStatement}
+use Rattle.model.specs.Lower.{Recs, LowerCtx, Lowering, _>>=_, ret, push, at, copy, endpointVar, op, planned}
+use Rattle.model.specs.Lower.{NodeStep, RelStep, Step, ofNode, ofRel, Chain, startNode, expandTo, reach, lowerElement, lowerElements, orSourceAll, rootOf, bindPath, lowerChain, lowerShortestPathPart, Shape, nodeRelNode, other, shapeOf, lowerShaped, lowerPatternPart, lowerParts, optionalJoin, lowerMatchPattern, Lowered, exprStep, elementStep, made, lowerPattern}
+use Rattle.bounds.specs.Ends.{Ending}
+use Rattle.bounds.specs.Root.{Newest, newest, parts-ends}
+
+-- ── the trees in a tree ──
+
+mutual
+  -- x is the tree or stands in it
+  pub data Within {r : Sort} (x : Tree r) : (s : Sort) → Tree s → Type 0 where
+    itself : Within x r x
+    inside : {s : Sort} {line : ℕ} {k : Kind s} {f : Fields (forms s k)} {kids : Forest (children s k f)} → WithinIn x (children s k f) kids → Within x s (node s line k f kids)
+
+  pub data WithinOf {r : Sort} (x : Tree r) : (s : Sort) (n : ℕ) → Trees s n → Type 0 where
+    first : {s : Sort} {n : ℕ} {t : Tree s} {ts : Trees s n} → Within x s t → WithinOf x s (suc n) (t ∷ᵗ ts)
+    later : {s : Sort} {n : ℕ} {t : Tree s} {ts : Trees s n} → WithinOf x s n ts → WithinOf x s (suc n) (t ∷ᵗ ts)
+
+  pub data WithinIn {r : Sort} (x : Tree r) : (gs : List Group) → Forest gs → Type 0 where
+    here : {s : Sort} {n : ℕ} {gs : List Group} {ts : Trees s n} {f : Forest gs} → WithinOf x s n ts → WithinIn x ((s, n) ∷ gs) (ts ▸ f)
+    behind : {s : Sort} {n : ℕ} {gs : List Group} {ts : Trees s n} {f : Forest gs} → WithinIn x gs f → WithinIn x ((s, n) ∷ gs) (ts ▸ f)
+
+-- a tree that the check lets pass, under some span
+pub record Passes {s : Sort} (t : Tree s) : Type 0 where
+  pub around : Span
+  pub passes : check t around ≡ fine
+
+is-violated : Verdict → Type 0
+is-violated fine = ⊥
+is-violated (violated n l s k) = Unit {0}
+
+both-fine : (u v : Verdict) → andThen u v ≡ fine → (u ≡ fine) × (v ≡ fine)
+unfolding andThen is-violated
+both-fine fine v e = (refl, e)
+both-fine (violated n l s k) v e = absurd (subst is-violated e tt)
+
+mutual
+  unfolding check
+
+  within-passes : {r s : Sort} {x : Tree r} {t : Tree s} → Within x s t → (around : Span) → check t around ≡ fine → Passes x
+  within-passes itself around e = record { around = around; passes = e }
+  within-passes (inside {s = s} {line = line} {k = k} {f = f} {kids = kids} w) around e = withinIn-passes w _ (both-fine (ofRecord s line k f kids around) (checkIn kids (spanIn s k f around)) e .1)
+
+  withinOf-passes : {r s : Sort} {n : ℕ} {x : Tree r} {ts : Trees s n} → WithinOf x s n ts → (around : Span) → checkOf ts around ≡ fine → Passes x
+  withinOf-passes (first {t = t} {ts = ts} w) around e = within-passes w around (both-fine (check t around) (checkOf ts around) e .0)
+  withinOf-passes (later {t = t} {ts = ts} w) around e = withinOf-passes w around (both-fine (check t around) (checkOf ts around) e .1)
+
+  withinIn-passes : {r : Sort} {gs : List Group} {x : Tree r} {y : Forest gs} → WithinIn x gs y → (around : Span) → checkIn y around ≡ fine → Passes x
+  withinIn-passes (here {ts = ts} {f = f} w) around e = withinOf-passes w around (both-fine (checkOf ts around) (checkIn f around) e .0)
+  withinIn-passes (behind {ts = ts} {f = f} w) around e = withinIn-passes w around (both-fine (checkOf ts around) (checkIn f around) e .1)
+
+-- ── of a checked tree: no `unres`, no `undes`, and every part begins with a node ──
+
+abbrev pub Checked : Tree statement → Type 0
+Checked t = precheckStatement t ≡ fine
+
+pub checked-within : {t : Tree statement} → Checked t → {s : Sort} {x : Tree s} → Within x statement t → Passes x
+unfolding precheckStatement
+checked-within e w = within-passes w noSpan e
+
+-- what the lowering takes
+unfoldable pub TakenExpr : Expr → Type 0
+TakenExpr (Expr.Over h) = Unit {0}
+TakenExpr Expr.Var = Unit {0}
+TakenExpr Expr.Map = Unit {0}
+TakenExpr Expr.Call = Unit {0}
+TakenExpr Expr.PatternPredicate = Unit {0}
+TakenExpr Expr.ListPredicate = Unit {0}
+TakenExpr Expr.Unresolved = ⊥
+TakenExpr Expr.Undesugared = ⊥
+
+unfoldable pub NodeFirst : {n : ℕ} → Trees patternElement n → Type 0
+NodeFirst []ᵗ = ⊥
+NodeFirst (node patternElement line PatternElement.Node f kids ∷ᵗ es) = Unit {0}
+NodeFirst (node patternElement line PatternElement.Rel f kids ∷ᵗ es) = ⊥
+
+own-expr : (line : ℕ) (k : Expr) (f : Fields (exprForms k)) (around : Span) → ofExpr line k f around ≡ fine → TakenExpr k
+unfolding ofExpr TakenExpr is-violated
+own-expr line (Expr.Over h) f around e = tt
+own-expr line Expr.Var f around e = tt
+own-expr line Expr.Map f around e = tt
+own-expr line Expr.Call f around e = tt
+own-expr line Expr.PatternPredicate f around e = tt
+own-expr line Expr.ListPredicate f around e = tt
+own-expr line Expr.Unresolved f around e = subst is-violated e tt
+own-expr line Expr.Undesugared f around e = subst is-violated e tt
+
+own-elements : {n : ℕ} (line : ℕ) (es : Trees patternElement n) (around : Span) → ofElements line es around ≡ fine → NodeFirst es
+unfolding ofElements NodeFirst is-violated
+own-elements line []ᵗ around e = subst is-violated e tt
+own-elements line (node patternElement l PatternElement.Node f kids ∷ᵗ es) around e = tt
+own-elements line (node patternElement l PatternElement.Rel f kids ∷ᵗ es) around e = subst is-violated e tt
+
+-- `unres` and `undes`, of all four kinds: the five `debug_assert!`s of lower_expr, and `null` in the definition
+pub expr-taken : {t : Tree statement} → Checked t → {line : ℕ} {k : Expr} {f : Fields (exprForms k)} {kids : Forest (exprChildren k f)} → Within (node expr line k f kids) statement t → TakenExpr k
+unfolding check ofRecord
+expr-taken e {line} {k} {f} {kids} w =
+    let p = checked-within e w in
+    own-expr line k f (p .around) (both-fine (ofExpr line k f (p .around)) (checkIn kids (p .around)) (p .passes) .0)
+
+-- a part with no node, and a chain that begins with a rel: the fallbacks of lower_pattern_part
+pub part-taken : {t : Tree statement} → Checked t → {line : ℕ} {f : Fields (forms patternPart tt)} {es : Trees patternElement (f .1 .1 .0)} → Within (node patternPart line tt f (es ▸ end)) statement t → NodeFirst es
+unfolding check ofRecord ofPart
+part-taken e {line} {f} {es} w =
+    let p = checked-within e w in
+    own-elements line es (p .around) (both-fine (ofElements line es (p .around)) (checkIn (es ▸ end) (p .around)) (p .passes) .0)
+
+-- ── the lowering with anything else at those places ──
+
+-- what may stand there
+pub record Defaults : Type 0 where
+  -- instead of `null`
+  pub unresolved : (name : Bytes) → Lowering Recs
+  pub undesugared : (kind : ℕ) → Lowering Recs
+  -- at the first node behind a rel that no node precedes
+  pub relFirst : Chain → NodeStep → Lowering Chain
+  -- at the end of a part that has no node
+  pub noNode : Lowering ℕ
+  -- for operator k of a list that has no operator k: the index of `self.plan.ops[..]`
+  pub noOperator : ℕ → Recs
+
+module _ (d : Defaults) where
+  unfoldable pub atOr : List Recs → ℕ → Recs
+  atOr [] k = d .noOperator k
+  atOr (o ∷ ops) k = cond (eqb k (length ops)) o (atOr ops k)
+
+  unfoldable pub copyOr : ℕ → Lowering Recs
+  copyOr k = λ c. (atOr (c .ops) k, c)
+
+  unfoldable pub reachOr : Chain → NodeStep → ℕ → Option RelStep → Option (ℕ × ℕ) → Lowering Chain
+  reachOr c n bind none l = startNode c n bind
+  reachOr c n bind (some r) none = d .relFirst c n
+  reachOr c n bind (some r) (some l) = expandTo c n r (l .0) (l .1) bind
+
+  unfoldable pub lowerElementOr : Chain → Step → Lowering Chain
+  lowerElementOr c (ofRel r) = lowerElement c (ofRel r)
+  lowerElementOr c (ofNode n) = do
+    bind ← endpointVar (n .bind)
+    reachOr c n bind (c .pending) (c .last)
+
+  unfoldable pub lowerElementsOr : Chain → List Step → Lowering Chain
+  lowerElementsOr c [] = ret c
+  lowerElementsOr c (s ∷ ss) = do
+    e ← lowerElementOr c s
+    lowerElementsOr e ss
+
+  unfoldable pub rootOr : Option (ℕ × ℕ) → Lowering ℕ
+  rootOr none = d .noNode
+  rootOr (some l) = ret (l .0)
+
+  unfoldable pub lowerChainOr : Option ℕ → List Step → Lowering ℕ
+  lowerChainOr namedAs steps = do
+    c ← lowerElementsOr (record { last = none; pending = none; path = [] }) steps
+    root ← rootOr (c .last)
+    bindPath namedAs root (c .path)
+
+  unfoldable pub lowerShapedOr : Option ℕ → Bool → List Step → Shape → Lowering ℕ
+  lowerShapedOr namedAs all steps (nodeRelNode a r b) = lowerShortestPathPart namedAs all a r b
+  lowerShapedOr namedAs all steps other = lowerChainOr namedAs steps
+
+  unfoldable pub lowerPatternPartOr : Option ℕ → ℕ → List Step → Lowering ℕ
+  lowerPatternPartOr namedAs zero steps = lowerChainOr namedAs steps
+  lowerPatternPartOr namedAs (suc n) steps = lowerShapedOr namedAs (eqb n 1) steps (shapeOf steps)
+
+  unfoldable pub optionalJoinOr : Bool → Option ℕ → ℕ → Lowering ℕ
+  optionalJoinOr false current root = optionalJoin false current root
+  optionalJoinOr true none root = optionalJoin true none root
+  optionalJoinOr true (some outer) root = do
+    inner ← copyOr root
+    push (op ReadOp.OptionalJoin (outer, tt) ∷ inner)
+
+  unfoldable pub exprStepOr : (k : Expr) (f : Fields (exprForms k)) → Results Lowered (exprChildren k f) → Lowering Recs
+  exprStepOr (Expr.Over h) f r = exprStep (Expr.Over h) f r
+  exprStepOr Expr.Var f r = exprStep Expr.Var f r
+  exprStepOr Expr.Map f r = exprStep Expr.Map f r
+  exprStepOr Expr.Call f r = exprStep Expr.Call f r
+  exprStepOr Expr.PatternPredicate (n, _) (parts, _) = do
+    k ← lowerMatchPattern (toList n parts) none false
+    inner ← copyOr k
+    ret (planned PlanExpr.Exists tt ∷ inner)
+  exprStepOr Expr.ListPredicate f r = exprStep Expr.ListPredicate f r
+  exprStepOr Expr.Unresolved (n, _) r = d .unresolved n
+  exprStepOr Expr.Undesugared (kind, _) r = d .undesugared kind
+
+  -- `made` with these places changed
+  unfoldable pub madeOr : (s : Sort) (line : ℕ) (k : Kind s) (f : Fields (forms s k)) → Results Lowered (children s k f) → Lowered s
+  madeOr statement line k f r = made statement line k f r
+  madeOr unionArm line k f r = made unionArm line k f r
+  madeOr clause line k f r = made clause line k f r
+  madeOr projection line k f r = made projection line k f r
+  madeOr orderItem line k f r = made orderItem line k f r
+  madeOr patternPart line k (namedAs, (shortest, (n, _))) (elements, _) = lowerPatternPartOr namedAs shortest (toList n elements)
+  madeOr patternElement line k f r = made patternElement line k f r
+  madeOr name line k f r = made name line k f r
+  madeOr yieldItem line k f r = made yieldItem line k f r
+  madeOr entry line k f r = made entry line k f r
+  madeOr expr line k f r = exprStepOr k f r
+  madeOr (inPlan p) line k f r = made (inPlan p) line k f r
+
+  -- ── copies ──
+
+  pub at-or : (ops : List Recs) (k : ℕ) → k < length ops → atOr ops k ≡ at ops k
+  unfolding atOr at
+  at-or [] k lt = absurd (omega arith)
+  at-or (o ∷ ops) k lt = go (eqb k (length ops)) refl (λ less. at-or ops k less)
+    where
+      go : (b : Bool) → eqb k (length ops) ≡ b → (k < length ops → atOr ops k ≡ at ops k) → cond b o (atOr ops k) ≡ cond b o (at ops k)
+      go true e older = refl
+      go false e older = older (omega (arith, eqb-false k (length ops) e))
+
+  newest-in : {e : Ending} {n : ℕ} {ops : List Recs} → Newest e n ops → n < length ops
+  newest-in newest = omega arith
+
+  -- the root that a match leaves is an operator
+  pub root-in : {n : ℕ} (ps : Trees patternPart n) (c : LowerCtx) → lowerParts (lowerPattern ps) c .0 < length (lowerParts (lowerPattern ps) c .1 .ops)
+  root-in ps c = newest-in (parts-ends ps .run c tt)
+
+  pattern-list : {n : ℕ} (ps : Trees patternPart n) → toList n (foldOf Lowered made ps) ≡ lowerPattern ps
+  unfolding toList fold lowerPattern
+  pattern-list []ᵗ = refl
+  pattern-list (p ∷ᵗ ps) = ap (λ l. fold Lowered made p ∷ l) (pattern-list ps)
+
+  exists-or : {n : ℕ} (ps : Trees patternPart n) → (lowerMatchPattern (lowerPattern ps) none false >>= λ k. copyOr k >>= λ inner. ret (planned PlanExpr.Exists tt ∷ inner)) ≡ (lowerMatchPattern (lowerPattern ps) none false >>= λ k. copy k >>= λ inner. ret (planned PlanExpr.Exists tt ∷ inner))
+  unfolding lowerMatchPattern optionalJoin _>>=_ ret copyOr copy
+  exists-or ps = fun-ext λ c. ap (λ inner. (planned PlanExpr.Exists tt ∷ inner, lowerParts (lowerPattern ps) c .1)) (at-or _ _ (root-in ps c))
+
+  -- ── chains ──
+
+  data Led : Option (ℕ × ℕ) → Type 0 where
+    led : {l : ℕ × ℕ} → Led (some l)
+
+  start-led : (c : Chain) (n : NodeStep) (bind : ℕ) (x : LowerCtx) → Led (startNode c n bind x .0 .last)
+  unfolding startNode _>>=_ ret
+  start-led c n bind x = led
+
+  reach-or : (c : Chain) (n : NodeStep) (bind : ℕ) (p : Option RelStep) {l : Option (ℕ × ℕ)} → Led l → reachOr c n bind p l ≡ reach c n bind p l
+  unfolding reachOr reach
+  reach-or c n bind none led = refl
+  reach-or c n bind (some r) led = refl
+
+  reach-led : (c : Chain) (n : NodeStep) (bind : ℕ) (p : Option RelStep) {l : Option (ℕ × ℕ)} → Led l → (x : LowerCtx) → Led (reach c n bind p l x .0 .last)
+  unfolding reach expandTo _>>=_ ret
+  reach-led c n bind none led x = start-led c n bind x
+  reach-led c n bind (some r) led x = led
+
+  element-or : (c : Chain) (s : Step) → Led (c .last) → lowerElementOr c s ≡ lowerElement c s
+  unfolding lowerElementOr lowerElement _>>=_
+  element-or c (ofRel r) h = refl
+  element-or c (ofNode n) h = fun-ext λ x. ap (λ m. m (endpointVar (n .bind) x .1)) (reach-or c n (endpointVar (n .bind) x .0) (c .pending) h)
+
+  element-led : (c : Chain) (s : Step) → Led (c .last) → (x : LowerCtx) → Led (lowerElement c s x .0 .last)
+  unfolding lowerElement _>>=_ ret
+  element-led c (ofRel r) h x = h
+  element-led c (ofNode n) h x = reach-led c n _ (c .pending) h _
+
+  elements-or : (c : Chain) (ss : List Step) → Led (c .last) → lowerElementsOr c ss ≡ lowerElements c ss
+  unfolding lowerElementsOr lowerElements _>>=_
+  elements-or c [] h = refl
+  elements-or c (s ∷ ss) h =
+      ap (λ m. m >>= λ e. lowerElementsOr e ss) (element-or c s h)
+      ∙ fun-ext λ x. ap (λ m. m (lowerElement c s x .1)) (elements-or (lowerElement c s x .0) ss (element-led c s h x))
+
+  elements-led : (c : Chain) (ss : List Step) → Led (c .last) → (x : LowerCtx) → Led (lowerElements c ss x .0 .last)
+  unfolding lowerElements _>>=_ ret
+  elements-led c [] h x = h
+  elements-led c (s ∷ ss) h x = elements-led (lowerElement c s x .0) ss (element-led c s h x) _
+
+  root-or : {l : Option (ℕ × ℕ)} → Led l → rootOr l ≡ orSourceAll (rootOf l)
+  unfolding rootOr orSourceAll rootOf
+  root-or led = refl
+
+  abbrev start : Chain
+  start = record { last = none; pending = none; path = [] }
+
+  first-led : (n : NodeStep) (x : LowerCtx) → Led (lowerElement start (ofNode n) x .0 .last)
+  unfolding lowerElement reach _>>=_
+  first-led n x = start-led start n _ _
+
+  -- a chain that begins with a node
+  from-node : (n : NodeStep) (ss : List Step) → lowerElementsOr start (ofNode n ∷ ss) ≡ lowerElements start (ofNode n ∷ ss)
+  unfolding lowerElementsOr lowerElements lowerElementOr lowerElement reachOr reach _>>=_
+  from-node n ss = fun-ext λ x. ap (λ m. m (lowerElement start (ofNode n) x .1)) (elements-or (lowerElement start (ofNode n) x .0) ss (first-led n x))
+
+  from-node-led : (n : NodeStep) (ss : List Step) (x : LowerCtx) → Led (lowerElements start (ofNode n ∷ ss) x .0 .last)
+  unfolding lowerElements _>>=_
+  from-node-led n ss x = elements-led (lowerElement start (ofNode n) x .0) ss (first-led n x) _
+
+  chain-or : (namedAs : Option ℕ) (n : NodeStep) (ss : List Step) → lowerChainOr namedAs (ofNode n ∷ ss) ≡ lowerChain namedAs (ofNode n ∷ ss)
+  unfolding lowerChainOr lowerChain _>>=_
+  chain-or namedAs n ss =
+      ap (λ m. m >>= λ c. rootOr (c .last) >>= λ root. bindPath namedAs root (c .path)) (from-node n ss)
+      ∙ fun-ext λ x.
+        let r : Chain × LowerCtx = lowerElements start (ofNode n ∷ ss) x in
+        ap (λ m. (m >>= λ root. bindPath namedAs root (r .0 .path)) (r .1)) (root-or (from-node-led n ss x))
+
+  shaped-or : (namedAs : Option ℕ) (all : Bool) (n : NodeStep) (ss : List Step) (shape : Shape) → lowerShapedOr namedAs all (ofNode n ∷ ss) shape ≡ lowerShaped namedAs all (ofNode n ∷ ss) shape
+  unfolding lowerShapedOr lowerShaped
+  shaped-or namedAs all n ss (nodeRelNode a r b) = refl
+  shaped-or namedAs all n ss other = chain-or namedAs n ss
+
+  part-or : (namedAs : Option ℕ) (shortest : ℕ) (n : NodeStep) (ss : List Step) → lowerPatternPartOr namedAs shortest (ofNode n ∷ ss) ≡ lowerPatternPart namedAs shortest (ofNode n ∷ ss)
+  unfolding lowerPatternPartOr lowerPatternPart
+  part-or namedAs zero n ss = chain-or namedAs n ss
+  part-or namedAs (suc m) n ss = shaped-or namedAs (eqb m 1) n ss (shapeOf (ofNode n ∷ ss))
+
+  -- ── a record that the check lets pass ──
+
+  elements-step : {n : ℕ} (namedAs : Option ℕ) (shortest : ℕ) (es : Trees patternElement n) → NodeFirst es → lowerPatternPartOr namedAs shortest (toList n (foldOf Lowered made es)) ≡ lowerPatternPart namedAs shortest (toList n (foldOf Lowered made es))
+  unfolding NodeFirst toList fold made elementStep
+  elements-step namedAs shortest []ᵗ h = absurd h
+  elements-step namedAs shortest (node patternElement line PatternElement.Node (_, (j, (p, _))) (labels ▸ props ▸ end) ∷ᵗ es) h = part-or namedAs shortest _ _
+  elements-step namedAs shortest (node patternElement line PatternElement.Rel f kids ∷ᵗ es) h = absurd h
+
+  part-step : (line : ℕ) (f : Fields (forms patternPart tt)) (kids : Forest (children patternPart tt f)) (around : Span) → ofRecord patternPart line tt f kids around ≡ fine → madeOr patternPart line tt f (foldIn Lowered made kids) ≡ made patternPart line tt f (foldIn Lowered made kids)
+  unfolding ofRecord ofPart madeOr made fold
+  part-step line (namedAs, (shortest, (n, _))) (es ▸ end) around e = elements-step namedAs shortest es (own-elements line es around e)
+
+  expr-step : (line : ℕ) (k : Expr) (f : Fields (exprForms k)) (kids : Forest (exprChildren k f)) → TakenExpr k → exprStepOr k f (foldIn Lowered made kids) ≡ exprStep k f (foldIn Lowered made kids)
+  unfolding TakenExpr exprStepOr exprStep fold
+  expr-step line (Expr.Over h) f kids taken = refl
+  expr-step line Expr.Var f kids taken = refl
+  expr-step line Expr.Map f kids taken = refl
+  expr-step line Expr.Call f kids taken = refl
+  expr-step line Expr.PatternPredicate (n, _) (ps ▸ end) taken = rw (pattern-list ps) (exists-or ps)
+  expr-step line Expr.ListPredicate f kids taken = refl
+  expr-step line Expr.Unresolved f kids taken = absurd taken
+  expr-step line Expr.Undesugared f kids taken = absurd taken
+
+  step : (s : Sort) (line : ℕ) (k : Kind s) (f : Fields (forms s k)) (kids : Forest (children s k f)) (around : Span) → ofRecord s line k f kids around ≡ fine → madeOr s line k f (foldIn Lowered made kids) ≡ made s line k f (foldIn Lowered made kids)
+  unfolding madeOr made ofRecord
+  step statement line k f kids around e = refl
+  step unionArm line k f kids around e = refl
+  step clause line k f kids around e = refl
+  step projection line k f kids around e = refl
+  step orderItem line k f kids around e = refl
+  step patternPart line k f kids around e = part-step line f kids around e
+  step patternElement line k f kids around e = refl
+  step name line k f kids around e = refl
+  step yieldItem line k f kids around e = refl
+  step entry line k f kids around e = refl
+  step expr line k f kids around e = expr-step line k f kids (own-expr line k f around e)
+  step (inPlan p) line k f kids around e = refl
+
+  mutual
+    unfolding fold check
+
+    fold-or : {s : Sort} (t : Tree s) (around : Span) → check t around ≡ fine → fold Lowered madeOr t ≡ fold Lowered made t
+    fold-or (node s line k f kids) around e =
+        let p = both-fine (ofRecord s line k f kids around) (checkIn kids (spanIn s k f around)) e in
+        ap (λ r. madeOr s line k f r) (foldIn-or kids (spanIn s k f around) (p .1)) ∙ step s line k f kids around (p .0)
+
+    foldOf-or : {s : Sort} {n : ℕ} (ts : Trees s n) (around : Span) → checkOf ts around ≡ fine → foldOf Lowered madeOr ts ≡ foldOf Lowered made ts
+    foldOf-or []ᵗ around e = refl
+    foldOf-or (t ∷ᵗ ts) around e =
+        let p = both-fine (check t around) (checkOf ts around) e in
+        ap₂ (λ a b. (a, b)) (fold-or t around (p .0)) (foldOf-or ts around (p .1))
+
+    foldIn-or : {gs : List Group} (x : Forest gs) (around : Span) → checkIn x around ≡ fine → foldIn Lowered madeOr x ≡ foldIn Lowered made x
+    foldIn-or end around e = refl
+    foldIn-or (ts ▸ x) around e =
+        let p = both-fine (checkOf ts around) (checkIn x around) e in
+        ap₂ (λ a b. (a, b)) (foldOf-or ts around (p .0)) (foldIn-or x around (p .1))
+
+-- ── whatever stands there ──
+
+-- Of a checked tree: every expression and every part in it is lowered the same, whatever stands at these places.
+pub any-default : {t : Tree statement} → Checked t → {s : Sort} (x : Tree s) → Within x statement t → (d : Defaults) → fold Lowered (madeOr d) x ≡ fold Lowered made x
+any-default e x w d = let p = checked-within e w in fold-or d x (p .around) (p .passes)
+
+-- An optional match copies an operator that there is, whatever its parts are.
+pub any-copy : {n : ℕ} (parts : Trees patternPart n) (current : Option ℕ) (optional : Bool) (d : Defaults) → (lowerParts (lowerPattern parts) >>= λ root. optionalJoinOr d optional current root) ≡ lowerMatchPattern (lowerPattern parts) current optional
+unfolding lowerMatchPattern optionalJoinOr optionalJoin _>>=_ copyOr copy
+any-copy parts current false d = refl
+any-copy parts none true d = refl
+any-copy parts (some outer) true d = fun-ext λ c. ap (λ inner. push (op ReadOp.OptionalJoin (outer, tt) ∷ inner) (lowerParts (lowerPattern parts) c .1)) (at-or d _ _ (root-in d parts c))
