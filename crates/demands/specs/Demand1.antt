@@ -20,7 +20,7 @@ use Rattle.model.specs.Plan.{planSheet}
 use Rattle.model.specs.Call.{Answer, Outcome, Test, refuse, pass, then, short, testWork, testBytes, testReading, testWrite, testCheck, testPlan, checked, planned, written, outcome, lowerCall, maxBytes, maxDepth, maxPlan}
 use Rattle.laws.specs.TreeLaws.{numbered, numberedOf, numberedIn}
 use Rattle.laws.specs.SheetLaws.{sheet-sound}
-use Rattle.demands.specs.Sheets.{answer}
+use Rattle.demands.specs.Sheets.{WellFormed, ReadOnly, answer}
 use Rattle.demands.specs.Demand2.{FaultRow, six, seven, eight, Line, lines, firstFault, Walked, met, met-none, walked, first-fault}
 
 -- ── the two ways ──
@@ -155,9 +155,9 @@ write-least (node statement line k f (cs ▸ arms ▸ end)) n =
     (lower-least {m = suc n} (omega arith) (writeIn-least cs (suc n)))
     (arms-least arms (suc n + length (recordsOf cs)))
 
--- ── the tests ──
+-- ── the tests: each stops with a row of the table, or goes on with something that is known ──
 
-data Tested {A : Type 0} (P : A → Type 0) : Test A → Type 0 where
+pub data Tested {A : Type 0} (P : A → Type 0) : Test A → Type 0 where
   stops : {a : Answer} → Row a → Tested P (refuse a)
   goes-on : {x : A} → P x → Tested P (pass x)
 
@@ -166,23 +166,27 @@ unfolding then
 then-tested (stops r) f = stops r
 then-tested (goes-on {x = x} p) f = f x p
 
-choice-tested : {A : Type 0} {P : A → Type 0} (b : Bool) {a : Answer} (x : A) → Row a → P x → Tested P (cond b (refuse a) (pass x))
-choice-tested true x r p = stops r
-choice-tested false x r p = goes-on p
+choice-tested : {A : Type 0} (b : Bool) {a : Answer} (x : A) → Row a → Tested (λ y. (b ≡ false) × (x ≡ y)) (cond b (refuse a) (pass x))
+choice-tested true x r = stops r
+choice-tested false x r = goes-on (refl, refl)
 
--- what is known of a tree that was read: its lines are numbered from 1
-abbrev FromOne : Tree statement → Type 0
-FromOne t = numbered t 1 ≡ t
+-- behind test 4: the tree that was read
+record Got (sheet : Bytes) (t : Tree statement) : Type 0 where
+  place : Place
+  reads : readSheet maxDepth sheet ≡ got t place
 
-reading-tested : (sheet : Bytes) {r : Reading (Tree statement)} → readSheet maxDepth sheet ≡ r → Numbered r → Tested FromOne (testReading r)
+numbers : {sheet : Bytes} {t : Tree statement} → Got sheet t → numbered t 1 ≡ t
+numbers {sheet} {t} g = sheet-sound maxDepth sheet t (g .place) (g .reads) .0 .numbers
+
+reading-tested : (sheet : Bytes) {r : Reading (Tree statement)} → readSheet maxDepth sheet ≡ r → Numbered r → Tested (Got sheet) (testReading r)
 unfolding testReading
-reading-tested sheet e (read {a = t} {p = p} l) = goes-on (sheet-sound maxDepth sheet t p e .0 .numbers)
+reading-tested sheet e (read {a = t} {p = p} l) = goes-on (record { place = p; reads = e })
 reading-tested sheet e (three l) = stops (bad-line l)
 reading-tested sheet e (four l) = stops (big-tree l)
 
-write-tested : (t : Tree statement) {o : Option ℕ} → FromOne t → AtLeast 1 o → Tested FromOne (testWrite t o)
+write-tested : (t : Tree statement) {o : Option ℕ} → firstWrite t ≡ o → AtLeast 1 o → Tested (λ u. (firstWrite t ≡ none) × (t ≡ u)) (testWrite t o)
 unfolding testWrite
-write-tested t e nowhere = goes-on e
+write-tested t e nowhere = goes-on (e, refl)
 write-tested t e (at-line l) = stops (write-clause l)
 
 fault-row : {number line from to kind : ℕ} → FaultRow number kind → 1 ≤ line → Row (answer number line from to kind 0)
@@ -190,22 +194,50 @@ fault-row six l = unresolved l
 fault-row seven l = undesugared l
 fault-row eight l = empty-part l
 
-check-tested : (t : Tree statement) {ls : List Line} {v : Verdict} → Walked 1 ls v → Tested (λ _. Unit {0}) (testCheck t v)
+check-tested : (t : Tree statement) {ls : List Line} {v : Verdict} → precheckStatement t ≡ v → Walked 1 ls v → Tested (λ u. (precheckStatement t ≡ fine) × (t ≡ u)) (testCheck t v)
 unfolding testCheck
-check-tested t (met-none f) = goes-on tt
-check-tested t (met m row l) = stops (fault-row row l)
+check-tested t e (met-none f) = goes-on (e, refl)
+check-tested t e (met m row l) = stops (fault-row row l)
 
-tree-tested : (t : Tree statement) → FromOne t → Tested (λ _. Unit {0}) (then (testWrite t (firstWrite t)) λ u. testCheck u (precheckStatement u))
-tree-tested t e = then-tested (write-tested t e (subst (λ u. AtLeast 1 (firstWrite u)) e (write-least t 1))) λ u q. subst (λ v. Tested (λ _. Unit {0}) (testCheck u v)) (sym (first-fault u q noSpan)) (check-tested u (walked noSpan 1 (lines [] u)))
+-- behind test 9: the state that a plan is written of
+pub record Planned (sheet : Bytes) (c : LowerCtx) : Type 0 where
+  pub tree : Tree statement
+  pub well-formed : WellFormed sheet tree
+  pub read-only : ReadOnly tree
+  pub checked : precheckStatement tree ≡ fine
+  pub lowered : lowerStatement tree ≡ c
 
-planned-tested : (work : List ℕ) (sheet : Bytes) → Tested (λ _. Unit {0}) (planned maxDepth work sheet)
+check-all : (t : Tree statement) → numbered t 1 ≡ t → Tested (λ u. (precheckStatement t ≡ fine) × (t ≡ u)) (testCheck t (precheckStatement t))
+check-all t e = check-tested t refl (subst (λ v. Walked 1 (lines [] t) v) (sym (first-fault t e noSpan)) (walked noSpan 1 (lines [] t)))
+
+tree-tested : (t : Tree statement) → numbered t 1 ≡ t → Tested (λ u. (firstWrite t ≡ none) × ((precheckStatement t ≡ fine) × (t ≡ u))) (then (testWrite t (firstWrite t)) λ u. testCheck u (precheckStatement u))
+tree-tested t e =
+    then-tested (write-tested t refl (subst (λ u. AtLeast 1 (firstWrite u)) e (write-least t 1))) λ u p.
+    subst (λ x. Tested (λ y. (firstWrite t ≡ none) × ((precheckStatement t ≡ fine) × (t ≡ y))) (testCheck x (precheckStatement x))) (p .1) (with-read (p .0) (check-all t e))
+  where
+    with-read : {m : Test (Tree statement)} → firstWrite t ≡ none → Tested (λ u. (precheckStatement t ≡ fine) × (t ≡ u)) m → Tested (λ u. (firstWrite t ≡ none) × ((precheckStatement t ≡ fine) × (t ≡ u))) m
+    with-read r (stops x) = stops x
+    with-read r (goes-on q) = goes-on (r, q)
+
+pub planned-tested : (work : List ℕ) (sheet : Bytes) → Tested (Planned sheet) (planned maxDepth work sheet)
 unfolding planned checked testWork testBytes testPlan
 planned-tested work sheet =
-    then-tested (then-tested (choice-tested {P = λ _. Unit {0}} (short work) tt short-desk tt) λ _ _.
-    then-tested (choice-tested {P = λ _. Unit {0}} (ltb maxBytes (length sheet)) tt long-sheet tt) λ _ _.
-    then-tested (reading-tested sheet refl (sheet-numbered maxDepth sheet)) λ t e.
-    tree-tested t e) λ t _.
-    choice-tested (ltb maxPlan (length (lowerStatement t .ops)) || ltb maxPlan (lowerStatement t .next)) (lowerStatement t) plan-full tt
+    then-tested (then-tested (choice-tested (short work) tt short-desk) λ _ _.
+    then-tested (choice-tested (ltb maxBytes (length sheet)) tt long-sheet) λ _ b.
+    then-tested (reading-tested sheet refl (sheet-numbered maxDepth sheet)) λ t g.
+    known (ltb-false maxBytes (length sheet) (b .0)) g (tree-tested t (numbers g))) λ t k.
+    over-limits t k (ltb maxPlan (length (lowerStatement t .ops)) || ltb maxPlan (lowerStatement t .next))
+  where
+    Known : Tree statement → Type 0
+    Known t = WellFormed sheet t × ((firstWrite t ≡ none) × (precheckStatement t ≡ fine))
+
+    known : {t : Tree statement} {m : Test (Tree statement)} → length sheet ≤ maxBytes → Got sheet t → Tested (λ u. (firstWrite t ≡ none) × ((precheckStatement t ≡ fine) × (t ≡ u))) m → Tested Known m
+    known l g (stops r) = stops r
+    known l g (goes-on q) = goes-on (subst Known (q .1 .1) (record { bytes = l; behind = g .place; reads = g .reads }, (q .0, q .1 .0)))
+
+    over-limits : (t : Tree statement) → Known t → (b : Bool) → Tested (Planned sheet) (cond b (refuse (answer 9 0 0 0 0 0)) (pass (lowerStatement t)))
+    over-limits t k true = stops plan-full
+    over-limits t k false = goes-on (record { tree = t; well-formed = k .0; read-only = k .1 .0; checked = k .1 .1; lowered = refl })
 
 -- ── the demand ──
 
@@ -213,7 +245,7 @@ written-ends : (plan slice : Bytes) (b : Bool) → ltb (length slice) (length pl
 written-ends plan slice true e = refuses no-room
 written-ends plan slice false e = accepts plan (ltb-false (length slice) (length plan) e)
 
-outcome-ends : (slice : Bytes) {m : Test LowerCtx} → Tested (λ _. Unit {0}) m → Ends slice (outcome slice m)
+outcome-ends : (slice : Bytes) {P : LowerCtx → Type 0} {m : Test LowerCtx} → Tested P m → Ends slice (outcome slice m)
 unfolding outcome written
 outcome-ends slice (stops r) = refuses r
 outcome-ends slice (goes-on {x = c} _) = written-ends (planSheet c) slice _ refl

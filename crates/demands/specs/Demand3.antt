@@ -9,17 +9,17 @@ use mathlib.Core.Option.{Option, none, some}
 use lib.Dec.{ltb}
 use lib.ListN.{length, getD, take, drop, length-append}
 use lib.Seq.{take-append-seam}
-use borrow.Author.Tests.{le-ltb}
+use borrow.Author.Tests.{le-ltb, ltb-false}
 use Rattle.model.specs.Text.{Bytes}
 use Rattle.model.specs.Field.{Fields}
 use Rattle.model.specs.Kind.{ReadOp, statement, inPlan, plan, mapped}
 use Rattle.model.specs.Record.{Rec, rec, opForms, spellRecs}
 use Rattle.model.specs.Tree.{Tree, records}
 use Rattle.model.specs.Sheet.{readSheet, firstWrite}
-use Rattle.model.specs.Check.{Verdict, precheckStatement}
+use Rattle.model.specs.Check.{Verdict, fine, precheckStatement}
 use Rattle.model.specs.Lower.{Recs, LowerCtx, op, lower, empty, lowerStatement, at}
 use Rattle.model.specs.Plan.{mappedRecs, firstRec, planSheet}
-use Rattle.model.specs.Call.{Outcome, refuse, pass, then, testWork, testBytes, testReading, testWrite, testCheck, testPlan, checked, planned, written, outcome, lowerCall, plainRefusal, lineRefusal, maxBytes, maxDepth, maxPlan}
+use Rattle.model.specs.Call.{Answer, Outcome, Test, refuse, pass, then, testWork, testBytes, testReading, testWrite, testCheck, testPlan, checked, planned, written, outcome, lowerCall, plainRefusal, lineRefusal, maxBytes, maxDepth, maxPlan}
 use Rattle.laws.specs.ReadingLaws.{got-value}
 use Rattle.laws.specs.SheetLaws.{sheet-sound}
 use Rattle.alike.specs.Statement.{blank, ids, Stands, Named, LongEnough, RefusedAlike, Paired}
@@ -36,7 +36,8 @@ use Rattle.bounds.specs.Inputs.{earlier}
 use Rattle.bounds.specs.Ends.{Ending, endingOf, endsOn}
 use Rattle.bounds.specs.Root.{Newest, newest}
 use Rattle.bounds.specs.Ended.{Ended, nowhere, on, ends}
-use Rattle.demands.specs.Sheets.{WellFormed, checked-from, checked-is}
+use Rattle.demands.specs.Sheets.{WellFormed, ReadOnly, answer, checked-from, checked-is}
+use Rattle.demands.specs.Demand1.{Row, short-desk, long-sheet, bad-line, big-tree, write-clause, unresolved, undesugared, empty-part, plan-full, no-room, Tested, stops, goes-on, Planned, planned-tested}
 use Rattle.demands.specs.Operators.{from, byNumber, linesOf, by-number-newest, by-number-length, plan-by-number}
 
 -- ── two sheets alike, by document 01's section of that name ──
@@ -211,3 +212,49 @@ writes-alike S T t u work work′ slice slice′ h h′ a l l′ none r r′ =
 -- S and T are well-formed, each by the tests 2 to 4, and alike; the slices of both calls are long enough
 pub demand3 : (S T : Bytes) (t u : Tree statement) → WellFormed S t → WellFormed T u → SheetsAlike t u → (work work′ : List ℕ) (slice slice′ : Bytes) → LongEnough work S slice → LongEnough work′ T slice′ → Demand3 t u (lowerCall work S slice) (lowerCall work′ T slice′)
 demand3 S T t u h h′ a work work′ slice slice′ l l′ = writes-alike S T t u work work′ slice slice′ h h′ a l l′ (firstWrite t) refl (sym (same-path (firstWrite~ _ (trees-alike S T t u h h′ a))))
+
+-- ── the second sentence, of every call that accepts ──
+
+-- the sheet is well-formed and read-only and passes the check, and its plan was written
+pub record Accepted (sheet : Bytes) (o : Outcome) : Type 0 where
+  pub tree : Tree statement
+  pub well-formed : WellFormed sheet tree
+  pub read-only : ReadOnly tree
+  pub checked-tree : precheckStatement tree ≡ fine
+  pub wrote-plan : Wrote tree o
+
+-- a row of the table has another number than 0
+row-not-zero : {a : Answer} → Row a → a .number ≡ 0 → ⊥
+row-not-zero short-desk e = omega arith
+row-not-zero long-sheet e = omega arith
+row-not-zero (bad-line l) e = omega arith
+row-not-zero (big-tree l) e = omega arith
+row-not-zero (write-clause l) e = omega arith
+row-not-zero (unresolved l) e = omega arith
+row-not-zero (undesugared l) e = omega arith
+row-not-zero (empty-part l) e = omega arith
+row-not-zero plan-full e = omega arith
+row-not-zero no-room e = omega arith
+
+room : (text slice : Bytes) → written text slice .answer .number ≡ 0 → length text ≤ length slice
+unfolding written
+room text slice z = go (ltb (length slice) (length text)) refl z
+  where
+    go : (b : Bool) → ltb (length slice) (length text) ≡ b → cond {A = Outcome} b (record { answer = plainRefusal 10; slice = slice }) (record { answer = answer 0 0 0 0 0 (length text); slice = text ++ drop (length text) slice }) .answer .number ≡ 0 → length text ≤ length slice
+    go true e z = absurd (row-not-zero no-room z)
+    go false e z = ltb-false (length slice) (length text) e
+
+tested-accepted : (sheet slice : Bytes) {m : Test LowerCtx} → Tested (Planned sheet) m → outcome slice m .answer .number ≡ 0 → Accepted sheet (outcome slice m)
+unfolding outcome
+tested-accepted sheet slice (stops r) z = absurd (row-not-zero r z)
+tested-accepted sheet slice (goes-on p) z = record {
+  tree = p .tree;
+  well-formed = p .well-formed;
+  read-only = p .read-only;
+  checked-tree = p .checked;
+  wrote-plan = subst (λ c. Wrote (p .tree) (written (planSheet c) slice)) (p .lowered) (wrote (p .tree) slice (p .read-only) (subst (λ c. length (planSheet c) ≤ length slice) (sym (p .lowered)) (room _ slice z)));
+}
+
+pub accepted-wrote : (work : List ℕ) (sheet slice : Bytes) → lowerCall work sheet slice .answer .number ≡ 0 → Accepted sheet (lowerCall work sheet slice)
+unfolding lowerCall
+accepted-wrote work sheet slice z = tested-accepted sheet slice (planned-tested work sheet) z

@@ -3,4 +3,5 @@ pub mod Operators
 pub mod Demand2
 pub mod Demand1
 pub mod Demand3
+pub mod Within
 pub mod Unreachable

@@ -13,112 +13,18 @@ use Rattle.model.specs.Field.{Fields, Span}
 use Rattle.model.specs.Kind.{Sort, Kind, Clause, PatternElement, Same, Expr, ReadOp, PlanExpr, statement, unionArm, clause, projection, orderItem, patternPart, patternElement, name, yieldItem, entry, expr, inPlan}
 use Rattle.model.specs.Record.{Rec, rec, Group, forms, exprForms, children, exprChildren}
 use Rattle.model.specs.Tree.{Tree, Trees, Forest, node, []ᵗ, _∷ᵗ_, end, _▸_, Many, toList, Results, fold, foldOf, foldIn}
+use Rattle.model.specs.Sheet.{isWrite, writeIn, writeInArms, firstWrite}
 use Rattle.model.specs.Check.{Verdict, fine, violated, andThen, spanIn, ofExpr, ofElements, ofPart, ofRecord, check, checkOf, checkIn, noSpan, precheckStatement}
 use Rattle.model.specs.Lower.{Recs, LowerCtx, Lowering, _>>=_, ret, push, at, copy, endpointVar, op, planned}
-use Rattle.model.specs.Lower.{NodeStep, RelStep, Step, ofNode, ofRel, Chain, startNode, expandTo, reach, lowerElement, lowerElements, orSourceAll, rootOf, bindPath, lowerChain, lowerShortestPathPart, Shape, nodeRelNode, other, shapeOf, lowerShaped, lowerPatternPart, lowerParts, optionalJoin, lowerMatchPattern, Lowered, exprStep, elementStep, made, lowerPattern}
+use Rattle.model.specs.Lower.{NodeStep, RelStep, Step, ofNode, ofRel, Chain, startNode, expandTo, reach, lowerElement, lowerElements, orSourceAll, rootOf, bindPath, lowerChain, lowerShortestPathPart, Shape, nodeRelNode, other, shapeOf, lowerShaped, lowerPatternPart, lowerParts, optionalJoin, lowerMatchPattern, Lowered, exprStep, elementStep, made, lowerPattern, lowerClause, lowerClauses, lowerArms, lower, lowerStatement}
+use Rattle.demands.specs.Sheets.{WellFormed, ReadOnly}
+use Rattle.demands.specs.Within.{Within, Checked, checked-within, both-fine, TakenExpr, NodeFirst, own-expr, own-elements}
+use Rattle.model.specs.Call.{recordCount, maxDepth}
+use Rattle.laws.specs.SheetLaws.{sheet-sound}
+use Rattle.bounds.specs.Counts.{numbers-few, operators-few}
+use Rattle.bounds.specs.Ended.{orElse-none}
 use Rattle.bounds.specs.Ends.{Ending}
 use Rattle.bounds.specs.Root.{Newest, newest, parts-ends}
-
--- ── the trees in a tree ──
-
-mutual
-  -- x is the tree or stands in it
-  pub data Within {r : Sort} (x : Tree r) : (s : Sort) → Tree s → Type 0 where
-    itself : Within x r x
-    inside : {s : Sort} {line : ℕ} {k : Kind s} {f : Fields (forms s k)} {kids : Forest (children s k f)} → WithinIn x (children s k f) kids → Within x s (node s line k f kids)
-
-  pub data WithinOf {r : Sort} (x : Tree r) : (s : Sort) (n : ℕ) → Trees s n → Type 0 where
-    first : {s : Sort} {n : ℕ} {t : Tree s} {ts : Trees s n} → Within x s t → WithinOf x s (suc n) (t ∷ᵗ ts)
-    later : {s : Sort} {n : ℕ} {t : Tree s} {ts : Trees s n} → WithinOf x s n ts → WithinOf x s (suc n) (t ∷ᵗ ts)
-
-  pub data WithinIn {r : Sort} (x : Tree r) : (gs : List Group) → Forest gs → Type 0 where
-    here : {s : Sort} {n : ℕ} {gs : List Group} {ts : Trees s n} {f : Forest gs} → WithinOf x s n ts → WithinIn x ((s, n) ∷ gs) (ts ▸ f)
-    behind : {s : Sort} {n : ℕ} {gs : List Group} {ts : Trees s n} {f : Forest gs} → WithinIn x gs f → WithinIn x ((s, n) ∷ gs) (ts ▸ f)
-
--- a tree that the check lets pass, under some span
-pub record Passes {s : Sort} (t : Tree s) : Type 0 where
-  pub around : Span
-  pub passes : check t around ≡ fine
-
-is-violated : Verdict → Type 0
-is-violated fine = ⊥
-is-violated (violated n l s k) = Unit {0}
-
-both-fine : (u v : Verdict) → andThen u v ≡ fine → (u ≡ fine) × (v ≡ fine)
-unfolding andThen is-violated
-both-fine fine v e = (refl, e)
-both-fine (violated n l s k) v e = absurd (subst is-violated e tt)
-
-mutual
-  unfolding check
-
-  within-passes : {r s : Sort} {x : Tree r} {t : Tree s} → Within x s t → (around : Span) → check t around ≡ fine → Passes x
-  within-passes itself around e = record { around = around; passes = e }
-  within-passes (inside {s = s} {line = line} {k = k} {f = f} {kids = kids} w) around e = withinIn-passes w _ (both-fine (ofRecord s line k f kids around) (checkIn kids (spanIn s k f around)) e .1)
-
-  withinOf-passes : {r s : Sort} {n : ℕ} {x : Tree r} {ts : Trees s n} → WithinOf x s n ts → (around : Span) → checkOf ts around ≡ fine → Passes x
-  withinOf-passes (first {t = t} {ts = ts} w) around e = within-passes w around (both-fine (check t around) (checkOf ts around) e .0)
-  withinOf-passes (later {t = t} {ts = ts} w) around e = withinOf-passes w around (both-fine (check t around) (checkOf ts around) e .1)
-
-  withinIn-passes : {r : Sort} {gs : List Group} {x : Tree r} {y : Forest gs} → WithinIn x gs y → (around : Span) → checkIn y around ≡ fine → Passes x
-  withinIn-passes (here {ts = ts} {f = f} w) around e = withinOf-passes w around (both-fine (checkOf ts around) (checkIn f around) e .0)
-  withinIn-passes (behind {ts = ts} {f = f} w) around e = withinIn-passes w around (both-fine (checkOf ts around) (checkIn f around) e .1)
-
--- ── of a checked tree: no `unres`, no `undes`, and every part begins with a node ──
-
-abbrev pub Checked : Tree statement → Type 0
-Checked t = precheckStatement t ≡ fine
-
-pub checked-within : {t : Tree statement} → Checked t → {s : Sort} {x : Tree s} → Within x statement t → Passes x
-unfolding precheckStatement
-checked-within e w = within-passes w noSpan e
-
--- what the lowering takes
-unfoldable pub TakenExpr : Expr → Type 0
-TakenExpr (Expr.Over h) = Unit {0}
-TakenExpr Expr.Var = Unit {0}
-TakenExpr Expr.Map = Unit {0}
-TakenExpr Expr.Call = Unit {0}
-TakenExpr Expr.PatternPredicate = Unit {0}
-TakenExpr Expr.ListPredicate = Unit {0}
-TakenExpr Expr.Unresolved = ⊥
-TakenExpr Expr.Undesugared = ⊥
-
-unfoldable pub NodeFirst : {n : ℕ} → Trees patternElement n → Type 0
-NodeFirst []ᵗ = ⊥
-NodeFirst (node patternElement line PatternElement.Node f kids ∷ᵗ es) = Unit {0}
-NodeFirst (node patternElement line PatternElement.Rel f kids ∷ᵗ es) = ⊥
-
-own-expr : (line : ℕ) (k : Expr) (f : Fields (exprForms k)) (around : Span) → ofExpr line k f around ≡ fine → TakenExpr k
-unfolding ofExpr TakenExpr is-violated
-own-expr line (Expr.Over h) f around e = tt
-own-expr line Expr.Var f around e = tt
-own-expr line Expr.Map f around e = tt
-own-expr line Expr.Call f around e = tt
-own-expr line Expr.PatternPredicate f around e = tt
-own-expr line Expr.ListPredicate f around e = tt
-own-expr line Expr.Unresolved f around e = subst is-violated e tt
-own-expr line Expr.Undesugared f around e = subst is-violated e tt
-
-own-elements : {n : ℕ} (line : ℕ) (es : Trees patternElement n) (around : Span) → ofElements line es around ≡ fine → NodeFirst es
-unfolding ofElements NodeFirst is-violated
-own-elements line []ᵗ around e = subst is-violated e tt
-own-elements line (node patternElement l PatternElement.Node f kids ∷ᵗ es) around e = tt
-own-elements line (node patternElement l PatternElement.Rel f kids ∷ᵗ es) around e = subst is-violated e tt
-
--- `unres` and `undes`, of all four kinds: the five `debug_assert!`s of lower_expr, and `null` in the definition
-pub expr-taken : {t : Tree statement} → Checked t → {line : ℕ} {k : Expr} {f : Fields (exprForms k)} {kids : Forest (exprChildren k f)} → Within (node expr line k f kids) statement t → TakenExpr k
-unfolding check ofRecord
-expr-taken e {line} {k} {f} {kids} w =
-    let p = checked-within e w in
-    own-expr line k f (p .around) (both-fine (ofExpr line k f (p .around)) (checkIn kids (p .around)) (p .passes) .0)
-
--- a part with no node, and a chain that begins with a rel: the fallbacks of lower_pattern_part
-pub part-taken : {t : Tree statement} → Checked t → {line : ℕ} {f : Fields (forms patternPart tt)} {es : Trees patternElement (f .1 .1 .0)} → Within (node patternPart line tt f (es ▸ end)) statement t → NodeFirst es
-unfolding check ofRecord ofPart
-part-taken e {line} {f} {es} w =
-    let p = checked-within e w in
-    own-elements line es (p .around) (both-fine (ofElements line es (p .around)) (checkIn (es ▸ end) (p .around)) (p .passes) .0)
 
 -- ── the lowering with anything else at those places ──
 
@@ -133,6 +39,20 @@ pub record Defaults : Type 0 where
   pub noNode : Lowering ℕ
   -- for operator k of a list that has no operator k: the index of `self.plan.ops[..]`
   pub noOperator : ℕ → Recs
+  -- at a `write` clause, behind the operator before it
+  pub write : Option ℕ → Lowering (Option ℕ)
+
+newest-in : {e : Ending} {n : ℕ} {ops : List Recs} → Newest e n ops → n < length ops
+newest-in newest = omega arith
+
+-- the root that a match leaves is an operator
+pub root-in : {n : ℕ} (ps : Trees patternPart n) (c : LowerCtx) → lowerParts (lowerPattern ps) c .0 < length (lowerParts (lowerPattern ps) c .1 .ops)
+root-in ps c = newest-in (parts-ends ps .run c tt)
+
+pattern-list : {n : ℕ} (ps : Trees patternPart n) → toList n (foldOf Lowered made ps) ≡ lowerPattern ps
+unfolding toList fold lowerPattern
+pattern-list []ᵗ = refl
+pattern-list (p ∷ᵗ ps) = ap (λ l. fold Lowered made p ∷ l) (pattern-list ps)
 
 module _ (d : Defaults) where
   unfoldable pub atOr : List Recs → ℕ → Recs
@@ -223,18 +143,6 @@ module _ (d : Defaults) where
       go true e older = refl
       go false e older = older (omega (arith, eqb-false k (length ops) e))
 
-  newest-in : {e : Ending} {n : ℕ} {ops : List Recs} → Newest e n ops → n < length ops
-  newest-in newest = omega arith
-
-  -- the root that a match leaves is an operator
-  pub root-in : {n : ℕ} (ps : Trees patternPart n) (c : LowerCtx) → lowerParts (lowerPattern ps) c .0 < length (lowerParts (lowerPattern ps) c .1 .ops)
-  root-in ps c = newest-in (parts-ends ps .run c tt)
-
-  pattern-list : {n : ℕ} (ps : Trees patternPart n) → toList n (foldOf Lowered made ps) ≡ lowerPattern ps
-  unfolding toList fold lowerPattern
-  pattern-list []ᵗ = refl
-  pattern-list (p ∷ᵗ ps) = ap (λ l. fold Lowered made p ∷ l) (pattern-list ps)
-
   exists-or : {n : ℕ} (ps : Trees patternPart n) → (lowerMatchPattern (lowerPattern ps) none false >>= λ k. copyOr k >>= λ inner. ret (planned PlanExpr.Exists tt ∷ inner)) ≡ (lowerMatchPattern (lowerPattern ps) none false >>= λ k. copy k >>= λ inner. ret (planned PlanExpr.Exists tt ∷ inner))
   unfolding lowerMatchPattern optionalJoin _>>=_ ret copyOr copy
   exists-or ps = fun-ext λ c. ap (λ inner. (planned PlanExpr.Exists tt ∷ inner, lowerParts (lowerPattern ps) c .1)) (at-or _ _ (root-in ps c))
@@ -305,8 +213,8 @@ module _ (d : Defaults) where
   chain-or namedAs n ss =
       ap (λ m. m >>= λ c. rootOr (c .last) >>= λ root. bindPath namedAs root (c .path)) (from-node n ss)
       ∙ fun-ext λ x.
-        let r : Chain × LowerCtx = lowerElements start (ofNode n ∷ ss) x in
-        ap (λ m. (m >>= λ root. bindPath namedAs root (r .0 .path)) (r .1)) (root-or (from-node-led n ss x))
+      let r : Chain × LowerCtx = lowerElements start (ofNode n ∷ ss) x in
+      ap (λ m. (m >>= λ root. bindPath namedAs root (r .0 .path)) (r .1)) (root-or (from-node-led n ss x))
 
   shaped-or : (namedAs : Option ℕ) (all : Bool) (n : NodeStep) (ss : List Step) (shape : Shape) → lowerShapedOr namedAs all (ofNode n ∷ ss) shape ≡ lowerShaped namedAs all (ofNode n ∷ ss) shape
   unfolding lowerShapedOr lowerShaped
@@ -382,9 +290,87 @@ module _ (d : Defaults) where
 pub any-default : {t : Tree statement} → Checked t → {s : Sort} (x : Tree s) → Within x statement t → (d : Defaults) → fold Lowered (madeOr d) x ≡ fold Lowered made x
 any-default e x w d = let p = checked-within e w in fold-or d x (p .around) (p .passes)
 
--- An optional match copies an operator that there is, whatever its parts are.
-pub any-copy : {n : ℕ} (parts : Trees patternPart n) (current : Option ℕ) (optional : Bool) (d : Defaults) → (lowerParts (lowerPattern parts) >>= λ root. optionalJoinOr d optional current root) ≡ lowerMatchPattern (lowerPattern parts) current optional
-unfolding lowerMatchPattern optionalJoinOr optionalJoin _>>=_ copyOr copy
-any-copy parts current false d = refl
-any-copy parts none true d = refl
-any-copy parts (some outer) true d = fun-ext λ c. ap (λ inner. push (op ReadOp.OptionalJoin (outer, tt) ∷ inner) (lowerParts (lowerPattern parts) c .1)) (at-or d _ _ (root-in d parts c))
+-- ── clauses: what a `write` leaves, and the copy in an optional match ──
+
+module _ (d : Defaults) where
+  unfoldable pub lowerClauseOr : Tree clause → Option ℕ → Lowering (Option ℕ)
+  lowerClauseOr (node clause line Clause.Match (optional, _) (parts ▸ end)) current = do
+    root ← lowerParts (lowerPattern parts)
+    k ← optionalJoinOr d optional current root
+    ret (some k)
+  lowerClauseOr (node clause line Clause.Where f kids) current = lowerClause (node clause line Clause.Where f kids) current
+  lowerClauseOr (node clause line Clause.With f kids) current = lowerClause (node clause line Clause.With f kids) current
+  lowerClauseOr (node clause line Clause.Return f kids) current = lowerClause (node clause line Clause.Return f kids) current
+  lowerClauseOr (node clause line Clause.Unwind f kids) current = lowerClause (node clause line Clause.Unwind f kids) current
+  lowerClauseOr (node clause line Clause.Call f kids) current = lowerClause (node clause line Clause.Call f kids) current
+  lowerClauseOr (node clause line Clause.Write f kids) current = d .write current
+
+  unfoldable pub lowerClausesOr : {n : ℕ} → Trees clause n → Option ℕ → Lowering (Option ℕ)
+  lowerClausesOr []ᵗ current = ret current
+  lowerClausesOr (c ∷ᵗ cs) current = do
+    left ← lowerClauseOr c current
+    lowerClausesOr cs left
+
+  unfoldable pub lowerArmsOr : {n : ℕ} → Trees unionArm n → Option ℕ → Lowering (Option ℕ)
+  lowerArmsOr []ᵗ root = ret root
+  lowerArmsOr (node unionArm line k (all, _) (cs ▸ end) ∷ᵗ arms) root = do
+    below ← lowerClausesOr cs none
+    left ← orSourceAll root
+    right ← orSourceAll below
+    both ← push (op ReadOp.Union (left, (right, (all, tt))) ∷ [])
+    lowerArmsOr arms (some both)
+
+  unfoldable pub lowerOr : Tree statement → Lowering (Option ℕ)
+  lowerOr (node statement line k f (cs ▸ arms ▸ end)) = do
+    head ← lowerClausesOr cs none
+    lowerArmsOr arms head
+
+  -- an optional match copies an operator that there is, whatever its parts are
+  match-or : {n : ℕ} (parts : Trees patternPart n) (current : Option ℕ) (optional : Bool) → (lowerParts (lowerPattern parts) >>= λ root. optionalJoinOr d optional current root >>= λ k. ret (some k)) ≡ (lowerMatchPattern (lowerPattern parts) current optional >>= λ k. ret (some k))
+  unfolding lowerMatchPattern optionalJoinOr optionalJoin _>>=_ copyOr copy
+  match-or parts current false = refl
+  match-or parts none true = refl
+  match-or parts (some outer) true = fun-ext λ c. ap (λ inner. (push (op ReadOp.OptionalJoin (outer, tt) ∷ inner) >>= λ k. ret (some k)) (lowerParts (lowerPattern parts) c .1)) (at-or d _ _ (root-in parts c))
+
+  clause-or : (c : Tree clause) → isWrite c ≡ none → (current : Option ℕ) → lowerClauseOr c current ≡ lowerClause c current
+  unfolding lowerClauseOr lowerClause isWrite
+  clause-or (node clause line Clause.Match (optional, _) (parts ▸ end)) r current = match-or parts current optional
+  clause-or (node clause line Clause.Where f kids) r current = refl
+  clause-or (node clause line Clause.With f kids) r current = refl
+  clause-or (node clause line Clause.Return f kids) r current = refl
+  clause-or (node clause line Clause.Unwind f kids) r current = refl
+  clause-or (node clause line Clause.Call f kids) r current = refl
+  clause-or (node clause line Clause.Write f kids) r current = absurd (Option·some-ne-none line r)
+
+  clauses-or : {n : ℕ} (cs : Trees clause n) → writeIn cs ≡ none → (current : Option ℕ) → lowerClausesOr cs current ≡ lowerClauses cs current
+  unfolding lowerClausesOr lowerClauses writeIn
+  clauses-or []ᵗ r current = refl
+  clauses-or (c ∷ᵗ cs) r current =
+      let p = orElse-none (isWrite c) (writeIn cs) r in
+      ap₂ (λ m k. m >>= k) (clause-or c (p .0) current) (fun-ext λ left. clauses-or cs (p .1) left)
+
+  arms-or : {n : ℕ} (arms : Trees unionArm n) → writeInArms arms ≡ none → (root : Option ℕ) → lowerArmsOr arms root ≡ lowerArms arms root
+  unfolding lowerArmsOr lowerArms writeInArms
+  arms-or []ᵗ r root = refl
+  arms-or (node unionArm line k (all, _) (cs ▸ end) ∷ᵗ arms) r root =
+      let p = orElse-none (writeIn cs) (writeInArms arms) r in
+      ap₂ (λ m h. m >>= λ below. orSourceAll root >>= λ left. orSourceAll below >>= λ right. push (op ReadOp.Union (left, (right, (all, tt))) ∷ []) >>= λ both. h (some both)) (clauses-or cs (p .0) none) (fun-ext λ o. arms-or arms (p .1) o)
+
+-- Of a read-only tree: the statement is lowered the same, whatever a `write` leaves, and whatever stands for an operator that there is not.
+pub any-write : (t : Tree statement) → ReadOnly t → (d : Defaults) → lowerOr d t ≡ lower t
+unfolding lowerOr lower firstWrite
+any-write (node statement line k f (cs ▸ arms ▸ end)) r d =
+    let p = orElse-none (writeIn cs) (writeInArms arms) r in
+    ap₂ (λ m h. m >>= λ head. h head) (clauses-or d cs (p .0) none) (fun-ext λ o. arms-or d arms (p .1) o)
+
+-- ── the Rust's counters of 32 bits do not overflow ──
+
+pub record Counts (c : LowerCtx) : Type 0 where
+  pub numbers : c .next ≤ 4096
+  pub operators : length (c .ops) ≤ 8192
+
+pub counts-small : (sheet : Bytes) (t : Tree statement) → WellFormed sheet t → Counts (lowerStatement t)
+unfolding recordCount
+counts-small sheet t h =
+    let few = sheet-sound maxDepth sheet t (h .behind) (h .reads) .0 .few in
+    record { numbers = omega (arith, numbers-few t, few); operators = omega (arith, operators-few t, few) }
