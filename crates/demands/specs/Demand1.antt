@@ -7,6 +7,7 @@ use mathlib.Core.List.{List, [], _∷_, _++_}
 use mathlib.Core.Option.{Option, none, some}
 use lib.Dec.{ltb}
 use lib.ListN.{length, drop}
+use lib.Seq.{drop-append-seam}
 use borrow.Author.Tests.{ltb-false}
 use Rattle.model.specs.Text.{Bytes}
 use Rattle.model.specs.Field.{Span}
@@ -253,3 +254,41 @@ outcome-ends slice (goes-on {x = c} _) = written-ends (planSheet c) slice _ refl
 pub demand1 : (work : List ℕ) (sheet slice : Bytes) → Ends slice (lowerCall work sheet slice)
 unfolding lowerCall
 demand1 work sheet slice = outcome-ends slice (planned-tested work sheet)
+
+-- ── what that rules out ──
+
+-- a refusal's number is not 0
+pub row-number : {a : Answer} → Row a → a .number ≡ 0 → ⊥
+row-number short-desk e = omega arith
+row-number long-sheet e = omega arith
+row-number (bad-line l) e = omega arith
+row-number (big-tree l) e = omega arith
+row-number (write-clause l) e = omega arith
+row-number (unresolved l) e = omega arith
+row-number (undesugared l) e = omega arith
+row-number (empty-part l) e = omega arith
+row-number plan-full e = omega arith
+row-number no-room e = omega arith
+
+-- a call that refuses leaves the slice as it was
+pub refused-untouched : {slice : Bytes} {o : Outcome} → Ends slice o → (o .answer .number ≡ 0 → ⊥) → o .slice ≡ slice
+refused-untouched (accepts text le) n = absurd (n refl)
+refused-untouched (refuses row) n = refl
+
+-- a call that accepts leaves every byte behind the length that it answers
+pub accepted-behind : {slice : Bytes} {o : Outcome} → Ends slice o → o .answer .number ≡ 0 → drop (o .answer .length) (o .slice) ≡ drop (o .answer .length) slice
+accepted-behind {slice} (accepts text le) z = drop-append-seam text (drop (length text) slice)
+accepted-behind (refuses row) z = absurd (row-number row z)
+
+-- only refusal 7 has a kind, and no refusal a length
+pub kind-of-seven : {a : Answer} → Row a → (a .number ≡ 7 → ⊥) → (a .kind ≡ 0) × (a .length ≡ 0)
+kind-of-seven short-desk n = (refl, refl)
+kind-of-seven long-sheet n = (refl, refl)
+kind-of-seven (bad-line l) n = (refl, refl)
+kind-of-seven (big-tree l) n = (refl, refl)
+kind-of-seven (write-clause l) n = (refl, refl)
+kind-of-seven (unresolved l) n = (refl, refl)
+kind-of-seven (undesugared l) n = absurd (n refl)
+kind-of-seven (empty-part l) n = (refl, refl)
+kind-of-seven plan-full n = (refl, refl)
+kind-of-seven no-room n = (refl, refl)

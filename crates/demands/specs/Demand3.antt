@@ -37,7 +37,7 @@ use Rattle.bounds.specs.Ends.{Ending, endingOf, endsOn}
 use Rattle.bounds.specs.Root.{Newest, newest}
 use Rattle.bounds.specs.Ended.{Ended, nowhere, on, ends}
 use Rattle.demands.specs.Sheets.{WellFormed, ReadOnly, answer, checked-from, checked-is}
-use Rattle.demands.specs.Demand1.{Row, short-desk, long-sheet, bad-line, big-tree, write-clause, unresolved, undesugared, empty-part, plan-full, no-room, Tested, stops, goes-on, Planned, planned-tested}
+use Rattle.demands.specs.Demand1.{no-room, row-number, Tested, stops, goes-on, Planned, planned-tested}
 use Rattle.demands.specs.Operators.{from, byNumber, linesOf, by-number-newest, by-number-length, plan-by-number}
 
 -- ── two sheets alike, by document 01's section of that name ──
@@ -68,6 +68,25 @@ InputsBelow k lines = All (λ r. All (λ n. n < k) (inputs r)) lines
 pub data Earlier : ℕ → List Recs → Type 0 where
   no-more : {k : ℕ} → Earlier k []
   operator : {k : ℕ} {lines : Recs} {more : List Recs} → InputsBelow k lines → Earlier (suc k) more → Earlier k (lines ∷ more)
+
+first-below : {k : ℕ} {lines : Recs} {more : List Recs} → Earlier k (lines ∷ more) → InputsBelow k lines
+first-below (operator below e) = below
+
+rest-earlier : {k : ℕ} {lines : Recs} {more : List Recs} → Earlier k (lines ∷ more) → Earlier (suc k) more
+rest-earlier (operator below e) = e
+
+all-first : {A : Type 0} {P : A → Type 0} {a : A} {l : List A} → All P (a ∷ l) → P a
+all-first (p ∷ᵃ ps) = p
+
+all-rest : {A : Type 0} {P : A → Type 0} {a : A} {l : List A} → All P (a ∷ l) → All P l
+all-rest (p ∷ᵃ ps) = ps
+
+-- so a plan is ruled out in which operator 1 is an `optional` behind operator 0, and the copy inside it has the input 1
+pub copy-too : Earlier 0 ((op ReadOp.Source (0, (0, tt)) ∷ []) ∷ (op ReadOp.OptionalJoin (0, tt) ∷ op ReadOp.Distinct (1, tt) ∷ []) ∷ []) → ⊥
+unfolding InputsBelow
+copy-too e =
+    let copied : 1 < 1 = all-first (all-first (all-rest (first-below (rest-earlier e)))) in
+    omega arith
 
 -- The last operator is the one that the lowering ends on: its first line is the one that document 01 names, and its number is the lowering's result. A lowering that ends on none leaves no operator.
 pub data LastIs : Option Ending → (result : Option ℕ) → List Recs → Type 0 where
@@ -223,30 +242,17 @@ pub record Accepted (sheet : Bytes) (o : Outcome) : Type 0 where
   pub checked-tree : precheckStatement tree ≡ fine
   pub wrote-plan : Wrote tree o
 
--- a row of the table has another number than 0
-row-not-zero : {a : Answer} → Row a → a .number ≡ 0 → ⊥
-row-not-zero short-desk e = omega arith
-row-not-zero long-sheet e = omega arith
-row-not-zero (bad-line l) e = omega arith
-row-not-zero (big-tree l) e = omega arith
-row-not-zero (write-clause l) e = omega arith
-row-not-zero (unresolved l) e = omega arith
-row-not-zero (undesugared l) e = omega arith
-row-not-zero (empty-part l) e = omega arith
-row-not-zero plan-full e = omega arith
-row-not-zero no-room e = omega arith
-
 room : (text slice : Bytes) → written text slice .answer .number ≡ 0 → length text ≤ length slice
 unfolding written
 room text slice z = go (ltb (length slice) (length text)) refl z
   where
     go : (b : Bool) → ltb (length slice) (length text) ≡ b → cond {A = Outcome} b (record { answer = plainRefusal 10; slice = slice }) (record { answer = answer 0 0 0 0 0 (length text); slice = text ++ drop (length text) slice }) .answer .number ≡ 0 → length text ≤ length slice
-    go true e z = absurd (row-not-zero no-room z)
+    go true e z = absurd (row-number no-room z)
     go false e z = ltb-false (length slice) (length text) e
 
 tested-accepted : (sheet slice : Bytes) {m : Test LowerCtx} → Tested (Planned sheet) m → outcome slice m .answer .number ≡ 0 → Accepted sheet (outcome slice m)
 unfolding outcome
-tested-accepted sheet slice (stops r) z = absurd (row-not-zero r z)
+tested-accepted sheet slice (stops r) z = absurd (row-number r z)
 tested-accepted sheet slice (goes-on p) z = record {
   tree = p .tree;
   well-formed = p .well-formed;
