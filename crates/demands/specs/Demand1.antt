@@ -1,5 +1,5 @@
 -- Demand 1: each lowering call, whatever its arguments are, ends in one of two ways: accepted, with the plan written and no byte changed behind it; or with a number of the table of refusals, its place, zeros in the other fields, and the plan slice untouched. The theorem is `demand1`, at the end. Assumes nothing: these are definitions, and a theorem with its proof.
-use mathlib.Core.Path.{_≡_, refl, sym, ap, subst}
+use mathlib.Core.Path.{_≡_, refl, sym, subst}
 use Prim.Native.Nat.{ℕ, zero, suc, _+_, _≤_}
 use native.Mathlib.Omega.{arith}
 use mathlib.Core.Bool.{Bool, true, false, cond, _||_}
@@ -10,19 +10,18 @@ use lib.ListN.{length, drop}
 use lib.Seq.{drop-append-seam}
 use borrow.Author.Tests.{ltb-false}
 use Rattle.model.specs.Text.{Bytes}
-use Rattle.model.specs.Field.{Span}
 use Rattle.model.specs.Kind.{Sort, Clause, statement, unionArm, clause}
 use Rattle.model.specs.Record.{Group, RecOf, readRec, children, beside}
-use Rattle.model.specs.Tree.{Tree, Trees, Forest, node, []ᵗ, _∷ᵗ_, end, _▸_, records, recordsOf}
+use Rattle.model.specs.Tree.{Tree, Trees, node, []ᵗ, _∷ᵗ_, end, _▸_, records, recordsOf}
 use Rattle.model.specs.Sheet.{maxLines, Place, Reading, got, refused, next, Reader, formed, lineAt, readLine, readMany, readGroups, readNode, readTree, atEnd, readSheet, orElse, isWrite, writeIn, writeInArms, firstWrite}
-use Rattle.model.specs.Check.{Verdict, fine, violated, noSpan, precheckStatement}
+use Rattle.model.specs.Check.{Verdict, fine, noSpan, precheckStatement}
 use Rattle.model.specs.Lower.{LowerCtx, lowerStatement}
 use Rattle.model.specs.Plan.{planSheet}
 use Rattle.model.specs.Call.{Answer, Outcome, Test, refuse, pass, then, short, testWork, testBytes, testReading, testWrite, testCheck, testPlan, checked, planned, written, outcome, lowerCall, maxBytes, maxDepth, maxPlan}
-use Rattle.laws.specs.TreeLaws.{numbered, numberedOf, numberedIn}
+use Rattle.laws.specs.TreeLaws.{numbered, numberedOf}
 use Rattle.laws.specs.SheetLaws.{sheet-sound}
 use Rattle.demands.specs.Sheets.{WellFormed, ReadOnly, answer}
-use Rattle.demands.specs.Demand2.{FaultRow, six, seven, eight, Line, lines, firstFault, Walked, met, met-none, walked, first-fault}
+use Rattle.demands.specs.Demand2.{FaultRow, six, seven, eight, Line, lines, Walked, met, met-none, walked, first-fault}
 
 -- ── the two ways ──
 

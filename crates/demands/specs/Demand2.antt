@@ -1,4 +1,5 @@
--- Demand 2: a well-formed read-only sheet is refused for its tree exactly if the check's walk meets an unresolved name, an undesugared form or a part that is empty or starts with a relationship, and the first met is reported; otherwise, within the limits, the plan is the defined one. What the walk meets is said here on the sheet's lines alone, without the check. The theorem is `demand2`, at the end. Assumes nothing: these are definitions, and a theorem with its proof.
+-- Demand 2: a well-formed read-only sheet is refused for its tree exactly if the check's walk meets an unresolved name, an undesugared form or a part that is empty or starts with a relationship, and the first met is reported; otherwise, within the limits, the plan is the defined one.
+-- What the walk meets is said here on the sheet's lines alone, without the check. The theorem is `demand2`, at the end. Assumes nothing: these are definitions, and a theorem with its proof.
 use mathlib.Core.Path.{_≡_, refl, sym, _∙_, ap, ap₂, subst}
 use mathlib.Core.Logic.{_↔_}
 use Prim.Native.Nat.{ℕ, zero, suc, _+_, _≤_}
@@ -18,7 +19,7 @@ use Rattle.model.specs.Tree.{Tree, Trees, Forest, node, []ᵗ, _∷ᵗ_, end, _
 use Rattle.model.specs.Check.{Verdict, fine, violated, andThen, clauseSpan, elementSpan, spanIn, ofExpr, ofElements, ofPart, ofRecord, check, checkOf, checkIn, noSpan, precheckStatement}
 use Rattle.model.specs.Lower.{LowerCtx, lowerStatement}
 use Rattle.model.specs.Plan.{planSheet}
-use Rattle.model.specs.Call.{Answer, Outcome, refuse, pass, then, testWork, testBytes, testReading, testWrite, testCheck, testPlan, checked, planned, written, outcome, lowerCall, maxBytes, maxDepth, maxPlan}
+use Rattle.model.specs.Call.{Answer, Outcome, refuse, pass, then, testCheck, testPlan, planned, written, outcome, lowerCall, maxDepth, maxPlan}
 use Rattle.laws.specs.TreeLaws.{numbered, numberedOf, numberedIn}
 use Rattle.laws.specs.SheetLaws.{sheet-sound}
 use Rattle.demands.specs.Sheets.{WellFormed, ReadOnly, LongWork, answer, checked-is}

@@ -1,4 +1,5 @@
--- Demand 3: sheets alike but for spans and a one-to-one renumbering of variables are refused alike or give the same plan with paired maps; and in a plan that was written every input, in copies too, is an earlier operator, and the last operator is the one that the lowering ends on. Both sentences are said of one pair of calls. The theorem is `demand3`, at the end. Assumes nothing: these are definitions, and a theorem with its proof.
+-- Demand 3: sheets alike but for spans and a one-to-one renumbering of variables are refused alike or give the same plan with paired maps; and in a plan that was written every input, in copies too, is an earlier operator, and the last operator is the one that the lowering ends on.
+-- Both sentences are said of one pair of calls. The theorem is `demand3`. Assumes nothing: these are definitions, and a theorem with its proof.
 use mathlib.Core.Path.{_≡_, refl, sym, _∙_, ap, ap₂, subst}
 use mathlib.Core.Logic.{_↔_}
 use Prim.Native.Nat.{ℕ, zero, suc, _+_, _≤_, _<_}
@@ -19,7 +20,7 @@ use Rattle.model.specs.Sheet.{readSheet, firstWrite}
 use Rattle.model.specs.Check.{Verdict, fine, precheckStatement}
 use Rattle.model.specs.Lower.{Recs, LowerCtx, op, lower, empty, lowerStatement, at}
 use Rattle.model.specs.Plan.{mappedRecs, firstRec, planSheet}
-use Rattle.model.specs.Call.{Answer, Outcome, Test, refuse, pass, then, testWork, testBytes, testReading, testWrite, testCheck, testPlan, checked, planned, written, outcome, lowerCall, plainRefusal, lineRefusal, maxBytes, maxDepth, maxPlan}
+use Rattle.model.specs.Call.{Outcome, Test, refuse, pass, then, testWrite, testCheck, testPlan, checked, planned, written, outcome, lowerCall, plainRefusal, lineRefusal, maxDepth, maxPlan}
 use Rattle.laws.specs.ReadingLaws.{got-value}
 use Rattle.laws.specs.SheetLaws.{sheet-sound}
 use Rattle.alike.specs.Statement.{blank, ids, Stands, Named, LongEnough, RefusedAlike, Paired}
@@ -30,7 +31,8 @@ use Rattle.alike.specs.Checking.{Verdict~, fine~, violated~, precheckStatement~
 use Rattle.alike.specs.Relating.{records~, standing, standing-one}
 use Rattle.alike.specs.Reading.{Read, alike-read}
 use Rattle.alike.specs.Alike.{mapped-paired, mapped-long}
-use Rattle.bounds.specs.Earlier.{All, []ᵃ, _∷ᵃ_, inputs, at-low}
+use Rattle.alike.specs.Pairs.{first, second, tree-first, records-second, treeOf, placeOf, reads-second, met}
+use Rattle.bounds.specs.Earlier.{All, _∷ᵃ_, inputs, at-low}
 use Rattle.bounds.specs.Earlier as Bounds
 use Rattle.bounds.specs.Inputs.{earlier}
 use Rattle.bounds.specs.Ends.{Ending, endingOf, endsOn}
@@ -38,7 +40,7 @@ use Rattle.bounds.specs.Root.{Newest, newest}
 use Rattle.bounds.specs.Ended.{Ended, nowhere, on, ends}
 use Rattle.demands.specs.Sheets.{WellFormed, ReadOnly, answer, checked-from, checked-is}
 use Rattle.demands.specs.Demand1.{no-room, row-number, Tested, stops, goes-on, Planned, planned-tested}
-use Rattle.demands.specs.Operators.{from, byNumber, linesOf, by-number-newest, by-number-length, plan-by-number}
+use Rattle.demands.specs.Operators.{from, byNumber, operatorLines, by-number-newest, by-number-length, plan-by-number}
 
 -- ── two sheets alike, by document 01's section of that name ──
 
@@ -97,7 +99,7 @@ pub data LastIs : Option Ending → (result : Option ℕ) → List Recs → Type
 pub record Wrote (t : Tree statement) (o : Outcome) : Type 0 where
   pub accepted : o .answer .number ≡ 0
   -- the bytes: the first line, the operator lines and the `v` lines
-  pub bytes : take (o .answer .length) (o .slice) ≡ spellRecs (rec (inPlan plan) tt (length (operators t), (length (variables t), tt)) ∷ (linesOf (operators t) ++ variables t))
+  pub bytes : take (o .answer .length) (o .slice) ≡ spellRecs (rec (inPlan plan) tt (length (operators t), (length (variables t), tt)) ∷ (operatorLines (operators t) ++ variables t))
   pub inputs-earlier : Earlier 0 (operators t)
   pub ends-on-last : LastIs (endsOn t) (lower t empty .0) (operators t)
 
@@ -142,11 +144,11 @@ unfolding mappedRecs
 mapped-length [] = refl
 mapped-length (v ∷ vs) = omega (arith, length-append (mappedRecs vs) (rec (inPlan mapped) tt (v .1, (v .0, tt)) ∷ []), mapped-length vs)
 
-plan-bytes : (t : Tree statement) → planSheet (lowerStatement t) ≡ spellRecs (rec (inPlan plan) tt (length (operators t), (length (variables t), tt)) ∷ (linesOf (operators t) ++ variables t))
+plan-bytes : (t : Tree statement) → planSheet (lowerStatement t) ≡ spellRecs (rec (inPlan plan) tt (length (operators t), (length (variables t), tt)) ∷ (operatorLines (operators t) ++ variables t))
 unfolding firstRec
 plan-bytes t =
     plan-by-number (lowerStatement t)
-    ∙ ap₂ (λ n m. spellRecs (rec (inPlan plan) tt (n, (m, tt)) ∷ (linesOf (operators t) ++ variables t))) (sym (by-number-length (lowerStatement t .ops))) (sym (mapped-length (lowerStatement t .vars)))
+    ∙ ap₂ (λ n m. spellRecs (rec (inPlan plan) tt (n, (m, tt)) ∷ (operatorLines (operators t) ++ variables t))) (sym (by-number-length (lowerStatement t .ops))) (sym (mapped-length (lowerStatement t .vars)))
 
 wrote : (t : Tree statement) (slice : Bytes) → firstWrite t ≡ none → length (planSheet (lowerStatement t)) ≤ length slice → Wrote t (written (planSheet (lowerStatement t)) slice)
 unfolding written
@@ -158,6 +160,20 @@ wrote t slice r l = rw (le-ltb (length slice) (length (planSheet (lowerStatement
 })
 
 -- ── the pair ──
+
+abbrev Standing : (t u : Tree statement) → ℕ → ℕ → Type 0
+Standing t u a b = Stands (ids (records t)) (ids (records u)) a b
+
+abbrev Lowered~ : (t u : Tree statement) → Type 0
+Lowered~ t u = Ctx~ (λ a b. Standing t u a b) (lowerStatement t) (lowerStatement u)
+
+-- a plan that passes a test finds room in the slice
+abbrev FindsRoom : Test LowerCtx → Bytes → Type 0
+FindsRoom m slice = (c : LowerCtx) → m ≡ pass c → length (planSheet c) ≤ length slice
+
+-- what is left of a call behind a verdict
+abbrev afterCheck : Tree statement → Verdict → Test LowerCtx
+afterCheck t v = then (testCheck t v) λ u. testPlan (lowerStatement u)
 
 -- of states alike
 module _ (R : ℕ → ℕ → Type 0) where
@@ -176,24 +192,27 @@ module _ (s t : List ℕ) where
 
 module _ (t u : Tree statement) (slice slice′ : Bytes) where
   -- test 9 refuses both or neither, and there is room
-  full-or-not : firstWrite t ≡ none → firstWrite u ≡ none → Ctx~ (λ a b. Stands (ids (records t)) (ids (records u)) a b) (lowerStatement t) (lowerStatement u) → ((e : LowerCtx) → testPlan (lowerStatement t) ≡ pass e → length (planSheet e) ≤ length slice) → ((e : LowerCtx) → testPlan (lowerStatement u) ≡ pass e → length (planSheet e) ≤ length slice′) → Demand3 t u (outcome slice (testPlan (lowerStatement t))) (outcome slice′ (testPlan (lowerStatement u)))
+  full-or-not : firstWrite t ≡ none → firstWrite u ≡ none → Lowered~ t u → FindsRoom (testPlan (lowerStatement t)) slice → FindsRoom (testPlan (lowerStatement u)) slice′ → Demand3 t u (outcome slice (testPlan (lowerStatement t))) (outcome slice′ (testPlan (lowerStatement u)))
   unfolding testPlan outcome
   full-or-not r r′ c l l′ = go (over (lowerStatement t)) (over (lowerStatement u)) same l l′
     where
+      nine : Bool → Tree statement → Test LowerCtx
+      nine b x = cond b (refuse (plainRefusal 9)) (pass (lowerStatement x))
+
       over : LowerCtx → Bool
       over d = ltb maxPlan (length (d .ops)) || ltb maxPlan (d .next)
 
       same : over (lowerStatement t) ≡ over (lowerStatement u)
       same = rw (same-ops _ c, same-next _ c)
 
-      go : (a b : Bool) → a ≡ b → ((e : LowerCtx) → cond a (refuse (plainRefusal 9)) (pass (lowerStatement t)) ≡ pass e → length (planSheet e) ≤ length slice) → ((e : LowerCtx) → cond b (refuse (plainRefusal 9)) (pass (lowerStatement u)) ≡ pass e → length (planSheet e) ≤ length slice′) → Demand3 t u (outcome slice (cond a (refuse (plainRefusal 9)) (pass (lowerStatement t)))) (outcome slice′ (cond b (refuse (plainRefusal 9)) (pass (lowerStatement u))))
+      go : (a b : Bool) → a ≡ b → FindsRoom (nine a t) slice → FindsRoom (nine b u) slice′ → Demand3 t u (outcome slice (nine a t)) (outcome slice′ (nine b u))
       go true true e x y = refused-alike (record { refused = λ z. omega arith; number = refl; line = refl; kind = refl })
       go true false e x y = absurd (true≢false e)
       go false true e x y = absurd (true≢false (sym e))
       go false false e x y = written-alike (record { wrote-S = wrote t slice r (x (lowerStatement t) refl); wrote-T = wrote u slice′ r′ (y (lowerStatement u) refl); same-count = vars-many _ _ c; same-operators = ap byNumber (same-ops _ c); paired = vars-paired _ _ c })
 
-  verdicts-alike : {v w : Verdict} → Verdict~ v w → firstWrite t ≡ none → firstWrite u ≡ none → Ctx~ (λ a b. Stands (ids (records t)) (ids (records u)) a b) (lowerStatement t) (lowerStatement u) → ((e : LowerCtx) → then (testCheck t v) (λ z. testPlan (lowerStatement z)) ≡ pass e → length (planSheet e) ≤ length slice) → ((e : LowerCtx) → then (testCheck u w) (λ z. testPlan (lowerStatement z)) ≡ pass e → length (planSheet e) ≤ length slice′) →
-      Demand3 t u (outcome slice (then (testCheck t v) (λ z. testPlan (lowerStatement z)))) (outcome slice′ (then (testCheck u w) (λ z. testPlan (lowerStatement z))))
+  verdicts-alike : {v w : Verdict} → Verdict~ v w → firstWrite t ≡ none → firstWrite u ≡ none → Lowered~ t u → FindsRoom (afterCheck t v) slice → FindsRoom (afterCheck u w) slice′ →
+      Demand3 t u (outcome slice (afterCheck t v)) (outcome slice′ (afterCheck u w))
   unfolding then testCheck outcome
   verdicts-alike fine~ r r′ c l l′ = full-or-not r r′ c l l′
   verdicts-alike violated~ r r′ c l l′ = refused-alike (record { refused = λ e. omega arith; number = refl; line = refl; kind = refl })
@@ -202,9 +221,9 @@ same-path : {A : Type 0} {a b : A} → Equal a b → a ≡ b
 same-path equal = refl
 
 -- the trees are alike
-trees-alike : (S T : Bytes) (t u : Tree statement) → WellFormed S t → WellFormed T u → SheetsAlike t u → Tree~ (λ a b. Stands (ids (records t)) (ids (records u)) a b) statement t u
+trees-alike : (S T : Bytes) (t u : Tree statement) → WellFormed S t → WellFormed T u → SheetsAlike t u → Tree~ (λ a b. Standing t u a b) statement t u
 trees-alike S T t u h h′ a =
-    let R : ℕ → ℕ → Type 0 = λ a b. Stands (ids (records t)) (ids (records u)) a b in
+    let R : ℕ → ℕ → Type 0 = λ a b. Standing t u a b in
     let s = sheet-sound maxDepth S t (h .behind) (h .reads) .0 in
     let w = sheet-sound maxDepth T u (h′ .behind) (h′ .reads) .0 in
     let r : Read R maxDepth (spellRecs (records u)) t = alike-read R maxDepth S t (records u) s (records~ R (records t) (records u) (a .same) (standing (ids (records t)) (ids (records u)))) (w .fit) in
@@ -222,7 +241,7 @@ writes-alike S T t u work work′ slice slice′ h h′ a l l′ (some line) r r
     let e′ : checked maxDepth work′ T ≡ refuse (lineRefusal 5 line) = checked-from work′ (l′ .words) h′ ∙ rw r′ in
     rw (e, e′) (refused-write t u slice slice′ line)
 writes-alike S T t u work work′ slice slice′ h h′ a l l′ none r r′ =
-    let R : ℕ → ℕ → Type 0 = λ a b. Stands (ids (records t)) (ids (records u)) a b in
+    let R : ℕ → ℕ → Type 0 = λ a b. Standing t u a b in
     let trees = trees-alike S T t u h h′ a in
     let e = checked-is work (l .words) h r in
     let e′ = checked-is work′ (l′ .words) h′ r′ in
@@ -264,3 +283,15 @@ tested-accepted sheet slice (goes-on p) z = record {
 pub accepted-wrote : (work : List ℕ) (sheet slice : Bytes) → lowerCall work sheet slice .answer .number ≡ 0 → Accepted sheet (lowerCall work sheet slice)
 unfolding lowerCall
 accepted-wrote work sheet slice z = tested-accepted sheet slice (planned-tested work sheet) z
+
+-- ── two sheets that meet the premises: M1, and M1 with another id and other spans ──
+
+pub met-S : WellFormed first tree-first
+met-S = record { bytes = met .short-S; behind = met .behind; reads = met .reads }
+
+pub met-T : WellFormed second (treeOf (readSheet maxDepth second))
+met-T = record { bytes = met .short-T; behind = placeOf (readSheet maxDepth second); reads = reads-second }
+
+pub met-alike : SheetsAlike tree-first (treeOf (readSheet maxDepth second))
+unfolding records-second
+met-alike = record { same = met .same; one-to-one = met .one-to-one; named = met .named }

@@ -2,12 +2,9 @@
 use mathlib.Core.Path.{_≡_, refl, sym, _∙_, ap, ap₂}
 use Prim.Native.Nat.{ℕ, zero, suc, _+_, _-_, _≤_, _<_}
 use native.Mathlib.Omega.{arith}
-use mathlib.Core.Bool.{Bool, true, false, cond}
 use mathlib.Core.List.{List, [], _∷_, _++_, append-nil, append-assoc}
-use lib.Dec.{eqb}
-use lib.ListN.{length, length-append}
+use lib.ListN.{length}
 use borrow.Author.Tests.{eq-eqb, ne-eqb}
-use Rattle.model.specs.Text.{Bytes}
 use Rattle.model.specs.Record.{Rec, spellRec, spellRecs}
 use Rattle.model.specs.Lower.{Recs, LowerCtx, at}
 use Rattle.model.specs.Plan.{operatorRecs, mappedRecs, firstRec, planRecs, planSheet}
@@ -22,9 +19,9 @@ unfoldable pub byNumber : List Recs → List Recs
 byNumber ops = from ops 0 (length ops)
 
 -- the lines of operators, one after another
-unfoldable pub linesOf : List Recs → Recs
-linesOf [] = []
-linesOf (op ∷ ops) = op ++ linesOf ops
+unfoldable pub operatorLines : List Recs → Recs
+operatorLines [] = []
+operatorLines (op ∷ ops) = op ++ operatorLines ops
 
 -- ── the newest operator is the last, and the others stay what they were ──
 
@@ -61,19 +58,19 @@ by-number-length ops = from-length ops 0 (length ops)
 
 -- ── the plan ──
 
-pub lines-append : (ops more : List Recs) → linesOf (ops ++ more) ≡ linesOf ops ++ linesOf more
-unfolding linesOf
+pub lines-append : (ops more : List Recs) → operatorLines (ops ++ more) ≡ operatorLines ops ++ operatorLines more
+unfolding operatorLines
 lines-append [] more = refl
-lines-append (op ∷ ops) more = rw (lines-append ops more) (sym (append-assoc op (linesOf ops) (linesOf more)))
+lines-append (op ∷ ops) more = rw (lines-append ops more) (sym (append-assoc op (operatorLines ops) (operatorLines more)))
 
 -- the definition has the operators newest first; so its lines are theirs by number
-pub operators-by-number : (ops : List Recs) → operatorRecs ops ≡ linesOf (byNumber ops)
-unfolding operatorRecs byNumber linesOf from
+pub operators-by-number : (ops : List Recs) → operatorRecs ops ≡ operatorLines (byNumber ops)
+unfolding operatorRecs byNumber operatorLines from
 operators-by-number [] = refl
-operators-by-number (op ∷ ops) = rw (operators-by-number ops) (sym (ap linesOf (by-number-newest op ops) ∙ lines-append (byNumber ops) (op ∷ []) ∙ ap (λ l. linesOf (byNumber ops) ++ l) (append-nil op)))
+operators-by-number (op ∷ ops) = rw (operators-by-number ops) (sym (ap operatorLines (by-number-newest op ops) ∙ lines-append (byNumber ops) (op ∷ []) ∙ ap (λ l. operatorLines (byNumber ops) ++ l) (append-nil op)))
 
 -- the plan sheet: its first line, the operators by number, and the `v` lines
-pub plan-by-number : (c : LowerCtx) → planSheet c ≡ spellRecs (firstRec c ∷ (linesOf (byNumber (c .ops)) ++ mappedRecs (c .vars)))
+pub plan-by-number : (c : LowerCtx) → planSheet c ≡ spellRecs (firstRec c ∷ (operatorLines (byNumber (c .ops)) ++ mappedRecs (c .vars)))
 unfolding planSheet planRecs
 plan-by-number c = rw (operators-by-number (c .ops))
 
@@ -98,21 +95,21 @@ spell-append (r ∷ rs) ss = rw (spell-append rs ss) (sym (append-assoc (spellRe
 pub record OperatorStands (c : LowerCtx) (k : ℕ) : Type 0 where
   pub later : ℕ
   pub count : length (c .ops) ≡ k + suc later
-  pub stands : planSheet c ≡ spellRecs (firstRec c ∷ linesOf (from (c .ops) 0 k)) ++ (spellRecs (at (c .ops) k) ++ spellRecs (linesOf (from (c .ops) (suc k) later) ++ mappedRecs (c .vars)))
+  pub stands : planSheet c ≡ spellRecs (firstRec c ∷ operatorLines (from (c .ops) 0 k)) ++ (spellRecs (at (c .ops) k) ++ spellRecs (operatorLines (from (c .ops) (suc k) later) ++ mappedRecs (c .vars)))
 
 stands-at : (c : LowerCtx) (k later : ℕ) → length (c .ops) ≡ k + suc later → OperatorStands c k
-unfolding byNumber linesOf from
+unfolding byNumber operatorLines from
 stands-at c k later e = record {
   later = later;
   count = e;
   stands =
-      let rest = linesOf (from (c .ops) (suc k) later) ++ mappedRecs (c .vars) in
+      let rest = operatorLines (from (c .ops) (suc k) later) ++ mappedRecs (c .vars) in
       plan-by-number c
-      ∙ ap (λ l. spellRecs (firstRec c ∷ (linesOf l ++ mappedRecs (c .vars)))) (ap (λ n. from (c .ops) 0 n) e ∙ from-split (c .ops) 0 k (suc later) ∙ ap (λ j. from (c .ops) 0 k ++ from (c .ops) j (suc later)) (omega arith))
+      ∙ ap (λ l. spellRecs (firstRec c ∷ (operatorLines l ++ mappedRecs (c .vars)))) (ap (λ n. from (c .ops) 0 n) e ∙ from-split (c .ops) 0 k (suc later) ∙ ap (λ j. from (c .ops) 0 k ++ from (c .ops) j (suc later)) (omega arith))
       ∙ ap (λ l. spellRecs (firstRec c ∷ (l ++ mappedRecs (c .vars)))) (lines-append (from (c .ops) 0 k) (from (c .ops) k (suc later)))
-      ∙ ap (λ l. spellRecs (firstRec c ∷ l)) (append-assoc (linesOf (from (c .ops) 0 k)) (linesOf (from (c .ops) k (suc later))) (mappedRecs (c .vars)) ∙ ap (λ l. linesOf (from (c .ops) 0 k) ++ l) (append-assoc (at (c .ops) k) (linesOf (from (c .ops) (suc k) later)) (mappedRecs (c .vars))))
-      ∙ spell-append (firstRec c ∷ linesOf (from (c .ops) 0 k)) (at (c .ops) k ++ rest)
-      ∙ ap (λ b. spellRecs (firstRec c ∷ linesOf (from (c .ops) 0 k)) ++ b) (spell-append (at (c .ops) k) rest);
+      ∙ ap (λ l. spellRecs (firstRec c ∷ l)) (append-assoc (operatorLines (from (c .ops) 0 k)) (operatorLines (from (c .ops) k (suc later))) (mappedRecs (c .vars)) ∙ ap (λ l. operatorLines (from (c .ops) 0 k) ++ l) (append-assoc (at (c .ops) k) (operatorLines (from (c .ops) (suc k) later)) (mappedRecs (c .vars))))
+      ∙ spell-append (firstRec c ∷ operatorLines (from (c .ops) 0 k)) (at (c .ops) k ++ rest)
+      ∙ ap (λ b. spellRecs (firstRec c ∷ operatorLines (from (c .ops) 0 k)) ++ b) (spell-append (at (c .ops) k) rest);
 }
 
 pub operator-stands : (c : LowerCtx) (k : ℕ) → k < length (c .ops) → OperatorStands c k

@@ -1,22 +1,23 @@
 -- The places of the lowering that a checked tree never comes to: the Rust's `debug_assert!`, `panic!` and `unreachable!` places, and the defaults that the definitions have where the Rust has them. docs/DEMANDS.md lists the places beside the theorems. Whatever stands there, the lowering of a checked tree is the same. Assumes nothing: these are definitions, and theorems with their proofs.
-use mathlib.Core.Path.{_≡_, refl, sym, _∙_, ap, ap₂, subst, fun-ext}
-use Prim.Native.Nat.{ℕ, zero, suc, _+_, _*_, _≤_, _<_}
+use mathlib.Core.Path.{_≡_, refl, _∙_, ap, ap₂, fun-ext}
+use Prim.Native.Nat.{ℕ, zero, suc, _≤_, _<_}
 use native.Mathlib.Omega.{arith}
-use mathlib.Core.Bool.{Bool, true, false, cond, _&&_}
-use mathlib.Core.List.{List, [], _∷_, _++_}
+use mathlib.Core.Bool.{Bool, true, false, cond}
+use mathlib.Core.List.{List, [], _∷_}
 use mathlib.Core.Option.{Option, none, some, Option·some-ne-none}
-use lib.Dec.{eqb, leb}
+use lib.Dec.{eqb}
 use lib.ListN.{length}
-use borrow.Author.Tests.{eqb-true, eqb-false, leb-true, eq-eqb}
+use borrow.Author.Tests.{eqb-false}
 use Rattle.model.specs.Text.{Bytes}
 use Rattle.model.specs.Field.{Fields, Span}
-use Rattle.model.specs.Kind.{Sort, Kind, Clause, PatternElement, Same, Expr, ReadOp, PlanExpr, statement, unionArm, clause, projection, orderItem, patternPart, patternElement, name, yieldItem, entry, expr, inPlan}
-use Rattle.model.specs.Record.{Rec, rec, Group, forms, exprForms, children, exprChildren}
-use Rattle.model.specs.Tree.{Tree, Trees, Forest, node, []ᵗ, _∷ᵗ_, end, _▸_, Many, toList, Results, fold, foldOf, foldIn}
+use Rattle.model.specs.Kind.{Sort, Kind, Clause, PatternElement, Expr, ReadOp, PlanExpr, statement, unionArm, clause, projection, orderItem, patternPart, patternElement, name, yieldItem, entry, expr, inPlan}
+use Rattle.model.specs.Record.{Group, forms, exprForms, children, exprChildren}
+use Rattle.model.specs.Tree.{Tree, Trees, Forest, node, []ᵗ, _∷ᵗ_, end, _▸_, toList, Results, fold, foldOf, foldIn}
 use Rattle.model.specs.Sheet.{isWrite, writeIn, writeInArms, firstWrite}
-use Rattle.model.specs.Check.{Verdict, fine, violated, andThen, spanIn, ofExpr, ofElements, ofPart, ofRecord, check, checkOf, checkIn, noSpan, precheckStatement}
+use Rattle.model.specs.Check.{fine, spanIn, ofPart, ofRecord, check, checkOf, checkIn}
 use Rattle.model.specs.Lower.{Recs, LowerCtx, Lowering, _>>=_, ret, push, at, copy, endpointVar, op, planned}
-use Rattle.model.specs.Lower.{NodeStep, RelStep, Step, ofNode, ofRel, Chain, startNode, expandTo, reach, lowerElement, lowerElements, orSourceAll, rootOf, bindPath, lowerChain, lowerShortestPathPart, Shape, nodeRelNode, other, shapeOf, lowerShaped, lowerPatternPart, lowerParts, optionalJoin, lowerMatchPattern, Lowered, exprStep, elementStep, made, lowerPattern, lowerClause, lowerClauses, lowerArms, lower, lowerStatement}
+use Rattle.model.specs.Lower.{NodeStep, RelStep, Step, ofNode, ofRel, Chain, startNode, expandTo, reach, lowerElement, lowerElements, orSourceAll, rootOf, bindPath, lowerChain, lowerShortestPathPart, Shape}
+use Rattle.model.specs.Lower.{nodeRelNode, other, shapeOf, lowerShaped, lowerPatternPart, lowerParts, optionalJoin, lowerMatchPattern, Lowered, exprStep, elementStep, made, lowerPattern, lowerClause, lowerClauses, lowerArms, lower, lowerStatement}
 use Rattle.demands.specs.Sheets.{WellFormed, ReadOnly}
 use Rattle.demands.specs.Within.{Within, Checked, checked-within, both-fine, TakenExpr, NodeFirst, own-expr, own-elements}
 use Rattle.model.specs.Call.{recordCount, maxDepth}

@@ -1,15 +1,14 @@
 -- What holds of every record of a sheet that was read and checked: none is `unres` or `undes`, every part begins with a node, and every number is in its field's range. Assumes nothing: these are definitions, and theorems with their proofs.
 use mathlib.Core.Path.{_≡_, refl, subst}
-use Prim.Native.Nat.{ℕ, suc, _+_, _≤_}
-use mathlib.Core.Bool.{Bool, true, _&&_}
-use mathlib.Core.List.{List, [], _∷_, _++_}
+use Prim.Native.Nat.{ℕ, suc, _≤_}
+use mathlib.Core.Bool.{Bool, true}
+use mathlib.Core.List.{List, [], _∷_}
 use mathlib.Core.Option.{Option}
-use lib.Dec.{leb}
 use borrow.Author.Tests.{leb-true}
 use Rattle.model.specs.Text.{Bytes}
 use Rattle.model.specs.Field.{Form, num, Val, Fields, Span, RelLength, fits}
 use Rattle.model.specs.Kind.{Sort, Kind, PatternElement, Same, Expr, statement, patternPart, patternElement, expr}
-use Rattle.model.specs.Record.{Rec, rec, Group, forms, exprForms, elementForms, children, exprChildren, elementChildren}
+use Rattle.model.specs.Record.{rec, Group, forms, exprForms, children, exprChildren, elementChildren}
 use Rattle.model.specs.Tree.{Tree, Trees, Forest, node, []ᵗ, _∷ᵗ_, end, _▸_, records, recordsOf, recordsIn}
 use Rattle.model.specs.Check.{Verdict, fine, violated, andThen, spanIn, ofExpr, ofElements, ofPart, ofRecord, check, checkOf, checkIn, noSpan, precheckStatement}
 use Rattle.model.specs.Call.{maxDepth}
