@@ -11,7 +11,7 @@ use lib.Dec.{ltb}
 use lib.ListN.{length, drop, length-append}
 use borrow.Author.Tests.{le-ltb}
 use Rattle.model.specs.Text.{Bytes}
-use Rattle.model.specs.Field.{Form, num, flag, var, varOrAbsent, numOrAbsent, int, float, text, alias, span, Fields, Span}
+use Rattle.model.specs.Field.{Form, num, flag, var, varOrAbsent, numOrAbsent, numberOrAbsent, int, float, text, alias, span, Fields, Span}
 use Rattle.model.specs.Field as Field
 use Rattle.model.specs.Kind.{Sort, Kind, Clause, PatternElement, Expr, statement, unionArm, clause, projection, orderItem, patternPart, patternElement, name, yieldItem, entry, expr, inPlan}
 use Rattle.model.specs.Record.{Rec, rec, Group, forms, clauseForms, elementForms, exprForms, children}
@@ -123,6 +123,8 @@ spanField (flag ∷ fs) (v, vs) = spanField fs vs
 spanField (var ∷ fs) (v, vs) = spanField fs vs
 spanField (varOrAbsent ∷ fs) (v, vs) = spanField fs vs
 spanField (numOrAbsent l ∷ fs) (v, vs) = spanField fs vs
+spanField (Field.number n ∷ fs) (v, vs) = spanField fs vs
+spanField (numberOrAbsent n ∷ fs) (v, vs) = spanField fs vs
 spanField (int ∷ fs) (v, vs) = spanField fs vs
 spanField (float ∷ fs) (v, vs) = spanField fs vs
 spanField (text ∷ fs) (v, vs) = spanField fs vs
@@ -175,7 +177,7 @@ pub record ForTree (a : Answer) : Type 0 where
 -- the limits of a plan: refusals 9 and 10
 pub record WithinLimits (c : LowerCtx) (slice : Bytes) : Type 0 where
   pub operators : length (c .ops) ≤ maxPlan
-  pub numbers : c .next ≤ maxPlan
+  pub numbers : c .scope .next ≤ maxPlan
   pub room : length (planSheet c) ≤ length slice
 
 -- of a call with a sheet whose tree is t
@@ -472,7 +474,7 @@ module _ (t : Tree statement) (slice : Bytes) where
 
   fine-not : ForTree (behindCheck t slice fine .answer) → ⊥
   unfolding behindCheck then testCheck testPlan
-  fine-not h = fine-planned (ltb maxPlan (length (lowerStatement t .ops)) || ltb maxPlan (lowerStatement t .next)) h
+  fine-not h = fine-planned (ltb maxPlan (length (lowerStatement t .ops)) || ltb maxPlan (lowerStatement t .scope .next)) h
 
   row-for-tree : {number kind : ℕ} (line from to : ℕ) → FaultRow number kind → ForTree (answer number line from to kind 0)
   row-for-tree line from to six = record { low = omega arith; high = omega arith }
@@ -490,7 +492,7 @@ module _ (t : Tree statement) (slice : Bytes) where
 
   fine-plan : WithinLimits (lowerStatement t) slice → behindCheck t slice fine ≡ record { answer = answer 0 0 0 0 0 (length (planSheet (lowerStatement t))); slice = planSheet (lowerStatement t) ++ drop (length (planSheet (lowerStatement t))) slice }
   unfolding behindCheck then testCheck testPlan outcome written
-  fine-plan h = rw (le-ltb maxPlan (length (lowerStatement t .ops)) (h .operators), le-ltb maxPlan (lowerStatement t .next) (h .numbers), le-ltb (length slice) (length (planSheet (lowerStatement t))) (h .room))
+  fine-plan h = rw (le-ltb maxPlan (length (lowerStatement t .ops)) (h .operators), le-ltb maxPlan (lowerStatement t .scope .next) (h .numbers), le-ltb (length slice) (length (planSheet (lowerStatement t))) (h .room))
 
   met-otherwise : {ls : List Line} {v : Verdict} → Walked 1 ls v → (Meets ls → ⊥) → WithinLimits (lowerStatement t) slice → behindCheck t slice v ≡ record { answer = answer 0 0 0 0 0 (length (planSheet (lowerStatement t))); slice = planSheet (lowerStatement t) ++ drop (length (planSheet (lowerStatement t))) slice }
   met-otherwise (met-none f) g h = fine-plan h

@@ -14,7 +14,7 @@ use borrow.Author.Tests.{le-ltb, ltb-false}
 use Rattle.model.specs.Text.{Bytes}
 use Rattle.model.specs.Field.{Fields}
 use Rattle.model.specs.Kind.{ReadOp, statement, inPlan, plan, mapped}
-use Rattle.model.specs.Record.{Rec, rec, opForms, spellRecs}
+use Rattle.model.specs.Record.{Rec, rec, opForms, spellRecs, inputs}
 use Rattle.model.specs.Tree.{Tree, records}
 use Rattle.model.specs.Sheet.{readSheet, firstWrite}
 use Rattle.model.specs.Check.{Verdict, fine, precheckStatement}
@@ -32,7 +32,7 @@ use Rattle.alike.specs.Relating.{records~, standing, standing-one}
 use Rattle.alike.specs.Reading.{Read, alike-read}
 use Rattle.alike.specs.Alike.{mapped-paired, mapped-long}
 use Rattle.alike.specs.Pairs.{first, second, tree-first, records-second, treeOf, placeOf, reads-second, met}
-use Rattle.bounds.specs.Earlier.{All, _∷ᵃ_, inputs, at-low}
+use Rattle.bounds.specs.Earlier.{All, _∷ᵃ_, at-low}
 use Rattle.bounds.specs.Earlier as Bounds
 use Rattle.bounds.specs.Inputs.{earlier}
 use Rattle.bounds.specs.Ends.{Ending, endingOf, endsOn}
@@ -60,7 +60,7 @@ abbrev pub operators : Tree statement → List Recs
 operators t = byNumber (lowerStatement t .ops)
 
 abbrev pub variables : Tree statement → List Rec
-variables t = mappedRecs (lowerStatement t .vars)
+variables t = mappedRecs (lowerStatement t .scope .vars)
 
 -- the lines of an operator, those of the copies inside it among them: every number under input, left or right is below k
 unfoldable pub InputsBelow : ℕ → Recs → Type 0
@@ -148,7 +148,7 @@ plan-bytes : (t : Tree statement) → planSheet (lowerStatement t) ≡ spellRecs
 unfolding firstRec
 plan-bytes t =
     plan-by-number (lowerStatement t)
-    ∙ ap₂ (λ n m. spellRecs (rec (inPlan plan) tt (n, (m, tt)) ∷ (operatorLines (operators t) ++ variables t))) (sym (by-number-length (lowerStatement t .ops))) (sym (mapped-length (lowerStatement t .vars)))
+    ∙ ap₂ (λ n m. spellRecs (rec (inPlan plan) tt (n, (m, tt)) ∷ (operatorLines (operators t) ++ variables t))) (sym (by-number-length (lowerStatement t .ops))) (sym (mapped-length (lowerStatement t .scope .vars)))
 
 wrote : (t : Tree statement) (slice : Bytes) → firstWrite t ≡ none → length (planSheet (lowerStatement t)) ≤ length slice → Wrote t (written (planSheet (lowerStatement t)) slice)
 unfolding written
@@ -180,14 +180,14 @@ module _ (R : ℕ → ℕ → Type 0) where
   same-ops : {c d : LowerCtx} → Ctx~ R c d → c .ops ≡ d .ops
   same-ops (ctx~ h) = refl
 
-  same-next : {c d : LowerCtx} → Ctx~ R c d → c .next ≡ d .next
+  same-next : {c d : LowerCtx} → Ctx~ R c d → c .scope .next ≡ d .scope .next
   same-next (ctx~ h) = refl
 
 module _ (s t : List ℕ) where
-  vars-paired : {c d : LowerCtx} → Ctx~ (λ a b. Stands s t a b) c d → Paired s t (mappedRecs (c .vars)) (mappedRecs (d .vars))
+  vars-paired : {c d : LowerCtx} → Ctx~ (λ a b. Stands s t a b) c d → Paired s t (mappedRecs (c .scope .vars)) (mappedRecs (d .scope .vars))
   vars-paired (ctx~ h) = mapped-paired s t h
 
-  vars-many : {c d : LowerCtx} → Ctx~ (λ a b. Stands s t a b) c d → length (mappedRecs (c .vars)) ≡ length (mappedRecs (d .vars))
+  vars-many : {c d : LowerCtx} → Ctx~ (λ a b. Stands s t a b) c d → length (mappedRecs (c .scope .vars)) ≡ length (mappedRecs (d .scope .vars))
   vars-many (ctx~ {vs = vs} {ws = ws} h) = omega (arith, mapped-long s t h .1, mapped-length ws)
 
 module _ (t u : Tree statement) (slice slice′ : Bytes) where
@@ -200,7 +200,7 @@ module _ (t u : Tree statement) (slice slice′ : Bytes) where
       nine b x = cond b (refuse (plainRefusal 9)) (pass (lowerStatement x))
 
       over : LowerCtx → Bool
-      over d = ltb maxPlan (length (d .ops)) || ltb maxPlan (d .next)
+      over d = ltb maxPlan (length (d .ops)) || ltb maxPlan (d .scope .next)
 
       same : over (lowerStatement t) ≡ over (lowerStatement u)
       same = rw (same-ops _ c, same-next _ c)

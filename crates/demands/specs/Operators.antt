@@ -70,7 +70,7 @@ operators-by-number [] = refl
 operators-by-number (op ∷ ops) = rw (operators-by-number ops) (sym (ap operatorLines (by-number-newest op ops) ∙ lines-append (byNumber ops) (op ∷ []) ∙ ap (λ l. operatorLines (byNumber ops) ++ l) (append-nil op)))
 
 -- the plan sheet: its first line, the operators by number, and the `v` lines
-pub plan-by-number : (c : LowerCtx) → planSheet c ≡ spellRecs (firstRec c ∷ (operatorLines (byNumber (c .ops)) ++ mappedRecs (c .vars)))
+pub plan-by-number : (c : LowerCtx) → planSheet c ≡ spellRecs (firstRec c ∷ (operatorLines (byNumber (c .ops)) ++ mappedRecs (c .scope .vars)))
 unfolding planSheet planRecs
 plan-by-number c = rw (operators-by-number (c .ops))
 
@@ -95,7 +95,7 @@ spell-append (r ∷ rs) ss = rw (spell-append rs ss) (sym (append-assoc (spellRe
 pub record OperatorStands (c : LowerCtx) (k : ℕ) : Type 0 where
   pub later : ℕ
   pub count : length (c .ops) ≡ k + suc later
-  pub stands : planSheet c ≡ spellRecs (firstRec c ∷ operatorLines (from (c .ops) 0 k)) ++ (spellRecs (at (c .ops) k) ++ spellRecs (operatorLines (from (c .ops) (suc k) later) ++ mappedRecs (c .vars)))
+  pub stands : planSheet c ≡ spellRecs (firstRec c ∷ operatorLines (from (c .ops) 0 k)) ++ (spellRecs (at (c .ops) k) ++ spellRecs (operatorLines (from (c .ops) (suc k) later) ++ mappedRecs (c .scope .vars)))
 
 stands-at : (c : LowerCtx) (k later : ℕ) → length (c .ops) ≡ k + suc later → OperatorStands c k
 unfolding byNumber operatorLines from
@@ -103,11 +103,11 @@ stands-at c k later e = record {
   later = later;
   count = e;
   stands =
-      let rest = operatorLines (from (c .ops) (suc k) later) ++ mappedRecs (c .vars) in
+      let rest = operatorLines (from (c .ops) (suc k) later) ++ mappedRecs (c .scope .vars) in
       plan-by-number c
-      ∙ ap (λ l. spellRecs (firstRec c ∷ (operatorLines l ++ mappedRecs (c .vars)))) (ap (λ n. from (c .ops) 0 n) e ∙ from-split (c .ops) 0 k (suc later) ∙ ap (λ j. from (c .ops) 0 k ++ from (c .ops) j (suc later)) (omega arith))
-      ∙ ap (λ l. spellRecs (firstRec c ∷ (l ++ mappedRecs (c .vars)))) (lines-append (from (c .ops) 0 k) (from (c .ops) k (suc later)))
-      ∙ ap (λ l. spellRecs (firstRec c ∷ l)) (append-assoc (operatorLines (from (c .ops) 0 k)) (operatorLines (from (c .ops) k (suc later))) (mappedRecs (c .vars)) ∙ ap (λ l. operatorLines (from (c .ops) 0 k) ++ l) (append-assoc (at (c .ops) k) (operatorLines (from (c .ops) (suc k) later)) (mappedRecs (c .vars))))
+      ∙ ap (λ l. spellRecs (firstRec c ∷ (operatorLines l ++ mappedRecs (c .scope .vars)))) (ap (λ n. from (c .ops) 0 n) e ∙ from-split (c .ops) 0 k (suc later) ∙ ap (λ j. from (c .ops) 0 k ++ from (c .ops) j (suc later)) (omega arith))
+      ∙ ap (λ l. spellRecs (firstRec c ∷ (l ++ mappedRecs (c .scope .vars)))) (lines-append (from (c .ops) 0 k) (from (c .ops) k (suc later)))
+      ∙ ap (λ l. spellRecs (firstRec c ∷ l)) (append-assoc (operatorLines (from (c .ops) 0 k)) (operatorLines (from (c .ops) k (suc later))) (mappedRecs (c .scope .vars)) ∙ ap (λ l. operatorLines (from (c .ops) 0 k) ++ l) (append-assoc (at (c .ops) k) (operatorLines (from (c .ops) (suc k) later)) (mappedRecs (c .scope .vars))))
       ∙ spell-append (firstRec c ∷ operatorLines (from (c .ops) 0 k)) (at (c .ops) k ++ rest)
       ∙ ap (λ b. spellRecs (firstRec c ∷ operatorLines (from (c .ops) 0 k)) ++ b) (spell-append (at (c .ops) k) rest);
 }

@@ -367,7 +367,7 @@ any-write (node statement line k f (cs ▸ arms ▸ end)) r d =
 -- ── the Rust's counters of 32 bits do not overflow ──
 
 pub record Counts (c : LowerCtx) : Type 0 where
-  pub numbers : c .next ≤ 4096
+  pub numbers : c .scope .next ≤ 4096
   pub operators : length (c .ops) ≤ 8192
 
 pub counts-small : (sheet : Bytes) (t : Tree statement) → WellFormed sheet t → Counts (lowerStatement t)
