@@ -1,6 +1,6 @@
 -- Demand 1: each lowering call, whatever its arguments are, ends in one of two ways: accepted, with the plan written and no byte changed behind it; or with a number of the table of refusals, its place, zeros in the other fields, and the plan slice untouched. The theorem is `demand1`, at the end. Assumes nothing: these are definitions, and a theorem with its proof.
 use mathlib.Core.Path.{_≡_, refl, sym, subst}
-use Prim.Native.Nat.{ℕ, _+_, _≤_}
+use Prim.Native.Nat.{ℕ, _≤_}
 use native.Mathlib.Omega.{arith}
 use mathlib.Core.Bool.{Bool, true, false, cond, _||_}
 use mathlib.Core.List.{List, [], _++_}
@@ -12,7 +12,7 @@ use borrow.Author.Tests.{ltb-false}
 use Rattle.model.specs.Text.{Bytes}
 use Rattle.model.specs.Kind.{statement}
 use Rattle.model.specs.Tree.{Tree}
-use Rattle.model.specs.Sheet.{Place, Reading, got, next, readSheet, firstWrite}
+use Rattle.model.specs.Sheet.{Place, Reading, got, readSheet, firstWrite}
 use Rattle.model.specs.Check.{Verdict, fine, noSpan, precheckStatement}
 use Rattle.model.specs.Lower.{LowerCtx, lowerStatement}
 use Rattle.model.specs.Plan.{planSheet}
@@ -21,7 +21,8 @@ use Rattle.laws.specs.TreeLaws.{numbered}
 use Rattle.laws.specs.SheetLaws.{sheet-sound}
 use Rattle.demands.specs.Sheets.{WellFormed, ReadOnly, answer}
 use Rattle.demands.specs.Reader.{Numbered, read, three, four, sheet-numbered, AtLeast, nowhere, at-line, write-least}
-use Rattle.demands.specs.Demand2.{FaultRow, six, seven, eight, Line, lines, Walked, met, met-none, walked, first-fault}
+use Rattle.demands.specs.Walk.{Line, lines}
+use Rattle.demands.specs.WalkLaws.{FaultRow, six, seven, eight, Walked, met, met-none, walked, first-fault}
 
 -- ── the two ways ──
 

@@ -1,171 +1,26 @@
 -- Demand 2: a well-formed read-only sheet is refused for its tree exactly if the check's walk meets an unresolved name, an undesugared form or a part that is empty or starts with a relationship, and the first met is reported; otherwise, within the limits, the plan is the defined one.
--- What the walk meets is said here on the sheet's lines alone, without the check. The theorem is `demand2`, at the end. Assumes nothing: these are definitions, and a theorem with its proof.
-use mathlib.Core.Path.{_≡_, refl, sym, _∙_, ap, ap₂, subst}
+-- What the walk meets is said in Walk, on the sheet's lines. The theorem is `demand2`, at the end. Assumes nothing: these are definitions, and a theorem with its proof.
+use mathlib.Core.Path.{_≡_, refl, sym, _∙_, ap, subst}
 use mathlib.Core.Logic.{_↔_}
-use Prim.Native.Nat.{ℕ, zero, suc, _+_, _≤_}
+use Prim.Native.Nat.{ℕ, _≤_}
 use native.Mathlib.Omega.{arith}
 use mathlib.Core.Bool.{Bool, true, false, cond, _||_}
-use mathlib.Core.List.{List, [], _∷_, _++_, map, append-nil, append-assoc}
-use mathlib.Core.Option.{Option, none, some, Option·some-ne-none}
+use mathlib.Core.List.{List, [], _++_, map}
 use lib.Dec.{ltb}
-use lib.ListN.{length, drop, length-append}
+use lib.ListN.{length, drop}
 use borrow.Author.Tests.{le-ltb}
 use Rattle.model.specs.Text.{Bytes}
-use Rattle.model.specs.Field.{Form, num, flag, var, varOrAbsent, numOrAbsent, numberOrAbsent, int, float, text, alias, span, Fields, Span}
-use Rattle.model.specs.Field as Field
-use Rattle.model.specs.Kind.{Sort, Kind, Clause, PatternElement, Expr, statement, unionArm, clause, projection, orderItem, patternPart, patternElement, name, yieldItem, entry, expr, inPlan}
-use Rattle.model.specs.Record.{Rec, rec, Group, forms, clauseForms, elementForms, exprForms, children}
-use Rattle.model.specs.Tree.{Tree, Trees, Forest, node, []ᵗ, _∷ᵗ_, end, _▸_, records, recordsOf, recordsIn}
-use Rattle.model.specs.Check.{Verdict, fine, violated, andThen, clauseSpan, elementSpan, spanIn, ofExpr, ofElements, ofPart, ofRecord, check, checkOf, checkIn, noSpan, precheckStatement}
+use Rattle.model.specs.Field.{Span}
+use Rattle.model.specs.Kind.{statement}
+use Rattle.model.specs.Tree.{Tree, records}
+use Rattle.model.specs.Check.{Verdict, fine, violated, noSpan, precheckStatement}
 use Rattle.model.specs.Lower.{LowerCtx, lowerStatement}
 use Rattle.model.specs.Plan.{planSheet}
 use Rattle.model.specs.Call.{Answer, Outcome, refuse, pass, then, testCheck, testPlan, planned, written, outcome, lowerCall, maxDepth, maxPlan}
-use Rattle.laws.specs.TreeLaws.{numbered, numberedOf, numberedIn}
 use Rattle.laws.specs.SheetLaws.{sheet-sound}
 use Rattle.demands.specs.Sheets.{WellFormed, ReadOnly, LongWork, answer, checked-is}
-
--- ── the lines of a sheet ──
-
--- a line: its record, and the records that it stands in, the nearest first
-pub record Line : Type 0 where
-  pub this : Rec
-  pub above : List Rec
-
--- the lines of a tree that stands in `above`, in sheet order
-unfoldable mutual
-  pub lines : {s : Sort} → List Rec → Tree s → List Line
-  lines above (node s line k f kids) = record { this = rec s k f; above = above } ∷ linesIn (rec s k f ∷ above) kids
-
-  pub linesOf : {s : Sort} {n : ℕ} → List Rec → Trees s n → List Line
-  linesOf above []ᵗ = []
-  linesOf above (t ∷ᵗ ts) = lines above t ++ linesOf above ts
-
-  pub linesIn : {gs : List Group} → List Rec → Forest gs → List Line
-  linesIn above end = []
-  linesIn above (ts ▸ f) = linesOf above ts ++ linesIn above f
-
--- ── what the walk meets ──
-
--- the number of the refusal, and the kind, which refusal 7 alone has
-pub record Fault : Type 0 where
-  pub number : ℕ
-  pub kind : ℕ
-
-abbrev fault : ℕ → ℕ → Option Fault
-fault n k = some (record { number = n; kind = k })
-
--- `unres` and `undes`
-unfoldable pub exprFault : (k : Expr) → Fields (exprForms k) → Option Fault
-exprFault (Expr.Over h) f = none
-exprFault Expr.Var f = none
-exprFault Expr.Map f = none
-exprFault Expr.Call f = none
-exprFault Expr.PatternPredicate f = none
-exprFault Expr.ListPredicate f = none
-exprFault Expr.Unresolved f = fault 6 0
-exprFault Expr.Undesugared (kind, _) = fault 7 kind
-
-unfoldable pub isRel : (s : Sort) → Kind s → Bool
-isRel statement k = false
-isRel unionArm k = false
-isRel clause k = false
-isRel projection k = false
-isRel orderItem k = false
-isRel patternPart k = false
-isRel patternElement PatternElement.Node = false
-isRel patternElement PatternElement.Rel = true
-isRel name k = false
-isRel yieldItem k = false
-isRel entry k = false
-isRel expr k = false
-isRel (inPlan p) k = false
-
--- the next line is a `rel`
-unfoldable pub relNext : List Line → Bool
-relNext [] = false
-relNext (l ∷ ls) = isRel (l .this .sort) (l .this .kind)
-
--- a `part` with no elements, or with a `rel` on the next line
-unfoldable pub partFault : (elements : ℕ) → List Line → Option Fault
-partFault zero behind = fault 8 0
-partFault (suc n) behind = cond (relNext behind) (fault 8 0) none
-
--- what a line is, by its record and the line behind it
-unfoldable pub faultOf : (s : Sort) (k : Kind s) → Fields (forms s k) → List Line → Option Fault
-faultOf statement k f behind = none
-faultOf unionArm k f behind = none
-faultOf clause k f behind = none
-faultOf projection k f behind = none
-faultOf orderItem k f behind = none
-faultOf patternPart k (_, (_, (elements, _))) behind = partFault elements behind
-faultOf patternElement k f behind = none
-faultOf name k f behind = none
-faultOf yieldItem k f behind = none
-faultOf entry k f behind = none
-faultOf expr k f behind = exprFault k f
-faultOf (inPlan p) k f behind = none
-
-unfoldable pub faultAt : Line → List Line → Option Fault
-faultAt l behind = faultOf (l .this .sort) (l .this .kind) (l .this .fields) behind
-
--- the walk meets one of the three
-pub data Meets : List Line → Type 0 where
-  here : {l : Line} {ls : List Line} {x : Fault} → faultAt l ls ≡ some x → Meets (l ∷ ls)
-  later : {l : Line} {ls : List Line} → Meets ls → Meets (l ∷ ls)
-
--- ── the span ──
-
--- the span among the fields of a record, where it has one
-unfoldable pub spanField : (fs : List Form) → Fields fs → Option Span
-spanField [] _ = none
-spanField (num l ∷ fs) (v, vs) = spanField fs vs
-spanField (flag ∷ fs) (v, vs) = spanField fs vs
-spanField (var ∷ fs) (v, vs) = spanField fs vs
-spanField (varOrAbsent ∷ fs) (v, vs) = spanField fs vs
-spanField (numOrAbsent l ∷ fs) (v, vs) = spanField fs vs
-spanField (Field.number n ∷ fs) (v, vs) = spanField fs vs
-spanField (numberOrAbsent n ∷ fs) (v, vs) = spanField fs vs
-spanField (int ∷ fs) (v, vs) = spanField fs vs
-spanField (float ∷ fs) (v, vs) = spanField fs vs
-spanField (text ∷ fs) (v, vs) = spanField fs vs
-spanField (alias ∷ fs) (v, vs) = spanField fs vs
-spanField (span ∷ fs) (v, vs) = some v
-spanField (Field.length ∷ fs) (v, vs) = spanField fs vs
-
--- a clause, a node and a rel have a span of their own for what stands in them: in a node or rel that is its props
-unfoldable pub ownSpan : (s : Sort) (k : Kind s) → Fields (forms s k) → Option Span
-ownSpan statement k f = none
-ownSpan unionArm k f = none
-ownSpan clause k f = spanField (clauseForms k) f
-ownSpan projection k f = none
-ownSpan orderItem k f = none
-ownSpan patternPart k f = none
-ownSpan patternElement k f = spanField (elementForms k) f
-ownSpan name k f = none
-ownSpan yieldItem k f = none
-ownSpan entry k f = none
-ownSpan expr k f = none
-ownSpan (inPlan p) k f = none
-
-unfoldable pub orSpan : Option Span → Span → Span
-orSpan none s = s
-orSpan (some own) s = own
-
--- The span that is reported at a line: that of the nearest clause, node or rel that it stands in. So a pattern inside an expression keeps the span around it. `outside` is for a line that stands in none; the theorem holds whatever it is, so no such line is reported.
-unfoldable pub spanAt : (outside : Span) → (above : List Rec) → Span
-spanAt outside [] = outside
-spanAt outside (r ∷ rs) = orSpan (ownSpan (r .sort) (r .kind) (r .fields)) (spanAt outside rs)
-
--- ── the first met ──
-
-unfoldable pub reportOr : (line : ℕ) → Span → Option Fault → Verdict → Verdict
-reportOr line s none rest = rest
-reportOr line s (some x) rest = violated (x .number) line s (x .kind)
-
--- the first of some lines, the first of which has the number n, that is a fault
-unfoldable pub firstFault : (outside : Span) (n : ℕ) → List Line → Verdict
-firstFault outside n [] = fine
-firstFault outside n (l ∷ ls) = reportOr n (spanAt outside (l .above)) (faultAt l ls) (firstFault outside (suc n) ls)
+use Rattle.demands.specs.Walk.{Line, lines, Meets, firstFault}
+use Rattle.demands.specs.WalkLaws.{lines-records, FaultRow, six, seven, eight, Walked, met, met-none, walked, first-fault}
 
 -- ── the demand ──
 
@@ -180,6 +35,10 @@ pub record WithinLimits (c : LowerCtx) (slice : Bytes) : Type 0 where
   pub numbers : c .scope .next ≤ maxPlan
   pub room : length (planSheet c) ≤ length slice
 
+-- its plan in the slice, and behind it what stood there
+abbrev pub planIn : Tree statement → Bytes → Outcome
+planIn t slice = record { answer = answer 0 0 0 0 0 (length (planSheet (lowerStatement t))); slice = planSheet (lowerStatement t) ++ drop (length (planSheet (lowerStatement t))) slice }
+
 -- of a call with a sheet whose tree is t
 pub record Demand2 (t : Tree statement) (slice : Bytes) (o : Outcome) : Type 0 where
   -- the lines are the sheet's records, and their numbers are the places in that list, from 1
@@ -191,266 +50,7 @@ pub record Demand2 (t : Tree statement) (slice : Bytes) (o : Outcome) : Type 0 w
   -- with the first met
   pub first-met : (outside : Span) {s : Span} {number line kind : ℕ} → firstFault outside 1 (lines [] t) ≡ violated number line s kind → o ≡ record { answer = answer number line (s .start) (s .end) kind 0; slice = slice }
   -- otherwise, within the limits, the plan is the defined one
-  pub otherwise : (Meets (lines [] t) → ⊥) → WithinLimits (lowerStatement t) slice → o ≡ record { answer = answer 0 0 0 0 0 (length (planSheet (lowerStatement t))); slice = planSheet (lowerStatement t) ++ drop (length (planSheet (lowerStatement t))) slice }
-
--- ── the lines are the records ──
-
-map-append : {A B : Type 0} (g : A → B) (s t : List A) → map g (s ++ t) ≡ map g s ++ map g t
-map-append g [] t = refl
-map-append g (a ∷ s) t = ap (λ l. g a ∷ l) (map-append g s t)
-
-mutual
-  unfolding lines records
-
-  lines-records : {s : Sort} (above : List Rec) (t : Tree s) → map (λ l. l .this) (lines above t) ≡ records t
-  lines-records above (node s line k f kids) = ap (λ l. rec s k f ∷ l) (linesIn-records (rec s k f ∷ above) kids)
-
-  linesOf-records : {s : Sort} {n : ℕ} (above : List Rec) (ts : Trees s n) → map (λ l. l .this) (linesOf above ts) ≡ recordsOf ts
-  linesOf-records above []ᵗ = refl
-  linesOf-records above (t ∷ᵗ ts) = map-append _ (lines above t) (linesOf above ts) ∙ ap₂ (λ a b. a ++ b) (lines-records above t) (linesOf-records above ts)
-
-  linesIn-records : {gs : List Group} (above : List Rec) (f : Forest gs) → map (λ l. l .this) (linesIn above f) ≡ recordsIn f
-  linesIn-records above end = refl
-  linesIn-records above (ts ▸ f) = map-append _ (linesOf above ts) (linesIn above f) ∙ ap₂ (λ a b. a ++ b) (linesOf-records above ts) (linesIn-records above f)
-
--- ── the check's spans are those of the rule ──
-
-clause-span : (k : Clause) (f : Fields (clauseForms k)) (around : Span) → clauseSpan k f ≡ orSpan (spanField (clauseForms k) f) around
-unfolding spanField orSpan
-clause-span Clause.Match f around = refl
-clause-span Clause.Where f around = refl
-clause-span Clause.With f around = refl
-clause-span Clause.Return f around = refl
-clause-span Clause.Unwind f around = refl
-clause-span Clause.Call f around = refl
-clause-span Clause.Write f around = refl
-
-element-span : (k : PatternElement) (f : Fields (elementForms k)) (around : Span) → elementSpan k f ≡ orSpan (spanField (elementForms k) f) around
-unfolding spanField orSpan
-element-span PatternElement.Node f around = refl
-element-span PatternElement.Rel f around = refl
-
-span-in : (s : Sort) (k : Kind s) (f : Fields (forms s k)) (around : Span) → spanIn s k f around ≡ orSpan (ownSpan s k f) around
-unfolding ownSpan orSpan
-span-in statement k f around = refl
-span-in unionArm k f around = refl
-span-in clause k f around = clause-span k f around
-span-in projection k f around = refl
-span-in orderItem k f around = refl
-span-in patternPart k f around = refl
-span-in patternElement k f around = element-span k f around
-span-in name k f around = refl
-span-in yieldItem k f around = refl
-span-in entry k f around = refl
-span-in expr k f around = refl
-span-in (inPlan p) k f around = refl
-
--- ── what the check says of a record is what its line is ──
-
-own-elements : {n : ℕ} (line m : ℕ) (above : List Rec) (ts : Trees patternElement n) (s : Span) (rest : List Line) (v : Verdict) → andThen (ofElements line (numberedOf ts m) s) v ≡ reportOr line s (partFault n ((linesOf above ts ++ []) ++ rest)) v
-unfolding andThen ofElements reportOr partFault relNext isRel numbered lines
-own-elements line m above []ᵗ s rest v = refl
-own-elements line m above (node patternElement l PatternElement.Node f kids ∷ᵗ ts) s rest v = refl
-own-elements line m above (node patternElement l PatternElement.Rel f kids ∷ᵗ ts) s rest v = refl
-
-own-part : {n : ℕ} (line m : ℕ) (above : List Rec) (x : Forest ((patternElement, n) ∷ [])) (s : Span) (rest : List Line) (v : Verdict) → andThen (ofPart line (numberedIn x m) s) v ≡ reportOr line s (partFault n (linesIn above x ++ rest)) v
-unfolding ofPart numbered lines
-own-part line m above (ts ▸ end) s rest v = own-elements line m above ts s rest v
-
-own-expr : (line : ℕ) (k : Expr) (f : Fields (exprForms k)) (s : Span) (v : Verdict) → andThen (ofExpr line k f s) v ≡ reportOr line s (exprFault k f) v
-unfolding andThen ofExpr reportOr exprFault
-own-expr line (Expr.Over h) f s v = refl
-own-expr line Expr.Var f s v = refl
-own-expr line Expr.Map f s v = refl
-own-expr line Expr.Call f s v = refl
-own-expr line Expr.PatternPredicate f s v = refl
-own-expr line Expr.ListPredicate f s v = refl
-own-expr line Expr.Unresolved f s v = refl
-own-expr line Expr.Undesugared f s v = refl
-
-own : (s : Sort) (line m : ℕ) (k : Kind s) (f : Fields (forms s k)) (above : List Rec) (kids : Forest (children s k f)) (x : Span) (rest : List Line) (v : Verdict) → andThen (ofRecord s line k f (numberedIn kids m) x) v ≡ reportOr line x (faultOf s k f (linesIn above kids ++ rest)) v
-unfolding andThen ofRecord reportOr faultOf
-own statement line m k f above kids x rest v = refl
-own unionArm line m k f above kids x rest v = refl
-own clause line m k f above kids x rest v = refl
-own projection line m k f above kids x rest v = refl
-own orderItem line m k f above kids x rest v = refl
-own patternPart line m k f above kids x rest v = own-part line m above kids x rest v
-own patternElement line m k f above kids x rest v = refl
-own name line m k f above kids x rest v = refl
-own yieldItem line m k f above kids x rest v = refl
-own entry line m k f above kids x rest v = refl
-own expr line m k f above kids x rest v = own-expr line k f x v
-own (inPlan p) line m k f above kids x rest v = refl
-
-andThen-assoc : (u v w : Verdict) → andThen (andThen u v) w ≡ andThen u (andThen v w)
-unfolding andThen
-andThen-assoc fine v w = refl
-andThen-assoc (violated n l s k) v w = refl
-
-fine-then : (v : Verdict) → andThen fine v ≡ v
-unfolding andThen
-fine-then v = refl
-
-andThen-fine : (v : Verdict) → andThen v fine ≡ v
-unfolding andThen
-andThen-fine fine = refl
-andThen-fine (violated n l s k) = refl
-
--- ── the walk: the verdict on a tree, and then the first fault behind it ──
-
--- two verdicts and the first fault behind them
-both-walk : (u v : Verdict) (x y z : Verdict) → andThen v x ≡ y → andThen u y ≡ z → andThen (andThen u v) x ≡ z
-both-walk u v x y z p q = andThen-assoc u v x ∙ ap (λ w. andThen u w) p ∙ q
-
-module _ (outside : Span) where
-  mutual
-    unfolding check lines numbered records firstFault faultAt spanAt
-
-    walk : {s : Sort} (t : Tree s) (n : ℕ) (above : List Rec) (rest : List Line) → andThen (check (numbered t n) (spanAt outside above)) (firstFault outside (n + length (records t)) rest) ≡ firstFault outside n (lines above t ++ rest)
-    walk (node s line k f kids) n above rest =
-        let count : n + suc (length (recordsIn kids)) ≡ suc n + length (recordsIn kids) = omega arith in
-        both-walk _ _ _ _ _
-        (ap₂ (λ x m. andThen (checkIn (numberedIn kids (suc n)) x) (firstFault outside m rest)) (span-in s k f (spanAt outside above)) count ∙ walkIn kids (suc n) (rec s k f ∷ above) rest)
-        (own s n (suc n) k f (rec s k f ∷ above) kids (spanAt outside above) rest _)
-
-    walkOf : {s : Sort} {m : ℕ} (ts : Trees s m) (n : ℕ) (above : List Rec) (rest : List Line) → andThen (checkOf (numberedOf ts n) (spanAt outside above)) (firstFault outside (n + length (recordsOf ts)) rest) ≡ firstFault outside n (linesOf above ts ++ rest)
-    walkOf []ᵗ n above rest = fine-then _ ∙ ap (λ m. firstFault outside m rest) (omega arith)
-    walkOf (t ∷ᵗ ts) n above rest =
-        let count : n + length (records t ++ recordsOf ts) ≡ n + length (records t) + length (recordsOf ts) = omega (arith, length-append (records t) (recordsOf ts)) in
-        both-walk _ _ _ _ _
-        (ap (λ m. andThen (checkOf (numberedOf ts (n + length (records t))) (spanAt outside above)) (firstFault outside m rest)) count ∙ walkOf ts (n + length (records t)) above rest)
-        (walk t n above (linesOf above ts ++ rest) ∙ ap (λ l. firstFault outside n l) (sym (append-assoc (lines above t) (linesOf above ts) rest)))
-
-    walkIn : {gs : List Group} (x : Forest gs) (n : ℕ) (above : List Rec) (rest : List Line) → andThen (checkIn (numberedIn x n) (spanAt outside above)) (firstFault outside (n + length (recordsIn x)) rest) ≡ firstFault outside n (linesIn above x ++ rest)
-    walkIn end n above rest = fine-then _ ∙ ap (λ m. firstFault outside m rest) (omega arith)
-    walkIn (ts ▸ x) n above rest =
-        let count : n + length (recordsOf ts ++ recordsIn x) ≡ n + length (recordsOf ts) + length (recordsIn x) = omega (arith, length-append (recordsOf ts) (recordsIn x)) in
-        both-walk _ _ _ _ _
-        (ap (λ m. andThen (checkIn (numberedIn x (n + length (recordsOf ts))) (spanAt outside above)) (firstFault outside m rest)) count ∙ walkIn x (n + length (recordsOf ts)) above rest)
-        (walkOf ts n above (linesIn above x ++ rest) ∙ ap (λ l. firstFault outside n l) (sym (append-assoc (linesOf above ts) (linesIn above x) rest)))
-
--- ── no line is reported outside a clause ──
-
-clause-anywhere : (c : Tree clause) (a b : Span) → check c a ≡ check c b
-unfolding check ofRecord
-clause-anywhere (node clause line k f kids) a b = refl
-
-clauses-anywhere : {n : ℕ} (cs : Trees clause n) (a b : Span) → checkOf cs a ≡ checkOf cs b
-unfolding check
-clauses-anywhere []ᵗ a b = refl
-clauses-anywhere (c ∷ᵗ cs) a b = ap₂ (λ u v. andThen u v) (clause-anywhere c a b) (clauses-anywhere cs a b)
-
-arms-anywhere : {n : ℕ} (arms : Trees unionArm n) (a b : Span) → checkOf arms a ≡ checkOf arms b
-unfolding check ofRecord
-arms-anywhere []ᵗ a b = refl
-arms-anywhere (node unionArm line k f (cs ▸ end) ∷ᵗ arms) a b = ap₂ (λ u v. andThen (andThen fine (andThen u fine)) v) (clauses-anywhere cs a b) (arms-anywhere arms a b)
-
-anywhere : (t : Tree statement) (a b : Span) → check t a ≡ check t b
-unfolding check ofRecord
-anywhere (node statement line k f (cs ▸ arms ▸ end)) a b = ap₂ (λ u v. andThen fine (andThen u (andThen v fine))) (clauses-anywhere cs a b) (arms-anywhere arms a b)
-
--- the check's verdict on the tree of a sheet
-pub first-fault : (t : Tree statement) → numbered t 1 ≡ t → (outside : Span) → precheckStatement t ≡ firstFault outside 1 (lines [] t)
-unfolding precheckStatement firstFault spanAt
-first-fault t e outside =
-    anywhere t noSpan outside
-    ∙ ap (λ u. check u outside) (sym e)
-    ∙ sym (andThen-fine (check (numbered t 1) outside))
-    ∙ walk outside t 1 [] []
-    ∙ ap (λ l. firstFault outside 1 l) (append-nil (lines [] t))
-
--- ── what is found, if something is ──
-
--- number and kind of a fault
-pub data FaultRow : (number kind : ℕ) → Type 0 where
-  six : FaultRow 6 0
-  seven : {kind : ℕ} → FaultRow 7 kind
-  eight : FaultRow 8 0
-
-pub data Faulty : Option Fault → Type 0 where
-  no-fault : Faulty none
-  a-fault : {x : Fault} → FaultRow (x .number) (x .kind) → Faulty (some x)
-
-expr-faulty : (k : Expr) (f : Fields (exprForms k)) → Faulty (exprFault k f)
-unfolding exprFault
-expr-faulty (Expr.Over h) f = no-fault
-expr-faulty Expr.Var f = no-fault
-expr-faulty Expr.Map f = no-fault
-expr-faulty Expr.Call f = no-fault
-expr-faulty Expr.PatternPredicate f = no-fault
-expr-faulty Expr.ListPredicate f = no-fault
-expr-faulty Expr.Unresolved f = a-fault six
-expr-faulty Expr.Undesugared f = a-fault seven
-
-part-faulty : (n : ℕ) (behind : List Line) → Faulty (partFault n behind)
-unfolding partFault
-part-faulty zero behind = a-fault eight
-part-faulty (suc n) behind = go (relNext behind)
-  where
-    go : (b : Bool) → Faulty (cond b (fault 8 0) none)
-    go true = a-fault eight
-    go false = no-fault
-
-of-faulty : (s : Sort) (k : Kind s) (f : Fields (forms s k)) (behind : List Line) → Faulty (faultOf s k f behind)
-unfolding faultOf
-of-faulty statement k f behind = no-fault
-of-faulty unionArm k f behind = no-fault
-of-faulty clause k f behind = no-fault
-of-faulty projection k f behind = no-fault
-of-faulty orderItem k f behind = no-fault
-of-faulty patternPart k (_, (_, (n, _))) behind = part-faulty n behind
-of-faulty patternElement k f behind = no-fault
-of-faulty name k f behind = no-fault
-of-faulty yieldItem k f behind = no-fault
-of-faulty entry k f behind = no-fault
-of-faulty expr k f behind = expr-faulty k f
-of-faulty (inPlan p) k f behind = no-fault
-
--- the first fault of some lines that begin with line n
-pub data Walked (n : ℕ) (ls : List Line) : Verdict → Type 0 where
-  met-none : (Meets ls → ⊥) → Walked n ls fine
-  met : {number line kind : ℕ} {s : Span} → Meets ls → FaultRow number kind → n ≤ line → Walked n ls (violated number line s kind)
-
-some-none : {A : Type 0} {a : A} → some a ≡ none → ⊥
-some-none e = Option·some-ne-none _ e
-
-unfoldable some-line : List Line → Type 0
-some-line [] = ⊥
-some-line (l ∷ ls) = Unit {0}
-
-meets-some : {ls : List Line} → Meets ls → some-line ls
-unfolding some-line
-meets-some (here e) = tt
-meets-some (later m) = tt
-
-nothing-met : Meets [] → ⊥
-unfolding some-line
-nothing-met m = meets-some m
-
-not-met : {l : Line} {ls : List Line} → faultAt l ls ≡ none → (Meets ls → ⊥) → Meets (l ∷ ls) → ⊥
-not-met e f (here q) = some-none (sym q ∙ e)
-not-met e f (later m) = f m
-
-walked-on : {n : ℕ} {l : Line} {ls : List Line} {v : Verdict} → faultAt l ls ≡ none → Walked (suc n) ls v → Walked n (l ∷ ls) v
-walked-on e (met-none f) = met-none (not-met e f)
-walked-on {n} e (met {line = line} m row le) =
-    let earlier : n ≤ line = omega arith in
-    met (later m) row earlier
-
-at-faulty : (l : Line) (ls : List Line) → Faulty (faultAt l ls)
-unfolding faultAt
-at-faulty l ls = of-faulty (l .this .sort) (l .this .kind) (l .this .fields) ls
-
-walked-at : (outside : Span) (n : ℕ) (l : Line) (ls : List Line) {o : Option Fault} → faultAt l ls ≡ o → Faulty o → Walked (suc n) ls (firstFault outside (suc n) ls) → Walked n (l ∷ ls) (reportOr n (spanAt outside (l .above)) o (firstFault outside (suc n) ls))
-unfolding reportOr
-walked-at outside n l ls e no-fault h = walked-on e h
-walked-at outside n l ls e (a-fault row) h = met {line = n} (here e) row (omega arith)
-
-pub walked : (outside : Span) (n : ℕ) (ls : List Line) → Walked n ls (firstFault outside n ls)
-unfolding firstFault
-walked outside n [] = met-none nothing-met
-walked outside n (l ∷ ls) = walked-at outside n l ls refl (at-faulty l ls) (walked outside (suc n) ls)
+  pub otherwise : (Meets (lines [] t) → ⊥) → WithinLimits (lowerStatement t) slice → o ≡ planIn t slice
 
 -- ── the calls ──
 
@@ -463,7 +63,7 @@ unfolding lowerCall planned behindCheck
 call-is work sheet slice t w h r = rw (checked-is work w h r)
 
 module _ (t : Tree statement) (slice : Bytes) where
-  fine-written : (b : Bool) → ForTree (cond {A = Outcome} b (record { answer = answer 10 0 0 0 0 0; slice = slice }) (record { answer = answer 0 0 0 0 0 (length (planSheet (lowerStatement t))); slice = planSheet (lowerStatement t) ++ drop (length (planSheet (lowerStatement t))) slice }) .answer) → ⊥
+  fine-written : (b : Bool) → ForTree (cond {A = Outcome} b (record { answer = answer 10 0 0 0 0 0; slice = slice }) (planIn t slice) .answer) → ⊥
   fine-written true h = omega (arith, h .high)
   fine-written false h = omega (arith, h .low)
 
@@ -490,11 +90,11 @@ module _ (t : Tree statement) (slice : Bytes) where
   unfolding behindCheck then testCheck outcome
   met-first s number line kind = refl
 
-  fine-plan : WithinLimits (lowerStatement t) slice → behindCheck t slice fine ≡ record { answer = answer 0 0 0 0 0 (length (planSheet (lowerStatement t))); slice = planSheet (lowerStatement t) ++ drop (length (planSheet (lowerStatement t))) slice }
+  fine-plan : WithinLimits (lowerStatement t) slice → behindCheck t slice fine ≡ planIn t slice
   unfolding behindCheck then testCheck testPlan outcome written
   fine-plan h = rw (le-ltb maxPlan (length (lowerStatement t .ops)) (h .operators), le-ltb maxPlan (lowerStatement t .scope .next) (h .numbers), le-ltb (length slice) (length (planSheet (lowerStatement t))) (h .room))
 
-  met-otherwise : {ls : List Line} {v : Verdict} → Walked 1 ls v → (Meets ls → ⊥) → WithinLimits (lowerStatement t) slice → behindCheck t slice v ≡ record { answer = answer 0 0 0 0 0 (length (planSheet (lowerStatement t))); slice = planSheet (lowerStatement t) ++ drop (length (planSheet (lowerStatement t))) slice }
+  met-otherwise : {ls : List Line} {v : Verdict} → Walked 1 ls v → (Meets ls → ⊥) → WithinLimits (lowerStatement t) slice → behindCheck t slice v ≡ planIn t slice
   met-otherwise (met-none f) g h = fine-plan h
   met-otherwise (met m row le) g h = absurd (g m)
 
