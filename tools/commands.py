@@ -27,7 +27,7 @@ ROOT = pathlib.Path(__file__).resolve().parent.parent
 # So many commands may be left out in all documents together.
 MOST_LEFT_OUT = 16
 # A block that takes longer than this, in seconds, is to be marked.
-LONGEST = 120
+LONGEST = 300
 COMMAND = re.compile(r" {4}(\$ |\(?cd |rt |cargo |python3 |make |target/|tools/|dresserhawk |compare |valgrind )")
 NOT_RUN = re.compile(r"# not run by the tests: .")
 STATUS = re.compile(r"# ends with status (\d+)$")
