@@ -9,6 +9,7 @@ use lib.ListN.{length, getD, drop, set}
 use Rattle.model.specs.Lower.{Recs, Lowering}
 use Rattle.model.specs.Lower
 use Rattle.context.specs.declared.LowerCtx.{LowerCtx}
+pub use Rattle.context.specs.declared.op.Op.{Op}
 use Rattle.context.specs.declared.Numbered.{Numbered}
 use Rattle.context.specs.declared.index.Found.{Found}
 use Rattle.context.specs.declared.index.Found.the-variants.{At, Nothing}
@@ -17,9 +18,21 @@ use Rattle.context.specs.declared.index.Found.the-variants.{At, Nothing}
 abbrev pub maxStored : ℕ
 maxStored = 2048
 
+-- an operator has so many words
+abbrev pub opWords : ℕ
+opWords = 8
+
 -- the notes end, and the variables begin, at this word
 abbrev pub varsAt : ℕ
 varsAt = 4608
+
+-- there is room for so many variables
+abbrev pub maxVars : ℕ
+maxVars = 4352
+
+-- the notes of a second pass begin at this word
+abbrev pub secondPass : ℕ
+secondPass = 2048
 
 -- the first n variables, the newest first
 unfoldable pub varsOf : ℕ → List ℕ → List (ℕ × ℕ)
@@ -99,20 +112,11 @@ foundOf (some n) = At n
 
 -- a state of the definition, by its operators, the counts and the variables' words
 abbrev pub stateOf : List Recs → LowerCtx → List ℕ → Lower.LowerCtx
-stateOf ops c vs = record { ops = ops; vars = varsOf (c .mapped) vs; next = c .next }
+stateOf ops c vs = record { ops = ops; scope = record { vars = varsOf (c .mapped) vs; next = c .next } }
 
--- an operator as it is stored
-pub record Op : Type 0 where
-  pub kind : ℕ
-  pub idx : ℕ
-  pub input : ℕ
-  pub x : ℕ
-  pub y : ℕ
-  pub left : ℕ
-  pub base : ℕ
-
+-- an operator as it is stored, by the words of the operators' slice
 unfoldable pub opAt : List ℕ → ℕ → Op
-opAt o k = record { kind = getD o (k * 8 + 1) 0; idx = getD o (k * 8 + 2) 0; input = getD o (k * 8 + 3) 0; x = getD o (k * 8 + 4) 0; y = getD o (k * 8 + 5) 0; left = getD o (k * 8 + 6) 0; base = getD o (k * 8 + 7) 0 }
+opAt o k = record { kind = getD o (k * opWords + 1) 0; idx = getD o (k * opWords + 2) 0; input = getD o (k * opWords + 3) 0; x = getD o (k * opWords + 4) 0; y = getD o (k * opWords + 5) 0; left = getD o (k * opWords + 6) 0; base = getD o (k * opWords + 7) 0 }
 
 -- a step of the definition issues a number over the variables' words
 pub record Issued (step : Lowering ℕ) (c : LowerCtx) (vs vs′ : List ℕ) (r : Numbered) : Type 0 where

@@ -4,6 +4,8 @@ ghost use Prim.Native.Nat.{_+_, _<_, _≤_};
 ghost use lib.ListN.{length, getD, set};
 ghost use Rattle.model.specs.Lower.{lookup};
 ghost use Rattle.context.specs.Tables.{varsOf, foundOf, childOf, withHalf, Indexed, Descended, Joined, Linked};
+use crate::LINKS_AT;
+use crate::MAX_INDEXED;
 
 pub enum Found {
     At(u32),
@@ -21,7 +23,7 @@ fn child(vars: &[u32], p: usize, rest: u32) -> usize
     requires { ⌜ (p < 2048) × (11776 ≤ length (now vars)) ⌝ }
     ensures { λ r. ⌜ r ≡ childOf (now (vars .entry)) p rest ⌝ }
 {
-    let w = vars[8704 + p];
+    let w = vars[LINKS_AT + p];
     if rest % 2 == 0 {
         return (w % 65536) as usize;
     }
@@ -33,12 +35,12 @@ fn set_child(vars: &mut [u32], p: usize, rest: u32, link: u32)
     requires { ⌜ (p < 2048) × (link < 65536) × (11776 ≤ length (now vars)) × (childOf (now vars) p rest ≡ 0) ⌝ }
     ensures { λ _. ⌜ now (vars .exit) ≡ set (now (vars .entry)) (8704 + p) (withHalf (getD (now (vars .entry)) (8704 + p) 0) rest link) ⌝ }
 {
-    let w = vars[8704 + p];
+    let w = vars[LINKS_AT + p];
     if rest % 2 == 0 {
-        vars[8704 + p] = w + link;
+        vars[LINKS_AT + p] = w + link;
         return;
     }
-    vars[8704 + p] = w + link * 65536;
+    vars[LINKS_AT + p] = w + link * 65536;
 }
 
 // The way down for an id, from the root to the variable that has it or to the one that its variable would be a child of. All variables below one at depth d have the same last d bits in their ids, so that a way has at most 33 variables, whatever the ids are.
@@ -87,7 +89,7 @@ pub fn find(vars: &[u32], count: usize, id: u32) -> Found
     ensures { λ r. ⌜ r ≡ foundOf (lookup (varsOf count (now (vars .entry))) id) ⌝ }
 {
     let mut k = count;
-    while k > 2048 {
+    while k > MAX_INDEXED {
         k -= 1;
         if vars[k * 2] == id {
             return Found::At(vars[k * 2 + 1]);
@@ -115,9 +117,9 @@ pub fn enter(vars: &mut [u32], k: usize, id: u32)
     requires { ⌜ foundOf (lookup (varsOf k (now vars)) id) ≡ Found.Nothing ⌝ }
     ensures { λ _. ⌜ Linked k id (now (vars .entry)) (now (vars .exit)) ⌝ }
 {
-    if k >= 2048 {
+    if k >= MAX_INDEXED {
         return;
     }
     join(vars, k, id);
-    vars[8704 + k] = 0;
+    vars[LINKS_AT + k] = 0;
 }

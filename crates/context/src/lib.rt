@@ -8,6 +8,25 @@ ghost use Rattle.context.specs.Tables.{varsOf, foundOf, Indexed, Issued,
 use crate::index::Found;
 
 pub mod index;
+pub mod op;
+
+// So many operators are stored; those beyond are counted alone.
+pub const MAX_STORED: usize = 2048;
+
+// An operator has so many words.
+pub const OP_WORDS: usize = 8;
+
+// The notes of a second pass begin at this word of the fourth slice, and the variables, two words each, behind all notes.
+pub const SECOND_PASS: usize = 2048;
+
+pub const VARS_AT: usize = 4608;
+
+// There is room for so many variables; so many of them are in the index, whose words begin at this word behind VARS_AT.
+pub const MAX_VARS: usize = 4352;
+
+pub const MAX_INDEXED: usize = 2048;
+
+pub const LINKS_AT: usize = 8704;
 
 // How many operators, variable numbers and named variables there are. The operators' count goes on beyond their table.
 pub struct LowerCtx {
@@ -69,7 +88,7 @@ impl LowerCtx {
         requires { ⌜ (self .mapped < 4352) × (self .next < 65536) × (place < 4608) × (16384 ≤ length (now rest)) × Indexed (self .mapped) (drop 4608 (now rest)) ⌝ }
         ensures { λ r. ⌜ Numbers (mapVar id) place self (now (rest .entry)) (now (rest .exit)) r ⌝ }
     {
-        let r = self.map_var(&mut rest[4608..], id);
+        let r = self.map_var(&mut rest[VARS_AT..], id);
         note(rest, place, r.number);
         r
     }
@@ -123,10 +142,10 @@ impl LowerCtx {
             next: self.next,
             mapped: self.mapped,
         };
-        if k >= 2048 {
+        if k >= MAX_STORED {
             return more;
         }
-        let at = k * 8;
+        let at = k * OP_WORDS;
         ops[at + 1] = kind;
         ops[at + 2] = idx;
         ops[at + 3] = input;

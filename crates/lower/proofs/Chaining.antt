@@ -11,11 +11,12 @@ use Rattle.model.specs.Field.{Fields}
 use Rattle.model.specs.Kind.{ReadOp, patternPart, patternElement}
 use Rattle.model.specs.Record.{forms}
 use Rattle.model.specs.Tree.{Tree, Trees, node, end, _▸_, fold}
-use Rattle.model.specs.Lower.{Recs, Lowered, made, _>>=_, ret, push, op, source, upcoming, mapVar, pushSourceAll, orSourceAll, rootOf, pathElements, bindPath, lowerElements, lowerChain}
+use Rattle.model.specs.Lower.{Recs, Lowered, made, _>>=_, ret, push, op, source, issue, upcoming, mapVar, pushSourceAll, orSourceAll, rootOf, pathElements, bindPath, lowerElements, lowerChain}
 use Rattle.model.specs.Lower
 use Rattle.words.specs.Words.{Roomy, cell, optionOf, fieldsOf, fieldOf}
 use Rattle.words.specs.Held.{Held, HeldOf, size, sizeOf}
-use Rattle.context.specs.Tables.{Op, Pushed, Numbers}
+use Rattle.context.specs.Tables.{Pushed, Numbers}
+use Rattle.context.specs.declared.op.Op.{Op}
 use Rattle.context.specs.declared.LowerCtx.{LowerCtx}
 use Rattle.context.specs.declared.Numbered.{Numbered}
 use Rattle.words.specs.Cells.{shown}
@@ -45,7 +46,7 @@ unfolding orSourceAll ret
 source-there has last m h l = record { grow = le-refl _; few = omega arith; next = refl; mapped = refl; rest = refl; in-ops = refl; low = l; run = λ sheet a b W s r. rw (some-given has last h) (record { to = to-refl r; root = refl }) }
 
 pub source-new : (has last : ℕ) (m : Mem) (c : LowerCtx) (os : List ℕ) → has ≡ 0 → Pushed (m .ctx) c (m .ops) os (allOp (m .ctx .next)) → length os ≡ length (m .ops) → OrSource (orSourceAll (givenIf has last)) (m .ctx .ops) m (mem c os (m .rest))
-unfolding orSourceAll pushSourceAll upcoming _>>=_ push
+unfolding orSourceAll pushSourceAll upcoming issue _>>=_ push
 source-new has last m c os h p lo = record {
   grow = omega (arith, p .count);
   few = omega (arith, p .count);
@@ -54,7 +55,7 @@ source-new has last m c os h p lo = record {
   rest = refl;
   in-ops = lo;
   low = omega (arith, p .count);
-  run = λ sheet a b W s r. rw (none-given has last h) (record { to = push-to m c os (allOp (m .ctx .next)) (source (s .next) []) r p (λ N A f. record { sane = all-sane (m .ctx .next); shows = shows-all refl (ap (λ (x : ℕ). source x []) (sym (upcoming-number m r))) }); root = r .count });
+  run = λ sheet a b W s r. rw (none-given has last h) (record { to = push-to m c os (allOp (m .ctx .next)) (source (s .scope .next) []) r p (λ N A f. record { sane = all-sane (m .ctx .next); shows = shows-all refl (ap (λ (x : ℕ). source x []) (sym (upcoming-number m r))) }); root = r .count });
 }
 
 -- ── a part, opened ──
