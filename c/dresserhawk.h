@@ -1,8 +1,8 @@
 /*
  * The proved calls of Dresserhawk for C and C++: a statement sheet in, a plan
  * sheet out. docs/C.md has the rules for their arguments, docs/FORMAT.md both
- * sheets and the refusals. Link libdresserhawk.a (x86-64), which tools/archive.sh
- * makes.
+ * sheets, docs/REFUSALS.md the refusals. Link libdresserhawk.a (x86-64), which
+ * tools/archive.sh makes.
  */
 #ifndef DRESSERHAWK_H
 #define DRESSERHAWK_H

@@ -27,7 +27,7 @@ use std::fmt;
 #[derive(Debug, Clone, Copy, PartialEq, Eq)]
 pub enum OutOfScope {
     /// It sets something of its connection, and searches nothing.
-    SessionSet,
+    Setting,
     /// A clause that writes, by its Cypher word.
     Write { clause: &'static str, span: Span },
     /// Records deeper than a sheet may have them.
@@ -40,7 +40,7 @@ impl fmt::Display for OutOfScope {
     fn fmt(&self, f: &mut fmt::Formatter<'_>) -> fmt::Result {
         let at = |span: &Span| format!("at {}..{}", span.start, span.end);
         match self {
-            OutOfScope::SessionSet => write!(f, "a statement that sets, and searches nothing"),
+            OutOfScope::Setting => write!(f, "a statement that sets, and searches nothing"),
             OutOfScope::Write { clause, span } => {
                 write!(f, "{clause} writes, {}; only clauses that read have a plan", at(span))
             }
@@ -62,7 +62,7 @@ pub fn encode(statement: &hir::Statement) -> Result<Vec<u8>, OutOfScope> {
 /// The same, as the tree that the sheet is written from.
 pub fn tree(statement: &hir::Statement) -> Result<Statement, OutOfScope> {
     if statement.session_set.is_some() {
-        return Err(OutOfScope::SessionSet);
+        return Err(OutOfScope::Setting);
     }
     let mut tree = Statement::new();
     for clause in &statement.clauses {

@@ -61,7 +61,7 @@ fn a_statement_that_sets_is_refused() {
     let mut statement = Statement::new(range(0, 9));
     // What cyrs has in it does not matter here; the comparison's copy has nothing.
     statement.session_set = Some(cyrs_hir::SessionSetHir);
-    assert_eq!(encode(&statement), Err(OutOfScope::SessionSet));
+    assert_eq!(encode(&statement), Err(OutOfScope::Setting));
 }
 
 #[test]
