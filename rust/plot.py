@@ -1,21 +1,22 @@
 #!/usr/bin/env python3
-"""Draws what `compare speed` prints: nanoseconds for one record by size.
+"""Draws the times of `compare speed`: nanoseconds for one record by size.
 
-  target/rust/release/compare speed >docs/speed.txt
+  python3 tools/measure.py >docs/speed.txt
   python3 rust/plot.py docs/speed.txt docs/speed.svg
 """
 import math
 import re
 import sys
 
-ROW = re.compile(r'(\d+) records +\d+ +(\d+) +([\d.]+) +([\d.]+) +([\d.]+) ')
+ROW = re.compile(r'(\d+) records +\d+ +(\d+)' + 4 * r' +([\d.]+\b)' + r' +[\d.]+ +[\d.]+$')
 # What each column of times is called, and its colour.
-CURVES = [('our lowering call', '#b03a2e', 1), ('our sizing call', '#ca8a04', 0), ('the Rust', '#1f618d', 2)]
+CURVES = [('our sizing call', '#ca8a04', 0), ('our lowering call', '#b03a2e', 1), ('the Rust, tree ready', '#5499c7', 2),
+          ('the Rust with reading', '#1f618d', 3)]
 WIDTH, HEIGHT, LEFT, RIGHT, TOP, FOOT = 640, 360, 60, 150, 30, 50
 
 
 def rows(path):
-    """Records of a sheet, and nanoseconds for one of them: sizing, lowering, the Rust."""
+    """Records of a sheet, and nanoseconds for one of them, for each curve."""
     with open(path, encoding='utf-8') as file:
         found = [match for match in map(ROW.match, file) if match]
     return [(int(m[2]), [1000 * float(time) / int(m[2]) for time in m.groups()[2:]]) for m in found]
