@@ -11,7 +11,8 @@ callgrind, which counts between entry and exit of the functions `side_*` alone:
 nothing of the making of sheets. They are the same in every run but for a few in
 a thousand of the Rust's, whose hash tables are seeded by chance. The profile
 takes the calls that leave the outermost functions of a side and names each by
-the crate or step it enters.
+the crate or step it enters. What a function costs itself has in it what the
+compiler put in place of calls.
 
     python3 tools/measure.py --seconds 10     each row of times in so long
     python3 tools/measure.py --no-times       instructions alone
@@ -26,9 +27,11 @@ import tempfile
 
 COMPARE = 'target/rust/release/compare'
 LOADS = ['16', '64', '256', '1024', '2048', 'distinct', 'same', 'multiples', 'chain', 'text']
-# The load whose instructions are told by part.
+# The load whose instructions are told by part and by function.
 PROFILED = '2048'
 ROUNDS = 3
+# A function is told if it costs so many instructions a record itself.
+LEAST = 8
 # What is counted: the function of each side, by the head of its column.
 SIDES = {'sizing': 'side_sizing', 'ours': 'side_ours', 'tree ready': 'side_rust', 'with reading': 'side_with_reading'}
 # The parts, by the crate or step that a call from the outermost functions enters.
@@ -41,6 +44,8 @@ PARTS = {
 }
 # Functions around the parts: what they cost themselves is the rest.
 OUTER = re.compile(r'(compare::speed::side_|dresserhawk|library::|values::|statement::)')
+
+ALLOCATION = re.compile(r'(_int_)?(malloc|free|realloc)|unlink_chunk|sysmalloc|systrim|__rust_\w*alloc|__rustc::__r\w+alloc|cfree')
 
 POSITION = re.compile(r'(fn|cfn)=\((\d+)\)(?: (.*))?')
 COST = re.compile(r'[-+*\d]\S* (\d+)')
@@ -108,11 +113,11 @@ def part_of(name):
     return 'the rest'
 
 
-def profile(load):
-    """Callgrind's figures, and the records in all."""
+def profile(load, side='all'):
+    """The load's name, its records in all, and callgrind's figures."""
     with tempfile.NamedTemporaryFile() as file:
         command = ['valgrind', '--tool=callgrind', f'--callgrind-out-file={file.name}', '--toggle-collect=compare::speed::side_*',
-                   COMPARE, 'speed', '--count', 'all', '--load', load, '--rounds', str(ROUNDS)]
+                   COMPARE, 'speed', '--count', side, '--load', load, '--rounds', str(ROUNDS)]
         out = subprocess.run(command, capture_output=True, text=True, check=True).stdout
         name, records = re.search(r'(.*): (\d+) records in all', out).groups()
         return name, int(records) * ROUNDS, Profile(file.name)
@@ -136,6 +141,18 @@ def by_part(name, records, found):
     print(f"{'in all':<25}" + ''.join(f'{sum(parts.values()) / records:>14,.1f}' for parts in each.values()))
 
 
+def by_function(side):
+    name, records, found = profile(PROFILED, side)
+    own = collections.Counter()
+    for function, cost in found.own.items():
+        own['allocation' if ALLOCATION.match(function) else function.split("'")[0]] += cost / records
+    print(f"{side + ' by function, ' + name:<75}{'itself':>14}")
+    for function, cost in own.most_common():
+        if cost >= LEAST:
+            print(f'{function[:74]:<75}{cost:>14,.1f}')
+    print(f"{'the others':<75}{sum(cost for cost in own.values() if cost < LEAST):>14,.1f}")
+
+
 def main():
     words = argparse.ArgumentParser()
     words.add_argument('--seconds', default='5')
@@ -152,6 +169,9 @@ def main():
     instructions(profiles)
     print()
     by_part(*profiles[LOADS.index(PROFILED)])
+    for side in ('ours', 'rust-reading'):
+        print()
+        by_function(side)
 
 
 if __name__ == '__main__':
