@@ -3,3 +3,6 @@ pub mod Places
 pub mod Held
 pub mod Cells
 pub mod Numbers
+pub mod Table
+pub mod TableLaws
+pub mod LastLaws

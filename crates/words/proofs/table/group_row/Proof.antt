@@ -1,11 +1,11 @@
--- `line::table::key` meets its contract: each kind's keyword as a number. Assumes nothing.
+-- `words::table::group_row` meets its contract: each kind's row of groups. Assumes nothing.
 use borrow.Author.Needs.{needs}
-use Rattle.line.specs.LastLaws.{last-is}
-use Rattle.line.proofs.table.key.Statement.{statement}
-use Rattle.line.proofs.table.key.Tie as tie
+use Rattle.words.specs.LastLaws.{last-is}
+use Rattle.words.proofs.table.group_row.Statement.{statement}
+use Rattle.words.proofs.table.group_row.Tie as tie
 
-pub key-spec : {M : Type 1} → statement M
-key-spec =
+pub group-row-spec : {M : Type 1} → statement M
+group-row-spec =
     tie.close
     (tie.spec
     (λ c. search needs)

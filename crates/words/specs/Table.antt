@@ -5,24 +5,25 @@ use mathlib.Core.List.{List, [], _∷_}
 use lib.Dec.{ltb}
 use lib.ListN.{getD, drop}
 use Rattle.model.specs.Text.{Bytes}
-use Rattle.model.specs.Field.{Form, num, flag, var, varOrAbsent, int, float, text, alias, span}
+use Rattle.model.specs.Field.{Form, u32, num, flag, var, varOrAbsent, int, float, text, alias, span}
 use Rattle.model.specs.Field
 use Rattle.model.specs.Kind.{Sort, statement, unionArm, clause, projection, orderItem, patternPart, patternElement, name, yieldItem, entry, expr}
 use Rattle.model.specs.Record.{Group}
+use Rattle.words.specs.Places.{stmtKind, armKind, matchKind, itemKind, keyKind, partKind, nodeKind, nameKind, yieldKind, entryKind, nullKind, kindCount, numberForm}
 
 -- ── sorts ──
 
 unfoldable pub sorts : List Sort
 sorts = statement ∷ unionArm ∷ clause ∷ projection ∷ orderItem ∷ patternPart ∷ patternElement ∷ name ∷ yieldItem ∷ entry ∷ expr ∷ []
 
--- the sort of a number below 11
+-- the sort of a number below sortCount
 unfoldable pub sortOf : ℕ → Sort
 unfolding sorts
 sortOf n = getD sorts n expr
 
 -- the first kind of each sort, and the number of kinds
 abbrev pub first : List ℕ
-first = 0 ∷ 1 ∷ 2 ∷ 9 ∷ 10 ∷ 11 ∷ 12 ∷ 14 ∷ 15 ∷ 16 ∷ 17 ∷ 39 ∷ []
+first = stmtKind ∷ armKind ∷ matchKind ∷ itemKind ∷ keyKind ∷ partKind ∷ nodeKind ∷ nameKind ∷ yieldKind ∷ entryKind ∷ nullKind ∷ kindCount ∷ []
 
 -- ── keywords ──
 
@@ -90,9 +91,13 @@ inDigits ds = digitsOn 0 ds
 
 -- ── fields ──
 
--- the numbers' limits, from code 10 on
+-- the numbers' limits, from the code of a number on
 abbrev pub limits : List ℕ
-limits = 4294967295 ∷ 1 ∷ 2 ∷ 3 ∷ 19 ∷ []
+limits = u32 ∷ 1 ∷ 2 ∷ 3 ∷ 19 ∷ []
+
+-- so many
+abbrev pub limitCount : ℕ
+limitCount = 5
 
 -- the other forms, from code 0 on; code 0 ends a row
 unfoldable pub otherForms : List Form
@@ -100,7 +105,11 @@ otherForms = flag ∷ flag ∷ var ∷ varOrAbsent ∷ int ∷ float ∷ text �
 
 unfoldable pub formOf : ℕ → Form
 unfolding otherForms
-formOf c = cond (ltb c 10) (getD otherForms c flag) (num (getD limits (c - 10) 0))
+formOf c = cond (ltb c numberForm) (getD otherForms c flag) (num (getD limits (c - numberForm) 0))
+
+-- a row of forms has so many codes
+abbrev pub fieldCount : ℕ
+fieldCount = 7
 
 -- seven codes a kind
 abbrev pub codes : List (List ℕ)
@@ -164,6 +173,14 @@ unfoldable pub formsAt : ℕ → List Form
 formsAt n = formsFrom n 0
 
 -- ── children ──
+
+-- a kind has so many groups of children at most
+abbrev pub groupCount : ℕ
+groupCount = 5
+
+-- and its row so many entries
+abbrev pub entryCount : ℕ
+entryCount = 10
 
 -- five groups a kind, each a sort and where its count is from
 abbrev pub groups : List (List ℕ)
@@ -229,4 +246,4 @@ groupsFrom n ws g zero = []
 groupsFrom n ws g (suc k) = groupAt n ws g ∷ groupsFrom n ws (suc g) k
 
 unfoldable pub groupsOf : ℕ → List ℕ → List Group
-groupsOf n ws = groupsFrom n ws 0 5
+groupsOf n ws = groupsFrom n ws 0 groupCount

@@ -1,7 +1,7 @@
 -- The tables say what the record table of the definitions says, kind by kind, by computation. Assumes nothing.
 use mathlib.Core.Path.{_≡_, refl, sym, _∙_}
 use Prim.Native.Nat.{ℕ, zero, suc, _+_, _-_, _<_, _≤_}
-use mathlib.Core.Bool.{Bool, true, false, cond, _&&_}
+use mathlib.Core.Bool.{Bool, true, false, cond, _&&_, false≢true}
 use mathlib.Core.List.{List, [], _∷_}
 use mathlib.Core.Option.{none, some, Option·some-injective, Option·none-ne-some}
 use native.Mathlib.Nat.{add-zero, add-suc, suc-add}
@@ -12,9 +12,18 @@ use lib.ListN.{length, getD, drop}
 use Rattle.model.specs.Text.{Bytes, bytes, bytesFrom}
 use Rattle.model.specs.Kind.{Sort, Kind}
 use Rattle.model.specs.Record.{forms, kinds, sames, keyword, sameKeyword, exprKeyword, clauseKeyword, elementKeyword}
-use Rattle.laws.specs.TextLaws.{and-left, and-right}
 use Rattle.words.specs.Words.{firstKind, nth, kindOf}
-use Rattle.line.specs.Table.{sorts, sortOf, first, packOn, packed, keys, codes, codeAt, otherForms, formOf, formsIn, formsFrom, formsAt}
+use Rattle.words.specs.Places.{kindCount, sortCount, formCount}
+use Rattle.words.specs.Table.{fieldCount, sorts, sortOf, first, packOn, packed, keys, codes, codeAt, otherForms, formOf, formsIn, formsFrom, formsAt}
+
+-- both of two tests pass
+pub and-left : (a b : Bool) → (a && b) ≡ true → a ≡ true
+and-left true b e = refl
+and-left false b e = e
+
+pub and-right : (a b : Bool) → (a && b) ≡ true → b ≡ true
+and-right true b e = e
+and-right false b e = absurd (false≢true e)
 
 -- each number of a list is below another
 unfoldable pub eachBelow : ℕ → List ℕ → Bool
@@ -33,7 +42,7 @@ short s = leb (length s) 7 && eachBelow 256 s
 
 -- row n of the tables is that of a kind
 pub record Row (s : Sort) (n : ℕ) (k : Kind s) : Type 0 where
-  pub low : ltb n 39 ≡ true
+  pub low : ltb n kindCount ≡ true
   pub key : getD keys n 0 ≡ packed (keyword s k)
   pub plain : short (keyword s k) ≡ true
   pub fields : formsAt n ≡ forms s k
@@ -44,7 +53,7 @@ pub data Rows (s : Sort) (P : ℕ → Kind s → Type 0) : ℕ → List (Kind s)
   _▸_ : {n : ℕ} {k : Kind s} {ks : List (Kind s)} → P n k → Rows s P (suc n) ks → Rows s P n (k ∷ ks)
 
 infixr 30 _▸_
-row : {s : Sort} {n : ℕ} {k : Kind s} → ltb n 39 ≡ true → getD keys n 0 ≡ packed (keyword s k) → short (keyword s k) ≡ true → formsAt n ≡ forms s k → Row s n k
+row : {s : Sort} {n : ℕ} {k : Kind s} → ltb n kindCount ≡ true → getD keys n 0 ≡ packed (keyword s k) → short (keyword s k) ≡ true → formsAt n ≡ forms s k → Row s n k
 row a b c d = record { low = a; key = b; plain = c; fields = d }
 
 pub record Tabled (n : ℕ) : Type 0 where
@@ -52,7 +61,7 @@ pub record Tabled (n : ℕ) : Type 0 where
   pub to : getD first (n + 1) 0 ≡ firstKind (sortOf n) + length (kinds (sortOf n))
   pub rows : Rows (sortOf n) (λ m k. Row (sortOf n) m k) (firstKind (sortOf n)) (kinds (sortOf n))
 
-pub tabled : (n : ℕ) → n < 11 → Tabled n
+pub tabled : (n : ℕ) → n < sortCount → Tabled n
 unfolding sorts sortOf firstKind kinds sames keyword sameKeyword exprKeyword clauseKeyword elementKeyword bytes bytesFrom packed packOn short eachBelow formsAt formsFrom formsIn formOf otherForms
 tabled zero h = record { from = refl; to = refl; rows = row refl refl refl refl ▸ done }
 tabled (suc zero) h = record { from = refl; to = refl; rows = row refl refl refl refl ▸ done }
@@ -85,23 +94,23 @@ passes-at f (suc n) e i h = go (λ k. passes-at f n (and-right (f n) (passesTo f
 
 -- row n has seven codes, each below 15, and at most six forms
 pub record CodeRow (n : ℕ) : Type 0 where
-  pub long : length (getD codes n []) ≡ 7
-  pub low : (g : ℕ) → g < 7 → codeAt n g < 15
+  pub long : length (getD codes n []) ≡ fieldCount
+  pub low : (g : ℕ) → g < fieldCount → codeAt n g < formCount
   pub few : length (formsAt n) ≤ 6
 
 rowTest : ℕ → Bool
-rowTest n = eqb (length (getD codes n [])) 7 && (eachBelow 15 (getD codes n []) && leb (length (formsAt n)) 6)
+rowTest n = eqb (length (getD codes n [])) fieldCount && (eachBelow formCount (getD codes n []) && leb (length (formsAt n)) 6)
 
-pub code-row : (n : ℕ) → n < 39 → CodeRow n
+pub code-row : (n : ℕ) → n < kindCount → CodeRow n
 unfolding rowTest passesTo eachBelow formsAt formsFrom formsIn formOf otherForms
 code-row n h =
-    let test = passes-at rowTest 39 refl n h in
-    let rest = and-right (eqb (length (getD codes n [])) 7) _ test in
-    let long = eqb-true (length (getD codes n [])) 7 (and-left _ _ test) in
+    let test = passes-at rowTest kindCount refl n h in
+    let rest = and-right (eqb (length (getD codes n [])) fieldCount) _ test in
+    let long = eqb-true (length (getD codes n [])) fieldCount (and-left _ _ test) in
     record {
       long = long;
-      low = λ g k. below-at 15 (getD codes n []) (and-left _ _ rest) g (omega (arith, long));
-      few = leb-true (length (formsAt n)) 6 (and-right (eachBelow 15 (getD codes n [])) _ rest);
+      low = λ g k. below-at formCount (getD codes n []) (and-left _ _ rest) g (omega (arith, long));
+      few = leb-true (length (formsAt n)) 6 (and-right (eachBelow formCount (getD codes n [])) _ rest);
     }
 
 -- ── a kind by its number ──

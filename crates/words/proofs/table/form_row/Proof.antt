@@ -1,11 +1,11 @@
--- `line::table::group_row` meets its contract: each kind's row of groups. Assumes nothing.
+-- `words::table::form_row` meets its contract: each kind's row of codes. Assumes nothing.
 use borrow.Author.Needs.{needs}
-use Rattle.line.specs.LastLaws.{last-is}
-use Rattle.line.proofs.table.group_row.Statement.{statement}
-use Rattle.line.proofs.table.group_row.Tie as tie
+use Rattle.words.specs.LastLaws.{last-is}
+use Rattle.words.proofs.table.form_row.Statement.{statement}
+use Rattle.words.proofs.table.form_row.Tie as tie
 
-pub group-row-spec : {M : Type 1} → statement M
-group-row-spec =
+pub form-row-spec : {M : Type 1} → statement M
+form-row-spec =
     tie.close
     (tie.spec
     (λ c. search needs)

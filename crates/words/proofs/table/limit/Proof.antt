@@ -1,8 +1,8 @@
--- `line::table::limit` meets its contract: each number's limit. Assumes nothing.
+-- `words::table::limit` meets its contract: each number's limit. Assumes nothing.
 use borrow.Author.Needs.{needs}
-use Rattle.line.specs.LastLaws.{last-is}
-use Rattle.line.proofs.table.limit.Statement.{statement}
-use Rattle.line.proofs.table.limit.Tie as tie
+use Rattle.words.specs.LastLaws.{last-is}
+use Rattle.words.proofs.table.limit.Statement.{statement}
+use Rattle.words.proofs.table.limit.Tie as tie
 
 pub limit-spec : {M : Type 1} → statement M
 limit-spec =

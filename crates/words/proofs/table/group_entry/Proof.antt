@@ -1,8 +1,8 @@
--- `line::table::group_entry` meets its contract: a digit of its row. Assumes nothing.
-use Rattle.line.proofs.DigitLaws.{group-digit}
+-- `words::table::group_entry` meets its contract: a digit of its row. Assumes nothing.
+use Rattle.words.proofs.DigitLaws.{group-digit}
 use borrow.Author.Needs.{needs}
-use Rattle.line.proofs.table.group_entry.Statement.{statement}
-use Rattle.line.proofs.table.group_entry.Tie as tie
+use Rattle.words.proofs.table.group_entry.Statement.{statement}
+use Rattle.words.proofs.table.group_entry.Tie as tie
 
 pub group-entry-spec : {M : Type 1} → statement M
 group-entry-spec =
