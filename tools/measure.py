@@ -3,10 +3,14 @@
 
     (cd rust && cargo build --release -p compare)
     python3 tools/measure.py >docs/speed.txt
+    python3 tools/measure.py --page docs/PERFORMANCE.md docs/speed.txt
     python3 rust/plot.py docs/speed.txt docs/speed.svg
 
-Times come from `compare speed`, where the sides take turns and the best round
-of each counts. Instructions come from `compare speed --count` under valgrind's
+The second puts the tables of the first into the page, each between a comment
+with the first words of the table and the comment `end`.
+
+Times come from `compare speed`, where the sides take turns and the best time of
+each for each sheet counts. Instructions come from `compare speed --count` under valgrind's
 callgrind, which counts between entry and exit of the functions `side_*` alone:
 nothing of the making of sheets. They are the same in every run but for a few in
 a thousand of the Rust's, whose hash tables are seeded by chance. The profile
@@ -153,11 +157,35 @@ def by_function(side):
     print(f"{'the others':<75}{sum(cost for cost in own.values() if cost < LEAST):>14,.1f}")
 
 
+def as_markdown(block):
+    rows = [re.split(r'\s{2,}', line) for line in block.splitlines()]
+    rule = ['---'] + ['---:'] * (len(rows[0]) - 1)
+    return ''.join('| ' + ' | '.join(row) + ' |\n' for row in [rows[0], rule, *rows[1:]])
+
+
+def put_into(page, source):
+    """The tables of a file that this program has printed, put into the page."""
+    with open(source, encoding='utf-8') as file:
+        head, *blocks = file.read().strip().split('\n\n')
+    with open(page, encoding='utf-8') as file:
+        text = file.read()
+    tables = {block.split(',')[0].split('  ')[0].strip(): as_markdown(block) for block in blocks}
+    for title, shown in [('measured at', f'{head}\n'), *tables.items()]:
+        place = re.compile(rf'(<!-- {re.escape(title)} -->\n).*?(<!-- end -->)', re.DOTALL)
+        text = place.sub(lambda match: match[1] + shown + match[2], text)
+    with open(page, 'w', encoding='utf-8') as file:
+        file.write(text)
+
+
 def main():
     words = argparse.ArgumentParser()
+    words.add_argument('--page', nargs=2, metavar=('PAGE', 'SOURCE'))
     words.add_argument('--seconds', default='5')
     words.add_argument('--no-times', action='store_true')
     words = words.parse_args()
+    if words.page:
+        put_into(*words.page)
+        return
     changed = ' and changes' if said('git', 'status', '--porcelain', 'crates', 'rust') else ''
     model = re.search(r'model name\s*: (.*)', open('/proc/cpuinfo', encoding='utf-8').read())
     print(f"commit {said('git', 'rev-parse', '--short', 'HEAD')}{changed}; {said('rustc', '--version')}")

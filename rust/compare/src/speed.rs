@@ -194,32 +194,37 @@ impl Side {
         }
     }
 
-    /// Every sheet of a load once.
-    fn go(self, calls: &Calls, load: &Load, bench: &mut Bench) -> usize {
-        let sheets = load.sheets.iter();
+    /// The sheet at this place of a load, once.
+    fn go(self, calls: &Calls, load: &Load, place: usize, bench: &mut Bench) -> usize {
+        let sheet = &load.sheets[place];
         match self {
-            Side::Sizing => sheets.map(|sheet| side_sizing(calls, sheet, bench)).sum(),
-            Side::Ours => sheets.map(|sheet| side_ours(calls, sheet, bench)).sum(),
-            Side::Rust => load.trees.iter().map(|tree| side_rust(tree, bench)).sum(),
-            Side::RustReading => sheets.map(|sheet| side_with_reading(sheet, bench)).sum(),
+            Side::Sizing => side_sizing(calls, sheet, bench),
+            Side::Ours => side_ours(calls, sheet, bench),
+            Side::Rust => side_rust(&load.trees[place], bench),
+            Side::RustReading => side_with_reading(sheet, bench),
         }
     }
 }
 
-/// For each side the best of the rounds, in microseconds for one sheet. The
-/// sides take turns, so that what else the machine does meets all of them.
+/// For each side the mean over the sheets of a load of the best time for each, in
+/// microseconds. The sides take turns, so that what else the machine does meets
+/// all of them; the best is taken sheet by sheet, since few rounds over all of
+/// them go undisturbed.
 fn times(calls: &Calls, load: &Load, bench: &mut Bench, least: Duration) -> [f64; 4] {
-    let mut best = [Duration::MAX; 4];
+    let count = load.sheets.len();
+    let mut best = [(); 4].map(|()| vec![Duration::MAX; count]);
     let (mut rounds, started) = (0, Instant::now());
     while rounds < 10 || started.elapsed() < least {
         for (side, best) in SIDES.iter().zip(&mut best) {
-            let before = Instant::now();
-            black_box(side.go(calls, load, bench));
-            *best = before.elapsed().min(*best);
+            for (place, best) in best.iter_mut().enumerate() {
+                let before = Instant::now();
+                black_box(side.go(calls, load, place, bench));
+                *best = before.elapsed().min(*best);
+            }
         }
         rounds += 1;
     }
-    best.map(|time| time.as_secs_f64() * 1e6 / load.sheets.len() as f64)
+    best.map(|each| each.iter().sum::<Duration>().as_secs_f64() * 1e6 / count as f64)
 }
 
 /// The table of times; each load is measured for so long at least.
@@ -267,7 +272,11 @@ pub fn count(calls: &Calls, side: &str, load: &str, rounds: usize) -> Result<(),
     };
     let (mut bench, mut sum) = (Bench::new(), 0);
     for _ in 0..rounds {
-        sum += sides.iter().map(|side| side.go(calls, &load, &mut bench)).sum::<usize>();
+        for side in &sides {
+            for place in 0..load.sheets.len() {
+                sum += side.go(calls, &load, place, &mut bench);
+            }
+        }
     }
     println!("{}: {} records in all, {rounds} rounds ({sum})", load.name, load.records);
     Ok(())
