@@ -10,7 +10,7 @@ The second puts the tables of the first into the page, each between a comment
 with the first words of the table and the comment `end`.
 
 Times come from `compare speed`, where the sides take turns and the best time of
-each for each sheet counts. Instructions come from `compare speed --count` under valgrind's
+each counts. Instructions come from `compare speed --count` under valgrind's
 callgrind, which counts between entry and exit of the functions `side_*` alone:
 nothing of the making of sheets. They are the same in every run but for a few in
 a thousand of the Rust's, whose hash tables are seeded by chance. The profile

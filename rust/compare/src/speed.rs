@@ -206,25 +206,32 @@ impl Side {
     }
 }
 
-/// For each side the mean over the sheets of a load of the best time for each, in
-/// microseconds. The sides take turns, so that what else the machine does meets
-/// all of them; the best is taken sheet by sheet, since few rounds over all of
-/// them go undisturbed.
+/// So many bytes of sheets at least are timed as one, if a load has them: the
+/// clock itself takes as long as some of a sheet's records.
+const TOGETHER: usize = 8_192;
+
+/// For each side the best time for a load, in microseconds for one of its sheets.
+/// The sides take turns, so that what else the machine does meets all of them. The
+/// best is taken for each few sheets, and added up: few rounds over all of a load
+/// go undisturbed.
 fn times(calls: &Calls, load: &Load, bench: &mut Bench, least: Duration) -> [f64; 4] {
-    let count = load.sheets.len();
-    let mut best = [(); 4].map(|()| vec![Duration::MAX; count]);
+    let places: Vec<usize> = (0..load.sheets.len()).collect();
+    let few: Vec<&[usize]> = places.chunks(TOGETHER.div_ceil(load.bytes())).collect();
+    let mut best = [(); 4].map(|()| vec![Duration::MAX; few.len()]);
     let (mut rounds, started) = (0, Instant::now());
     while rounds < 10 || started.elapsed() < least {
         for (side, best) in SIDES.iter().zip(&mut best) {
-            for (place, best) in best.iter_mut().enumerate() {
+            for (few, best) in few.iter().zip(best) {
                 let before = Instant::now();
-                black_box(side.go(calls, load, place, bench));
+                for &place in *few {
+                    black_box(side.go(calls, load, place, bench));
+                }
                 *best = before.elapsed().min(*best);
             }
         }
         rounds += 1;
     }
-    best.map(|each| each.iter().sum::<Duration>().as_secs_f64() * 1e6 / count as f64)
+    best.map(|each| each.iter().sum::<Duration>().as_secs_f64() * 1e6 / places.len() as f64)
 }
 
 /// The table of times; each load is measured for so long at least.
