@@ -1,5 +1,5 @@
 #!/usr/bin/env python3
-"""Writes the list of program plan_list and what it has to print.
+"""Writes the list of program gate_plan and what it has to print.
 
   python3 oracle/list.py     from the repository's root, after rust/compare is built
 
@@ -16,13 +16,13 @@ import shutil
 import subprocess
 
 COMPARE = 'target/rust/release/compare'
-LIST = 'crates/plan_list/src/list.rt'
-STDOUT = 'crates/plan_list/stdout'
+LIST = 'crates/gate_plan/src/list.rt'
+STDOUT = 'crates/gate_plan/stdout'
 # Where the answered sheets are left, for sheets.py and compare.py.
 SHEETS = pathlib.Path('target/oracle/list')
-# Bytes of the plan slice that plan_list prints at most.
+# Bytes of the plan slice that gate_plan prints at most.
 SHOWN = 2048
-# Bytes that a constant may have, so that the compiler takes it; and the constants that plan_list walks.
+# Bytes that a constant may have, so that the compiler takes it; and the constants that gate_plan walks.
 LONGEST = 10000
 NAMES = ['LIST', 'MORE']
 
@@ -231,7 +231,7 @@ BY_HAND = [
     ('depth-65', statement(where('*62*list 1;*null;')), 4, 65),
 ]
 
-# The cases that plan_list has outside its list: short work slices.
+# The cases that gate_plan has outside its list: short work slices.
 SHORT = ['short-1', 'short-2', 'short-3', 'short-4']
 
 

@@ -1,23 +1,6 @@
-//! Has the Rust compiled from the shared copy, unchanged, and links it. The
-//! variable CYRS_SRC names the folder of that copy that holds `crates`.
-
-use std::env;
-use std::path::{Path, PathBuf};
-use std::process::Command;
+//! Links the Rust, which the build of cyrs-sheet has compiled.
 
 fn main() {
-    let here = PathBuf::from(env::var_os("CARGO_MANIFEST_DIR").expect("cargo sets it"));
-    let root: &Path = here.ancestors().nth(2).expect("the crate lies in rust/compare");
-    let oracle = root.join("oracle");
-    println!("cargo::rerun-if-env-changed=CYRS_SRC");
-    println!("cargo::rerun-if-env-changed=ORACLE_FLAGS");
-    println!("cargo::rerun-if-changed={}", oracle.join("build.sh").display());
-    println!("cargo::rerun-if-changed={}", oracle.join("stubs").display());
-    let out = PathBuf::from(env::var_os("OUT_DIR").expect("cargo sets it")).join("original");
-    let status = Command::new(oracle.join("build.sh"))
-        .arg(&out)
-        .status()
-        .expect("oracle/build.sh can be run");
-    assert!(status.success(), "oracle/build.sh: {status}");
-    println!("cargo::rustc-link-search=all={}", out.join("lib").display());
+    let libraries = std::env::var("DEP_CYRS_LIBRARIES").expect("cyrs-sheet's build tells it");
+    println!("cargo::rustc-link-search=all={libraries}");
 }

@@ -1,8 +1,10 @@
-//! Has the archive of the proved library made, and links it.
+//! Has the archive of the proved calls made, and links it.
 //!
-//! `rt staticlib library` proves whatever is not proved yet and writes
-//! target/staticlib/liblibrary.a. The variable DRESSERHAWK_ARCHIVE names an
+//! tools/archive.sh proves whatever is not proved yet and writes
+//! target/staticlib/libdresserhawk.a. The variable DRESSERHAWK_ARCHIVE names an
 //! archive that is there already; then nothing is proved and no `rt` is needed.
+//! Beside the archive libdresserhawk.kit has the identity of the kit that proved
+//! it. A kit other than that of kit.txt is told as a warning.
 
 use std::env;
 use std::fs;
@@ -11,15 +13,23 @@ use std::process::Command;
 
 fn main() {
     println!("cargo::rerun-if-env-changed=DRESSERHAWK_ARCHIVE");
+    let here = variable("CARGO_MANIFEST_DIR");
+    let root = here.ancestors().nth(2).expect("the crate lies in rust/dresserhawk");
     let made = match env::var_os("DRESSERHAWK_ARCHIVE") {
         Some(archive) => given(PathBuf::from(archive)),
-        None => prove(),
+        None => prove(root),
     };
-    let out = PathBuf::from(env::var_os("OUT_DIR").expect("cargo sets OUT_DIR"));
-    fs::copy(&made, out.join("liblibrary.a"))
+    let out = variable("OUT_DIR");
+    fs::copy(&made, out.join("libdresserhawk.a"))
         .unwrap_or_else(|error| panic!("{}: {error}", made.display()));
     println!("cargo::rustc-link-search=native={}", out.display());
-    println!("cargo::rustc-link-lib=static=library");
+    println!("cargo::rustc-link-lib=static=dresserhawk");
+    println!("cargo::rustc-env=DRESSERHAWK_LINKED={}", out.join("libdresserhawk.a").display());
+    println!("cargo::rustc-env=DRESSERHAWK_KIT={}", kit(root, &made));
+}
+
+fn variable(name: &str) -> PathBuf {
+    PathBuf::from(env::var_os(name).unwrap_or_else(|| panic!("cargo sets {name}")))
 }
 
 fn given(archive: PathBuf) -> PathBuf {
@@ -27,18 +37,30 @@ fn given(archive: PathBuf) -> PathBuf {
     archive
 }
 
-/// Runs `rt staticlib library` at the repository's root.
-fn prove() -> PathBuf {
-    let here = PathBuf::from(env::var_os("CARGO_MANIFEST_DIR").expect("cargo sets it"));
-    let root: &Path = here.ancestors().nth(2).expect("the crate lies in rust/dresserhawk");
-    for read in ["crates", "crates.txt"] {
+/// Runs tools/archive.sh.
+fn prove(root: &Path) -> PathBuf {
+    for read in ["crates", "crates.txt", "tools/archive.sh"] {
         println!("cargo::rerun-if-changed={}", root.join(read).display());
     }
-    let status = Command::new("rt")
-        .args(["staticlib", "library"])
-        .current_dir(root)
+    let status = Command::new(root.join("tools/archive.sh"))
         .status()
-        .expect("rt can be run; or DRESSERHAWK_ARCHIVE names a ready archive");
-    assert!(status.success(), "rt staticlib library: {status}");
-    root.join("target/staticlib/liblibrary.a")
+        .expect("tools/archive.sh can be run; or DRESSERHAWK_ARCHIVE names a ready archive");
+    assert!(status.success(), "tools/archive.sh: {status}");
+    root.join("target/staticlib/libdresserhawk.a")
+}
+
+/// The kit that proved the archive; a warning if the repository has another.
+fn kit(root: &Path, archive: &Path) -> String {
+    let kept = root.join("kit.txt");
+    println!("cargo::rerun-if-changed={}", kept.display());
+    let read = |path: &Path| fs::read_to_string(path).ok().map(|kit| kit.trim().to_string());
+    let last = read(&kept).unwrap_or_else(|| panic!("{} can be read", kept.display()));
+    let Some(kit) = read(&archive.with_extension("kit")) else {
+        println!("cargo::warning=which kit proved {} is not known", archive.display());
+        return "unknown".to_string();
+    };
+    if kit != last {
+        println!("cargo::warning=proved with {kit}; the repository was last proved with {last}");
+    }
+    kit
 }

@@ -50,12 +50,12 @@ module _ (s t : List ℕ) where
   snoc number unpaired h = pair h unpaired
   snoc number (pair g p) h = pair g (snoc number p h)
 
-  mapped-paired : {vs ws : List (ℕ × ℕ)} → List~ (λ v w. Var~ (λ a b. Stands s t a b) v w) vs ws → Paired s t (mappedRecs vs) (mappedRecs ws)
+  pub mapped-paired : {vs ws : List (ℕ × ℕ)} → List~ (λ v w. Var~ (λ a b. Stands s t a b) v w) vs ws → Paired s t (mappedRecs vs) (mappedRecs ws)
   unfolding mappedRecs
   mapped-paired []~ = unpaired
   mapped-paired (var~ {n = n} h ∷~ vs) = snoc n (mapped-paired vs) h
 
-  mapped-long : {vs ws : List (ℕ × ℕ)} → List~ (λ v w. Var~ (λ a b. Stands s t a b) v w) vs ws → (length vs ≡ length (mappedRecs vs)) × (length ws ≡ length (mappedRecs vs))
+  pub mapped-long : {vs ws : List (ℕ × ℕ)} → List~ (λ v w. Var~ (λ a b. Stands s t a b) v w) vs ws → (length vs ≡ length (mappedRecs vs)) × (length ws ≡ length (mappedRecs vs))
   unfolding mappedRecs
   mapped-long []~ = (refl, refl)
   mapped-long (_∷~_ {a = v} {s = vs} h ps) =

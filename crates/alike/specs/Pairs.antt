@@ -40,7 +40,7 @@ reads-first : readSheet maxDepth first ≡ got (treeOf (readSheet maxDepth first
 unfolding compute first treeOf placeOf
 reads-first = refl
 
-reads-second : readSheet maxDepth second ≡ got (treeOf (readSheet maxDepth second)) (placeOf (readSheet maxDepth second))
+pub reads-second : readSheet maxDepth second ≡ got (treeOf (readSheet maxDepth second)) (placeOf (readSheet maxDepth second))
 unfolding compute second treeOf placeOf
 reads-second = refl
 

@@ -9,6 +9,7 @@ use gate_cases::text::build_sheet;
 use gate_cases::text::next;
 use libc::STDOUT_FILENO;
 use list::LIST;
+use list::RANGES;
 use sheet::reader::Read;
 use sheet::reader::read_sheet;
 
@@ -81,4 +82,5 @@ fn main() {
     let mut b = [0u32; 16384];
     let mut stack = [0u32; 16384];
     show_list(&LIST, &mut sheet, &mut a, &mut b, &mut stack);
+    show_list(&RANGES, &mut sheet, &mut a, &mut b, &mut stack);
 }

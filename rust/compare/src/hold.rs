@@ -81,8 +81,8 @@ fn differ<T>(what: &'static str, said: Vec<(&'static str, Vec<u8>)>) -> Result<T
     Err(Difference { what, said })
 }
 
-/// The second reading and the Rust: plans, and refusals 6 to 8. `printed` gets
-/// the Rust's plan.
+/// The second reading and the Rust: plans, and refusals 6 to 8; and the Rust's
+/// tree as a sheet. `printed` gets the Rust's plan.
 pub fn with_rust(
     sheet: &[u8],
     verdict: &Verdict,
@@ -93,6 +93,7 @@ pub fn with_rust(
         return Ok(Asked::Nothing);
     }
     let statement = original::statement(&verdict.records);
+    encoded(sheet, &statement)?;
     let [number, _, start, end, kind, _] = verdict.answer;
     match original::ask(&statement) {
         Said::Refused(said) if said == [number, start, end, kind] => Ok(Asked::Refusal),
@@ -115,6 +116,22 @@ pub fn with_rust(
                 ),
             }
         }
+    }
+}
+
+/// The tree as a sheet again. A sheet has one spelling, so it is the one that
+/// the tree was made from.
+fn encoded(sheet: &[u8], statement: &Statement) -> Result<(), Difference> {
+    match cyrs_sheet::encode(statement) {
+        Ok(encoded) if encoded == sheet => Ok(()),
+        Ok(encoded) => differ(
+            "sheet: cyrs-sheet and the one read",
+            vec![("cyrs-sheet", encoded), ("read", sheet.to_vec())],
+        ),
+        Err(reason) => differ(
+            "cyrs-sheet refuses what the sheet has",
+            vec![("cyrs-sheet", reason.to_string().into_bytes())],
+        ),
     }
 }
 

@@ -1,10 +1,7 @@
 //! The owner of the memory that the calls work in.
 
 use crate::answer::{Refusal, told};
-use crate::raw;
-
-/// Words that each of the four work slices must have.
-const WORK_WORDS: usize = 16_384;
+use crate::raw::{self, WORK_WORDS};
 
 /// Room for a plan at the start. Most plans are no longer than their sheets.
 const PLAN_BYTES: usize = 65_536;

@@ -1,9 +1,12 @@
 //! The exported calls as they are, on slices of any length.
 //!
-//! Nothing checks these declarations against crates/library/src/lib.rt. They
-//! are the only ones, and the only unsafe code of this crate. A slice passes
-//! as a pointer and a length. The calls ask nothing of their arguments, so any
-//! slices do; Rust's own rule that two `&mut` never overlap is all they need.
+//! These are the only declarations of them, and the only unsafe code of the
+//! library; a test holds their text against crates/library/src/lib.rt. A slice
+//! passes as a pointer and a length. The calls ask nothing of their arguments, so
+//! any slices do; Rust's own rule that two `&mut` never overlap is all they need.
+
+/// Words that each of the four work slices must have.
+pub const WORK_WORDS: usize = 16_384;
 
 unsafe extern "C" {
     fn dresserhawk_size(

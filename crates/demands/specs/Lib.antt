@@ -1,0 +1,10 @@
+pub mod Sheets
+pub mod Reader
+pub mod Walk
+pub mod WalkLaws
+pub mod Demand1
+pub mod Demand2
+pub mod Operators
+pub mod Demand3
+pub mod Within
+pub mod Unreachable
