@@ -238,7 +238,7 @@ fn times(calls: &Calls, load: &Load, bench: &mut Bench, least: Duration) -> [f64
 pub fn table(calls: &Calls, least: Duration) {
     let mut bench = Bench::new();
     println!(
-        "{:<25}{:>7}{:>8}{:>10}{:>10}{:>12}{:>14}{:>12}{:>14}",
+        "{:<25}{:>7}{:>9}{:>9}{:>10}{:>12}{:>14}{:>12}{:>14}",
         "microseconds a sheet",
         "bytes",
         "records",
@@ -254,7 +254,7 @@ pub fn table(calls: &Calls, least: Duration) {
     for load in random.chain(shaped) {
         let [sizing, ours, tree, with_reading] = times(calls, &load, &mut bench, least);
         println!(
-            "{:<25}{:>7}{:>8}{sizing:>10.2}{ours:>10.2}{tree:>12.2}{with_reading:>14.2}{:>12.2}{:>14.2}",
+            "{:<25}{:>7}{:>9}{sizing:>9.2}{ours:>10.2}{tree:>12.2}{with_reading:>14.2}{:>12.2}{:>14.2}",
             load.name,
             load.bytes(),
             load.records / load.sheets.len(),
