@@ -55,7 +55,7 @@ bytes-none sheet = choice (ltb maxBytes (length sheet)) 2 tt
 
 plan-none : (c : LowerCtx) → NoLength (testPlan c)
 unfolding testPlan
-plan-none c = choice (ltb maxPlan (length (c .ops)) || ltb maxPlan (c .next)) 9 c
+plan-none c = choice (ltb maxPlan (length (c .ops)) || ltb maxPlan (c .scope .next)) 9 c
 
 planned-none : (work : List ℕ) (sheet : Bytes) → NoLength (planned maxDepth work sheet)
 unfolding planned checked
