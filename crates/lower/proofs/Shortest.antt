@@ -23,9 +23,6 @@ use Rattle.lower.specs.Carry.{plainC, plain-render}
 use Rattle.lower.proofs.Elements.{names-render, names-count, props-lower, props-has}
 use Rattle.lower.proofs.Elements
 
-abbrev pub shortOp : (i input rel far d base : ℕ) → Op
-shortOp i input rel far d base = record { kind = 4; idx = i; input = input; x = rel; y = far; left = d; base = base }
-
 -- what the definition's steps make of it
 module _ (o br bt : Option ℕ) (n b : NodeStep) {k : ℕ} (types : Trees name k) (p : Bool) (props : Trees expr (one p)) (r : RelStep) (er : r ≡ record { bind = br; types = toList k (foldOf Lowered made types); direction = r .direction; length = r .length; props = propsOf p (foldOf Lowered made props) }) (eb : b .bind ≡ bt) (s : State) where
   abbrev s₁ : State
