@@ -9,7 +9,7 @@ use lib.ListN.{length, take, drop, getD, set, length-set}
 use lib.Seq.{take-all, getD-set-same, getD-set-other, drop-set-lt, drop-at, length-take-le, getD-take}
 use lib.ListN.{List·getD-append, length-drop, drop-of-length-le}
 use borrow.Author.Tests.{eq-eqb, ne-eqb}
-use Rattle.model.specs.Lower.{lookup, mapVar, numbered, fresh, endpointVar}
+use Rattle.model.specs.Lower.{lookup, issue, mapVar, numbered, fresh, endpointVar}
 use Rattle.words.specs.Words.{optionOf}
 use Rattle.context.specs.Tables.{varsOf, foundOf, Op, opAt, maxStored, opWords, Indexed, Issued, Notes, Numbers, Pushed}
 use Rattle.context.specs.declared.LowerCtx.{LowerCtx}
@@ -72,7 +72,7 @@ found-some none n e = absurd (subst Told (sym e) tt)
 found-some (some k) n e = ap some (ap told e)
 
 pub old-var : (c : LowerCtx) (vs : List ℕ) (id n : ℕ) {r : Found} → r ≡ foundOf (lookup (varsOf (c .mapped) vs) id) → r ≡ At n → Issued (mapVar id) c vs vs (record { number = n; ctx = c })
-unfolding mapVar numbered
+unfolding mapVar issue numbered
 old-var c vs id n h e = record { is = λ ops. rw (found-some _ n (sym h ∙ e)); ops = refl; low = omega arith; met = omega arith; index = λ x. x }
 
 -- ── notes ──
@@ -102,7 +102,7 @@ number-law id place n c rest vs′ rest′ r l en i k =
     record { issued = rw e i′; noted = record { here = k′ .noted .here; other = λ q h x. k′ .noted .other q h x ∙ part-note rest vs′ l q h } }
 
 pub unnamed-law : (named id place : ℕ) (c : LowerCtx) (rest rest′ : List ℕ) (r : Numbered) → named ≡ 0 → (r .number ≡ c .next) × (r .ctx .ops ≡ c .ops) × (r .ctx .next ≡ c .next + 1) × (r .ctx .mapped ≡ c .mapped) → Notes place (r .number) rest rest′ → Numbers (endpointVar (optionOf named id)) place c rest rest′ r
-unfolding endpointVar optionOf fresh
+unfolding endpointVar optionOf fresh issue
 unnamed-law named id place c rest rest′ r z f n =
     record { issued = record { is = λ ops. rw (z, n .vars, f .0, f .2, f .3, add-one); ops = f .1; low = omega (arith, f .2); met = omega (arith, f .3); index = λ x. rw (n .vars, f .3) x }; noted = n .noted }
 

@@ -11,7 +11,7 @@ use Rattle.model.specs.Field.{Fields}
 use Rattle.model.specs.Kind.{ReadOp, patternPart, patternElement}
 use Rattle.model.specs.Record.{forms}
 use Rattle.model.specs.Tree.{Tree, Trees, node, end, _▸_, fold}
-use Rattle.model.specs.Lower.{Recs, Lowered, made, _>>=_, ret, push, op, source, upcoming, mapVar, pushSourceAll, orSourceAll, rootOf, pathElements, bindPath, lowerElements, lowerChain}
+use Rattle.model.specs.Lower.{Recs, Lowered, made, _>>=_, ret, push, op, source, issue, upcoming, mapVar, pushSourceAll, orSourceAll, rootOf, pathElements, bindPath, lowerElements, lowerChain}
 use Rattle.model.specs.Lower
 use Rattle.words.specs.Words.{Roomy, cell, optionOf, fieldsOf, fieldOf}
 use Rattle.words.specs.Held.{Held, HeldOf, size, sizeOf}
@@ -44,7 +44,7 @@ unfolding orSourceAll ret beforeOf
 source-there current k m e l = record { grow = le-refl _; few = omega arith; next = refl; mapped = refl; rest = refl; in-ops = refl; low = l; run = λ sheet a b W s r. rw e (record { to = to-refl r; root = refl }) }
 
 pub source-new : (current : Before) (m : Mem) (c : LowerCtx) (os : List ℕ) → current ≡ before.Nothing → Pushed (m .ctx) c (m .ops) os (sourceAllOp (m .ctx .next)) → length os ≡ length (m .ops) → OrSource (orSourceAll (beforeOf current)) (m .ctx .ops) m (mem c os (m .rest))
-unfolding orSourceAll pushSourceAll upcoming _>>=_ push beforeOf
+unfolding orSourceAll pushSourceAll upcoming issue _>>=_ push beforeOf
 source-new current m c os e p lo = record {
   grow = omega (arith, p .count);
   few = omega (arith, p .count);
@@ -53,7 +53,7 @@ source-new current m c os e p lo = record {
   rest = refl;
   in-ops = lo;
   low = omega (arith, p .count);
-  run = λ sheet a b W s r. rw e (record { to = push-to m c os (sourceAllOp (m .ctx .next)) (source (s .next) []) r p (λ N A f. record { sane = all-sane (m .ctx .next); shows = shows-all refl (ap (λ (x : ℕ). source x []) (sym (upcoming-number m r))) }); root = r .count });
+  run = λ sheet a b W s r. rw e (record { to = push-to m c os (sourceAllOp (m .ctx .next)) (source (s .scope .next) []) r p (λ N A f. record { sane = all-sane (m .ctx .next); shows = shows-all refl (ap (λ (x : ℕ). source x []) (sym (upcoming-number m r))) }); root = r .count });
 }
 
 -- a root as the code has it

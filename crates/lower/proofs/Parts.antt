@@ -7,8 +7,8 @@ use mathlib.Core.List.{List, [], _∷_}
 use lib.ListN.{length}
 use Rattle.model.specs.Text.{Bytes}
 use Rattle.model.specs.Kind.{patternPart}
-use Rattle.model.specs.Tree.{Tree, Trees, []ᵗ, _∷ᵗ_, toList, fold}
-use Rattle.model.specs.Lower.{Lowering, _>>=_, ret, push, source, lowerParts}
+use Rattle.model.specs.Tree.{Tree, Trees, []ᵗ, _∷ᵗ_, toList, fold, foldOf}
+use Rattle.model.specs.Lower.{Lowering, Lowered, made, _>>=_, ret, push, source, furtherPart, lowerFurther, lowerParts}
 use Rattle.model.specs.Lower
 use Rattle.words.specs.Held.{Held, HeldOf, size, sizeOf}
 use Rattle.context.specs.Tables.{Pushed}
@@ -28,10 +28,14 @@ unfoldable pub fromL : ℕ → {n : ℕ} → Trees patternPart n → Lowering �
 fromL k []ᵗ = ret k
 fromL k (t ∷ᵗ ts) = λ s. fromL (partL t s .0) ts (partL t s .1)
 
+further-def : {n : ℕ} (k : ℕ) (ts : Trees patternPart n) (s : State) → lowerFurther k (toList n (foldOf Lowered made ts)) s ≡ fromL k ts s
+unfolding fromL lowerFurther furtherPart toList fold _>>=_ ret
+further-def k []ᵗ s = refl
+further-def k (t ∷ᵗ ts) s = further-def (partL t s .0) ts (partL t s .1)
+
 parts-def : {n : ℕ} (t : Tree patternPart) (ts : Trees patternPart n) (s : State) → partsL (t ∷ᵗ ts) s ≡ fromL (partL t s .0) ts (partL t s .1)
-unfolding fromL lowerParts toList fold _>>=_ ret
-parts-def t []ᵗ s = refl
-parts-def t (u ∷ᵗ ts) s = parts-def u ts (partL t s .1)
+unfolding lowerParts toList fold _>>=_
+parts-def t ts s = further-def (partL t s .0) ts (partL t s .1)
 
 pub record LowersFrom (a b : List ℕ) (n d base i e k₀ k : ℕ) (m m′ : Mem) : Type 0 where
   pub moved : Moved i e m m′

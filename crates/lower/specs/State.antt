@@ -114,7 +114,7 @@ module _ {sheet : Bytes} {a b : List ℕ} {W : Written} {s : State} where
       record {
         rep = record {
           count = let z : m .ctx .ops ≡ length (s .ops) = r .count in omega arith;
-          state = rw (p .next, p .mapped) (ap (λ (z : State). record { ops = recs ∷ s .ops; vars = z .vars; next = z .next }) (r .state));
+          state = rw (p .next, p .mapped) (ap (λ (z : State). record { ops = recs ∷ s .ops; scope = z .scope }) (r .state));
           shows = λ k h l N A f.
               ⊎-elim
               (λ (g : k < m .ctx .ops). rw (p .other k g l, same k g) (r .shows k g l N A (early N A f)))
@@ -168,13 +168,13 @@ module _ {sheet : Bytes} {a b : List ℕ} {W : Written} {s : State} where
 
   -- a number for something unnamed, which is not noted
   pub fresh-to : (m : Mem) (c : LowerCtx) → Rep sheet a b W s m → c .ops ≡ m .ctx .ops → c .next ≡ m .ctx .next + 1 → c .mapped ≡ m .ctx .mapped → To sheet a b W W s (Lower.fresh s .1) m (mem c (m .ops) (m .rest))
-  unfolding Lower.fresh
+  unfolding Lower.fresh Lower.issue
   fresh-to m c r eo en em =
-      let z : suc (m .ctx .next) ≡ suc (s .next) = ap (λ (x : State). suc (x .next)) (r .state) in
+      let z : suc (m .ctx .next) ≡ suc (s .scope .next) = ap (λ (x : State). suc (x .scope .next)) (r .state) in
       record {
         rep = record {
           count = eo ∙ r .count;
-          state = rw (em, en, add-one (m .ctx .next)) (ap (λ (x : State). record { ops = s .ops; vars = x .vars; next = suc (x .next) }) (r .state));
+          state = rw (em, en, add-one (m .ctx .next)) (ap (λ (x : State). record { ops = s .ops; scope = record { vars = x .scope .vars; next = suc (x .scope .next) } }) (r .state));
           shows = λ k h l N A f. r .shows k (rw eo at h) l N A (record { notes = f .notes; ops = λ j g. f .ops j (rw eo g) });
         };
         sub = sub-refl W;
@@ -184,8 +184,8 @@ module _ {sheet : Bytes} {a b : List ℕ} {W : Written} {s : State} where
       }
 
   pub fresh-number : (m : Mem) → Rep sheet a b W s m → m .ctx .next ≡ Lower.fresh s .0
-  unfolding Lower.fresh
-  fresh-number m r = ap (λ (x : State). x .next) (r .state)
+  unfolding Lower.fresh Lower.issue
+  fresh-number m r = ap (λ (x : State). x .scope .next) (r .state)
 
-  pub upcoming-number : (m : Mem) → Rep sheet a b W s m → m .ctx .next ≡ s .next
-  upcoming-number m r = ap (λ (x : State). x .next) (r .state)
+  pub upcoming-number : (m : Mem) → Rep sheet a b W s m → m .ctx .next ≡ s .scope .next
+  upcoming-number m r = ap (λ (x : State). x .scope .next) (r .state)

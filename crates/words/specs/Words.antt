@@ -8,7 +8,7 @@ use lib.IntN.{ℤ, pos, negsuc}
 use lib.ListN.{length, getD}
 use lib.Seq.{slice}
 use Rattle.model.specs.Text.{Bytes, unescape, split, tab}
-use Rattle.model.specs.Field.{Form, num, flag, var, varOrAbsent, numOrAbsent, int, float, text, alias, span, Fields, Val, meaning}
+use Rattle.model.specs.Field.{Form, num, flag, var, varOrAbsent, numOrAbsent, number, numberOrAbsent, int, float, text, alias, span, Fields, Val, meaning}
 use Rattle.model.specs.Field
 use Rattle.model.specs.Kind.{Sort, Kind, statement, unionArm, clause, projection, orderItem, patternPart, patternElement, name, yieldItem, entry, expr, inPlan}
 use Rattle.model.specs.Record.{RecOf, forms, kinds}
@@ -64,6 +64,8 @@ fieldOf flag sheet x y = eqb x 1
 fieldOf var sheet x y = x
 fieldOf varOrAbsent sheet x y = optionOf x y
 fieldOf (numOrAbsent l) sheet x y = optionOf x y
+fieldOf (number n) sheet x y = x
+fieldOf (numberOrAbsent n) sheet x y = optionOf x y
 fieldOf int sheet x y = intOf x y
 fieldOf float sheet x y = y * two32 + x
 fieldOf text sheet x y = unescape (slice x y sheet)
