@@ -11,7 +11,7 @@ use Rattle.model.specs.Field.{Form, num, flag, var, varOrAbsent, numOrAbsent, n
 use Rattle.model.specs.Field
 use Rattle.record.specs.AnswerLaws.{var-is}
 use Rattle.words.specs.Words.{fieldOf}
-use Rattle.line.specs.Table.{limits, otherForms, formOf}
+use Rattle.words.specs.Table.{limits, otherForms, formOf}
 use Rattle.line.specs.Place.{PieceAt}
 use Rattle.line.specs.FieldRead.{WordsOf, FieldAt}
 use Rattle.line.specs.declared.field.Words.{Words}

@@ -15,7 +15,7 @@ use Rattle.words.specs.Words.{Roomy, cell}
 use Rattle.words.specs.Held.{Held, RecordAt, size}
 use Rattle.context.specs.Tables.{Notes}
 use Rattle.words.specs.Cells.{shown}
-use Rattle.lower.specs.Count.{countAt}
+use Rattle.words.specs.Count.{countAt}
 use Rattle.lower.specs.Render.{Ops, render, renderOf, recsOver, exprRecs, Below, belowIn, copiesBelow}
 use Rattle.lower.specs.Render
 use Rattle.lower.specs.Shows.{shift}
@@ -23,7 +23,7 @@ use Rattle.lower.specs.Rep.{State, Mem, Written, Sub, Ran}
 use Rattle.lower.specs.Pieces.{exprPiece, Carried, []ᶜ, lowerC, renderC, BelowC, sizeC, HeldC, carriedPiece, SomeTree, SomeCarried, LowersExpr, LowersExprs}
 use Rattle.lower.specs.State.{sub-more, sub-within, blank-within, to-wider}
 use Rattle.words.specs.Numbers.{exprNumber, sameNumber}
-use Rattle.lower.proofs.Counting.{innerNumber, inner-number, counted}
+use Rattle.words.proofs.Counting.{innerNumber, inner-number, counted}
 use Rattle.lower.specs.Exprs.{moved-within, narrow}
 use Rattle.lower.specs.Carry.{plainC, plain-lower, plain-size, plain-held, plain-render, plain-below, entriesC, entries-lower, entries-size, entries-held, entries-render, entries-below}
 

@@ -30,7 +30,7 @@ use Rattle.lower.specs.Patterns.{SomeTrees}
 use Rattle.lower.specs.Chains.{givenIf, seenIf, stepsOf, no-rel, Linked, Sturdy, Anchored, passed, ChainedAll, LowersElements, Sourced, OrSource, chainL, LowersChain, startChain}
 use Rattle.lower.specs.declared.Chain.{Chain}
 use Rattle.lower.specs.State.{sub-more, sub-within, blank-within, blank-before, back, to-refl, to-then, to-wider, push-to, Given, number-to, upcoming-number}
-use Rattle.lower.specs.Fits.{tree-low}
+use Rattle.words.specs.Fits.{tree-low}
 use Rattle.lower.proofs.Parts.{all-sane}
 
 -- ── the operator before, or a source of everything ──

@@ -21,7 +21,7 @@ use Rattle.lower.specs.Rep.{State}
 use Rattle.lower.specs.Pieces.{lowerC}
 use Rattle.lower.specs.Chains.{stepOf}
 use Rattle.words.specs.Numbers.{elementNumber}
-use Rattle.lower.proofs.Counting.{innerNumber, inner-number, flag-one}
+use Rattle.words.proofs.Counting.{innerNumber, inner-number, flag-one}
 use Rattle.lower.specs.Carry.{plainC}
 
 -- ── names ──

@@ -27,7 +27,7 @@ use Rattle.lower.specs.Rep.{atPlace, State, Mem, mem, notes, Written, Su
 use Rattle.lower.specs.Pieces.{lowerC, renderC, LowersExprs}
 use Rattle.lower.specs.Chains.{stepOf}
 use Rattle.lower.specs.State.{sub-more, sub-within, blank-within, blank-before, blank-behind, back, to-then, to-wider, push-to, Given, number-to}
-use Rattle.lower.specs.Fits.{tree-low}
+use Rattle.words.specs.Fits.{tree-low}
 use Rattle.lower.specs.Below.{carried-more}
 use Rattle.lower.specs.Exprs.{narrow}
 use Rattle.lower.specs.Carry.{plainC, plain-size, plain-held, plain-render, plain-below}

@@ -1,4 +1,3 @@
-pub mod Counting
 pub mod Arms
 pub mod Named
 pub mod Elements

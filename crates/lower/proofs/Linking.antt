@@ -19,7 +19,7 @@ use Rattle.context.specs.Tables.{Pushed, Numbers}
 use Rattle.context.specs.declared.LowerCtx.{LowerCtx}
 use Rattle.context.specs.declared.Numbered.{Numbered}
 use Rattle.context.specs.Ops.{expandOp}
-use Rattle.lower.specs.Count.{Ends}
+use Rattle.words.specs.Count.{Ends}
 use Rattle.lower.specs.Render.{Notes, keptRel, keptFrom}
 use Rattle.lower.specs.Shows.{shift}
 use Rattle.lower.specs.Rep.{atPlace, State, Mem, mem, notes, Written, Sub, Blank, Rep, Moved}
@@ -27,7 +27,7 @@ use Rattle.lower.specs.Pieces.{SomeTree, LowersExprs}
 use Rattle.lower.specs.Chains.{givenIf, seenIf, stepOf, Waiting, no-rel, a-rel, Linked, Sturdy, Anchored, Chained, LowersElement, startL, LowersStart, Starts}
 use Rattle.lower.specs.declared.Chain.{Chain}
 use Rattle.lower.specs.State.{sub-more, sub-within, blank-within, blank-behind, back, to-refl, to-then, to-wider, Given, number-to}
-use Rattle.lower.specs.Fits.{tree-fits}
+use Rattle.words.specs.Fits.{tree-fits}
 use Rattle.words.specs.Numbers.{elementNumber}
 use Rattle.lower.specs.Exprs.{moved-refl, moved-within, narrow}
 use Rattle.lower.proofs.Elements.{a-node, element-number}

@@ -18,7 +18,7 @@ use Rattle.context.specs.Tables.{Numbers, Notes}
 use Rattle.context.specs.declared.LowerCtx.{LowerCtx}
 use Rattle.context.specs.declared.Numbered.{Numbered}
 use Rattle.words.specs.Cells.{shown}
-use Rattle.lower.specs.Count.{countAt, countBy}
+use Rattle.words.specs.Count.{countAt, countBy}
 use Rattle.lower.specs.Render.{Ops, render, renderOf, recsOver, exprRecs, Below, belowIn, copiesBelow}
 use Rattle.lower.specs.Render
 use Rattle.lower.specs.Shows.{shift}
@@ -27,7 +27,7 @@ use Rattle.lower.specs.Pieces.{exprPiece, Carried, []ᶜ, lowerC, render
 use Rattle.lower.specs.Patterns.{partsL, SomeTrees, LowersParts}
 use Rattle.lower.specs.State.{sub-more, sub-within, blank-within, blank-before, blank-behind, back, to-then, to-wider, Given, number-to, note-to}
 use Rattle.words.specs.Numbers.{exprNumber}
-use Rattle.lower.proofs.Counting.{counted}
+use Rattle.words.proofs.Counting.{counted}
 use Rattle.lower.specs.Exprs.{narrow}
 use Rattle.lower.specs.Carry.{plainC, plain-lower, plain-size, plain-held, plain-render, plain-below}
 use Rattle.lower.proofs.Arms.{number-at, same-low}

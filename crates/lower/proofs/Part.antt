@@ -12,14 +12,14 @@ use Rattle.model.specs.Tree.{Tree}
 use Rattle.model.specs.Lower.{Step, NodeStep, RelStep, ofNode, ofRel, other, shapeOf}
 use Rattle.words.specs.Words.{Roomy, cell}
 use Rattle.words.specs.Held.{Held, size}
-use Rattle.lower.specs.Count.{Starts, Ends}
+use Rattle.words.specs.Count.{Starts, Ends}
 use Rattle.lower.specs.Rep.{State, Mem}
 use Rattle.lower.specs.Pieces.{SomeTree}
 use Rattle.lower.specs.Patterns.{partL, LowersPart}
 use Rattle.lower.specs.Chains.{stepsOf, chainL, LowersChain, elementOf}
 use Rattle.lower.specs.declared.Element.{Element}
 use Rattle.lower.specs.declared.Element.the-variants.{Node, Rel}
-use Rattle.lower.specs.Fits.{tree-fits}
+use Rattle.words.specs.Fits.{tree-fits}
 use Rattle.lower.proofs.Elements.{a-node, a-rel, other-element}
 use Rattle.lower.proofs.Chaining.{IsPart, a-part}
 use Rattle.lower.proofs.Shortest.{Three, three, plain-part, other-part, shape-not-three, steps-length}

@@ -10,7 +10,7 @@ use mathlib.Core.Bool.{Bool, true, false}
 use mathlib.Core.Logic.{_⊎_, inl, inr}
 use lib.Dec.{eqb}
 use borrow.Author.Tests.{eqb-true, eqb-false}
-use Rattle.lower.specs.Fits.{tree-fits}
+use Rattle.words.specs.Fits.{tree-fits}
 use Rattle.lower.specs.Carry.{plainC, plain-held, plain-size}
 use Rattle.lower.proofs.Elements.{a-node, other-element}
 use Rattle.lower.proofs.Elements
@@ -18,7 +18,7 @@ use Rattle.lower.proofs.Linking.{rel-kind}
 use mathlib.Core.Option.{Option}
 use Rattle.model.specs.Lower.{RelStep}
 use Rattle.model.specs.Record.{one}
-use Rattle.lower.specs.Count.{Ends}
+use Rattle.words.specs.Count.{Ends}
 use Rattle.lower.specs.Chains.{LowersRel, LowersStart, OrSource, Waiting, no-rel, a-rel, Anchored}
 use Rattle.lower.specs.declared.Chain.{Chain}
 use Rattle.model.specs.Tree.{Tree, node}

@@ -21,7 +21,7 @@ use Rattle.context.specs.Tables.{Pushed, Numbers}
 use Rattle.context.specs.declared.LowerCtx.{LowerCtx}
 use Rattle.context.specs.declared.Numbered.{Numbered}
 use Rattle.context.specs.Ops.{shortestPathOp}
-use Rattle.lower.specs.Count.{Ends}
+use Rattle.words.specs.Count.{Ends}
 use Rattle.lower.specs.Render.{renderOf}
 use Rattle.lower.specs.Shows.{shift, Sane, shows-short}
 use Rattle.lower.specs.Rep.{atPlace, State, Mem, mem, Written, Sub, Blank, Rep, Rooted, Moved}
@@ -30,7 +30,7 @@ use Rattle.lower.specs.Patterns.{partL, LowersPart}
 use Rattle.lower.specs.Chains.{stepsOf, startL, LowersStart, LowersRel}
 use Rattle.lower.specs.State.{sub-more, sub-within, blank-within, blank-before, blank-behind, back, to-then, to-wider, push-to, Given, number-to}
 use Rattle.lower.specs.Below.{carried-more}
-use Rattle.lower.specs.Fits.{tree-fits, tree-low}
+use Rattle.words.specs.Fits.{tree-fits, tree-low}
 use Rattle.lower.specs.Carry.{plainC, plain-held, plain-size, plain-below}
 use Rattle.lower.proofs.Elements.{a-node, a-rel}
 use Rattle.lower.proofs.Elements

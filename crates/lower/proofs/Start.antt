@@ -21,7 +21,7 @@ use Rattle.lower.specs.Rep.{atPlace, State, Mem, mem, Written, Blank, Re
 use Rattle.lower.specs.Pieces.{SomeTree, LowersExpr}
 use Rattle.lower.specs.Chains.{stepOf, startL, LowersStart}
 use Rattle.lower.specs.State.{sub-more, sub-within, blank-within, to-then, to-wider, push-to}
-use Rattle.lower.specs.Fits.{tree-fits, tree-low}
+use Rattle.words.specs.Fits.{tree-fits, tree-low}
 use Rattle.lower.proofs.Elements.{names-render, a-node, OneProp, one-prop, no-prop, same-node}
 
 module _ {a b : List ℕ} (d i : ℕ) (room : Roomy a b) (k12 : cell a b i 0 ≡ 12) where

@@ -14,9 +14,8 @@ ghost use Rattle.context.specs.Ops.{beforeOf, Under};
 use context::At;
 use context::Before;
 use context::LowerCtx;
+use words::records;
 use context::op;
-
-pub mod records;
 
 // Elements of a part, so far: the next one's record; whether there is an operator, the last one and its node's number; whether a rel waits for its far node; the record from which nothing is lowered yet, which is the rel that waits; how many numbers the path has.
 pub struct Chain {

@@ -9,7 +9,7 @@ use Rattle.model.specs.Field.{Form, num, flag, var, varOrAbsent, numOrAbsent, n
 use Rattle.model.specs.Field
 use Rattle.words.specs.Words.{fieldOf, fieldsOf, part}
 use Rattle.words.specs.Held.{Flags, Texts}
-use Rattle.line.specs.Table.{formsAt}
+use Rattle.words.specs.Table.{formsAt}
 
 -- the forms that a line of the plan sheet has from one of the statement sheet
 unfoldable pub plain : Form → Bool

@@ -51,9 +51,9 @@ use Rattle.lower.proofs.lower_no_parts.Reads as lower-no-parts-reads
 use Rattle.lower.proofs.or_source_all.Reads as or-source-all-reads
 use Rattle.lower.proofs.root_of.Reads as root-of-reads
 use Rattle.lower.proofs.read_element.Reads as read-element-reads
-use Rattle.lower.proofs.records.children.Reads as children-reads
-use Rattle.lower.proofs.records.count.Reads as count-reads
-use Rattle.lower.proofs.records.skip.Reads as skip-reads
+use Rattle.words.proofs.records.children.Reads as children-reads
+use Rattle.words.proofs.records.count.Reads as count-reads
+use Rattle.words.proofs.records.skip.Reads as skip-reads
 use Rattle.words.proofs.word.Reads as word-reads
 
 abbrev pub μ-expand-to : Measures 4 expand-to-kinds.ps ℕ
