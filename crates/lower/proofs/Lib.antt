@@ -12,3 +12,4 @@ pub mod Special
 pub mod Part
 pub mod Reading
 pub mod Room
+pub mod Asking

@@ -197,3 +197,7 @@ pattern-some see en x = let o = see (x .sheet) (x .tree) (x .held) in rw (en ∙
 pub count-none : (a b : List ℕ) (i : ℕ) → cell a b i 0 ≡ 32 → 0 ≡ countAt a b i
 unfolding countBy
 count-none a b i e = rw e
+
+pub count-parts : (a b : List ℕ) (i : ℕ) → cell a b i 0 ≡ 35 → countAt a b i ≡ cell a b i 2
+unfolding countBy
+count-parts a b i e = rw e

@@ -31,6 +31,11 @@ use Rattle.context.specs.declared.Numbered.{Numbered}
 use Rattle.model.specs.Lower.{Lowering, endpointVar}
 use Rattle.context.specs.Ops.{Fits}
 use Rattle.lower.specs.Rep.{atPlace, Mem, mem, Good}
+use Rattle.model.specs.Call.{maxDepth}
+use Rattle.words.specs.Words.{maxRecords}
+use Rattle.context.specs.Tables.{secondPass}
+use Rattle.context.specs.declared.At.{At}
+use Rattle.lower.specs.Asked.{Asked, TreeAsked, ElementAsked, ChainAsked}
 use Rattle.lower.specs.Pieces.{SomeTree, SomeCarried, LowersExprs}
 
 deep-by : {s : Sort} (sheet : List ℕ) (a b : List ℕ) (t : Tree s) (d i : ℕ) → Held sheet a b t d i → (i < 2048) × (1 ≤ d)
@@ -42,6 +47,26 @@ low {a} {b} {d = d} {i = i} x = deep-by (x .sheet) a b (x .tree) d i (x .held) .
 
 pub deep : {a b : List ℕ} {s : Sort} {d i : ℕ} → SomeTree a b s d i → 1 ≤ d
 deep {a} {b} {d = d} {i = i} x = deep-by (x .sheet) a b (x .tree) d i (x .held) .1
+
+-- the numbers of a place
+pub record Bounds (at : At) : Type 0 where
+  pub low : at .i < maxRecords
+  pub deep : 1 ≤ at .left
+  pub shallow : at .left ≤ maxDepth
+  pub near : at .base ≤ secondPass
+
+pub bounds : {s : Sort} {a b : List ℕ} {at : At} {m : Mem} → TreeAsked s a b at m → Bounds at
+bounds g = record { low = low (g .tree); deep = deep (g .tree); shallow = g .depth; near = g .pass }
+
+pub element-bounds : {kind : ℕ} {a b : List ℕ} {at : At} {m : Mem} → ElementAsked kind a b at m → Bounds at
+element-bounds g = record { low = low (g .tree .tree); deep = deep (g .tree .tree); shallow = g .depth; near = g .pass }
+
+pub chain-bounds : {a b : List ℕ} {base left : ℕ} {ch : Chain} {os rs : List ℕ} → ChainAsked a b base left ch os rs → Bounds (atPlace base (ch .next) left)
+chain-bounds g = record { low = low (g .tree); deep = deep (g .tree); shallow = g .depth; near = g .pass }
+
+-- what is asked for a part of what stands at a place
+pub asked-on : {T T′ : Type 0} {a b : List ℕ} {at : At} {d : ℕ} {m m′ : Mem} (i d′ e : ℕ) → Asked T a b at d m → d′ ≤ at .left → T′ → Good e i m′ → Asked T′ a b (atPlace (at .base) i d′) e m′
+asked-on i d′ e g l t r = record { words = g .words; tree = t; room = r; depth = (let h = g .depth in omega arith); pass = g .pass }
 
 module _ {d i : ℕ} {c : LowerCtx} {os rs : List ℕ} (g : Good d i (mem c os rs)) where
   pub can-push : (c .ops < 65536) × (16384 ≤ length os)

@@ -4,6 +4,7 @@ pub mod Rep
 pub mod Pieces
 pub mod Patterns
 pub mod Chains
+pub mod Asked
 pub mod Below
 pub mod State
 pub mod Exprs
