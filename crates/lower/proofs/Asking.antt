@@ -12,7 +12,7 @@ use Rattle.context.specs.declared.LowerCtx.{LowerCtx}
 use Rattle.context.specs.declared.Numbered.{Numbered}
 use lib.ListN.{length}
 use mathlib.Core.Path.{_≡_}
-use Rattle.lower.specs.Rep.{Mem, mem, Good}
+use Rattle.lower.specs.Rep.{Mem, mem, RoomFor}
 use Rattle.lower.specs.Pieces.{SomeTree}
 use Rattle.lower.specs.Chains.{LowersStart, LowersRel}
 use Rattle.lower.specs.Asked.{SomeElement, SpecialAsked}
@@ -32,16 +32,16 @@ module _ {a b : List ℕ} {at : At} {rel far : ℕ} {m : Mem} (g : SpecialAsked 
 
 -- room behind the first node's number, behind the node, and behind the rel
 module _ {a b : List ℕ} {at : At} {rel far place : ℕ} {c : LowerCtx} {os rs rs′ : List ℕ} {step : Lowering ℕ} {r : Numbered} (g : SpecialAsked a b at rel far (mem c os rs)) (n : Numbers step place c rs rs′ r) (l : length rs′ ≡ length rs) where
-  pub near-room : Good (at .left - 1 - 1) (at .i + 1) (mem (r .ctx) os rs′)
+  pub near-room : RoomFor (at .left - 1 - 1) (at .i + 1) (mem (r .ctx) os rs′)
   near-room =
       let h = Room.low (first-of g .tree) in
       Room.numbered-on (g .part .room) _ _ (n .issued) l (omega arith) (omega arith) (omega arith)
 
   module _ {base number e k : ℕ} {m′ : Mem} (p : LowersStart a b (at .left - 1) base (at .i + 1) number e k (mem (r .ctx) os rs′) m′) where
-    pub rel-room : Good (at .left - 1 - 1) rel m′
+    pub rel-room : RoomFor (at .left - 1 - 1) rel m′
     rel-room = Room.good-at (Room.start-ends (first-of g .tree) p (g .special .first-end)) (good-after (p .moved) near-room)
 
-pub far-room : {a b : List ℕ} {at : At} {base rel far e : ℕ} {c : LowerCtx} {os rs : List ℕ} {m m′ : Mem} (g : SpecialAsked a b at rel far m) → Good (at .left - 1 - 1) rel (mem c os rs) → LowersRel a b (at .left - 1) base rel e c os rs m′ → Good (at .left - 1 - 1) far m′
+pub far-room : {a b : List ℕ} {at : At} {base rel far e : ℕ} {c : LowerCtx} {os rs : List ℕ} {m m′ : Mem} (g : SpecialAsked a b at rel far m) → RoomFor (at .left - 1 - 1) rel (mem c os rs) → LowersRel a b (at .left - 1) base rel e c os rs m′ → RoomFor (at .left - 1 - 1) far m′
 far-room {far = far} g r p =
     let h = Room.rel-ends (g .part .words) (g .special .second) (rel-of g .tree) p (g .special .second-end) in
     let l = Room.low (far-of g .tree) in

@@ -8,17 +8,17 @@ use Rattle.words.specs.Words.{Roomy, cell, maxRecords}
 use Rattle.words.specs.Places.{kindAt, nodeKind}
 use Rattle.context.specs.Tables.{secondPass}
 use Rattle.context.specs.declared.At.{At}
-use Rattle.lower.specs.Rep.{Mem, mem, Good}
+use Rattle.lower.specs.Rep.{Mem, mem, RoomFor}
 use Rattle.lower.specs.Pieces.{SomeTree, SomeCarried}
 use Rattle.lower.specs.Patterns.{SomeTrees}
-use Rattle.lower.specs.Chains.{Sturdy, Anchored, Starts, Special}
+use Rattle.lower.specs.Chains.{ChainInBounds, Anchored, StartsAnew, Special}
 use Rattle.lower.specs.declared.Chain.{Chain}
 
 -- what stands at a place, and room for what is at most so deep
 pub record Asked (Stands : Type 0) (a b : List ℕ) (at : At) (deep : ℕ) (m : Mem) : Type 0 where
   pub words : Roomy a b
   pub tree : Stands
-  pub room : Good deep (at .i) m
+  pub room : RoomFor deep (at .i) m
   pub depth : at .left ≤ maxDepth
   pub pass : at .base ≤ secondPass
 
@@ -55,17 +55,17 @@ pub record SpecialAsked (a b : List ℕ) (at : At) (rel far : ℕ) (m : Mem) : T
 pub record ChainAsked (a b : List ℕ) (base left : ℕ) (ch : Chain) (os rs : List ℕ) : Type 0 where
   pub words : Roomy a b
   pub tree : SomeTree a b patternElement left (ch .next)
-  pub room : Good left (ch .from) (mem (ch .ctx) os rs)
+  pub room : RoomFor left (ch .from) (mem (ch .ctx) os rs)
   pub depth : left ≤ maxDepth
   pub pass : base ≤ secondPass
-  pub sturdy : Sturdy ch
+  pub bounded : ChainInBounds ch
   pub anchored : Anchored a b left ch
 
 -- it is a node, at the start or with no rel pending
 pub record StartAsked (a b : List ℕ) (base left : ℕ) (ch : Chain) (os rs : List ℕ) : Type 0 where
   pub chain : ChainAsked a b base left ch os rs
   pub node : cell a b (ch .next) kindAt ≡ nodeKind
-  pub anew : Starts ch
+  pub anew : StartsAnew ch
 
 -- it is a node behind a rel
 pub record ExpandAsked (a b : List ℕ) (base left : ℕ) (ch : Chain) (os rs : List ℕ) : Type 0 where

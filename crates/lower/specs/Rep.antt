@@ -100,14 +100,7 @@ pub record Rooted (sheet : Bytes) (a b : List ℕ) (W : Written) (L : Lowering �
 abbrev pub Indexes : Mem → Type 0
 Indexes m = Indexed (m .ctx .mapped) (drop varsAt (m .rest))
 
--- Below these bounds counts fit into words. What a sheet comes to is far below them (Good, and the clauses' Ready): they are here so that the code may add one without a test.
-abbrev pub maxOps : ℕ
-maxOps = 65535
-
-abbrev pub maxNumbers : ℕ
-maxNumbers = 65535
-
--- Operators and numbers that a lowering may find: those of two sheets with four operators to a record are fewer, and with what one more sheet adds they stay below the bounds above.
+-- Operators and numbers that a lowering may find: those of two sheets with four operators to a record are fewer, and with what one more sheet adds they stay below maxCount.
 abbrev pub maxBefore : ℕ
 maxBefore = 30000
 
@@ -116,7 +109,7 @@ abbrev pub maxMet : ℕ
 maxMet = maxRecords + maxDepth
 
 -- there is room at record i, for what is at most d deep: two operators and one number for each record, and one for each level
-pub record Good (d i : ℕ) (m : Mem) : Type 0 where
+pub record RoomFor (d i : ℕ) (m : Mem) : Type 0 where
   pub few : m .ctx .ops + d ≤ maxBefore + 2 * i
   pub low : m .ctx .next + d ≤ maxBefore + i
   pub met : m .ctx .mapped + d ≤ maxMet + i

@@ -8,11 +8,12 @@ ghost use Rattle.model.specs.Kind.{expr, patternPart, patternElement};
 ghost use Rattle.model.specs.Lower.{orSourceAll};
 ghost use Rattle.words.specs.Words.{Roomy, cell, maxRecords};
 ghost use Rattle.words.specs.Places.{kindAt, nodeKind, relKind};
-ghost use Rattle.lower.specs.Rep.{mem, maxOps, maxNumbers};
+ghost use Rattle.lower.specs.Rep.{mem};
 ghost use Rattle.lower.specs.Pieces.{LowersExpr, LowersExprs};
 ghost use Rattle.lower.specs.Patterns.{LowersPart, LowersParts};
 ghost use Rattle.lower.specs.Chains.{givenIf, LowersElement, LowersElements, LowersStart, LowersRel, OrSource, LowersChain, elementOf, startChain};
 ghost use Rattle.lower.specs.Asked.{TreeAsked, ExprsAsked, BehindAsked, ElementAsked, SpecialAsked, ChainAsked, StartAsked, ExpandAsked};
+ghost use Rattle.context.specs.Tables.{maxCount};
 ghost use Rattle.context.specs.Ops.{beforeOf, Under};
 use context::At;
 use context::Before;
@@ -41,7 +42,7 @@ pub enum Element {
 }
 
 // The record behind what is lowered, and the state.
-pub struct Step {
+pub struct Reached {
     pub next: usize,
     pub ctx: LowerCtx,
 }
@@ -67,7 +68,7 @@ fn read_element(a: &[u32], b: &[u32], i: usize) -> Element
 
 // The operator before, or a source of everything, which names the next number and does not take it.
 pub fn or_source_all(ops: &mut [u32], ctx: LowerCtx, current: Before, next: usize) -> Root
-    requires { ⌜ (ctx .ops < maxOps) × (workWords ≤ length (now ops)) ⌝ }
+    requires { ⌜ (ctx .ops < maxCount) × (workWords ≤ length (now ops)) ⌝ }
     requires { ⌜ Under current (ctx .ops) ⌝ }
     ensures { λ r. ⌜ (r .next ≡ next) × ((rest : List ℕ) → OrSource (orSourceAll (beforeOf current)) (r .op) (mem ctx (now (ops .entry)) rest) (mem (r .ctx) (now (ops .exit)) rest)) ⌝ }
 {
@@ -97,7 +98,7 @@ fn root_of(has: u32, last: usize) -> Before
 
 // A pattern of no parts, at record i: a source that does take a number.
 fn lower_no_parts(ops: &mut [u32], ctx: LowerCtx, i: usize) -> Root
-    requires { ⌜ (ctx .ops < maxOps) × (ctx .next < maxNumbers) × (workWords ≤ length (now ops)) × (i < maxRecords) ⌝ }
+    requires { ⌜ (ctx .ops < maxCount) × (ctx .next < maxCount) × (workWords ≤ length (now ops)) × (i < maxRecords) ⌝ }
     ensures { λ r. ⌜ (r .next ≡ i + 1) × ((a b : List ℕ) (d base : ℕ) (rest : List ℕ) → LowersParts a b 0 d base i (r .next) (r .op) (mem ctx (now (ops .entry)) rest) (mem (r .ctx) (now (ops .exit)) rest)) ⌝ }
 {
     let k = ctx.ops;
@@ -119,7 +120,7 @@ pub fn lower_expr(
     rest: &mut [u32],
     ctx: LowerCtx,
     at: At,
-) -> Step
+) -> Reached
     requires { ⌜ TreeAsked expr (now a) (now b) at (mem ctx (now ops) (now rest)) ⌝ }
     ensures { λ r. ⌜ LowersExpr (now (a .entry)) (now (b .entry)) (at .left) (at .base) (at .i) (r .next) (mem ctx (now (ops .entry)) (now (rest .entry))) (mem (r .ctx) (now (ops .exit)) (now (rest .exit))) ⌝ }
 {
@@ -139,7 +140,7 @@ pub fn lower_expr(
             let id = words::word(a, b, i, field::VAR_ID);
             let m = ctx.number(rest, id, place);
             let c = m.ctx;
-            Step {
+            Reached {
                 next: first,
                 ctx: c,
             }
@@ -154,7 +155,7 @@ pub fn lower_expr(
             let r = lower_parts(a, b, ops, rest, ctx, here, n);
             context::note(rest, place, r.op as u32);
             let c = r.ctx;
-            Step {
+            Reached {
                 next: r.next,
                 ctx: c,
             }
@@ -179,7 +180,7 @@ pub fn lower_exprs(
     at: At,
     n: usize,
     gap: usize,
-) -> Step
+) -> Reached
     requires { ⌜ ExprsAsked (now a) (now b) n gap at (mem ctx (now ops) (now rest)) ⌝ }
     ensures { λ r. ⌜ LowersExprs (now (a .entry)) (now (b .entry)) n gap (at .left) (at .base) (at .i) (r .next) (mem ctx (now (ops .entry)) (now (rest .entry))) (mem (r .ctx) (now (ops .exit)) (now (rest .exit))) ⌝ }
 {
@@ -199,7 +200,7 @@ pub fn lower_exprs(
         cur = c;
         m -= 1;
     }
-    Step { next: i, ctx: cur }
+    Reached { next: i, ctx: cur }
 }
 
 // The n parts behind the record at a place.
@@ -595,7 +596,7 @@ fn lower_rel_element(
     rest: &mut [u32],
     ctx: LowerCtx,
     at: At,
-) -> Step
+) -> Reached
     requires { ⌜ ElementAsked relKind (now a) (now b) at (mem ctx (now ops) (now rest)) ⌝ }
     ensures { λ r. ⌜ LowersRel (now (a .entry)) (now (b .entry)) (at .left) (at .base) (at .i) (r .next) ctx (now (ops .entry)) (now (rest .entry)) (mem (r .ctx) (now (ops .exit)) (now (rest .exit))) ⌝ }
 {

@@ -177,9 +177,9 @@ module _ (t : ℕ) where
       let start : here lts.Start = search ways depth 12 in
       let l₀ = Room.low (start .pre .1 .chain .tree) in
       let l₂ = start .pre .1 .chain .depth in
-      let q = (start .pre .1 .chain .sturdy) .from in
+      let q = (start .pre .1 .chain .bounded) .from in
       let g = Room.few-ops (start .pre .1 .chain .room) in
-      let q′ = (start .pre .1 .chain .sturdy) .last in
+      let q′ = (start .pre .1 .chain .bounded) .last in
       (Room.fits (start .pre .1 .chain .pass) (omega arith) (omega arith), omega arith, omega arith)
 
   push-requires : here lts.Need-push-requires
@@ -215,8 +215,8 @@ module _ (t : ℕ) where
   add-kept : here lts.Need-add-kept
   add-kept c =
       let start : here lts.Start = search ways depth 12 in
-      let q = (start .pre .1 .chain .sturdy) .kept in
-      let q′ = (start .pre .1 .chain .sturdy) .next in
+      let q = (start .pre .1 .chain .bounded) .kept in
+      let q′ = (start .pre .1 .chain .bounded) .next in
       omega arith
 
   same-length : here lts.Need-same-length
@@ -254,7 +254,7 @@ module _ (t : ℕ) where
       (start .pre .1 .chain .words)
       (start .pre .1 .chain .pass)
       (start .pre .1 .chain .depth)
-      (start .pre .1 .chain .sturdy)
+      (start .pre .1 .chain .bounded)
       (start .pre .1 .waits)
       (start .pre .1 .has)
       (start .pre .1 .node)

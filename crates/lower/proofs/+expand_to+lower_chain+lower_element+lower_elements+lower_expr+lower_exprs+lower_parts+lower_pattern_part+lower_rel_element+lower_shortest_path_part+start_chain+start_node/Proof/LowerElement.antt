@@ -89,7 +89,7 @@ module _ (t : ℕ) where
       _
       _
       (start .pre .1 .words)
-      (start .pre .1 .sturdy)
+      (start .pre .1 .bounded)
       (Part.other-kind
       (start .pre .1 .words)
       (start .pre .1 .tree)
@@ -158,8 +158,8 @@ module _ (t : ℕ) where
         record {
           chain = start .pre .1;
           node = Part.is-node _ _ _ _ (after-read-element .read-element .ensures) (after-x .x .given .1);
-          waits = Part.one-of ((start .pre .1 .sturdy) .waits) (else1 .if1 .left);
-          has = Part.one-of ((start .pre .1 .sturdy) .has) (else2 .if2 .left);
+          waits = Part.one-of ((start .pre .1 .bounded) .waits) (else1 .if1 .left);
+          has = Part.one-of ((start .pre .1 .bounded) .has) (else2 .if2 .left);
         },
       )
 

@@ -47,7 +47,7 @@ module _ (t : ℕ) where
       record {
         some = start .pre .1 .tree .trees;
         good = Exprs.good-from (le-refl _) (omega arith) (omega arith) (start .pre .1 .room);
-        sturdy = Chaining.start-sturdy _ _ (omega arith);
+        bounded = Chaining.start-bounded _ _ (omega arith);
         anchored = Chaining.start-anchored (start .args .a .now) (start .args .b .now) (start .pre .1 .tree .trees .sheet) _ _ _;
         rest = λ ch′ os′ rs′ q. q;
       }
@@ -64,7 +64,7 @@ module _ (t : ℕ) where
           room = at-loop .loop .inv .good;
           depth = start .pre .1 .depth;
           pass = start .pre .1 .pass;
-          sturdy = at-loop .loop .inv .sturdy;
+          bounded = at-loop .loop .inv .bounded;
           anchored = at-loop .loop .inv .anchored;
         },
       )

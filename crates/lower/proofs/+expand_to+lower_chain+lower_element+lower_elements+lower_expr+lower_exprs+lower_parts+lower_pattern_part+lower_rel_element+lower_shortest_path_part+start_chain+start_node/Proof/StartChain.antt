@@ -70,8 +70,8 @@ module _ (t : ℕ) where
           room =
               Exprs.good-from
               (le-refl _)
-              (start .pre .1 .chain .sturdy .from)
-              (start .pre .1 .chain .sturdy .next)
+              (start .pre .1 .chain .bounded .from)
+              (start .pre .1 .chain .bounded .next)
               (Room.numbered
               (start .pre .1 .chain .room)
               (after-endpoint-var .endpoint-var .ensures .issued)
@@ -85,8 +85,8 @@ module _ (t : ℕ) where
   add-kept : here lts.Need-add-kept
   add-kept c =
       let start : here lts.Start = search ways in
-      let q = (start .pre .1 .chain .sturdy) .kept in
-      let q′ = (start .pre .1 .chain .sturdy) .next in
+      let q = (start .pre .1 .chain .bounded) .kept in
+      let q′ = (start .pre .1 .chain .bounded) .next in
       omega arith
 
   same-length : here lts.Need-same-length
@@ -113,7 +113,7 @@ module _ (t : ℕ) where
       _
       (start .pre .1 .chain .words)
       (start .pre .1 .chain .pass)
-      (start .pre .1 .chain .sturdy)
+      (start .pre .1 .chain .bounded)
       (start .pre .1 .node)
       (start .pre .1 .anew)
       refl
