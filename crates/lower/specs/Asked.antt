@@ -11,8 +11,11 @@ use Rattle.context.specs.declared.At.{At}
 use Rattle.lower.specs.Rep.{Mem, mem, RoomFor}
 use Rattle.lower.specs.Pieces.{SomeTree, SomeCarried}
 use Rattle.lower.specs.Patterns.{SomeTrees}
-use Rattle.lower.specs.Chains.{ChainInBounds, Anchored, StartsAnew, Special}
+use Rattle.lower.specs.Chains.{from, ChainInBounds, Anchored, StartsAnew, Special}
 use Rattle.lower.specs.declared.Chain.{Chain}
+use Rattle.lower.specs.declared.Link.{Link}
+use Rattle.lower.specs.declared.Last.the-variants as last
+use Rattle.lower.specs.declared.Pending.the-variants as pending
 
 -- what stands at a place, and room for what is at most so deep
 pub record Asked (Stands : Type 0) (a b : List ℕ) (at : At) (deep : ℕ) (m : Mem) : Type 0 where
@@ -55,7 +58,7 @@ pub record SpecialAsked (a b : List ℕ) (at : At) (rel far : ℕ) (m : Mem) : T
 pub record ChainAsked (a b : List ℕ) (base left : ℕ) (ch : Chain) (os rs : List ℕ) : Type 0 where
   pub words : Roomy a b
   pub tree : SomeTree a b patternElement left (ch .next)
-  pub room : RoomFor left (ch .from) (mem (ch .ctx) os rs)
+  pub room : RoomFor left (from ch) (mem (ch .ctx) os rs)
   pub depth : left ≤ maxDepth
   pub pass : base ≤ secondPass
   pub bounded : ChainInBounds ch
@@ -68,8 +71,8 @@ pub record StartAsked (a b : List ℕ) (base left : ℕ) (ch : Chain) (os rs : L
   pub anew : StartsAnew ch
 
 -- it is a node behind a rel
-pub record ExpandAsked (a b : List ℕ) (base left : ℕ) (ch : Chain) (os rs : List ℕ) : Type 0 where
+pub record ExpandAsked (a b : List ℕ) (base left : ℕ) (ch : Chain) (link : Link) (os rs : List ℕ) : Type 0 where
   pub chain : ChainAsked a b base left ch os rs
   pub node : cell a b (ch .next) kindAt ≡ nodeKind
-  pub waits : ch .waits ≡ 1
-  pub has : ch .has ≡ 1
+  pub waits : ch .pending ≡ pending.Rel (link .rel)
+  pub has : ch .last ≡ last.Op (link .input) (link .origin)

@@ -5,13 +5,13 @@ ghost use mathlib.Core.List.{List};
 ghost use lib.ListN.{length};
 ghost use Rattle.model.specs.Call.{workWords};
 ghost use Rattle.model.specs.Kind.{expr, patternPart, patternElement};
-ghost use Rattle.model.specs.Lower.{orSourceAll};
+ghost use Rattle.model.specs.Lower.{orSourceAll, rootOf};
 ghost use Rattle.words.specs.Words.{Roomy, cell, maxRecords};
 ghost use Rattle.words.specs.Places.{kindAt, nodeKind, relKind};
 ghost use Rattle.lower.specs.Rep.{mem};
 ghost use Rattle.lower.specs.Pieces.{LowersExpr, LowersExprs};
 ghost use Rattle.lower.specs.Patterns.{LowersPart, LowersParts};
-ghost use Rattle.lower.specs.Chains.{givenIf, LowersElement, LowersElements, LowersStart, LowersRel, OrSource, LowersChain, elementOf, startChain};
+ghost use Rattle.lower.specs.Chains.{lastOf, LowersElement, LowersElements, LowersStart, LowersRel, OrSource, LowersChain, elementOf, startChain};
 ghost use Rattle.lower.specs.Asked.{TreeAsked, ExprsAsked, BehindAsked, ElementAsked, SpecialAsked, ChainAsked, StartAsked, ExpandAsked};
 ghost use Rattle.context.specs.Tables.{maxCount};
 ghost use Rattle.context.specs.Ops.{beforeOf, Under};
@@ -23,16 +23,32 @@ use words::field;
 use words::kind;
 use words::records;
 
-// Elements of a part, so far: the next one's record; whether there is an operator, the last one and its node's number; whether a rel waits for its far node; the record from which nothing is lowered yet, which is the rel that waits; how many numbers the path has.
+// The last operator of a chain and its node's number, if there is one.
+pub enum Last {
+    Nothing,
+    Op(usize, u32),
+}
+
+// The rel that waits for its far node, at its record, if one does.
+pub enum Pending {
+    Nothing,
+    Rel(usize),
+}
+
+// Elements of a part, so far: the next one's record; the last operator; the rel that waits, from which on nothing is lowered yet; how many numbers the path has.
 pub struct Chain {
     pub next: usize,
     pub ctx: LowerCtx,
-    pub has: u32,
-    pub last: usize,
-    pub origin: u32,
-    pub waits: u32,
-    pub from: usize,
+    pub last: Last,
+    pub pending: Pending,
     pub kept: u32,
+}
+
+// What a node behind a rel is reached by: the rel's record, the operator before and its node's number.
+pub struct Link {
+    pub rel: usize,
+    pub input: usize,
+    pub origin: u32,
 }
 
 // An element of a part, at its record.
@@ -87,13 +103,13 @@ pub fn or_source_all(ops: &mut [u32], ctx: LowerCtx, current: Before, next: usiz
 }
 
 // The root of a chain so far, if it has one.
-fn root_of(has: u32, last: usize) -> Before
-    ensures { λ r. ⌜ beforeOf r ≡ givenIf has last ⌝ }
+fn root_of(last: Last) -> Before
+    ensures { λ r. ⌜ beforeOf r ≡ rootOf (lastOf last) ⌝ }
 {
-    if has == 0 {
-        return Before::Nothing;
+    match last {
+        Last::Op(k, n) => Before::Op(k),
+        Last::Nothing => Before::Nothing,
     }
-    Before::Op(last)
 }
 
 // A pattern of no parts, at record i: a source that does take a number.
@@ -367,7 +383,8 @@ fn lower_chain(
     };
     let ch = lower_elements(a, b, ops, rest, ctx, below, n);
     let c = ch.ctx;
-    let root = root_of(ch.has, ch.last);
+    let last = ch.last;
+    let root = root_of(last);
     let q = or_source_all(ops, c, root, ch.next);
     let named = words::word(a, b, i, field::PART_NAMED);
     if named == 0 {
@@ -403,11 +420,8 @@ fn lower_elements(
     let mut ch = Chain {
         next: first,
         ctx,
-        has: 0,
-        last: 0,
-        origin: 0,
-        waits: 0,
-        from: first,
+        last: Last::Nothing,
+        pending: Pending::Nothing,
         kept: 0,
     };
     let mut m = n;
@@ -436,24 +450,25 @@ fn lower_element(
     let Element::Node(x) = read_element(a, b, i) else {
         let end = records::skip(a, b, i);
         let c = ch.ctx;
+        let last = ch.last;
         return Chain {
             next: end,
             ctx: c,
-            has: ch.has,
-            last: ch.last,
-            origin: ch.origin,
-            waits: 1,
-            from: i,
+            last,
+            pending: Pending::Rel(i),
             kept: ch.kept,
         };
     };
-    if ch.waits == 0 {
+    let pending = ch.pending;
+    let Pending::Rel(rel) = pending else {
         return start_chain(a, b, ops, rest, ch, base, left);
-    }
-    if ch.has == 0 {
+    };
+    let last = ch.last;
+    let Last::Op(input, origin) = last else {
         return start_chain(a, b, ops, rest, ch, base, left);
-    }
-    expand_to(a, b, ops, rest, ch, base, left)
+    };
+    let link = Link { rel, input, origin };
+    expand_to(a, b, ops, rest, ch, base, left, link)
 }
 
 // A node at the start, or with no rel pending.
@@ -482,11 +497,8 @@ fn start_chain(
     Chain {
         next: r.next,
         ctx: d,
-        has: 1,
-        last: r.op,
-        origin: m.number,
-        waits: 0,
-        from: r.next,
+        last: Last::Op(r.op, m.number),
+        pending: Pending::Nothing,
         kept,
     }
 }
@@ -500,12 +512,13 @@ fn expand_to(
     ch: Chain,
     base: usize,
     left: usize,
+    link: Link,
 ) -> Chain
-    requires { ⌜ ExpandAsked (now a) (now b) base left ch (now ops) (now rest) ⌝ }
+    requires { ⌜ ExpandAsked (now a) (now b) base left ch link (now ops) (now rest) ⌝ }
     ensures { λ r. ⌜ LowersElement (now (a .entry)) (now (b .entry)) left base ch r (now (ops .entry)) (now (ops .exit)) (now (rest .entry)) (now (rest .exit)) ⌝ }
 {
     let i = ch.next;
-    let rel = ch.from;
+    let rel = link.rel;
     let named = words::word(a, b, i, field::ELEMENT_NAMED);
     let id = words::word(a, b, i, field::ELEMENT_VAR);
     let cur = ch.ctx;
@@ -526,16 +539,13 @@ fn expand_to(
     let t = lower_exprs(a, b, ops, rest, d, below, props, 0);
     let f = t.ctx;
     let k = f.ops;
-    let z = f.push(ops, op::expand(place, ch.last, ch.origin, i));
+    let z = f.push(ops, op::expand(place, link.input, link.origin, i));
     let kept = ch.kept + 2;
     Chain {
         next: t.next,
         ctx: z,
-        has: 1,
-        last: k,
-        origin: m.number,
-        waits: 0,
-        from: t.next,
+        last: Last::Op(k, m.number),
+        pending: Pending::Nothing,
         kept,
     }
 }

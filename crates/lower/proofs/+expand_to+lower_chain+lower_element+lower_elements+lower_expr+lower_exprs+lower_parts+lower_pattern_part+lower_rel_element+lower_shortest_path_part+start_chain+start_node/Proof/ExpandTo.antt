@@ -81,16 +81,15 @@ module _ (t : ℕ) where
         omega (arith, start .pre .0),
         record {
           words = start .pre .1 .chain .words;
-          tree = record {
-            tree = Room.waiting-rel (start .pre .1 .chain .words) (start .pre .1 .waits) (start .pre .1 .chain .anchored);
-            is = Room.waiting-kind (start .pre .1 .chain .words) (start .pre .1 .waits) (start .pre .1 .chain .anchored);
-          };
+          tree = Room.waiting-rel (start .pre .1 .chain .words) (start .pre .1 .waits) (start .pre .1 .chain .anchored);
           room =
-              Room.numbered
+              Room.good-at
+              (Room.from-rel (start .args .ch) (start .pre .1 .waits))
+              (Room.numbered
               (start .pre .1 .chain .room)
               (after-endpoint-var .endpoint-var .ensures .issued)
               (after-endpoint-var .endpoint-var .kept .1 .0)
-              (Room.deep (start .pre .1 .chain .tree));
+              (Room.deep (start .pre .1 .chain .tree)));
           depth = start .pre .1 .chain .depth;
           pass = start .pre .1 .chain .pass;
         },
@@ -159,11 +158,11 @@ module _ (t : ℕ) where
           room =
               Room.after-rel
               _
-              (Room.numbered
+              (Room.good-at (Room.from-rel (start .args .ch) (start .pre .1 .waits)) (Room.numbered
               (start .pre .1 .chain .room)
               (after-endpoint-var .endpoint-var .ensures .issued)
               (after-endpoint-var .endpoint-var .kept .1 .0)
-              (Room.deep (start .pre .1 .chain .tree)))
+              (Room.deep (start .pre .1 .chain .tree))))
               (after-lower-rel-element .lower-rel-element .ensures)
               (omega arith)
               (omega arith);
@@ -177,9 +176,10 @@ module _ (t : ℕ) where
       let start : here lts.Start = search ways depth 12 in
       let l₀ = Room.low (start .pre .1 .chain .tree) in
       let l₂ = start .pre .1 .chain .depth in
-      let q = (start .pre .1 .chain .bounded) .from in
+      let q = start .pre .1 .chain .bounded .from in
+      let fr = Room.from-rel (start .args .ch) (start .pre .1 .waits) in
       let g = Room.few-ops (start .pre .1 .chain .room) in
-      let q′ = (start .pre .1 .chain .bounded) .last in
+      let q′ = start .pre .1 .chain .bounded .last .op _ _ (start .pre .1 .has) in
       (Room.fits (start .pre .1 .chain .pass) (omega arith) (omega arith), omega arith, omega arith)
 
   push-requires : here lts.Need-push-requires
@@ -203,11 +203,11 @@ module _ (t : ℕ) where
       (after-lower-exprs .lower-exprs .ensures .moved)
       (Room.after-rel
       _
-      (Room.numbered
+      (Room.good-at (Room.from-rel (start .args .ch) (start .pre .1 .waits)) (Room.numbered
       (start .pre .1 .chain .room)
       (after-endpoint-var .endpoint-var .ensures .issued)
       (after-endpoint-var .endpoint-var .kept .1 .0)
-      (Room.deep (start .pre .1 .chain .tree)))
+      (Room.deep (start .pre .1 .chain .tree))))
       (after-lower-rel-element .lower-rel-element .ensures)
       (omega arith)
       (omega arith)))
