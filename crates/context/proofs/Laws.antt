@@ -141,7 +141,12 @@ run-at o b j (x ∷ xs) (suc p) h l =
 abbrev wordsOf : Op → List ℕ
 wordsOf op = op .kind ∷ op .idx ∷ op .input ∷ op .x ∷ op .y ∷ op .left ∷ op .base ∷ []
 
-pub stored : (c : LowerCtx) (o : List ℕ) (op : Op) → c .ops < maxStored → workWords ≤ length o → Pushed c (record { ops = c .ops + 1; next = c .next; mapped = c .mapped }) o (set (set (set (set (set (set (set o (c .ops * opWords + 1) (op .kind)) (c .ops * opWords + 2) (op .idx)) (c .ops * opWords + 3) (op .input)) (c .ops * opWords + 4) (op .x)) (c .ops * opWords + 5) (op .y)) (c .ops * opWords + 6) (op .left)) (c .ops * opWords + 7) (op .base)) op
+pub stored : (c : LowerCtx) (o : List ℕ) (op : Op) → c .ops < maxStored → workWords ≤ length o → Pushed c (record {
+  ops = c .ops + 1;
+  next = c .next;
+  mapped = c .mapped;
+}) o (set (set (set (set (set (set (set o (c .ops * opWords + 1) (op .kind)) (c .ops * opWords + 2) (op .idx)) (c .ops * opWords + 3) (op .input))
+    (c .ops * opWords + 4) (op .x)) (c .ops * opWords + 5) (op .y)) (c .ops * opWords + 6) (op .left)) (c .ops * opWords + 7) (op .base)) op
 unfolding run opAt
 stored c o op h g =
     let B : ℕ = c .ops * opWords in

@@ -133,7 +133,9 @@ option-some (suc x) y h = refl
 path-is : (k x x′ n n′ : ℕ) (path path′ : List ℕ) → x ≡ x′ → n ≡ n′ → path ≡ path′ → op ReadOp.BindPath (k, (x, (n, tt))) ∷ pathElements path ≡ op ReadOp.BindPath (k, (x′, (n′, tt))) ∷ pathElements path′
 path-is k x x′ n n′ path path′ ex en ep = rw (ex, en, ep)
 
-module _ {a b : List ℕ} {n base : ℕ} {c : LowerCtx} {ch : Chain} {os os₁ rs rs₁ : List ℕ} {k : ℕ} {m₂ : Mem} (d i : ℕ) (room : Roomy a b) (lb : base ≤ secondPass) (en : n ≡ cell a b i partElementsAt) (el : LowersElements a b n (d - 1) base (startChain i c) ch os os₁ rs rs₁) (sr : OrSource (orSourceAll (rootOf (lastOf (ch .last)))) k (mem (ch .ctx) os₁ rs₁) m₂) where
+module _ {a b : List ℕ} {n base : ℕ} {c : LowerCtx} {ch : Chain} {os os₁ rs rs₁ : List ℕ} {k : ℕ} {m₂ : Mem} (d i : ℕ) (room : Roomy a b) (lb : base ≤ secondPass)
+    (en : n ≡ cell a b i partElementsAt) (el : LowersElements a b n (d - 1) base (startChain i c) ch os os₁ rs rs₁)
+    (sr : OrSource (orSourceAll (rootOf (lastOf (ch .last)))) k (mem (ch .ctx) os₁ rs₁) m₂) where
   chain-next : (sheet : Bytes) (t : Tree patternPart) → Held sheet a b t d i → ch .next ≡ i + size t
   chain-next sheet t hd =
       let v = a-part room t hd in
@@ -177,7 +179,9 @@ module _ {a b : List ℕ} {n base : ℕ} {c : LowerCtx} {ch : Chain} {os os₁ r
           run = unnamed-run;
         }
 
-  module _ {place : ℕ} {r₃ : Numbered} {rest₃ os₄ : List ℕ} {c₄ : LowerCtx} (sh : d ≤ maxDepth) (k2 : (cell a b i partNamedAt ≡ 0) → ⊥) (ep : place ≡ base + (i + 1)) (nm : Numbers (mapVar (cell a b i partVarAt)) place (m₂ .ctx) (m₂ .rest) rest₃ r₃) (lr : length rest₃ ≡ length (m₂ .rest)) (pp : Pushed (r₃ .ctx) c₄ (m₂ .ops) os₄ (bindPathOp (atPlace base i (d - 1)) k (ch .kept) (r₃ .number))) (lo : length os₄ ≡ length (m₂ .ops)) where
+  module _ {place : ℕ} {r₃ : Numbered} {rest₃ os₄ : List ℕ} {c₄ : LowerCtx} (sh : d ≤ maxDepth) (k2 : (cell a b i partNamedAt ≡ 0) → ⊥) (ep : place ≡ base + (i + 1))
+      (nm : Numbers (mapVar (cell a b i partVarAt)) place (m₂ .ctx) (m₂ .rest) rest₃ r₃) (lr : length rest₃ ≡ length (m₂ .rest))
+      (pp : Pushed (r₃ .ctx) c₄ (m₂ .ops) os₄ (bindPathOp (atPlace base i (d - 1)) k (ch .kept) (r₃ .number))) (lo : length os₄ ≡ length (m₂ .ops)) where
     named-run : (sheet : Bytes) (t : Tree patternPart) → Held sheet a b t d i → (W : Written) (s : State) → Rep sheet a b W s (mem c os rs) → Blank W (base + suc i) (base + suc (ch .next)) → Rooted sheet a b W (chainL t) (r₃ .ctx .ops) base (suc i) (suc (ch .next)) s (mem c os rs) (mem c₄ os₄ rest₃)
     unfolding bindPath _>>=_ push optionOf
     named-run sheet t hd W s r bl =
@@ -213,7 +217,16 @@ module _ {a b : List ℕ} {n base : ℕ} {c : LowerCtx} {ch : Chain} {os os₁ r
         let f = el .bounded .from in
         let n = nm .issued in
         record {
-          moved = record { up = omega (arith, v .up); here = el .bounded .next; few = omega (arith, v .few, sr .few, n .ops, pp .count); low = omega (arith, v .low, sr .next, n .low, pp .next); met = omega (arith, v .met, sr .mapped, n .met, pp .mapped); in-ops = lo ∙ sr .in-ops ∙ v .in-ops; in-rest = lr ∙ ap length (sr .rest) ∙ v .in-rest; index = λ x. rw (pp .mapped) (n .index (rw (sr .mapped, sr .rest) (v .index x))) };
+          moved = record {
+            up = omega (arith, v .up);
+            here = el .bounded .next;
+            few = omega (arith, v .few, sr .few, n .ops, pp .count);
+            low = omega (arith, v .low, sr .next, n .low, pp .next);
+            met = omega (arith, v .met, sr .mapped, n .met, pp .mapped);
+            in-ops = lo ∙ sr .in-ops ∙ v .in-ops;
+            in-rest = lr ∙ ap length (sr .rest) ∙ v .in-rest;
+            index = λ x. rw (pp .mapped) (n .index (rw (sr .mapped, sr .rest) (v .index x)));
+          };
           low = omega (arith, pp .count);
           next = chain-next;
           run = named-run;

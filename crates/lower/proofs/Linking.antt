@@ -37,7 +37,7 @@ use Rattle.lower.specs.Exprs.{moved-refl, moved-within, narrow}
 use Rattle.lower.proofs.Elements.{a-node, element-number}
 use Rattle.lower.proofs.Elements
 use Rattle.lower.proofs.Expand.{expand-run, far-end, rel-end}
-use Rattle.words.specs.Places.{kindAt, nodeKind, relKind, elementNamedAt, elementVarAt, nodePropsAt, relTypesAt, relPropsAt}
+use Rattle.words.specs.Places.{kindAt, nodeKind, relKind, elementNamedAt, elementVarAt, nodePropsAt, relTypesAt, relPropsAt, nodeLabelsAt}
 use Rattle.model.specs.Call.{maxDepth}
 
 IsNodeStep : Lower.Step → Type 0
@@ -171,7 +171,9 @@ started c k x = record { last = some (k, x); pending = none; path = c .path ++ (
 start-same : (c : Lower.Chain) (n : NodeStep) (s : State) (x x′ k : ℕ) → x ≡ x′ → startL x′ n s .0 ≡ k → _≡_ {A = Lower.Chain × State} (started c (startL x n s .0) x, startL x n s .1) (started c k x′, startL x′ n s .1)
 start-same c n s x x′ k ex ek = rw (ex, ek)
 
-module _ {a b : List ℕ} (d base : ℕ) (ch : Chain) {e k place : ℕ} {os rest rest₁ : List ℕ} {r : Numbered} {m₂ : Mem} (room : Roomy a b) (lb : base ≤ secondPass) (st : ChainInBounds ch) (k12 : cell a b (ch .next) kindAt ≡ nodeKind) (starts : StartsAnew ch) (ep : place ≡ base + (ch .next + 1)) (nm : Numbers (endpointVar (optionOf (cell a b (ch .next) elementNamedAt) (cell a b (ch .next) elementVarAt))) place (ch .ctx) rest rest₁ r) (lr : length rest₁ ≡ length rest) (ls : LowersStart a b d base (ch .next) (r .number) e k (mem (r .ctx) os rest₁) m₂) where
+module _ {a b : List ℕ} (d base : ℕ) (ch : Chain) {e k place : ℕ} {os rest rest₁ : List ℕ} {r : Numbered} {m₂ : Mem} (room : Roomy a b) (lb : base ≤ secondPass) (st : ChainInBounds ch)
+    (k12 : cell a b (ch .next) kindAt ≡ nodeKind) (starts : StartsAnew ch) (ep : place ≡ base + (ch .next + 1)) (nm : Numbers (endpointVar (optionOf (cell a b (ch .next) elementNamedAt)
+    (cell a b (ch .next) elementVarAt))) place (ch .ctx) rest rest₁ r) (lr : length rest₁ ≡ length rest) (ls : LowersStart a b d base (ch .next) (r .number) e k (mem (r .ctx) os rest₁) m₂) where
   abbrev ch′ : Chain
   ch′ = nodeChain ch e (m₂ .ctx) k (r .number) 1
 
@@ -206,7 +208,9 @@ module _ {a b : List ℕ} (d base : ℕ) (ch : Chain) {e k place : ℕ} {os rest
       (record {
         to = rw D (to-wider u (to-then (g .to) (y .to)));
         same = rw D (record { last = refl; waiting = no-rel refl refl; kept = length-append (c .path) (r .number ∷ []) ∙ ap (λ (x : ℕ). x + 1) (l .kept) });
-        path = λ N A fu ts. (let z : N (base + suc (ch .next)) ≡ r .number = back (y .to) (narrow u (rw D at fu)) .notes .at (base + suc (ch .next)) (P .low) (inl (P .here)) ∙ g .noted in path-one _ (c .path) _ _ _ _ _ (ap (λ (x : Lower.Chain × State). x .0 .path) D) (kept-node room sheet d (ch .next) (shift N base) (hasLast (ch .last)) (pendingLine (ch .pending)) ts t hd k12) (starts-path (shift N base) ch starts) z);
+        path = λ N A fu ts. (let z : N (base + suc (ch .next)) ≡ r .number = back (y .to) (narrow u (rw D at fu)) .notes .at (base + suc (ch .next)) (P .low)
+            (inl (P .here)) ∙ g .noted in path-one _ (c .path) _ _ _ _ _ (ap (λ (x : Lower.Chain × State). x .0 .path) D) (kept-node room sheet d (ch .next) (shift N base)
+            (hasLast (ch .last)) (pendingLine (ch .pending)) ts t hd k12) (starts-path (shift N base) ch starts) z);
       })
 
   start-moved : Moved (from ch) e (mem (ch .ctx) os rest) m₂
@@ -245,7 +249,14 @@ unfolding Held elementNumber fold made elementStep
 rel-kind room sheet d i (node patternElement line PatternElement.Node (bind, (n, (p, (span, u)))) (names ▸ props ▸ end)) r hd e = absurd (step-apart e)
 rel-kind room sheet d i (node patternElement line PatternElement.Rel f kids) r hd e = element-number room (hd .1)
 
-module _ {a b : List ℕ} (d base : ℕ) (ch : Chain) {rel input origin e₁ e₂ n₁ n₂ p₁ p₂ : ℕ} {os rest rest₁ rest₂ : List ℕ} {r₁ r₂ : Numbered} {m₃ m₄ : Mem} {c₅ : LowerCtx} {os₅ : List ℕ} (room : Roomy a b) (lb : base ≤ secondPass) (sh : d ≤ maxDepth) (st : ChainInBounds ch) (w1 : ch .pending ≡ pending.Rel rel) (h1 : ch .last ≡ last.Op input origin) (k12 : cell a b (ch .next) kindAt ≡ nodeKind) (la : ch .next < maxRecords) (ep₁ : p₁ ≡ base + (ch .next + 1)) (nm₁ : Numbers (endpointVar (optionOf (cell a b (ch .next) elementNamedAt) (cell a b (ch .next) elementVarAt))) p₁ (ch .ctx) rest rest₁ r₁) (lr₁ : length rest₁ ≡ length rest) (ep₂ : p₂ ≡ base + (rel + 1)) (nm₂ : Numbers (endpointVar (optionOf (cell a b rel elementNamedAt) (cell a b rel elementVarAt))) p₂ (r₁ .ctx) rest₁ rest₂ r₂) (lr₂ : length rest₂ ≡ length rest₁) (en₁ : n₁ ≡ cell a b rel relPropsAt) (x₁ : LowersExprs a b n₁ 0 (d - 1) base (rel + 1 + cell a b rel relTypesAt) e₁ (mem (r₂ .ctx) os rest₂) m₃) (en₂ : n₂ ≡ cell a b (ch .next) nodePropsAt) (x₂ : LowersExprs a b n₂ 0 (d - 1) base (ch .next + 1 + cell a b (ch .next) relTypesAt) e₂ m₃ m₄) (pe : Pushed (m₄ .ctx) c₅ (m₄ .ops) os₅ (expandOp (atPlace base rel d) input origin (ch .next))) (lo : length os₅ ≡ length (m₄ .ops)) where
+module _ {a b : List ℕ} (d base : ℕ) (ch : Chain) {rel input origin e₁ e₂ n₁ n₂ p₁ p₂ : ℕ} {os rest rest₁ rest₂ : List ℕ} {r₁ r₂ : Numbered} {m₃ m₄ : Mem} {c₅ : LowerCtx} {os₅ : List ℕ}
+    (room : Roomy a b) (lb : base ≤ secondPass) (sh : d ≤ maxDepth) (st : ChainInBounds ch) (w1 : ch .pending ≡ pending.Rel rel) (h1 : ch .last ≡ last.Op input origin)
+    (k12 : cell a b (ch .next) kindAt ≡ nodeKind) (la : ch .next < maxRecords) (ep₁ : p₁ ≡ base + (ch .next + 1)) (nm₁ : Numbers (endpointVar (optionOf (cell a b (ch .next) elementNamedAt)
+    (cell a b (ch .next) elementVarAt))) p₁ (ch .ctx) rest rest₁ r₁) (lr₁ : length rest₁ ≡ length rest) (ep₂ : p₂ ≡ base + (rel + 1))
+    (nm₂ : Numbers (endpointVar (optionOf (cell a b rel elementNamedAt) (cell a b rel elementVarAt))) p₂ (r₁ .ctx) rest₁ rest₂ r₂) (lr₂ : length rest₂ ≡ length rest₁)
+    (en₁ : n₁ ≡ cell a b rel relPropsAt) (x₁ : LowersExprs a b n₁ 0 (d - 1) base (rel + 1 + cell a b rel relTypesAt) e₁ (mem (r₂ .ctx) os rest₂) m₃)
+    (en₂ : n₂ ≡ cell a b (ch .next) nodePropsAt) (x₂ : LowersExprs a b n₂ 0 (d - 1) base (ch .next + 1 + cell a b (ch .next) nodeLabelsAt) e₂ m₃ m₄)
+    (pe : Pushed (m₄ .ctx) c₅ (m₄ .ops) os₅ (expandOp (atPlace base rel d) input origin (ch .next))) (lo : length os₅ ≡ length (m₄ .ops)) where
   abbrev ch″ : Chain
   ch″ = nodeChain ch e₂ c₅ (m₄ .ctx .ops) (r₁ .number) 2
 
@@ -278,7 +289,9 @@ module _ {a b : List ℕ} (d base : ℕ) (ch : Chain) {rel input origin e₁ e�
         index = λ x. rw (pe .mapped) (v₂ .index (v₁ .index (i₂ .index (i₁ .index x))));
       }
 
-  expanded-run : (sheet : Bytes) (t : Tree patternElement) → Held sheet a b t d (ch .next) → (W : Written) (s : State) (c : Lower.Chain) → Rep sheet a b W s (mem (ch .ctx) os rest) → SameChain sheet a b d ch c → RelWaits sheet a b d ch rel (c .pending) → Blank W (base + suc (from ch)) (base + suc e₂) → Chained sheet a b W d base ch ch″ t (stepOf t) c s (mem (ch .ctx) os rest) (mem c₅ os₅ (m₄ .rest))
+  expanded-run : (sheet : Bytes) (t : Tree patternElement) → Held sheet a b t d (ch .next) → (W : Written) (s : State) (c : Lower.Chain) → Rep sheet a b W s (mem (ch .ctx) os rest) →
+      SameChain sheet a b d ch c → RelWaits sheet a b d ch rel (c .pending) → Blank W (base + suc (from ch)) (base + suc e₂) →
+      Chained sheet a b W d base ch ch″ t (stepOf t) c s (mem (ch .ctx) os rest) (mem c₅ os₅ (m₄ .rest))
   unfolding keptRel
   expanded-run sheet t hd W s c rp l w bl =
       let v = a-node room t hd k12 in

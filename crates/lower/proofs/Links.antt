@@ -47,7 +47,8 @@ module _ {a b : List ℕ} {n d base : ℕ} {ch ch₁ ch₂ : Chain} {os os₁ os
       let y = q .next sheet ts (rw x (h .1)) in
       omega arith
 
-  both-run : (sheet : Bytes) (ts : Trees patternElement (suc n)) → HeldOf sheet a b ts d (ch .next) → (W : Written) (s : State) (c : Lower.Chain) → Rep sheet a b W s (mem (ch .ctx) os rs) → SameChain sheet a b d ch c → Blank W (base + suc (from ch)) (base + suc (ch₂ .next)) → ChainedAll sheet a b W d base ch ch₂ ts c s (mem (ch .ctx) os rs) (mem (ch₂ .ctx) os₂ rs₂)
+  both-run : (sheet : Bytes) (ts : Trees patternElement (suc n)) → HeldOf sheet a b ts d (ch .next) → (W : Written) (s : State) (c : Lower.Chain) → Rep sheet a b W s (mem (ch .ctx) os rs) →
+      SameChain sheet a b d ch c → Blank W (base + suc (from ch)) (base + suc (ch₂ .next)) → ChainedAll sheet a b W d base ch ch₂ ts c s (mem (ch .ctx) os rs) (mem (ch₂ .ctx) os₂ rs₂)
   unfolding Held lowerElements _>>=_ toList fold
   both-run sheet (t ∷ᵗ ts) h W s c r l bl =
       let x = p .next sheet t (h .0) in

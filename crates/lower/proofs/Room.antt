@@ -124,7 +124,9 @@ names-by {a} {b} sheet room d i t hd = names-fit (tree-fits sheet a b t d i hd .
 pub names-low : {a b : List ℕ} {d i : ℕ} → Roomy a b → SomeTree a b patternElement d i → i + 1 + cell a b i nodeLabelsAt ≤ maxRecords
 names-low {a} {b} {d} {i} room x = names-by (x .sheet) room d i (x .tree) (x .held)
 
-pub rel-done : {a b : List ℕ} {d base i e n j : ℕ} {c : LowerCtx} {os rest rest₁ : List ℕ} {r : Numbered} {m′ : Mem} (place : ℕ) → place ≡ base + (i + 1) → Numbers (endpointVar (optionOf (cell a b i elementNamedAt) (cell a b i elementVarAt))) place c rest rest₁ r → length rest₁ ≡ length rest → n ≡ cell a b i relPropsAt → j ≡ i + 1 + cell a b i relTypesAt → LowersExprs a b n 0 (d - 1) base j e (mem (r .ctx) os rest₁) m′ → LowersRel a b d base i e c os rest m′
+pub rel-done : {a b : List ℕ} {d base i e n j : ℕ} {c : LowerCtx} {os rest rest₁ : List ℕ} {r : Numbered} {m′ : Mem} (place : ℕ) → place ≡ base + (i + 1) →
+    Numbers (endpointVar (optionOf (cell a b i elementNamedAt) (cell a b i elementVarAt))) place c rest rest₁ r → length rest₁ ≡ length rest → n ≡ cell a b i relPropsAt →
+    j ≡ i + 1 + cell a b i relTypesAt → LowersExprs a b n 0 (d - 1) base j e (mem (r .ctx) os rest₁) m′ → LowersRel a b d base i e c os rest m′
 rel-done {rest₁ = rest₁} {r = r} place ep nm l en ej p = record { named = r; between = rest₁; noted = rw ep at nm; kept = l; props = rw (en, ej) at p }
 
 -- a rel's end
