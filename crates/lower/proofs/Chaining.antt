@@ -125,7 +125,7 @@ chain-def : {n : ℕ} (o : Option ℕ) (ts : Trees patternElement n) (s : State)
 unfolding lowerChain _>>=_
 chain-def o ts s g e = rw e
 
-option-some : (x y : ℕ) → ((x ≡ 0) → ⊥) → optionOf x y ≡ some y
+pub option-some : (x y : ℕ) → ((x ≡ 0) → ⊥) → optionOf x y ≡ some y
 unfolding optionOf
 option-some zero y h = absurd (h refl)
 option-some (suc x) y h = refl

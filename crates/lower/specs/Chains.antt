@@ -27,9 +27,11 @@ use Rattle.lower.specs.declared.Last.the-variants as last
 use Rattle.lower.specs.declared.Pending.{Pending}
 use Rattle.lower.specs.declared.Pending.the-variants as pending
 use Rattle.lower.specs.declared.Element.{Element}
-use Rattle.lower.specs.declared.Element.the-variants.{Node, Rel}
+use Rattle.lower.specs.declared.Element.the-variants as element
+use Rattle.lower.specs.declared.Read.{Read}
+use Rattle.context.specs.Ops.{bindOf}
 use lib.Dec.{eqb}
-use Rattle.words.specs.Places.{kindAt, nodeKind, relKind, elementNamedAt, elementVarAt, relTypesAt, relPropsAt, partShortestAt, partElementsAt}
+use Rattle.words.specs.Places.{kindAt, nodeKind, relKind, elementNamedAt, elementVarAt, relTypesAt, relPropsAt, partShortestAt, partElementsAt, nodeLabelsAt, nodePropsAt}
 
 -- the last operator and its node's number, as the definition has them
 abbrev pub lastOf : Last → Option (ℕ × ℕ)
@@ -167,9 +169,16 @@ pub record LowersRel (a b : List ℕ) (d base i e : ℕ) (c : LowerCtx) (os rest
   pub kept : length between ≡ length rest
   pub props : LowersExprs a b (cell a b i relPropsAt) 0 (d - 1) base (i + 1 + cell a b i relTypesAt) e (mem (named .ctx) os between) m′
 
--- an element, by the number of its kind
-abbrev pub elementOf : ℕ → ℕ → Element
-elementOf kind i = cond (eqb kind nodeKind) (Node i) (Rel i)
+-- what is read of the element at record i, whose props are counted by word c
+pub record ReadAt (a b : List ℕ) (i c : ℕ) (x : Read) : Type 0 where
+  pub bind : bindOf (x .bind) ≡ optionOf (cell a b i elementNamedAt) (cell a b i elementVarAt)
+  pub first : x .first ≡ i + 1 + cell a b i nodeLabelsAt
+  pub props : x .props ≡ cell a b i c
+
+-- the element at record i
+pub data ElementAt (a b : List ℕ) (i : ℕ) (r : Element) : Type 0 where
+  node-at : (x : Read) → r ≡ element.Node x → cell a b i kindAt ≡ nodeKind → ReadAt a b i nodePropsAt x → ElementAt a b i r
+  rel-at : (x : Read) → r ≡ element.Rel x → ((cell a b i kindAt ≡ nodeKind) → ⊥) → ReadAt a b i relPropsAt x → ElementAt a b i r
 
 -- no element yet, of the part at record i
 abbrev pub startChain : ℕ → LowerCtx → Chain

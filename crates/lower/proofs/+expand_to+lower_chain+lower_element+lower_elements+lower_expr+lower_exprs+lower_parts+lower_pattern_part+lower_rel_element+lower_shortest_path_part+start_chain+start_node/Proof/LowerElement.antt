@@ -33,17 +33,17 @@ module _ (t : ℕ) where
   abbrev back-last : here lts.After-last → here lts.After-pending
   back-last c = search
 
-  abbrev back-enum-told2 : here lts.After-enum-told2 → here lts.After-x
+  abbrev back-enum-told2 : here lts.After-enum-told2 → here lts.After-node
   back-enum-told2 c = search
 
-  abbrev back-pending : here lts.After-pending → here lts.After-x
+  abbrev back-pending : here lts.After-pending → here lts.After-node
   back-pending c = search
 
   abbrev back-skip : here lts.After-skip → here lts.After-enum-told
   back-skip c = search
 
-  abbrev back-x : here lts.After-x → here lts.After-read-element
-  back-x c = search
+  abbrev back-node : here lts.After-node → here lts.After-read-element
+  back-node c = search
 
   abbrev back-enum-told : here lts.After-enum-told → here lts.After-read-element
   back-enum-told c = search
@@ -60,7 +60,7 @@ module _ (t : ℕ) where
     back-enum-told2,
     back-pending,
     back-skip,
-    back-x,
+    back-node,
     back-enum-told,
     back-read-element,
   )
@@ -93,18 +93,18 @@ module _ (t : ℕ) where
       (Part.other-kind
       (start .pre .1 .words)
       (start .pre .1 .tree)
-      (Part.is-rel _ _ _ _ (after-read-element .read-element .ensures) (after-enum-told .enum-told .given .1)))
+      (Part.rel-read (after-read-element .read-element .ensures) (after-enum-told .enum-told .given .1) .is))
       (after-skip .skip .ensures)
       (start .pre .1 .tree)
 
   start-chain-requires : here lts.Need-start-chain-requires
   start-chain-requires c κs =
       let after-enum-told2 : here lts.After-enum-told2 = search ways depth 7 in
-      let after-x : here lts.After-x = search ways depth 7 in
+      let after-node : here lts.After-node = search ways depth 7 in
       let after-read-element : here lts.After-read-element = search ways depth 7 in
       let start : here lts.Start = search ways depth 7 in (
         omega arith,
-        record { chain = start .pre .1; node = Part.is-node _ _ _ _ (after-read-element .read-element .ensures) (after-x .x .given .1); anew = inl (after-enum-told2 .enum-told2 .given .1) },
+        record { chain = start .pre .1; is = Part.node-read (after-read-element .read-element .ensures) (after-node .node .given .1) .is; read = Part.node-read (after-read-element .read-element .ensures) (after-node .node .given .1) .read; anew = inl (after-enum-told2 .enum-told2 .given .1) },
       )
 
   same-length : here lts.Need-same-length
@@ -125,11 +125,11 @@ module _ (t : ℕ) where
   start-chain-requires-2 : here lts.Need-start-chain-requires-2
   start-chain-requires-2 c κs =
       let after-enum-told3 : here lts.After-enum-told3 = search ways depth 7 in
-      let after-x : here lts.After-x = search ways depth 7 in
+      let after-node : here lts.After-node = search ways depth 7 in
       let after-read-element : here lts.After-read-element = search ways depth 7 in
       let start : here lts.Start = search ways depth 7 in (
         omega arith,
-        record { chain = start .pre .1; node = Part.is-node _ _ _ _ (after-read-element .read-element .ensures) (after-x .x .given .1); anew = inr (after-enum-told3 .enum-told3 .given .1) },
+        record { chain = start .pre .1; is = Part.node-read (after-read-element .read-element .ensures) (after-node .node .given .1) .is; read = Part.node-read (after-read-element .read-element .ensures) (after-node .node .given .1) .read; anew = inr (after-enum-told3 .enum-told3 .given .1) },
       )
 
   same-length-3 : here lts.Need-same-length-3
@@ -151,13 +151,14 @@ module _ (t : ℕ) where
   expand-to-requires c κs =
       let after-last : here lts.After-last = search ways depth 7 in
       let after-pending : here lts.After-pending = search ways depth 7 in
-      let after-x : here lts.After-x = search ways depth 7 in
+      let after-node : here lts.After-node = search ways depth 7 in
       let after-read-element : here lts.After-read-element = search ways depth 7 in
       let start : here lts.Start = search ways depth 7 in (
         omega arith,
         record {
           chain = start .pre .1;
-          node = Part.is-node _ _ _ _ (after-read-element .read-element .ensures) (after-x .x .given .1);
+          is = Part.node-read (after-read-element .read-element .ensures) (after-node .node .given .1) .is;
+          read = Part.node-read (after-read-element .read-element .ensures) (after-node .node .given .1) .read;
           waits = after-pending .pending .given .1;
           has = after-last .last .given .1;
         },
