@@ -43,10 +43,6 @@ abbrev pub countOf : List Group → ℕ
 countOf [] = 0
 countOf (g ∷ gs) = g .1
 
--- n is the number of children of the expression at record i
-pub record Counts (a b : List ℕ) (i n : ℕ) : Type 0 where
-  pub each : (sheet : Bytes) (k : Expr) → kindOf expr (cell a b i kindAt) ≡ some k → Flags (exprForms k) (cells a b i) 0 → n ≡ countOf (exprChildren k (fieldsOf (exprForms k) sheet (cells a b i) 0))
-
 -- the span in words c and c + 1 of record i
 abbrev pub spanIn : (a b : List ℕ) (i c : ℕ) → Span
 spanIn a b i c = record { start = cell a b i c; end = cell a b i (c + 1) }

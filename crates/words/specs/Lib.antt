@@ -6,3 +6,5 @@ pub mod Numbers
 pub mod Table
 pub mod TableLaws
 pub mod LastLaws
+pub mod Fits
+pub mod Count

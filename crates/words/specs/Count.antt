@@ -8,8 +8,9 @@ use Rattle.model.specs.Text.{Bytes}
 use Rattle.model.specs.Kind.{Sort, statement, unionArm, clause, projection, orderItem, patternPart, patternElement, name, yieldItem, entry, expr, inPlan}
 use Rattle.model.specs.Record.{Group}
 use Rattle.model.specs.Tree.{Tree}
 use Rattle.words.specs.Words.{cell}
+use Rattle.words.specs.Places.{kindAt, partKind, nodeKind, relKind, entryKind, propKind, indexKind, sliceKind, listKind, binKind, unKind, caseKind, isNullKind, inKind, mapKind, fnKind, patKind, listPredicateKind}
 use Rattle.words.specs.Held.{Held, size}
 
 -- the sorts of what stands in a pattern or an expression
 abbrev pub Inner : Sort → Type 0
@@ -33,26 +34,30 @@ total (g ∷ gs) = g .1 + total gs
 -- by the number of the kind and the first words of the fields
 unfoldable pub countBy : (kind x y z u : ℕ) → ℕ
 countBy kind x y z u =
-    cond (eqb kind 11) z
-    (cond (eqb kind 12) (y + z)
-    (cond (eqb kind 13) (y + u)
-    (cond (eqb kind 16) 1
-    (cond (eqb kind 23) 1
-    (cond (eqb kind 24) 2
-    (cond (eqb kind 25) (1 + x + y)
-    (cond (eqb kind 26) x
-    (cond (eqb kind 27) 2
-    (cond (eqb kind 28) 1
-    (cond (eqb kind 29) (x + y * 2 + z)
-    (cond (eqb kind 30) 1
-    (cond (eqb kind 31) 2
-    (cond (eqb kind 33) x
-    (cond (eqb kind 34) y
-    (cond (eqb kind 35) x
-    (cond (eqb kind 36) (1 + z) 0))))))))))))))))
+    cond (eqb kind partKind) z
+    (cond (eqb kind nodeKind) (y + z)
+    (cond (eqb kind relKind) (y + u)
+    (cond (eqb kind entryKind) 1
+    (cond (eqb kind propKind) 1
+    (cond (eqb kind indexKind) 2
+    (cond (eqb kind sliceKind) (1 + x + y)
+    (cond (eqb kind listKind) x
+    (cond (eqb kind binKind) 2
+    (cond (eqb kind unKind) 1
+    (cond (eqb kind caseKind) (x + y * 2 + z)
+    (cond (eqb kind isNullKind) 1
+    (cond (eqb kind inKind) 2
+    (cond (eqb kind mapKind) x
+    (cond (eqb kind fnKind) y
+    (cond (eqb kind patKind) x
+    (cond (eqb kind listPredicateKind) (1 + z) 0))))))))))))))))
 
 abbrev pub countAt : (a b : List ℕ) (i : ℕ) → ℕ
-countAt a b i = countBy (cell a b i 0) (cell a b i 2) (cell a b i 4) (cell a b i 6) (cell a b i 10)
+countAt a b i = countBy (cell a b i kindAt) (cell a b i 2) (cell a b i 4) (cell a b i 6) (cell a b i 10)
+
+-- no record has as many children
+abbrev pub countLimit : ℕ
+countLimit = 68719476736
 
 -- n trees stand one after another from record i on, and end at e
 pub data Due (sheet : Bytes) (a b : List ℕ) (e : ℕ) : (n i : ℕ) → Type 0 where

@@ -12,25 +12,52 @@ use Rattle.model.specs.Field.{Fields}
 use Rattle.model.specs.Kind.{Sort, Kind, PatternElement, Same, Expr, patternPart, patternElement, name, entry, expr, statement, unionArm, clause, projection, orderItem, yieldItem, inPlan}
 use Rattle.model.specs.Record.{Group, one, forms, children, kinds, sames}
 use Rattle.model.specs.Tree.{Tree, Trees, Forest, node, []ᵗ, _∷ᵗ_, end, _▸_}
-use Rattle.words.specs.Words.{Roomy, cell, kindOf, firstKind, fieldsOf, fieldOf}
+use Rattle.words.specs.Words.{maxRecords, Roomy, cell, kindOf, firstKind, fieldsOf, fieldOf}
 use Rattle.words.specs.Held.{Held, HeldOf, HeldIn, RecordAt, Flags, size, sizeOf, sizeIn, roomIn}
 use Rattle.words.specs.Cells.{cells, Shown, shown, numbered, number-of}
-use Rattle.lower.specs.Fits.{tree-fits}
-use Rattle.lower.specs.Count.{Inner, total, countBy, countAt, Due, none-due, one-due, Starts, Ends}
-use Rattle.words.specs.Numbers.{sameNumber, exprNumber, elementNumber}
+use Rattle.words.specs.Fits.{tree-fits}
+use Rattle.words.specs.Count.{Inner, total, countBy, countAt, Due, none-due, one-due, Starts, Ends}
+use Rattle.words.specs.Numbers.{Others, other-than, sameNumber, exprNumber, elementNumber}
+use Rattle.words.specs.Places.{kindAt, nameKind, partKind, nodeKind, relKind, entryKind, propKind, indexKind, sliceKind, listKind, binKind, unKind, caseKind, isNullKind, inKind, mapKind, fnKind, patKind, listPredicateKind}
 
 -- ── by the words ──
 
-pub by-words : (a b : List ℕ) (i kind x y z u : ℕ) → kind ≡ cell a b i 0 → x ≡ cell a b i 2 → y ≡ cell a b i 4 → z ≡ cell a b i 6 → u ≡ cell a b i 10 → countBy kind x y z u ≡ countAt a b i
-by-words a b i kind x y z u ek ex ey ez eu = rw (ek, ex, ey, ez, eu)
+-- an arm of the code: its kind has as many by the words that it reads
+pub arm : (a b : List ℕ) (i kind r k : ℕ) → kind ≡ cell a b i kindAt → kind ≡ k → r ≡ countBy k (cell a b i 2) (cell a b i 4) (cell a b i 6) (cell a b i 10) → r ≡ countAt a b i
+arm a b i kind r k e h q = q ∙ rw (← h, e)
 
-pub by-kind : (kind k x y z u : ℕ) → kind ≡ k → countBy k x y z u ≡ countBy kind x y z u
-by-kind kind k x y z u e = rw e
+-- the kinds that have children, the code's last arm first
+abbrev parents : List ℕ
+parents =
+    listPredicateKind ∷ patKind ∷ fnKind ∷ mapKind ∷ inKind ∷ isNullKind ∷ caseKind ∷ unKind ∷ binKind ∷ listKind
+    ∷ sliceKind ∷ indexKind ∷ propKind ∷ entryKind ∷ relKind ∷ nodeKind ∷ partKind ∷ []
 
--- the kinds that have none
-pub none-left : (kind x y z u : ℕ) → (((((((((((((((((Unit {0} × ((kind ≡ 11) → ⊥)) × ((kind ≡ 12) → ⊥)) × ((kind ≡ 13) → ⊥)) × ((kind ≡ 16) → ⊥)) × ((kind ≡ 23) → ⊥)) × ((kind ≡ 24) → ⊥)) × ((kind ≡ 25) → ⊥)) × ((kind ≡ 26) → ⊥)) × ((kind ≡ 27) → ⊥)) × ((kind ≡ 28) → ⊥)) × ((kind ≡ 29) → ⊥)) × ((kind ≡ 30) → ⊥)) × ((kind ≡ 31) → ⊥)) × ((kind ≡ 33) → ⊥)) × ((kind ≡ 34) → ⊥)) × ((kind ≡ 35) → ⊥)) × ((kind ≡ 36) → ⊥)) → 0 ≡ countBy kind x y z u
+-- a kind that has none
+abbrev pub Childless : ℕ → Type 0
+Childless c = Others c parents
+
+pub none-left : (c x y z u : ℕ) → Childless c → 0 ≡ countBy c x y z u
 unfolding countBy
-none-left kind x y z u h = rw (ne-eqb kind 11 (h .0 .0 .0 .0 .0 .0 .0 .0 .0 .0 .0 .0 .0 .0 .0 .0 .1), ne-eqb kind 12 (h .0 .0 .0 .0 .0 .0 .0 .0 .0 .0 .0 .0 .0 .0 .0 .1), ne-eqb kind 13 (h .0 .0 .0 .0 .0 .0 .0 .0 .0 .0 .0 .0 .0 .0 .1), ne-eqb kind 16 (h .0 .0 .0 .0 .0 .0 .0 .0 .0 .0 .0 .0 .0 .1), ne-eqb kind 23 (h .0 .0 .0 .0 .0 .0 .0 .0 .0 .0 .0 .0 .1), ne-eqb kind 24 (h .0 .0 .0 .0 .0 .0 .0 .0 .0 .0 .0 .1), ne-eqb kind 25 (h .0 .0 .0 .0 .0 .0 .0 .0 .0 .0 .1), ne-eqb kind 26 (h .0 .0 .0 .0 .0 .0 .0 .0 .0 .1), ne-eqb kind 27 (h .0 .0 .0 .0 .0 .0 .0 .0 .1), ne-eqb kind 28 (h .0 .0 .0 .0 .0 .0 .0 .1), ne-eqb kind 29 (h .0 .0 .0 .0 .0 .0 .1), ne-eqb kind 30 (h .0 .0 .0 .0 .0 .1), ne-eqb kind 31 (h .0 .0 .0 .0 .1), ne-eqb kind 33 (h .0 .0 .0 .1), ne-eqb kind 34 (h .0 .0 .1), ne-eqb kind 35 (h .0 .1), ne-eqb kind 36 (h .1))
+none-left c x y z u h =
+    rw (
+      ne-eqb c partKind (other-than c partKind parents h refl),
+      ne-eqb c nodeKind (other-than c nodeKind parents h refl),
+      ne-eqb c relKind (other-than c relKind parents h refl),
+      ne-eqb c entryKind (other-than c entryKind parents h refl),
+      ne-eqb c propKind (other-than c propKind parents h refl),
+      ne-eqb c indexKind (other-than c indexKind parents h refl),
+      ne-eqb c sliceKind (other-than c sliceKind parents h refl),
+      ne-eqb c listKind (other-than c listKind parents h refl),
+      ne-eqb c binKind (other-than c binKind parents h refl),
+      ne-eqb c unKind (other-than c unKind parents h refl),
+      ne-eqb c caseKind (other-than c caseKind parents h refl),
+      ne-eqb c isNullKind (other-than c isNullKind parents h refl),
+      ne-eqb c inKind (other-than c inKind parents h refl),
+      ne-eqb c mapKind (other-than c mapKind parents h refl),
+      ne-eqb c fnKind (other-than c fnKind parents h refl),
+      ne-eqb c patKind (other-than c patKind parents h refl),
+      ne-eqb c listPredicateKind (other-than c listPredicateKind parents h refl),
+    )
 
 -- ── by the kind ──
 
@@ -41,11 +68,11 @@ innerNumber unionArm k = 0
 innerNumber clause k = 0
 innerNumber projection k = 0
 innerNumber orderItem k = 0
-innerNumber patternPart k = 11
+innerNumber patternPart k = partKind
 innerNumber patternElement k = elementNumber k
-innerNumber name k = 14
+innerNumber name k = nameKind
 innerNumber yieldItem k = 0
-innerNumber entry k = 16
+innerNumber entry k = entryKind
 innerNumber expr k = exprNumber k
 innerNumber (inPlan p) k = 0
 
@@ -56,11 +83,11 @@ inner-number unionArm i n k h = absurd i
 inner-number clause i n k h = absurd i
 inner-number projection i n k h = absurd i
 inner-number orderItem i n k h = absurd i
-inner-number patternPart i n k h = number-of patternPart (λ x. 11) refl n k h
+inner-number patternPart i n k h = number-of patternPart (λ x. partKind) refl n k h
 inner-number patternElement i n k h = number-of patternElement (λ x. elementNumber x) refl n k h
-inner-number name i n k h = number-of name (λ x. 14) refl n k h
+inner-number name i n k h = number-of name (λ x. nameKind) refl n k h
 inner-number yieldItem i n k h = absurd i
-inner-number entry i n k h = number-of entry (λ x. 16) refl n k h
+inner-number entry i n k h = number-of entry (λ x. entryKind) refl n k h
 inner-number expr i n k h = number-of expr (λ x. exprNumber x) refl n k h
 inner-number (inPlan p) i n k h = absurd i
 
@@ -114,15 +141,19 @@ module _ (sheet : Bytes) (w₀ w₁ x w₃ y w₅ z w₇ w₈ w₉ u : ℕ) (mor
   count-of expr Expr.Undesugared i f = refl
   count-of (inPlan p) k i f = absurd i
 
--- a record that is held has as many children as its words say
+-- a record whose words are those of a kind has as many children as they say
+pub count-at : (sheet : Bytes) (a b : List ℕ) (i : ℕ) (s : Sort) (k : Kind s) → Inner s → kindOf s (cell a b i kindAt) ≡ some k → Flags (forms s k) (cells a b i) 0 → countAt a b i ≡ total (children s k (fieldsOf (forms s k) sheet (cells a b i) 0))
+count-at sheet a b i s k inner named flags =
+    let at : ℕ → ℕ = λ c. cell a b i c in
+    let n : cell a b i kindAt ≡ innerNumber s k = inner-number s inner (cell a b i kindAt) k named in
+    ap (λ (c : ℕ). countBy c (at 2) (at 4) (at 6) (at 10)) n
+    ∙ count-of sheet (at 0) (at 1) (at 2) (at 3) (at 4) (at 5) (at 6) (at 7) (at 8) (at 9) (at 10) (at 11 ∷ at 12 ∷ at 13 ∷ at 14 ∷ at 15 ∷ []) s k inner flags
+
+-- so has a record that is held
 pub counted : {sheet : Bytes} {a b : List ℕ} {i : ℕ} {s : Sort} {k : Kind s} {f : Fields (forms s k)} → Roomy a b → Inner s → RecordAt sheet a b i s k f → countAt a b i ≡ total (children s k f)
-counted {sheet} {a} {b} {i} {s} {k} {f} room inn h =
+counted {sheet} {a} {b} {i} {s} {k} {f} room inner h =
     let w : Shown sheet a b i s k f = shown room h in
-    let n : cell a b i 0 ≡ innerNumber s k = inner-number s inn (cell a b i 0) k (w .kind) in
-    let e : countBy (innerNumber s k) (cell a b i 2) (cell a b i 4) (cell a b i 6) (cell a b i 10) ≡ total (children s k (fieldsOf (forms s k) sheet (cells a b i) 0)) =
-    count-of sheet (cell a b i 0) (cell a b i 1) (cell a b i 2) (cell a b i 3) (cell a b i 4) (cell a b i 5) (cell a b i 6) (cell a b i 7) (cell a b i 8) (cell a b i 9) (cell a b i 10) (cell a b i 11 ∷ cell a b i 12 ∷ cell a b i 13 ∷ cell a b i 14 ∷ cell a b i 15 ∷ []) s k inn (w .flags)
-    in
-    ap (λ (c : ℕ). countBy c (cell a b i 2) (cell a b i 4) (cell a b i 6) (cell a b i 10)) n ∙ e ∙ ap (λ (g : Fields (forms s k)). total (children s k g)) (sym (w .fields))
+    count-at sheet a b i s k inner (w .kind) (w .flags) ∙ ap (λ (g : Fields (forms s k)). total (children s k g)) (sym (w .fields))
 
 -- ── records that are due ──
 
@@ -167,12 +198,12 @@ module _ {sheet : Bytes} {a b : List ℕ} {e : ℕ} where
   forest-due (_▸_ {s = s} {n = n} {gs = gs} ts f) d m i inn h r = due-at {n = n + (total gs + m)} (omega arith) refl (trees-due ts d (total gs + m) i (inn .0) (h .0) (forest-due f d m (i + sizeOf ts) (inn .1) (h .1) (due-at refl (omega arith) r)))
 
   -- the next record, and its children in its place
-  step-tree : {s : Sort} (t : Tree s) (d m i : ℕ) → Roomy a b → Inner s → Held sheet a b t d i → Due sheet a b e m (i + size t) → (i < 2048) × Due sheet a b e (countAt a b i + m) (i + 1)
+  step-tree : {s : Sort} (t : Tree s) (d m i : ℕ) → Roomy a b → Inner s → Held sheet a b t d i → Due sheet a b e m (i + size t) → (i < maxRecords) × Due sheet a b e (countAt a b i + m) (i + 1)
   unfolding Held size
   step-tree (node s line k f kids) d m i room inn h r =
       (h .1 .low, rw (counted room inn (h .1)) (forest-due kids (roomIn s d) m (i + 1) (kids-inner s k f inn) (h .3) (due-at refl (omega arith) r)))
 
-  pub step : (n i : ℕ) → Roomy a b → ((n ≡ 0) → ⊥) → Due sheet a b e n i → (i < 2048) × Due sheet a b e (n - 1 + countAt a b i) (i + 1)
+  pub step : (n i : ℕ) → Roomy a b → ((n ≡ 0) → ⊥) → Due sheet a b e n i → (i < maxRecords) × Due sheet a b e (n - 1 + countAt a b i) (i + 1)
   step n i room h (none-due p) = absurd (h refl)
   step n i room h (one-due {n = m} s d t inn hd r) = let q = step-tree t d m i room inn hd r in (q .0, due-at {n = countAt a b i + m} (omega arith) refl (q .1))
 
@@ -180,7 +211,7 @@ module _ {sheet : Bytes} {a b : List ℕ} {e : ℕ} where
   finish n i h (none-due p) = p
   finish n i h (one-due {n = m} s d t inn hd r) = absurd (omega arith)
 
-  pub enough : (n i : ℕ) → Due sheet a b e n i → i ≤ 2048 → i + n ≤ 2048
+  pub enough : (n i : ℕ) → Due sheet a b e n i → i ≤ maxRecords → i + n ≤ maxRecords
   enough n i (none-due p) l = omega arith
   enough n i (one-due {n = m} s d t inn hd r) l =
       let p = tree-fits sheet a b t d i hd in
@@ -195,10 +226,10 @@ module _ {a b : List ℕ} (room : Roomy a b) where
   starts-due : {i : ℕ} (z : Starts a b i) → Due (z .sheet) a b (i + size (z .tree)) 1 i
   starts-due z = one-due (z .sort) (z .depth) (z .tree) (z .inner) (z .held) (none-due refl)
 
-  pub in-range : {i n at : ℕ} → Starts a b i → Left a b i n at → ((n ≡ 0) → ⊥) → at < 2048
+  pub in-range : {i n at : ℕ} → Starts a b i → Left a b i n at → ((n ≡ 0) → ⊥) → at < maxRecords
   in-range {i} {n} {at} z l h = step n at room h (l .same (z .sheet) (i + size (z .tree)) (starts-due z)) .0
 
-  pub few : {i n at : ℕ} → Starts a b i → Left a b i n at → at ≤ 2048 → n ≤ 2048
+  pub few : {i n at : ℕ} → Starts a b i → Left a b i n at → at ≤ maxRecords → n ≤ maxRecords
   few {i} {n} {at} z l h = let p = enough n at (l .same (z .sheet) (i + size (z .tree)) (starts-due z)) h in omega arith
 
   pub first : (i : ℕ) → Left a b i 1 i
@@ -210,5 +241,5 @@ module _ {a b : List ℕ} (room : Roomy a b) where
   pub done : {i n at : ℕ} → n ≡ 0 → Left a b i n at → Ends a b i at
   done {i} {n} {at} h l = record { each = λ sheet s d t inn hd. finish n at h (l .same sheet (i + size t) (one-due s d t inn hd (none-due refl))) }
 
-pub start-low : {a b : List ℕ} {i : ℕ} → Starts a b i → i ≤ 2048
+pub start-low : {a b : List ℕ} {i : ℕ} → Starts a b i → i ≤ maxRecords
 start-low {a} {b} {i} z = let p = tree-fits (z .sheet) a b (z .tree) (z .depth) i (z .held) in omega arith

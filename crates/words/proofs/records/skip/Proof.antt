@@ -1,14 +1,16 @@
-use Rattle.lower.proofs.Counting
+-- `words::records::skip` meets its contract: what is due from a record on is the whole tree there. Assumes nothing.
+use Rattle.words.proofs.Counting
+use Rattle.words.specs.Words.{maxRecords}
 use Prim.Native.Nat.{_-_, _≤_}
 use native.Mathlib.Omega.{arith}
-use Rattle.lower.proofs.records.skip.Statement.{statement}
-use Rattle.lower.proofs.records.skip.Tie as tie
+use Rattle.words.proofs.records.skip.Statement.{statement}
+use Rattle.words.proofs.records.skip.Tie as tie
 
 abbrev Inv-loop : tie.InvT-loop
-Inv-loop a b i at₀ due₀ at due = (at ≤ 2048) × Counting.Left a b i due at
+Inv-loop a b i at₀ due₀ at due = (at ≤ maxRecords) × Counting.Left a b i due at
 
 abbrev μ-loop : tie.MeasureT-loop
-μ-loop a b i at₀ due₀ at due = 2048 - at
+μ-loop a b i at₀ due₀ at due = maxRecords - at
 
 -- a place or a need, at the loops' invariants and measures
 abbrev here : (tie.InvT-loop → tie.MeasureT-loop → Type 0) → Type 0
