@@ -12,9 +12,12 @@ use Rattle.model.specs.Kind.{Clause, ReadOp, clause, expr, yieldItem}
 use Rattle.model.specs.Record.{forms}
 use Rattle.model.specs.Tree.{Tree, Trees, []ᵗ, _∷ᵗ_}
 use Rattle.model.specs.Lower.{Recs, _>>=_, ret, push, op, lowerExpr, lowerExprs, lowerYields, lowerClause}
-use Rattle.words.specs.Words.{Roomy, cell, optionOf}
+use Rattle.model.specs.Call.{workWords, maxDepth}
+use Rattle.words.specs.Words.{Roomy, cell, optionOf, maxRecords}
 use Rattle.words.specs.Held.{Held, sizeOf}
-use Rattle.context.specs.Tables.{Op, Pushed}
+use Rattle.words.specs.Places.{callKind, kindAt, callArgsAt, callYieldsAt}
+use Rattle.context.specs.Tables.{Pushed, maxVars}
+use Rattle.context.specs.declared.op.Op.{Op}
 use Rattle.context.specs.declared.LowerCtx.{LowerCtx}
 use Rattle.lower.specs.Shows.{shift, Sane, shows-call}
 use Rattle.lower.specs.Rep.{State, Mem, mem, Written, Sub, Rep, Indexes}
@@ -34,7 +37,7 @@ use Rattle.clauses.proofs.Matching.{leaves}
 abbrev pub callOp : (i has last d : ℕ) → Op
 callOp i has last d = record { kind = 16; idx = i; input = last; x = has; y = 0; left = d - 1; base = 0 }
 
-call-sane : (i has last d : ℕ) → d ≤ 64 → i < 2048 → Sane (callOp i has last d)
+call-sane : (i has last d : ℕ) → d ≤ maxDepth → i < maxRecords → Sane (callOp i has last d)
 call-sane i has last d h l = record { shallow = omega arith; near = omega arith; low = l; far = λ e. absurd (omega arith); flagged = λ e. absurd (omega arith) }
 
 exprs-plain : {n : ℕ} (ts : Trees expr n) (s : State) → lowerExprs ts s ≡ lowerC (plainC ts) s
@@ -60,12 +63,12 @@ module _ (f : Fields (forms clause Clause.Call)) (args : Trees expr (f .1 .0)) (
   unfolding _>>=_ push ret
   call-def = rw (exprs-plain args s)
 
-module _ {a b : List ℕ} (d i : ℕ) (room : Roomy a b) (k7 : cell a b i 0 ≡ 7) where
-  pub some-args : {n : ℕ} → n ≡ cell a b i 4 → SomeTree a b clause d i → SomeCarried a b n 0 (d - 1) (i + 1)
+module _ {a b : List ℕ} (d i : ℕ) (room : Roomy a b) (k7 : cell a b i kindAt ≡ callKind) where
+  pub some-args : {n : ℕ} → n ≡ cell a b i callArgsAt → SomeTree a b clause d i → SomeCarried a b n 0 (d - 1) (i + 1)
   some-args en x = let v = a-call room (x .tree) (x .held) k7 in rw (en ∙ sym (v .many)) (record { sheet = x .sheet; list = plainC (v .args); held = plain-held (x .sheet) a b (v .args) (d - 1) (i + 1) (v .held-args) })
 
   -- where its yields begin
-  pub args-end : {n e : ℕ} {m m₁ : Mem} → n ≡ cell a b i 4 → LowersExprs a b n 0 (d - 1) 0 (i + 1) e m m₁ → (sheet : Bytes) (t : Tree clause) (hd : Held sheet a b t d i) → e ≡ i + 1 + sizeOf (a-call room t hd k7 .args)
+  pub args-end : {n e : ℕ} {m m₁ : Mem} → n ≡ cell a b i callArgsAt → LowersExprs a b n 0 (d - 1) 0 (i + 1) e m m₁ → (sheet : Bytes) (t : Tree clause) (hd : Held sheet a b t d i) → e ≡ i + 1 + sizeOf (a-call room t hd k7 .args)
   args-end {n} {e} {m} {m₁} en p sheet t hd =
       let v = a-call room t hd k7 in
       let p′ : LowersExprs a b (v .fields .1 .0) 0 (d - 1) 0 (i + 1) e m m₁ = rw (en ∙ sym (v .many)) at p in
@@ -73,10 +76,10 @@ module _ {a b : List ℕ} (d i : ℕ) (room : Roomy a b) (k7 : cell a b i 0 ≡ 
       let z = plain-size (v .args) in
       omega arith
 
-  pub some-yields : {n n′ e : ℕ} {m m₁ : Mem} → n ≡ cell a b i 4 → n′ ≡ cell a b i 6 → LowersExprs a b n 0 (d - 1) 0 (i + 1) e m m₁ → SomeTree a b clause d i → SomeYields a b n′ e
+  pub some-yields : {n n′ e : ℕ} {m m₁ : Mem} → n ≡ cell a b i callArgsAt → n′ ≡ cell a b i callYieldsAt → LowersExprs a b n 0 (d - 1) 0 (i + 1) e m m₁ → SomeTree a b clause d i → SomeYields a b n′ e
   some-yields en en′ p x = let v = a-call room (x .tree) (x .held) k7 in rw (en′ ∙ sym (v .yielded), args-end en p (x .sheet) (x .tree) (x .held)) (record { sheet = x .sheet; depth = d - 1; trees = v .yields; held = v .held-yields })
 
-  pub yields-fit : {n n′ e : ℕ} {m m₁ : Mem} → n ≡ cell a b i 4 → n′ ≡ cell a b i 6 → LowersExprs a b n 0 (d - 1) 0 (i + 1) e m m₁ → SomeTree a b clause d i → e + n′ ≤ 2048
+  pub yields-fit : {n n′ e : ℕ} {m m₁ : Mem} → n ≡ cell a b i callArgsAt → n′ ≡ cell a b i callYieldsAt → LowersExprs a b n 0 (d - 1) 0 (i + 1) e m m₁ → SomeTree a b clause d i → e + n′ ≤ maxRecords
   yields-fit en en′ p x =
       let v = a-call room (x .tree) (x .held) k7 in
       let q = args-end en p (x .sheet) (x .tree) (x .held) in
@@ -86,13 +89,13 @@ module _ {a b : List ℕ} (d i : ℕ) (room : Roomy a b) (k7 : cell a b i 0 ≡ 
       let w = v .yielded in
       omega arith
 
-  pub room-yields : {n n′ e : ℕ} {m m₁ : Mem} → n ≡ cell a b i 4 → n′ ≡ cell a b i 6 → LowersExprs a b n 0 (d - 1) 0 (i + 1) e m m₁ → SomeTree a b clause d i → Ready i m → (e + n′ ≤ 2048) × (m₁ .ctx .mapped + n′ ≤ 4352) × (m₁ .ctx .next + n′ ≤ 5000) × (16384 ≤ length (m₁ .rest)) × Indexes m₁
+  pub room-yields : {n n′ e : ℕ} {m m₁ : Mem} → n ≡ cell a b i callArgsAt → n′ ≡ cell a b i callYieldsAt → LowersExprs a b n 0 (d - 1) 0 (i + 1) e m m₁ → SomeTree a b clause d i → Ready i m → (e + n′ ≤ maxRecords) × (m₁ .ctx .mapped + n′ ≤ maxVars) × (m₁ .ctx .next + n′ ≤ maxVars) × (workWords ≤ length (m₁ .rest)) × Indexes m₁
   room-yields en en′ p x g =
       let f = yields-fit en en′ p x in
       let v = p .moved in
       (f, omega (arith, f, g .met, v .met, v .up, g .here), omega (arith, f, g .low, v .low, v .up, g .here), rw (v .in-rest) (g .in-rest), v .index (g .index))
 
-module _ {a b : List ℕ} {n n′ j e : ℕ} {c : LowerCtx} {os : List ℕ} {m m₁ m₂ : Mem} (d i has last : ℕ) (room : Roomy a b) (k7 : cell a b i 0 ≡ 7) (sh : d ≤ 64) (en : n ≡ cell a b i 4) (en′ : n′ ≡ cell a b i 6) (x : LowersExprs a b n 0 (d - 1) 0 (i + 1) j m m₁) (y : LowersYields a b n′ j e m₁ m₂) (pc : Pushed (m₂ .ctx) c (m₂ .ops) os (callOp i has last d)) (lo : length os ≡ length (m₂ .ops)) where
+module _ {a b : List ℕ} {n n′ j e : ℕ} {c : LowerCtx} {os : List ℕ} {m m₁ m₂ : Mem} (d i has last : ℕ) (room : Roomy a b) (k7 : cell a b i kindAt ≡ callKind) (sh : d ≤ maxDepth) (en : n ≡ cell a b i callArgsAt) (en′ : n′ ≡ cell a b i callYieldsAt) (x : LowersExprs a b n 0 (d - 1) 0 (i + 1) j m m₁) (y : LowersYields a b n′ j e m₁ m₂) (pc : Pushed (m₂ .ctx) c (m₂ .ops) os (callOp i has last d)) (lo : length os ≡ length (m₂ .ops)) where
   call-run : (sheet : Bytes) (t : Tree clause) → Held sheet a b t d i → (W : Written) (s : State) → Rep sheet a b W s m → BothBlank W (suc i) (suc e) → Leaves sheet a b W (λ s. lowerClause t (givenIf has last) s) (some (m₂ .ctx .ops)) (suc i) (suc e) s m (mem c os (m₂ .rest))
   call-run sheet t hd W s r bl =
       let v = a-call room t hd k7 in

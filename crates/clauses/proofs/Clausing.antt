@@ -8,8 +8,9 @@ use Rattle.model.specs.Text.{Bytes}
 use Rattle.model.specs.Kind.{Sort, clause}
 use Rattle.model.specs.Tree.{Tree}
 use Rattle.model.specs.Lower.{lowerClause}
-use Rattle.words.specs.Words.{Roomy, cell}
+use Rattle.words.specs.Words.{Roomy, cell, maxRecords}
 use Rattle.words.specs.Held.{Held, HeldSome}
+use Rattle.words.specs.Places.{matchKind, whereKind, withKind, returnKind, unwindKind, callKind, writeKind, kindAt}
 use Rattle.lower.specs.Rep.{State, Mem, Written, Rep}
 use Rattle.lower.specs.Pieces.{SomeTree}
 use Rattle.lower.specs.Chains.{givenIf}
@@ -23,10 +24,10 @@ pub some-tree : {sheet : Bytes} {a b : List ℕ} {s : Sort} {d i : ℕ} → Held
 some-tree {sheet} x = record { sheet = sheet; tree = x .tree; held = x .is }
 
 -- what the function of one kind asks
-pub asked : {sheet : Bytes} {a b : List ℕ} {k d i has last : ℕ} {m : Mem} → ReadingAsked sheet a b d i has last m → cell a b i 0 ≡ k → ClauseAsked k a b d i has last m
+pub asked : {sheet : Bytes} {a b : List ℕ} {k d i has last : ℕ} {m : Mem} → ReadingAsked sheet a b d i has last m → cell a b i kindAt ≡ k → ClauseAsked k a b d i has last m
 asked g e = record { room = g .room; tree = some-tree (g .held); kind = e; ready = g .ready; shallow = g .shallow; input = g .input; stands = g .stands }
 
-pub seven : {sheet : Bytes} {a b : List ℕ} {d i : ℕ} → Roomy a b → HeldSome sheet a b clause d i → ((cell a b i 0 ≡ 2) → ⊥) → ((cell a b i 0 ≡ 3) → ⊥) → ((cell a b i 0 ≡ 4) → ⊥) → ((cell a b i 0 ≡ 5) → ⊥) → ((cell a b i 0 ≡ 6) → ⊥) → ((cell a b i 0 ≡ 8) → ⊥) → cell a b i 0 ≡ 7
+pub seven : {sheet : Bytes} {a b : List ℕ} {d i : ℕ} → Roomy a b → HeldSome sheet a b clause d i → ((cell a b i kindAt ≡ matchKind) → ⊥) → ((cell a b i kindAt ≡ whereKind) → ⊥) → ((cell a b i kindAt ≡ withKind) → ⊥) → ((cell a b i kindAt ≡ returnKind) → ⊥) → ((cell a b i kindAt ≡ unwindKind) → ⊥) → ((cell a b i kindAt ≡ writeKind) → ⊥) → cell a b i kindAt ≡ callKind
 seven {sheet} {d = d} {i = i} room x n2 n3 n4 n5 n6 n8 = call-kind sheet d i room (x .tree) (x .is) n2 n3 n4 n5 n6 n8
 
 -- an operator that is left, as the code has it
@@ -34,7 +35,7 @@ pub given-one : {sheet : Bytes} {a b : List ℕ} {d i e k : ℕ} {o : Option ℕ
 unfolding givenIf
 given-one p = p
 
-module _ (sheet : Bytes) {a b : List ℕ} (d i : ℕ) (o : Option ℕ) (m : Mem) (room : Roomy a b) (k8 : cell a b i 0 ≡ 8) (li : i < 2048) (st : Stands o m) where
+module _ (sheet : Bytes) {a b : List ℕ} (d i : ℕ) (o : Option ℕ) (m : Mem) (room : Roomy a b) (k8 : cell a b i kindAt ≡ writeKind) (li : i < maxRecords) (st : Stands o m) where
   write-run : (t : Tree clause) → Held sheet a b t d i → (W : Written) (s : State) → Rep sheet a b W s m → Leaves sheet a b W (λ s. lowerClause t o s) o (suc i) (suc (i + 1)) s m m
   write-run t hd W s r = let e = a-write sheet d i room t hd k8 .1 o s in record { to = rw e (to-wider sub-both (to-refl r)); left = ap (λ (x : Option ℕ × State). x .0) e }
 

@@ -11,7 +11,9 @@ use Rattle.model.specs.Tree.{Tree}
 use Rattle.model.specs.Lower.{Recs, _>>=_, ret, push, op, filter, orSourceAll, lowerExpr, lowerClause}
 use Rattle.words.specs.Words.{Roomy, cell}
 use Rattle.words.specs.Held.{Held}
-use Rattle.context.specs.Tables.{Op, Pushed}
+use Rattle.words.specs.Places.{whereKind}
+use Rattle.context.specs.Tables.{Pushed}
+use Rattle.context.specs.declared.op.Op.{Op}
 use Rattle.context.specs.declared.LowerCtx.{LowerCtx}
 use Rattle.lower.specs.Shows.{shift, shows-filter}
 use Rattle.lower.specs.Rep.{State, Mem, mem, Written, Rep}
@@ -30,7 +32,7 @@ use Rattle.clauses.proofs.Matching.{leaves}
 abbrev pub filterOp : (i input d : ℕ) → Op
 filterOp i input d = record { kind = 2; idx = i; input = input; x = 0; y = 0; left = d - 1; base = 0 }
 
-pub some-predicate : {a b : List ℕ} {d i has last : ℕ} {m : Mem} → ClauseAsked 3 a b d i has last m → SomeTree a b expr (d - 1) (i + 1)
+pub some-predicate : {a b : List ℕ} {d i has last : ℕ} {m : Mem} → ClauseAsked whereKind a b d i has last m → SomeTree a b expr (d - 1) (i + 1)
 some-predicate g = let v = a-where (g .room) (g .tree .tree) (g .tree .held) (g .kind) in record { sheet = g .tree .sheet; tree = v .tree; held = v .held }
 
 filter-is : (k k′ : ℕ) (rs rs′ : Recs) → k ≡ k′ → rs ≡ rs′ → filter k′ rs′ ≡ op ReadOp.Filter (k, tt) ∷ rs
@@ -42,7 +44,7 @@ where-def : (tree : Tree expr) (o : Option ℕ) (s : State) → _≡_ {A = Optio
 unfolding _>>=_ push ret
 where-def tree o s = refl
 
-module _ {a b : List ℕ} {d i has last k e : ℕ} {c : LowerCtx} {os : List ℕ} {m m₁ m₂ : Mem} (g : ClauseAsked 3 a b d i has last m) (x : LowersExpr a b (d - 1) 0 (i + 1) e m m₁) (sr : Input (orSourceAll (givenIf has last)) k m₁ m₂) (pf : Pushed (m₂ .ctx) c (m₂ .ops) os (filterOp (i + 1) k d)) (lo : length os ≡ length (m₂ .ops)) where
+module _ {a b : List ℕ} {d i has last k e : ℕ} {c : LowerCtx} {os : List ℕ} {m m₁ m₂ : Mem} (g : ClauseAsked whereKind a b d i has last m) (x : LowersExpr a b (d - 1) 0 (i + 1) e m m₁) (sr : Input (orSourceAll (givenIf has last)) k m₁ m₂) (pf : Pushed (m₂ .ctx) c (m₂ .ops) os (filterOp (i + 1) k d)) (lo : length os ≡ length (m₂ .ops)) where
   where-run : (sheet : Bytes) (t : Tree clause) → Held sheet a b t d i → (W : Written) (s : State) → Rep sheet a b W s m → BothBlank W (suc i) (suc e) → Leaves sheet a b W (λ s. lowerClause t (givenIf has last) s) (some (m₂ .ctx .ops)) (suc i) (suc e) s m (mem c os (m₂ .rest))
   where-run sheet t hd W s r bl =
       let v = a-where (g .room) t hd (g .kind) in

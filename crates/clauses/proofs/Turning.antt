@@ -10,6 +10,7 @@ use Rattle.model.specs.Kind.{Sort, clause, unionArm}
 use Rattle.model.specs.Tree.{Tree, Trees, node, []ᵗ, _∷ᵗ_, end, _▸_}
 use Rattle.model.specs.Lower.{_>>=_, ret, lowerClause, lowerClauses, lowerArms}
 use Rattle.words.specs.Held.{Held, HeldOf, HeldSome, HeldMany, size, sizeOf}
+use Rattle.words.specs.Words.{maxRecords}
 use Rattle.lower.specs.Rep.{State, Mem, Written, Rep}
 use Rattle.lower.specs.Chains.{givenIf}
 use Rattle.lower.specs.Clauses.{Ready, BothBlank, bothPasses, Stands, Leaves, LowersClause}
@@ -48,7 +49,7 @@ module _ (S : Sort) (turn : Turn S) (sheet : Bytes) (a b : List ℕ) (d : ℕ) w
   unfolding inTurn
   nil-run i o m []ᵗ W s r = record { to = to-wider sub-both (to-refl r); left = refl }
 
-  pub nil-law : (i : ℕ) (o : Option ℕ) (m : Mem) → i ≤ 2048 → Stands o m → LowersTurns S turn sheet a b 0 d i i o o m m
+  pub nil-law : (i : ℕ) (o : Option ℕ) (m : Mem) → i ≤ maxRecords → Stands o m → LowersTurns S turn sheet a b 0 d i i o o m m
   nil-law i o m h st = record { moved = twice-refl h; stands = st; next = λ ts hd. nil-next i ts; run = λ ts hd W s r bl. nil-run i o m ts W s r }
 
   module _ {n i j e : ℕ} {o o₁ o₂ : Option ℕ} {m m₁ m₂ : Mem} (p : LowersTurn S turn sheet a b d i j o o₁ m m₁) (q : LowersTurns S turn sheet a b n d j e o₁ o₂ m₁ m₂) where

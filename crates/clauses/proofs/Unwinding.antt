@@ -12,7 +12,9 @@ use Rattle.model.specs.Tree.{Tree}
 use Rattle.model.specs.Lower.{Recs, _>>=_, ret, push, op, orSourceAll, mapVar, lowerExpr, lowerClause}
 use Rattle.words.specs.Words.{Roomy, cell}
 use Rattle.words.specs.Held.{Held}
-use Rattle.context.specs.Tables.{Op, Pushed, Numbers}
+use Rattle.words.specs.Places.{unwindKind, unwindVarAt}
+use Rattle.context.specs.Tables.{Pushed, Numbers}
+use Rattle.context.specs.declared.op.Op.{Op}
 use Rattle.context.specs.declared.LowerCtx.{LowerCtx}
 use Rattle.context.specs.declared.Numbered.{Numbered}
 use Rattle.lower.specs.Shows.{shift, shows-unwind}
@@ -31,7 +33,7 @@ use Rattle.clauses.proofs.Matching.{leaves}
 abbrev pub unwindOp : (i input number d : ℕ) → Op
 unwindOp i input number d = record { kind = 14; idx = i; input = input; x = number; y = 0; left = d - 1; base = 0 }
 
-pub some-list : {a b : List ℕ} {d i has last : ℕ} {m : Mem} → ClauseAsked 6 a b d i has last m → SomeTree a b expr (d - 1) (i + 1)
+pub some-list : {a b : List ℕ} {d i has last : ℕ} {m : Mem} → ClauseAsked unwindKind a b d i has last m → SomeTree a b expr (d - 1) (i + 1)
 some-list g = let v = an-unwind (g .room) (g .tree .tree) (g .tree .held) (g .kind) in record { sheet = g .tree .sheet; tree = v .tree; held = v .held }
 
 -- the number of a variable whose name is known by another name
@@ -60,17 +62,17 @@ module _ (id : ℕ) (tree : Tree expr) (o : Option ℕ) (s : State) where
   unwind-def = refl
 
 module _ {a b : List ℕ} {d i has last k e : ℕ} {c : LowerCtx} {os rest₃ : List ℕ} {r₃ : Numbered} {m m₁ m₂ : Mem}
-    (asked : ClauseAsked 6 a b d i has last m)
+    (asked : ClauseAsked unwindKind a b d i has last m)
     (sr : OrSource (orSourceAll (givenIf has last)) k m m₁)
     (x : LowersExpr a b (d - 1) 0 (i + 1) e m₁ m₂)
-    (nm : Numbers (mapVar (cell a b i 2)) (i + 1) (m₂ .ctx) (m₂ .rest) rest₃ r₃) (lr : length rest₃ ≡ length (m₂ .rest))
+    (nm : Numbers (mapVar (cell a b i unwindVarAt)) (i + 1) (m₂ .ctx) (m₂ .rest) rest₃ r₃) (lr : length rest₃ ≡ length (m₂ .rest))
     (pu : Pushed (r₃ .ctx) c (m₂ .ops) os (unwindOp (i + 1) k (r₃ .number) d)) (lo : length os ≡ length (m₂ .ops)) where
   unwind-run : (sheet : Bytes) (t : Tree clause) → Held sheet a b t d i → (W : Written) (s : State) → Rep sheet a b W s m → BothBlank W (suc i) (suc e) → Leaves sheet a b W (λ s. lowerClause t (givenIf has last) s) (some (r₃ .ctx .ops)) (suc i) (suc e) s m (mem c os rest₃)
   unwind-run sheet t hd W s r bl =
       let v = an-unwind (asked .room) t hd (asked .kind) in
       let sh = asked .shallow in
       let o : Option ℕ = givenIf has last in
-      let id : ℕ = cell a b i 2 in
+      let id : ℕ = cell a b i unwindVarAt in
       let up = x .moved .up in
       let ep : i + 1 ≡ suc i = omega arith in
       let z = sr .run sheet a b W s r in

@@ -9,8 +9,10 @@ use Rattle.model.specs.Text.{Bytes}
 use Rattle.model.specs.Kind.{statement, clause, unionArm}
 use Rattle.model.specs.Tree.{Tree, Trees}
 use Rattle.model.specs.Lower.{lowerClauses, lowerArms, empty}
+use Rattle.model.specs.Call.{workWords}
 use Rattle.words.specs.Words.{Roomy, cell}
 use Rattle.words.specs.Held.{Held, HeldSome, HeldMany}
+use Rattle.words.specs.Places.{stmtClausesAt, stmtArmsAt}
 use Rattle.context.specs.Tables.{varsOf, varsAt}
 use Rattle.context.specs.IndexLaws.{none-indexed}
 use Rattle.context.specs.declared.LowerCtx.{LowerCtx}
@@ -26,7 +28,7 @@ use Rattle.clauses.proofs.Turning.{clauses-turns, arms-turns}
 abbrev pub start : LowerCtx
 start = record { ops = 0; next = 0; mapped = 0 }
 
-pub start-ready : (os rs : List ℕ) → 16384 ≤ length os → 16384 ≤ length rs → Ready 1 (mem start os rs)
+pub start-ready : (os rs : List ℕ) → workWords ≤ length os → workWords ≤ length rs → Ready 1 (mem start os rs)
 start-ready os rs lo lr = record { few = omega arith; low = omega arith; met = omega arith; here = omega arith; in-ops = lo; in-rest = lr; index = none-indexed (drop varsAt rs) }
 
 start-rep : (sheet : Bytes) (a b os rs : List ℕ) → Rep sheet a b [] empty (mem start os rs)
@@ -37,10 +39,10 @@ start-blank : (lo hi : ℕ) → BothBlank [] lo hi
 start-blank lo hi = record { first = record { at = λ q a b i. i }; second = record { at = λ q a b i. i } }
 
 module _ {sheet : Bytes} {a b : List ℕ} (room : Roomy a b) where
-  pub some-clauses : {n : ℕ} → n ≡ cell a b 0 2 → HeldSome sheet a b statement 64 0 → HeldMany sheet a b clause n 63 1
+  pub some-clauses : {n : ℕ} → n ≡ cell a b 0 stmtClausesAt → HeldSome sheet a b statement 64 0 → HeldMany sheet a b clause n 63 1
   some-clauses en x = let v = a-statement room (x .tree) (x .is) in rw (en ∙ sym (v .many)) (record { trees = v .clauses; are = v .held-clauses })
 
-  pub some-arms : {n n′ j : ℕ} {o o′ : Option ℕ} {m m₁ : Mem} → n ≡ cell a b 0 2 → n′ ≡ cell a b 0 4 → LowersClauses sheet a b n 63 1 j o o′ m m₁ → HeldSome sheet a b statement 64 0 → HeldMany sheet a b unionArm n′ 63 j
+  pub some-arms : {n n′ j : ℕ} {o o′ : Option ℕ} {m m₁ : Mem} → n ≡ cell a b 0 stmtClausesAt → n′ ≡ cell a b 0 stmtArmsAt → LowersClauses sheet a b n 63 1 j o o′ m m₁ → HeldSome sheet a b statement 64 0 → HeldMany sheet a b unionArm n′ 63 j
   some-arms {j = j} {o = o} {o′ = o′} {m = m} {m₁ = m₁} en en′ p x =
       let v = a-statement room (x .tree) (x .is) in
       let p′ : LowersClauses sheet a b (v .n) 63 1 j o o′ m m₁ = rw (en ∙ sym (v .many)) at p in
@@ -49,7 +51,7 @@ module _ {sheet : Bytes} {a b : List ℕ} (room : Roomy a b) where
 whole-def : {n n′ : ℕ} (cs : Trees clause n) (arms : Trees unionArm n′) (o : Option ℕ) → inTurn clauseTurn cs none empty .0 ≡ o → lowerArms arms (lowerClauses cs none empty .0) (lowerClauses cs none empty .1) .1 ≡ inTurn armTurn arms o (inTurn clauseTurn cs none empty .1) .1
 whole-def cs arms o e = rw (clauses-turns cs none empty, e, arms-turns arms o (inTurn clauseTurn cs none empty .1))
 
-module _ {sheet : Bytes} {a b : List ℕ} {n n′ j e : ℕ} {o o′ : Option ℕ} {os rs : List ℕ} {m₁ m₂ : Mem} (room : Roomy a b) (lo : 16384 ≤ length os) (lr : 16384 ≤ length rs) (en : n ≡ cell a b 0 2) (en′ : n′ ≡ cell a b 0 4) (cl : LowersClauses sheet a b n 63 1 j none o (mem start os rs) m₁) (ar : LowersArms sheet a b n′ 63 j e o o′ m₁ m₂) where
+module _ {sheet : Bytes} {a b : List ℕ} {n n′ j e : ℕ} {o o′ : Option ℕ} {os rs : List ℕ} {m₁ m₂ : Mem} (room : Roomy a b) (lo : workWords ≤ length os) (lr : workWords ≤ length rs) (en : n ≡ cell a b 0 stmtClausesAt) (en′ : n′ ≡ cell a b 0 stmtArmsAt) (cl : LowersClauses sheet a b n 63 1 j none o (mem start os rs) m₁) (ar : LowersArms sheet a b n′ 63 j e o o′ m₁ m₂) where
   whole-run : (t : Tree statement) → Held sheet a b t 64 0 → Represented sheet a b t m₂
   whole-run t hd =
       let v = a-statement room t hd in

@@ -5,8 +5,10 @@ use mathlib.Core.List.{List}
 use Rattle.model.specs.Text.{Bytes}
 use Rattle.model.specs.Kind.{clause}
 use Rattle.model.specs.Lower.{orSourceAll}
+use Rattle.model.specs.Call.{maxDepth}
 use Rattle.words.specs.Words.{Roomy, cell}
 use Rattle.words.specs.Held.{HeldSome}
+use Rattle.words.specs.Places.{writeKind, kindAt}
 use Rattle.context.specs.declared.LowerCtx.{LowerCtx}
 use Rattle.lower.specs.Rep.{Mem, mem}
 use Rattle.lower.specs.Pieces.{SomeTree}
@@ -18,9 +20,9 @@ use Rattle.clauses.specs.Steps.{Input}
 pub record ClauseAsked (k : ℕ) (a b : List ℕ) (d i has last : ℕ) (m : Mem) : Type 0 where
   pub room : Roomy a b
   pub tree : SomeTree a b clause d i
-  pub kind : cell a b i 0 ≡ k
+  pub kind : cell a b i kindAt ≡ k
   pub ready : Ready i m
-  pub shallow : d ≤ 64
+  pub shallow : d ≤ maxDepth
   pub input : last ≤ m .ctx .ops
   pub stands : ((has ≡ 0) → ⊥) → last < m .ctx .ops
 
@@ -28,9 +30,9 @@ pub record ClauseAsked (k : ℕ) (a b : List ℕ) (d i has last : ℕ) (m : Mem)
 pub record ReadingAsked (sheet : Bytes) (a b : List ℕ) (d i has last : ℕ) (m : Mem) : Type 0 where
   pub room : Roomy a b
   pub held : HeldSome sheet a b clause d i
-  pub reads : (cell a b i 0 ≡ 8) → ⊥
+  pub reads : (cell a b i kindAt ≡ writeKind) → ⊥
   pub ready : Ready i m
-  pub shallow : d ≤ 64
+  pub shallow : d ≤ maxDepth
   pub input : last ≤ m .ctx .ops
   pub stands : ((has ≡ 0) → ⊥) → last < m .ctx .ops
 

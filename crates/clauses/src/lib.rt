@@ -4,6 +4,7 @@ ghost use Prim.Native.Nat.{_≤_, _<_};
 ghost use mathlib.Core.Option.{none};
 ghost use lib.ListN.{length};
 ghost use Rattle.model.specs.Kind.{statement, unionArm, clause};
+ghost use Rattle.model.specs.Call.{workWords, maxDepth};
 ghost use Rattle.words.specs.Words.{Roomy};
 ghost use Rattle.words.specs.Held.{HeldSome, HeldMany};
 ghost use Rattle.lower.specs.Rep.{mem};
@@ -12,6 +13,9 @@ ghost use Rattle.lower.specs.Clauses.{Ready, LowersClause};
 ghost use Rattle.clauses.specs.Steps.{LowersClauses, LowersArm, LowersArms};
 ghost use Rattle.clauses.specs.Statement.{LowersStatement};
 use context::LowerCtx;
+use context::op;
+use words::field;
+use words::kind;
 
 pub mod reading;
 
@@ -35,14 +39,14 @@ fn lower_clause(
 ) -> Current
     requires { ⌜ Roomy (now a) (now b) ⌝ }
     requires { ⌜ HeldSome (now sheet) (now a) (now b) clause left (cur .next) ⌝ }
-    requires { ⌜ Ready (cur .next) (mem (cur .ctx) (now ops) (now rest)) × (left ≤ 64) ⌝ }
+    requires { ⌜ Ready (cur .next) (mem (cur .ctx) (now ops) (now rest)) × (left ≤ maxDepth) ⌝ }
     requires { ⌜ (cur .last ≤ cur .ctx .ops) × ((cur .has ≡ 0 → ⊥) → cur .last < cur .ctx .ops) ⌝ }
     ensures { λ r. ⌜ (r .last ≤ r .ctx .ops) × LowersClause (now (sheet .entry)) (now (a .entry)) (now (b .entry)) left (cur .next) (r .next) (givenIf (cur .has) (cur .last)) (givenIf (r .has) (r .last)) (mem (cur .ctx) (now (ops .entry)) (now (rest .entry))) (mem (r .ctx) (now (ops .exit)) (now (rest .exit))) ⌝ }
 {
     let i = cur.next;
     let c = cur.ctx;
-    let kind = words::word(a, b, i, 0);
-    if kind == 8 {
+    let kind = words::word(a, b, i, field::KIND);
+    if kind == kind::WRITE {
         return Current {
             next: i + 1,
             has: cur.has,
@@ -74,7 +78,7 @@ fn lower_clauses(
 ) -> Current
     requires { ⌜ Roomy (now a) (now b) ⌝ }
     requires { ⌜ HeldMany (now sheet) (now a) (now b) clause n left i ⌝ }
-    requires { ⌜ Ready i (mem ctx (now ops) (now rest)) × (left ≤ 64) ⌝ }
+    requires { ⌜ Ready i (mem ctx (now ops) (now rest)) × (left ≤ maxDepth) ⌝ }
     ensures { λ r. ⌜ (r .last ≤ r .ctx .ops) × LowersClauses (now (sheet .entry)) (now (a .entry)) (now (b .entry)) n left i (r .next) none (givenIf (r .has) (r .last)) (mem ctx (now (ops .entry)) (now (rest .entry))) (mem (r .ctx) (now (ops .exit)) (now (rest .exit))) ⌝ }
 {
     let mut cur = Current {
@@ -104,13 +108,13 @@ fn lower_arm(
 ) -> Current
     requires { ⌜ Roomy (now a) (now b) ⌝ }
     requires { ⌜ HeldSome (now sheet) (now a) (now b) unionArm left (root .next) ⌝ }
-    requires { ⌜ Ready (root .next) (mem (root .ctx) (now ops) (now rest)) × (left ≤ 64) ⌝ }
+    requires { ⌜ Ready (root .next) (mem (root .ctx) (now ops) (now rest)) × (left ≤ maxDepth) ⌝ }
     requires { ⌜ root .last ≤ root .ctx .ops ⌝ }
     ensures { λ r. ⌜ (r .last ≤ r .ctx .ops) × LowersArm (now (sheet .entry)) (now (a .entry)) (now (b .entry)) left (root .next) (r .next) (givenIf (root .has) (root .last)) (givenIf (r .has) (r .last)) (mem (root .ctx) (now (ops .entry)) (now (rest .entry))) (mem (r .ctx) (now (ops .exit)) (now (rest .exit))) ⌝ }
 {
     let i = root.next;
-    let all = words::word(a, b, i, 2);
-    let n = lower::records::count(a, b, i, 4);
+    let all = words::word(a, b, i, field::ARM_ALL);
+    let n = lower::records::count(a, b, i, field::ARM_CLAUSES);
     let c = root.ctx;
     let below = lower_clauses(sheet, a, b, ops, rest, c, i + 1, n, left - 1);
     let d = below.ctx;
@@ -121,7 +125,7 @@ fn lower_arm(
     let k = f.ops;
     let first = q.op as u32;
     let second = r.op as u32;
-    let z = f.push(ops, 15, i as u32, first, second, all, 0, 0);
+    let z = f.push(ops, op::UNION, i as u32, first, second, all, 0, 0);
     Current {
         next: below.next,
         has: 1,
@@ -143,7 +147,7 @@ fn lower_arms(
 ) -> Current
     requires { ⌜ Roomy (now a) (now b) ⌝ }
     requires { ⌜ HeldMany (now sheet) (now a) (now b) unionArm n left (head .next) ⌝ }
-    requires { ⌜ Ready (head .next) (mem (head .ctx) (now ops) (now rest)) × (left ≤ 64) ⌝ }
+    requires { ⌜ Ready (head .next) (mem (head .ctx) (now ops) (now rest)) × (left ≤ maxDepth) ⌝ }
     requires { ⌜ (head .last ≤ head .ctx .ops) × ((head .has ≡ 0 → ⊥) → head .last < head .ctx .ops) ⌝ }
     ensures { λ r. ⌜ LowersArms (now (sheet .entry)) (now (a .entry)) (now (b .entry)) n left (head .next) (r .next) (givenIf (head .has) (head .last)) (givenIf (r .has) (r .last)) (mem (head .ctx) (now (ops .entry)) (now (rest .entry))) (mem (r .ctx) (now (ops .exit)) (now (rest .exit))) ⌝ }
 {
@@ -160,12 +164,12 @@ fn lower_arms(
 // The statement that a and b hold, into empty tables.
 pub fn lower(sheet: &[u8], a: &[u32], b: &[u32], ops: &mut [u32], rest: &mut [u32]) -> LowerCtx
     requires { ⌜ Roomy (now a) (now b) ⌝ }
-    requires { ⌜ HeldSome (now sheet) (now a) (now b) statement 64 0 ⌝ }
-    requires { ⌜ (16384 ≤ length (now ops)) × (16384 ≤ length (now rest)) ⌝ }
+    requires { ⌜ HeldSome (now sheet) (now a) (now b) statement maxDepth 0 ⌝ }
+    requires { ⌜ (workWords ≤ length (now ops)) × (workWords ≤ length (now rest)) ⌝ }
     ensures { λ r. ⌜ LowersStatement (now (sheet .entry)) (now (a .entry)) (now (b .entry)) (mem r (now (ops .exit)) (now (rest .exit))) ⌝ }
 {
-    let clauses = lower::records::count(a, b, 0, 2);
-    let arms = lower::records::count(a, b, 0, 4);
+    let clauses = lower::records::count(a, b, 0, field::STMT_CLAUSES);
+    let arms = lower::records::count(a, b, 0, field::STMT_ARMS);
     let start = LowerCtx {
         ops: 0,
         next: 0,

@@ -4,20 +4,25 @@ ghost use mathlib.Core.List.{List};
 ghost use mathlib.Core.Option.{some};
 ghost use lib.ListN.{length, drop};
 ghost use Rattle.model.specs.Text.{Bytes};
-ghost use Rattle.words.specs.Words.{Roomy};
-ghost use Rattle.context.specs.Tables.{Indexed};
+ghost use Rattle.model.specs.Call.{workWords};
+ghost use Rattle.words.specs.Words.{Roomy, maxRecords};
+ghost use Rattle.words.specs.Places.{matchKind, whereKind, unwindKind, callKind};
+ghost use Rattle.context.specs.Tables.{Indexed, varsAt, maxVars};
 ghost use Rattle.lower.specs.Rep.{mem};
 ghost use Rattle.lower.specs.Chains.{givenIf};
 ghost use Rattle.lower.specs.Clauses.{LowersClause};
 ghost use Rattle.clauses.specs.Asked.{ClauseAsked, ReadingAsked, InputLeft};
 ghost use Rattle.clauses.specs.Steps.{SomeYields, LowersYields};
 use context::LowerCtx;
+use context::op;
 use lower::Root;
 use lower::Step;
+use words::field;
+use words::kind;
 
 // As lower::or_source_all, for an operator before that is not known to be below the count here.
 pub fn input_or_source(ops: &mut [u32], ctx: LowerCtx, has: u32, last: usize, next: usize) -> Root
-    requires { ⌜ (ctx .ops < 65535) × (16384 ≤ length (now ops)) ⌝ }
+    requires { ⌜ (ctx .ops < 65535) × (workWords ≤ length (now ops)) ⌝ }
     ensures { λ r. ⌜ InputLeft has last next (r .next) (r .op) ctx (r .ctx) (now (ops .entry)) (now (ops .exit)) ⌝ }
 {
     if has != 0 {
@@ -41,14 +46,14 @@ pub fn lower_yields(
 ) -> Step
     requires { ⌜ Roomy (now a) (now b) ⌝ }
     requires { ⌜ SomeYields (now a) (now b) n i ⌝ }
-    requires { ⌜ (i + n ≤ 2048) × (ctx .mapped + n ≤ 4352) × (ctx .next + n ≤ 5000) × (16384 ≤ length (now rest)) × Indexed (ctx .mapped) (drop 4608 (now rest)) ⌝ }
+    requires { ⌜ (i + n ≤ maxRecords) × (ctx .mapped + n ≤ maxVars) × (ctx .next + n ≤ maxVars) × (workWords ≤ length (now rest)) × Indexed (ctx .mapped) (drop varsAt (now rest)) ⌝ }
     ensures { λ r. ⌜ ((os : List ℕ) → LowersYields (now (a .entry)) (now (b .entry)) n i (r .next) (mem ctx os (now (rest .entry))) (mem (r .ctx) os (now (rest .exit)))) ⌝ }
 {
     let mut at = i;
     let mut m = n;
     let mut cur = ctx;
     while m != 0 {
-        let id = words::word(a, b, at, 4);
+        let id = words::word(a, b, at, field::YIELD_VAR);
         let r = cur.number(rest, id, at + 1);
         at += 1;
         let c = r.ctx;
@@ -70,11 +75,11 @@ pub fn lower_match(
     i: usize,
     left: usize,
 ) -> Root
-    requires { ⌜ ClauseAsked 2 (now a) (now b) left i has last (mem ctx (now ops) (now rest)) ⌝ }
+    requires { ⌜ ClauseAsked matchKind (now a) (now b) left i has last (mem ctx (now ops) (now rest)) ⌝ }
     ensures { λ r. ⌜ ((sheet : Bytes) → LowersClause sheet (now (a .entry)) (now (b .entry)) left i (r .next) (givenIf has last) (some (r .op)) (mem ctx (now (ops .entry)) (now (rest .entry))) (mem (r .ctx) (now (ops .exit)) (now (rest .exit)))) ⌝ }
 {
-    let optional = words::word(a, b, i, 2);
-    let n = lower::records::count(a, b, i, 4);
+    let optional = words::word(a, b, i, field::MATCH_OPTIONAL);
+    let n = lower::records::count(a, b, i, field::MATCH_PARTS);
     let r = lower::lower_parts(a, b, ops, rest, ctx, 0, i, n, left - 1);
     if optional == 0 {
         return r;
@@ -86,7 +91,7 @@ pub fn lower_match(
     let k = c.ops;
     let outer = last as u32;
     let inner = r.op as u32;
-    let z = c.push(ops, 6, i as u32, outer, inner, 0, 0, 0);
+    let z = c.push(ops, op::OPTIONAL_JOIN, i as u32, outer, inner, 0, 0, 0);
     Root {
         next: r.next,
         op: k,
@@ -106,7 +111,7 @@ pub fn lower_where(
     i: usize,
     left: usize,
 ) -> Root
-    requires { ⌜ ClauseAsked 3 (now a) (now b) left i has last (mem ctx (now ops) (now rest)) ⌝ }
+    requires { ⌜ ClauseAsked whereKind (now a) (now b) left i has last (mem ctx (now ops) (now rest)) ⌝ }
     ensures { λ r. ⌜ ((sheet : Bytes) → LowersClause sheet (now (a .entry)) (now (b .entry)) left i (r .next) (givenIf has last) (some (r .op)) (mem ctx (now (ops .entry)) (now (rest .entry))) (mem (r .ctx) (now (ops .exit)) (now (rest .exit)))) ⌝ }
 {
     let first = i + 1;
@@ -116,7 +121,16 @@ pub fn lower_where(
     let q = input_or_source(ops, c, has, last, s.next);
     let d = q.ctx;
     let k = d.ops;
-    let z = d.push(ops, 2, first as u32, q.op as u32, 0, 0, less as u32, 0);
+    let z = d.push(
+        ops,
+        op::FILTER,
+        first as u32,
+        q.op as u32,
+        0,
+        0,
+        less as u32,
+        0,
+    );
     Root {
         next: q.next,
         op: k,
@@ -136,10 +150,10 @@ pub fn lower_unwind(
     i: usize,
     left: usize,
 ) -> Root
-    requires { ⌜ ClauseAsked 6 (now a) (now b) left i has last (mem ctx (now ops) (now rest)) ⌝ }
+    requires { ⌜ ClauseAsked unwindKind (now a) (now b) left i has last (mem ctx (now ops) (now rest)) ⌝ }
     ensures { λ r. ⌜ ((sheet : Bytes) → LowersClause sheet (now (a .entry)) (now (b .entry)) left i (r .next) (givenIf has last) (some (r .op)) (mem ctx (now (ops .entry)) (now (rest .entry))) (mem (r .ctx) (now (ops .exit)) (now (rest .exit)))) ⌝ }
 {
-    let id = words::word(a, b, i, 2);
+    let id = words::word(a, b, i, field::UNWIND_VAR);
     let first = i + 1;
     let less = left - 1;
     let q = lower::or_source_all(ops, ctx, has, last, first);
@@ -151,7 +165,7 @@ pub fn lower_unwind(
     let k = e.ops;
     let z = e.push(
         ops,
-        14,
+        op::UNWIND,
         first as u32,
         q.op as u32,
         m.number,
@@ -178,18 +192,27 @@ pub fn lower_call(
     i: usize,
     left: usize,
 ) -> Root
-    requires { ⌜ ClauseAsked 7 (now a) (now b) left i has last (mem ctx (now ops) (now rest)) ⌝ }
+    requires { ⌜ ClauseAsked callKind (now a) (now b) left i has last (mem ctx (now ops) (now rest)) ⌝ }
     ensures { λ r. ⌜ ((sheet : Bytes) → LowersClause sheet (now (a .entry)) (now (b .entry)) left i (r .next) (givenIf has last) (some (r .op)) (mem ctx (now (ops .entry)) (now (rest .entry))) (mem (r .ctx) (now (ops .exit)) (now (rest .exit)))) ⌝ }
 {
-    let args = lower::records::count(a, b, i, 4);
-    let yields = lower::records::count(a, b, i, 6);
+    let args = lower::records::count(a, b, i, field::CALL_ARGS);
+    let yields = lower::records::count(a, b, i, field::CALL_YIELDS);
     let less = left - 1;
     let s = lower::lower_exprs(a, b, ops, rest, ctx, 0, i + 1, args, 0, less);
     let c = s.ctx;
     let t = lower_yields(a, b, rest, c, s.next, yields);
     let d = t.ctx;
     let k = d.ops;
-    let z = d.push(ops, 16, i as u32, last as u32, has, 0, less as u32, 0);
+    let z = d.push(
+        ops,
+        op::PROCEDURE_CALL,
+        i as u32,
+        last as u32,
+        has,
+        0,
+        less as u32,
+        0,
+    );
     Root {
         next: t.next,
         op: k,
@@ -213,13 +236,13 @@ pub fn lower_reading_clause(
     requires { ⌜ ReadingAsked (now sheet) (now a) (now b) left i has last (mem ctx (now ops) (now rest)) ⌝ }
     ensures { λ r. ⌜ LowersClause (now (sheet .entry)) (now (a .entry)) (now (b .entry)) left i (r .next) (givenIf has last) (some (r .op)) (mem ctx (now (ops .entry)) (now (rest .entry))) (mem (r .ctx) (now (ops .exit)) (now (rest .exit))) ⌝ }
 {
-    let kind = words::word(a, b, i, 0);
+    let kind = words::word(a, b, i, field::KIND);
     match kind {
-        2 => lower_match(a, b, ops, rest, ctx, has, last, i, left),
-        3 => lower_where(a, b, ops, rest, ctx, has, last, i, left),
-        4 => projections::lower_with(a, b, ops, rest, ctx, has, last, i, left),
-        5 => projections::lower_return(sheet, a, b, ops, rest, ctx, has, last, i, left),
-        6 => lower_unwind(a, b, ops, rest, ctx, has, last, i, left),
+        kind::MATCH => lower_match(a, b, ops, rest, ctx, has, last, i, left),
+        kind::WHERE => lower_where(a, b, ops, rest, ctx, has, last, i, left),
+        kind::WITH => projections::lower_with(a, b, ops, rest, ctx, has, last, i, left),
+        kind::RETURN => projections::lower_return(sheet, a, b, ops, rest, ctx, has, last, i, left),
+        kind::UNWIND => lower_unwind(a, b, ops, rest, ctx, has, last, i, left),
         _ => lower_call(a, b, ops, rest, ctx, has, last, i, left),
     }
 }

@@ -17,6 +17,7 @@ use Rattle.model.specs.Lower
 use Rattle.words.specs.Words.{Roomy, cell, kindOf, firstKind, nth, fieldsOf, fieldOf}
 use Rattle.words.specs.Held.{Held, HeldOf, size, sizeOf}
 use Rattle.words.specs.Cells.{shown, flag-word}
+use Rattle.words.specs.Places.{withKind, returnKind, kindAt, itemsAt, withFilterAt, returnDistinctAt, keysAt, skipAt, limitAt}
 use Rattle.lower.specs.Rep.{State}
 use Rattle.lower.specs.Pieces.{lowerC}
 use Rattle.lower.specs.Carry.{plainC}
@@ -25,11 +26,11 @@ use Rattle.projections.specs.Promises.{Tail, tailSize, firstL, secondL}
 
 -- ── the kinds ──
 
-kind-with : (n : ℕ) (k : Clause) → kindOf clause n ≡ some k → n ≡ 4 → Clause.With ≡ k
+kind-with : (n : ℕ) (k : Clause) → kindOf clause n ≡ some k → n ≡ withKind → Clause.With ≡ k
 unfolding kindOf firstKind nth kinds
 kind-with n k h e = let p : some Clause.With ≡ some k = rw e at h in cc
 
-kind-return : (n : ℕ) (k : Clause) → kindOf clause n ≡ some k → n ≡ 5 → Clause.Return ≡ k
+kind-return : (n : ℕ) (k : Clause) → kindOf clause n ≡ some k → n ≡ returnKind → Clause.Return ≡ k
 unfolding kindOf firstKind nth kinds
 kind-return n k h e = let p : some Clause.Return ≡ some k = rw e at h in cc
 
@@ -57,8 +58,8 @@ pub record IsWith (sheet : Bytes) (a b : List ℕ) (d i : ℕ) (t : Tree clause)
   pub items : Trees projection n
   pub predicate : Trees expr (one filtered)
   pub tail : Tail sheet a b (d - 1) i (i + 1 + sizeOf items + sizeOf predicate)
-  pub counted : n ≡ cell a b i 2
-  pub flagged : one filtered ≡ cell a b i 4
+  pub counted : n ≡ cell a b i itemsAt
+  pub flagged : one filtered ≡ cell a b i withFilterAt
   pub held-items : HeldOf sheet a b items (d - 1) (i + 1)
   pub held-predicate : HeldOf sheet a b predicate (d - 1) (i + 1 + sizeOf items)
   pub sized : size t ≡ 1 + sizeOf items + sizeOf predicate + tailSize tail
@@ -77,17 +78,17 @@ unfolding _>>=_ ret push
 with-def filtered items predicate keys skip limit current s input k e₁ e₂ = rw (items-lower items (orSourceAll current s .1), exprs-lower predicate (behindItems items (orSourceAll current s .1)), e₂, e₁)
 
 module _ {sheet : Bytes} {a b : List ℕ} {d i : ℕ} (room : Roomy a b) where
-  pub a-with : (t : Tree clause) → Held sheet a b t d i → cell a b i 0 ≡ 4 → IsWith sheet a b d i t
+  pub a-with : (t : Tree clause) → Held sheet a b t d i → cell a b i kindAt ≡ withKind → IsWith sheet a b d i t
   unfolding Held size lowerClause fieldsOf fieldOf
   a-with (node clause line Clause.With (n, (filtered, (x, (y, (z, u))))) (items ▸ predicate ▸ keys ▸ skip ▸ limit ▸ end)) hd e =
       let w = shown room (hd .1) in
-      let en : n ≡ cell a b i 2 = ap (λ (f : Fields (clauseForms Clause.With)). f .0) (w .fields) in
-      let ef : filtered ≡ eqb (cell a b i 4) 1 = ap (λ (f : Fields (clauseForms Clause.With)). f .1 .0) (w .fields) in
-      let ex : x ≡ cell a b i 6 = ap (λ (f : Fields (clauseForms Clause.With)). f .1 .1 .0) (w .fields) in
-      let ey : y ≡ eqb (cell a b i 8) 1 = ap (λ (f : Fields (clauseForms Clause.With)). f .1 .1 .1 .0) (w .fields) in
-      let ez : z ≡ eqb (cell a b i 10) 1 = ap (λ (f : Fields (clauseForms Clause.With)). f .1 .1 .1 .1 .0) (w .fields) in
-      let sy : one y ≡ cell a b i 8 = flag-one y (cell a b i 8) ey (w .flags .1 .1 .1 .0) in
-      let sz : one z ≡ cell a b i 10 = flag-one z (cell a b i 10) ez (w .flags .1 .1 .1 .1 .0) in
+      let en : n ≡ cell a b i itemsAt = ap (λ (f : Fields (clauseForms Clause.With)). f .0) (w .fields) in
+      let ef : filtered ≡ eqb (cell a b i withFilterAt) 1 = ap (λ (f : Fields (clauseForms Clause.With)). f .1 .0) (w .fields) in
+      let ex : x ≡ cell a b i keysAt = ap (λ (f : Fields (clauseForms Clause.With)). f .1 .1 .0) (w .fields) in
+      let ey : y ≡ eqb (cell a b i skipAt) 1 = ap (λ (f : Fields (clauseForms Clause.With)). f .1 .1 .1 .0) (w .fields) in
+      let ez : z ≡ eqb (cell a b i limitAt) 1 = ap (λ (f : Fields (clauseForms Clause.With)). f .1 .1 .1 .1 .0) (w .fields) in
+      let sy : one y ≡ cell a b i skipAt = flag-one y (cell a b i skipAt) ey (w .flags .1 .1 .1 .0) in
+      let sz : one z ≡ cell a b i limitAt = flag-one z (cell a b i limitAt) ez (w .flags .1 .1 .1 .1 .0) in
       record {
         n = n;
         filtered = filtered;
@@ -110,7 +111,7 @@ module _ {sheet : Bytes} {a b : List ℕ} {d i : ℕ} (room : Roomy a b) where
           held-limit = hd .3 .1 .1 .1 .1 .0;
         };
         counted = en;
-        flagged = flag-one filtered (cell a b i 4) ef (w .flags .1 .0);
+        flagged = flag-one filtered (cell a b i withFilterAt) ef (w .flags .1 .0);
         held-items = hd .3 .0;
         held-predicate = hd .3 .1 .0;
         sized = omega arith;
@@ -129,24 +130,24 @@ pub record IsReturn (sheet : Bytes) (a b : List ℕ) (d i : ℕ) (t : Tree claus
   pub n : ℕ
   pub items : Trees projection n
   pub tail : Tail sheet a b (d - 1) i (i + 1 + sizeOf items)
-  pub counted : n ≡ cell a b i 2
-  pub flag : cell a b i 4 ≤ 1
+  pub counted : n ≡ cell a b i itemsAt
+  pub flag : cell a b i returnDistinctAt ≤ 1
   pub held-items : HeldOf sheet a b items (d - 1) (i + 1)
   pub sized : size t ≡ 1 + sizeOf items + tailSize tail
-  pub def : (current : Option ℕ) (s : State) (k₁ k₂ : ℕ) → k₁ ≡ firstL n current items s .0 → k₂ ≡ secondL n (eqb (cell a b i 4) 1) k₁ items (firstL n current items s .1) .0 → lowerClause t current s ≡ leaving (lowerTrailers k₂ (tail .keys) (tail .skip) (tail .limit) (secondL n (eqb (cell a b i 4) 1) k₁ items (firstL n current items s .1) .1))
+  pub def : (current : Option ℕ) (s : State) (k₁ k₂ : ℕ) → k₁ ≡ firstL n current items s .0 → k₂ ≡ secondL n (eqb (cell a b i returnDistinctAt) 1) k₁ items (firstL n current items s .1) .0 → lowerClause t current s ≡ leaving (lowerTrailers k₂ (tail .keys) (tail .skip) (tail .limit) (secondL n (eqb (cell a b i returnDistinctAt) 1) k₁ items (firstL n current items s .1) .1))
 
 module _ {sheet : Bytes} {a b : List ℕ} {d i : ℕ} (room : Roomy a b) where
-  pub a-return : (t : Tree clause) → Held sheet a b t d i → cell a b i 0 ≡ 5 → IsReturn sheet a b d i t
+  pub a-return : (t : Tree clause) → Held sheet a b t d i → cell a b i kindAt ≡ returnKind → IsReturn sheet a b d i t
   unfolding Held size lowerClause fieldsOf fieldOf _>>=_ ret
   a-return (node clause line Clause.Return (n, (distinct, (x, (y, (z, u))))) (items ▸ keys ▸ skip ▸ limit ▸ end)) hd e =
       let w = shown room (hd .1) in
-      let en : n ≡ cell a b i 2 = ap (λ (f : Fields (clauseForms Clause.Return)). f .0) (w .fields) in
-      let ef : distinct ≡ eqb (cell a b i 4) 1 = ap (λ (f : Fields (clauseForms Clause.Return)). f .1 .0) (w .fields) in
-      let ex : x ≡ cell a b i 6 = ap (λ (f : Fields (clauseForms Clause.Return)). f .1 .1 .0) (w .fields) in
-      let ey : y ≡ eqb (cell a b i 8) 1 = ap (λ (f : Fields (clauseForms Clause.Return)). f .1 .1 .1 .0) (w .fields) in
-      let ez : z ≡ eqb (cell a b i 10) 1 = ap (λ (f : Fields (clauseForms Clause.Return)). f .1 .1 .1 .1 .0) (w .fields) in
-      let sy : one y ≡ cell a b i 8 = flag-one y (cell a b i 8) ey (w .flags .1 .1 .1 .0) in
-      let sz : one z ≡ cell a b i 10 = flag-one z (cell a b i 10) ez (w .flags .1 .1 .1 .1 .0) in
+      let en : n ≡ cell a b i itemsAt = ap (λ (f : Fields (clauseForms Clause.Return)). f .0) (w .fields) in
+      let ef : distinct ≡ eqb (cell a b i returnDistinctAt) 1 = ap (λ (f : Fields (clauseForms Clause.Return)). f .1 .0) (w .fields) in
+      let ex : x ≡ cell a b i keysAt = ap (λ (f : Fields (clauseForms Clause.Return)). f .1 .1 .0) (w .fields) in
+      let ey : y ≡ eqb (cell a b i skipAt) 1 = ap (λ (f : Fields (clauseForms Clause.Return)). f .1 .1 .1 .0) (w .fields) in
+      let ez : z ≡ eqb (cell a b i limitAt) 1 = ap (λ (f : Fields (clauseForms Clause.Return)). f .1 .1 .1 .1 .0) (w .fields) in
+      let sy : one y ≡ cell a b i skipAt = flag-one y (cell a b i skipAt) ey (w .flags .1 .1 .1 .0) in
+      let sz : one z ≡ cell a b i limitAt = flag-one z (cell a b i limitAt) ez (w .flags .1 .1 .1 .1 .0) in
       record {
         n = n;
         items = items;

@@ -12,6 +12,7 @@ use Rattle.model.specs.Record.{rec, forms}
 use Rattle.model.specs.Tree.{Tree, Trees, node, []ᵗ, _∷ᵗ_, end, _▸_, fold}
 use Rattle.model.specs.Lower.{Recs, made, _>>=_, ret, over, exprStep, planned, lowerExpr, lowerExprs, Split, noSplit, withKey, withAgg, lowerKey, lowerCallItem, lowerItem, isAggregateFunc, splitProjectionsAgg}
 use Rattle.words.specs.Held.{Held, HeldOf, HeldSome, HeldMany, size, sizeOf}
+use Rattle.words.specs.Words.{maxRecords}
 use Rattle.lower.specs.Render.{Notes, Ops, render, renderOf, recsOver, exprRecs, Below, belowIn, isAggregate, aggOf, keyRecs, aggRecs}
 use Rattle.lower.specs.Shows.{shift}
 use Rattle.lower.specs.Rep.{State, Mem, Written, Sub, Blank, Rep, Ran, Good}
@@ -103,7 +104,7 @@ nil-run : {sheet : Bytes} {a b : List ℕ} (i : ℕ) (m : Mem) (ts : Trees proje
 unfolding splitProjectionsAgg noSplit ret keyRecs aggRecs Below
 nil-run i m []ᵗ W s r = record { to = to-wider (sub-more (0 + suc i, 0 + suc i) W) (to-refl r); counted = refl; keys = λ N A f. refl; aggregates = λ N A f. refl; below = λ N A f. tt }
 
-nil-law : (sheet : Bytes) (a b : List ℕ) (d i : ℕ) (m : Mem) → i ≤ 2048 → LowersSplit sheet a b 0 d i i 0 m m
+nil-law : (sheet : Bytes) (a b : List ℕ) (d i : ℕ) (m : Mem) → i ≤ maxRecords → LowersSplit sheet a b 0 d i i 0 m m
 nil-law sheet a b d i m h = record { moved = moved-refl h; next = λ ts hd. nil-next i ts; run = λ ts hd W s r bl. nil-run i m ts W s r }
 
 -- an item and those behind it
@@ -210,7 +211,7 @@ module _ {sheet : Bytes} {a b : List ℕ} {n d : ℕ} {Done : ℕ → ℕ → Me
   pub done-few : {k i g : ℕ} {m : Mem} → k ≡ 0 → Left sheet a b n d Done k i g m → g ≤ n
   done-few h p = omega (arith, p .few)
 
-pub few-items : {sheet : Bytes} {a b : List ℕ} {n d i : ℕ} → HeldMany sheet a b projection n d i → i ≤ 2048 → n ≤ 2048
+pub few-items : {sheet : Bytes} {a b : List ℕ} {n d i : ℕ} → HeldMany sheet a b projection n d i → i ≤ maxRecords → n ≤ maxRecords
 few-items {sheet} {a} {b} {d = d} {i = i} x l = let f = trees-fits sheet a b (x .trees) d i l (x .are) in omega (arith, f .0, f .1)
 
 pub start : {sheet : Bytes} {a b : List ℕ} {n d i : ℕ} {m : Mem} → HeldMany sheet a b projection n d i → Good d i m → Left sheet a b n d (λ e g m′. LowersSplit sheet a b n d i e g m m′) n i 0 m

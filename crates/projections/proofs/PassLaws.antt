@@ -12,9 +12,12 @@ use Rattle.model.specs.Text.{Bytes}
 use Rattle.model.specs.Kind.{ReadOp, projection}
 use Rattle.model.specs.Tree.{Trees}
 use Rattle.model.specs.Lower.{Recs, Lowering, _>>=_, ret, push, op, orSourceAll, Split, splitProjectionsAgg, aggregateIf, distinctIf}
-use Rattle.words.specs.Words.{cell}
+use Rattle.model.specs.Call.{maxDepth}
+use Rattle.words.specs.Words.{cell, maxRecords}
 use Rattle.words.specs.Held.{HeldOf, sizeOf}
-use Rattle.context.specs.Tables.{Op, Pushed}
+use Rattle.words.specs.Places.{itemsAt}
+use Rattle.context.specs.Tables.{Pushed, secondPass}
+use Rattle.context.specs.declared.op.Op.{Op}
 use Rattle.context.specs.declared.LowerCtx.{LowerCtx}
 use Rattle.lower.specs.Render.{Notes, Ops, keyRecs, aggRecs}
 use Rattle.lower.specs.Shows.{shift, Stored, shows-project, shows-aggregate, shows-distinct}
@@ -83,7 +86,7 @@ first-def current items s input e = rw e
 keys-left : (x y n g : ℕ) → x + y ≡ n → y ≡ g → x ≡ n - g
 keys-left x y n g e f = omega arith
 
-module _ {sheet : Bytes} {a b : List ℕ} {n j aggs k₀ k : ℕ} {c′ : LowerCtx} {o′ : List ℕ} {m m₁ m₂ : Mem} (d i : ℕ) (current : Option ℕ) (sh : d ≤ 64) (low : i < 2048) (en : n ≡ cell a b i 2) (sr : OrSource (orSourceAll current) k₀ m m₁) (pt : LowersSplit sheet a b n d (i + 1) j aggs m₁ m₂) (pi : PushedIf aggs (aggregateOp i k₀ (n - aggs) aggs d) k₀ k (m₂ .ctx) c′ (m₂ .ops) o′) where
+module _ {sheet : Bytes} {a b : List ℕ} {n j aggs k₀ k : ℕ} {c′ : LowerCtx} {o′ : List ℕ} {m m₁ m₂ : Mem} (d i : ℕ) (current : Option ℕ) (sh : d ≤ maxDepth) (low : i < maxRecords) (en : n ≡ cell a b i itemsAt) (sr : OrSource (orSourceAll current) k₀ m m₁) (pt : LowersSplit sheet a b n d (i + 1) j aggs m₁ m₂) (pi : PushedIf aggs (aggregateOp i k₀ (n - aggs) aggs d) k₀ k (m₂ .ctx) c′ (m₂ .ops) o′) where
   first-run : (items : Trees projection n) → HeldOf sheet a b items d (i + 1) → (W : Written) (s : State) → Rep sheet a b W s m → Blank W (0 + suc (i + 1)) (0 + suc j) → Rooted sheet a b W (firstL n current items) k 0 (suc (i + 1)) (suc j) s m (mem c′ o′ (m₂ .rest))
   first-run items hd W s r bl =
       let s₁ : State = orSourceAll current s .1 in
@@ -129,7 +132,7 @@ pub items-some : {a b : List ℕ} {n d i : ℕ} → SomeTrees a b projection n d
 items-some {a} {b} {d = d} {i = i} x = record { sheet = x .sheet; list = itemsC (x .trees); held = items-held (x .sheet) a b (x .trees) d i (x .held) }
 
 abbrev pub projectOp : (i input d : ℕ) → Op
-projectOp i input d = record { kind = 8; idx = i; input = input; x = 0; y = 0; left = d; base = 2048 }
+projectOp i input d = record { kind = 8; idx = i; input = input; x = 0; y = 0; left = d; base = secondPass }
 
 abbrev pub distinctOp : ℕ → Op
 distinctOp input = record { kind = 13; idx = 0; input = input; x = 0; y = 0; left = 0; base = 0 }
@@ -149,14 +152,14 @@ second-def : {n : ℕ} (distinct : Bool) (input : ℕ) (items : Trees projection
 unfolding _>>=_ push
 second-def distinct input items s k e = rw (items-lower items s, e)
 
-module _ {a b : List ℕ} {n j x k : ℕ} {c₁ c₂ : LowerCtx} {o₁ o₂ : List ℕ} {m m₁ : Mem} (d i input : ℕ) (sh : d ≤ 64) (low : i < 2048) (en : n ≡ cell a b i 2) (lx : x ≤ 1) (it : LowersExprs a b n 1 (d - 1) 2048 (i + 1) j m m₁) (ps : Pushed (m₁ .ctx) c₁ (m₁ .ops) o₁ (projectOp i input d)) (lo : length o₁ ≡ length (m₁ .ops)) (pi : PushedIf x (distinctOp (m₁ .ctx .ops)) (m₁ .ctx .ops) k c₁ c₂ o₁ o₂) where
+module _ {a b : List ℕ} {n j x k : ℕ} {c₁ c₂ : LowerCtx} {o₁ o₂ : List ℕ} {m m₁ : Mem} (d i input : ℕ) (sh : d ≤ maxDepth) (low : i < maxRecords) (en : n ≡ cell a b i itemsAt) (lx : x ≤ 1) (it : LowersExprs a b n 1 (d - 1) secondPass (i + 1) j m m₁) (ps : Pushed (m₁ .ctx) c₁ (m₁ .ops) o₁ (projectOp i input d)) (lo : length o₁ ≡ length (m₁ .ops)) (pi : PushedIf x (distinctOp (m₁ .ctx .ops)) (m₁ .ctx .ops) k c₁ c₂ o₁ o₂) where
   pub second-low : k < c₂ .ops
   second-low = left-low pi (omega (arith, ps .count))
 
   second-next : (sheet : Bytes) (items : Trees projection n) → HeldOf sheet a b items d (i + 1) → j ≡ i + 1 + sizeOf items
   second-next sheet items hd = let y = it .next sheet (itemsC items) (items-held sheet a b items d (i + 1) hd) in let z = items-size items in omega arith
 
-  second-run : (sheet : Bytes) (items : Trees projection n) → HeldOf sheet a b items d (i + 1) → (W : Written) (s : State) → Rep sheet a b W s m → Blank W (2048 + suc (i + 1)) (2048 + suc j) → Rooted sheet a b W (secondL n (eqb x 1) input items) k 2048 (suc (i + 1)) (suc j) s m (mem c₂ o₂ (m₁ .rest))
+  second-run : (sheet : Bytes) (items : Trees projection n) → HeldOf sheet a b items d (i + 1) → (W : Written) (s : State) → Rep sheet a b W s m → Blank W (secondPass + suc (i + 1)) (secondPass + suc j) → Rooted sheet a b W (secondL n (eqb x 1) input items) k secondPass (suc (i + 1)) (suc j) s m (mem c₂ o₂ (m₁ .rest))
   second-run sheet items hd W s r bl =
       let k₁ : ℕ = m₁ .ctx .ops in
       let x₁ = it .run sheet (itemsC items) (items-held sheet a b items d (i + 1) hd) W s r bl in
@@ -168,8 +171,8 @@ module _ {a b : List ℕ} {n j x k : ℕ} {c₁ c₂ : LowerCtx} {o₁ o₂ : Li
           items = items;
           counted = en;
           held = hd;
-          below = items-below (shift N 2048) k₁ items (x₁ .below N A f);
-          is = ap (λ (z : Recs). op ReadOp.Project (input, (n, tt)) ∷ z) (sym (x₁ .shown N A f) ∙ sym (items-render (shift N 2048) A items));
+          below = items-below (shift N secondPass) k₁ items (x₁ .below N A f);
+          is = ap (λ (z : Recs). op ReadOp.Project (input, (n, tt)) ∷ z) (sym (x₁ .shown N A f) ∙ sym (items-render (shift N secondPass) A items));
         });
       }) in
       let s₂ : State = push (projected input items s) (lowerC (itemsC items) s .1) .1 in
@@ -181,7 +184,7 @@ module _ {a b : List ℕ} {n j x k : ℕ} {c₁ c₂ : LowerCtx} {o₁ o₂ : Li
       let D = second-def (eqb x 1) input items s k₁ (x₁ .to .rep .count) in
       record { to = rw D (to-then (x₁ .to) (to-then x₂ (x₃ .to))); root = rw D (x₃ .root); low = second-low }
 
-  pub second-law : (sheet : Bytes) → LowersPass sheet a b n d 2048 (i + 1) j k (secondL n (eqb x 1) input) m (mem c₂ o₂ (m₁ .rest))
+  pub second-law : (sheet : Bytes) → LowersPass sheet a b n d secondPass (i + 1) j k (secondL n (eqb x 1) input) m (mem c₂ o₂ (m₁ .rest))
   second-law sheet =
       let v = it .moved in
       let y = counted pi in

@@ -10,8 +10,10 @@ use Rattle.model.specs.Text.{Bytes}
 use Rattle.model.specs.Kind.{clause, projection}
 use Rattle.model.specs.Tree.{Tree}
 use Rattle.model.specs.Lower.{lowerClause}
-use Rattle.words.specs.Words.{Roomy, cell}
+use Rattle.model.specs.Call.{maxDepth}
+use Rattle.words.specs.Words.{Roomy, cell, maxRecords}
 use Rattle.words.specs.Held.{Held, HeldSome, HeldMany, size, sizeOf}
+use Rattle.words.specs.Places.{returnKind, kindAt, itemsAt, returnDistinctAt}
 use Rattle.lower.specs.Rep.{State, Mem, Written, Sub, Blank, Rep, Good}
 use Rattle.lower.specs.Pieces.{SomeTree}
 use Rattle.lower.specs.Patterns.{SomeTrees}
@@ -32,40 +34,40 @@ second-within : {W U : Written} {w : ℕ × ℕ} {x y lo hi : ℕ} → lo ≤ x 
 second-within {W} {U} {w} {x} {y} {lo} {hi} l h p = record { at = λ q i. ⊎-elim (λ (z : (x ≤ q) × (q < y)). inr (inl (let u = z .0 in omega arith, let v = z .1 in omega arith))) (λ z. p .at q z) i }
 
 -- the notes of both passes and of what trails are among the clause's own
-return-sub : (i j p q e : ℕ) (W : Written) → i + 1 ≤ j → j ≡ p → p ≡ q → p ≤ e → Sub ((0 + suc q, 0 + suc e) ∷ (2048 + suc (i + 1), 2048 + suc p) ∷ (0 + suc (i + 1), 0 + suc j) ∷ W) (bothPasses (suc i) (suc e) W)
+return-sub : (i j p q e : ℕ) (W : Written) → i + 1 ≤ j → j ≡ p → p ≡ q → p ≤ e → Sub ((0 + suc q, 0 + suc e) ∷ (secondPass + suc (i + 1), secondPass + suc p) ∷ (0 + suc (i + 1), 0 + suc j) ∷ W) (bothPasses (suc i) (suc e) W)
 return-sub i j p q e W l₁ e₁ e₂ l₂ = sub-within (omega arith) (omega arith) (second-within (omega arith) (omega arith) (sub-within (omega arith) (omega arith) (sub-then (sub-more (secondPass + suc i, secondPass + suc e) W) (sub-more (suc i, suc e) ((secondPass + suc i, secondPass + suc e) ∷ W)))))
 
 -- where each lowering finds no notes
 first-blank : {W : Written} (i j e : ℕ) → j ≤ e → BothBlank W (suc i) (suc e) → Blank W (0 + suc (i + 1)) (0 + suc j)
 first-blank i j e l bl = blank-within (omega arith) (omega arith) (bl .first)
 
-second-blank : {W : Written} (i j p e : ℕ) → j ≤ 2048 → p ≤ e → BothBlank W (suc i) (suc e) → Blank ((0 + suc (i + 1), 0 + suc j) ∷ W) (2048 + suc (i + 1)) (2048 + suc p)
+second-blank : {W : Written} (i j p e : ℕ) → j ≤ maxRecords → p ≤ e → BothBlank W (suc i) (suc e) → Blank ((0 + suc (i + 1), 0 + suc j) ∷ W) (secondPass + suc (i + 1)) (secondPass + suc p)
 second-blank i j p e l l′ bl = blank-behind (omega arith) (blank-within (omega arith) (omega arith) (bl .second))
 
-tail-blank : {W : Written} (i j p q e : ℕ) → i + 1 ≤ j → j ≡ p → p ≡ q → e ≤ 2048 → BothBlank W (suc i) (suc e) → Blank ((2048 + suc (i + 1), 2048 + suc p) ∷ (0 + suc (i + 1), 0 + suc j) ∷ W) (0 + suc q) (0 + suc e)
+tail-blank : {W : Written} (i j p q e : ℕ) → i + 1 ≤ j → j ≡ p → p ≡ q → e ≤ maxRecords → BothBlank W (suc i) (suc e) → Blank ((secondPass + suc (i + 1), secondPass + suc p) ∷ (0 + suc (i + 1), 0 + suc j) ∷ W) (0 + suc q) (0 + suc e)
 tail-blank i j p q e l e₁ e₂ h bl = blank-before (omega arith) (blank-behind (omega arith) (blank-within (omega arith) (omega arith) (bl .first)))
 
-module _ {sheet : Bytes} {a b : List ℕ} (d i : ℕ) (room : Roomy a b) (k5 : cell a b i 0 ≡ 5) where
-  pub return-items : {n : ℕ} → n ≡ cell a b i 2 → HeldSome sheet a b clause d i → HeldMany sheet a b projection n (d - 1) (i + 1)
+module _ {sheet : Bytes} {a b : List ℕ} (d i : ℕ) (room : Roomy a b) (k5 : cell a b i kindAt ≡ returnKind) where
+  pub return-items : {n : ℕ} → n ≡ cell a b i itemsAt → HeldSome sheet a b clause d i → HeldMany sheet a b projection n (d - 1) (i + 1)
   return-items en x = let v = a-return room (x .tree) (x .is) k5 in rw (en ∙ sym (v .counted)) (record { trees = v .items; are = v .held-items })
 
-  pub return-flag : {x : ℕ} → x ≡ cell a b i 4 → HeldSome sheet a b clause d i → x ≤ 1
+  pub return-flag : {x : ℕ} → x ≡ cell a b i returnDistinctAt → HeldSome sheet a b clause d i → x ≤ 1
   return-flag ex t = rw ex (a-return room (t .tree) (t .is) k5 .flag)
 
-  module _ {n j k₁ : ℕ} {m m₁ : Mem} (current : Option ℕ) (en : n ≡ cell a b i 2) (p : LowersPass sheet a b n (d - 1) 0 (i + 1) j k₁ (firstL n current) m m₁) where
-    first-as : (x : ℕ) → x ≡ cell a b i 2 → LowersPass sheet a b x (d - 1) 0 (i + 1) j k₁ (firstL x current) m m₁
+  module _ {n j k₁ : ℕ} {m m₁ : Mem} (current : Option ℕ) (en : n ≡ cell a b i itemsAt) (p : LowersPass sheet a b n (d - 1) 0 (i + 1) j k₁ (firstL n current) m m₁) where
+    first-as : (x : ℕ) → x ≡ cell a b i itemsAt → LowersPass sheet a b x (d - 1) 0 (i + 1) j k₁ (firstL x current) m m₁
     first-as x e = subst (λ (z : ℕ). LowersPass sheet a b z (d - 1) 0 (i + 1) j k₁ (firstL z current) m m₁) (en ∙ sym e) p
 
     first-end : (t : Tree clause) (v : IsReturn sheet a b d i t) → j ≡ i + 1 + sizeOf (v .items)
     first-end t v = first-as (v .n) (v .counted) .next (v .items) (v .held-items)
 
     -- there is room for the second
-    pub good-second : (d′ : ℕ) → d′ ≤ 64 → i < 2048 → Ready i m → Good d′ (i + 1) m₁
+    pub good-second : (d′ : ℕ) → d′ ≤ maxDepth → i < maxRecords → Ready i m → Good d′ (i + 1) m₁
     good-second d′ l low r = record { few = omega (arith, r .few, p .few, p .here); low = omega (arith, r .low, p .fresh, p .here); met = omega (arith, r .met, p .met, p .here); here = omega arith; in-ops = rw (p .in-ops) (r .in-ops); in-rest = rw (p .in-rest) (r .in-rest); index = p .index (r .index) }
 
-    module _ {x j₂ k₂ : ℕ} {m₂ : Mem} (ex : x ≡ cell a b i 4) (q : LowersPass sheet a b n (d - 1) 2048 (i + 1) j₂ k₂ (secondL n (eqb x 1) k₁) m₁ m₂) where
-      second-as : (y : ℕ) → y ≡ cell a b i 2 → LowersPass sheet a b y (d - 1) 2048 (i + 1) j₂ k₂ (secondL y (eqb (cell a b i 4) 1) k₁) m₁ m₂
-      second-as y e = subst (λ (z : ℕ). LowersPass sheet a b z (d - 1) 2048 (i + 1) j₂ k₂ (secondL z (eqb (cell a b i 4) 1) k₁) m₁ m₂) (en ∙ sym e) (subst (λ (z : ℕ). LowersPass sheet a b n (d - 1) 2048 (i + 1) j₂ k₂ (secondL n (eqb z 1) k₁) m₁ m₂) ex q)
+    module _ {x j₂ k₂ : ℕ} {m₂ : Mem} (ex : x ≡ cell a b i returnDistinctAt) (q : LowersPass sheet a b n (d - 1) secondPass (i + 1) j₂ k₂ (secondL n (eqb x 1) k₁) m₁ m₂) where
+      second-as : (y : ℕ) → y ≡ cell a b i itemsAt → LowersPass sheet a b y (d - 1) secondPass (i + 1) j₂ k₂ (secondL y (eqb (cell a b i returnDistinctAt) 1) k₁) m₁ m₂
+      second-as y e = subst (λ (z : ℕ). LowersPass sheet a b z (d - 1) secondPass (i + 1) j₂ k₂ (secondL z (eqb (cell a b i returnDistinctAt) 1) k₁) m₁ m₂) (en ∙ sym e) (subst (λ (z : ℕ). LowersPass sheet a b n (d - 1) secondPass (i + 1) j₂ k₂ (secondL n (eqb z 1) k₁) m₁ m₂) ex q)
 
       second-end : (t : Tree clause) (v : IsReturn sheet a b d i t) → j₂ ≡ i + 1 + sizeOf (v .items)
       second-end t v = second-as (v .n) (v .counted) .next (v .items) (v .held-items)

@@ -14,9 +14,12 @@ use Rattle.model.specs.Kind.{Sort, ReadOp, expr, orderItem}
 use Rattle.model.specs.Record.{Rec}
 use Rattle.model.specs.Tree.{Tree, Trees, []ᵗ, _∷ᵗ_}
 use Rattle.model.specs.Lower.{Recs, Lowering, _>>=_, ret, push, op, lowerExpr, orderBy, overExpr, lowerTrailers}
-use Rattle.words.specs.Words.{cell}
+use Rattle.model.specs.Call.{maxDepth}
+use Rattle.words.specs.Words.{cell, maxRecords}
 use Rattle.words.specs.Held.{Held, HeldOf, size, sizeOf}
-use Rattle.context.specs.Tables.{Op, Pushed}
+use Rattle.words.specs.Places.{keysAt, skipAt, limitAt}
+use Rattle.context.specs.Tables.{Pushed}
+use Rattle.context.specs.declared.op.Op.{Op}
 use Rattle.context.specs.declared.LowerCtx.{LowerCtx}
 use Rattle.lower.specs.Render.{Notes, Ops}
 use Rattle.lower.specs.Shows.{shift, OverExpr, Shows, shows-order, shows-skip, shows-limit}
@@ -37,7 +40,7 @@ none-size []ᵗ e = refl
 none-size (t ∷ᵗ ts) e = absurd (omega arith)
 
 -- nothing to lower leaves the operator that was there
-nothing-law : {s : Sort} {a b : List ℕ} (n d i input : ℕ) (L : Trees s n → Lowering ℕ) (m : Mem) → n ≡ 0 → i ≤ 2048 → input < m .ctx .ops → ((ts : Trees s n) (st : State) → L ts st ≡ (input, st)) → LowersOver a b n d i i input L m m
+nothing-law : {s : Sort} {a b : List ℕ} (n d i input : ℕ) (L : Trees s n → Lowering ℕ) (m : Mem) → n ≡ 0 → i ≤ maxRecords → input < m .ctx .ops → ((ts : Trees s n) (st : State) → L ts st ≡ (input, st)) → LowersOver a b n d i i input L m m
 nothing-law n d i input L m e l low is = record {
   moved = twice-refl l;
   low = low;
@@ -50,7 +53,7 @@ unfolding orderBy ret
 no-keys n input []ᵗ s e = refl
 no-keys n input (t ∷ᵗ ts) s e = absurd (omega arith)
 
-pub no-order : {a b : List ℕ} (n d i input : ℕ) (m : Mem) → n ≡ 0 → i ≤ 2048 → input < m .ctx .ops → LowersOver a b n d i i input (orderL n input) m m
+pub no-order : {a b : List ℕ} (n d i input : ℕ) (m : Mem) → n ≡ 0 → i ≤ maxRecords → input < m .ctx .ops → LowersOver a b n d i i input (orderL n input) m m
 no-order n d i input m e l low = nothing-law n d i input (orderL n input) m e l low (λ ts s. no-keys n input ts s e)
 
 no-expr : (n input : ℕ) (r : Rec) (ts : Trees expr n) (s : State) → n ≡ 0 → overExpr r input ts s ≡ (input, s)
@@ -58,7 +61,7 @@ unfolding overExpr ret
 no-expr n input r []ᵗ s e = refl
 no-expr n input r (t ∷ᵗ ts) s e = absurd (omega arith)
 
-pub no-over : {a b : List ℕ} (n d i kind input : ℕ) (m : Mem) → n ≡ 0 → i ≤ 2048 → input < m .ctx .ops → LowersOver a b n d i i input (overL n kind input) m m
+pub no-over : {a b : List ℕ} (n d i kind input : ℕ) (m : Mem) → n ≡ 0 → i ≤ maxRecords → input < m .ctx .ops → LowersOver a b n d i i input (overL n kind input) m m
 no-over n d i kind input m e l low = nothing-law n d i input (overL n kind input) m e l low (λ ts s. no-expr n input (headOf kind input) ts s e)
 
 -- ── sort keys ──
@@ -82,7 +85,7 @@ unfolding orderBy _>>=_
 order-def n input []ᵗ s h = absurd (h refl)
 order-def n input (t ∷ᵗ ts) s h = rw (keys-lower (t ∷ᵗ ts) s)
 
-module _ {a b : List ℕ} {n e : ℕ} {c : LowerCtx} {os : List ℕ} {m m₁ : Mem} (d input i : ℕ) (some : SomeTrees a b orderItem n d i) (sh : d ≤ 64) (low : i ≤ 2048) (nz : (n ≡ 0) → ⊥) (ex : LowersExprs a b n 1 (d - 1) 0 i e m m₁) (ps : Pushed (m₁ .ctx) c (m₁ .ops) os (orderOp i input n d)) (lo : length os ≡ length (m₁ .ops)) where
+module _ {a b : List ℕ} {n e : ℕ} {c : LowerCtx} {os : List ℕ} {m m₁ : Mem} (d input i : ℕ) (some : SomeTrees a b orderItem n d i) (sh : d ≤ maxDepth) (low : i ≤ maxRecords) (nz : (n ≡ 0) → ⊥) (ex : LowersExprs a b n 1 (d - 1) 0 i e m m₁) (ps : Pushed (m₁ .ctx) c (m₁ .ops) os (orderOp i input n d)) (lo : length os ≡ length (m₁ .ops)) where
   order-next : (sheet : Bytes) (ts : Trees orderItem n) → HeldOf sheet a b ts d i → e ≡ i + sizeOf ts
   order-next sheet ts hd = let x = ex .next sheet (keysC ts) (keys-held sheet a b ts d i hd) in let y = keys-size ts in omega arith
 
@@ -143,7 +146,7 @@ either : (t : Bool) (kind : ℕ) → eqb kind 11 ≡ t → 11 ≤ kind → kind 
 either true kind e l h = inl (eqb-true kind 11 e)
 either false kind e l h = let n : ((kind ≡ 11) → ⊥) = eqb-false kind 11 e in inr (omega arith)
 
-module _ {a b : List ℕ} {n e : ℕ} {c : LowerCtx} {os : List ℕ} {m m₁ : Mem} (d kind input i : ℕ) (from : 11 ≤ kind) (upto : kind ≤ 12) (some : SomeTrees a b expr n d i) (sh : d ≤ 64) (one : n ≤ 1) (nz : (n ≡ 0) → ⊥) (ex : LowersExpr a b d 0 i e m m₁) (ps : Pushed (m₁ .ctx) c (m₁ .ops) os (overOp kind i input d)) (lo : length os ≡ length (m₁ .ops)) where
+module _ {a b : List ℕ} {n e : ℕ} {c : LowerCtx} {os : List ℕ} {m m₁ : Mem} (d kind input i : ℕ) (from : 11 ≤ kind) (upto : kind ≤ 12) (some : SomeTrees a b expr n d i) (sh : d ≤ maxDepth) (one : n ≤ 1) (nz : (n ≡ 0) → ⊥) (ex : LowersExpr a b d 0 i e m m₁) (ps : Pushed (m₁ .ctx) c (m₁ .ops) os (overOp kind i input d)) (lo : length os ≡ length (m₁ .ops)) where
   over-next : (sheet : Bytes) (ts : Trees expr n) → HeldOf sheet a b ts d i → e ≡ i + sizeOf ts
   over-next sheet ts hd = let o = single ts one nz in let x = ex .next sheet (o .tree) (o .held sheet a b d i hd) in let y = o .sized in omega arith
 
@@ -184,41 +187,41 @@ unfolding lowerTrailers _>>=_
 trailers-def input k₁ k₂ keys skip limit s e₁ e₂ = rw (e₂, e₁)
 
 module _ {a b : List ℕ} {n d i j : ℕ} where
-  pub tail-keys : n ≡ cell a b i 6 → SomeTail a b d i j → SomeTrees a b orderItem n d j
+  pub tail-keys : n ≡ cell a b i keysAt → SomeTail a b d i j → SomeTrees a b orderItem n d j
   tail-keys e x = let t = x .tail in rw (e ∙ sym (t .keys-counted)) (record { sheet = x .sheet; trees = t .keys; held = t .held-keys })
 
-  pub skip-one : n ≡ cell a b i 8 → SomeTail a b d i j → n ≤ 1
+  pub skip-one : n ≡ cell a b i skipAt → SomeTail a b d i j → n ≤ 1
   skip-one e x = let t = x .tail in rw (e ∙ sym (t .skip-counted)) (t .skip-one)
 
-  pub limit-one : n ≡ cell a b i 10 → SomeTail a b d i j → n ≤ 1
+  pub limit-one : n ≡ cell a b i limitAt → SomeTail a b d i j → n ≤ 1
   limit-one e x = let t = x .tail in rw (e ∙ sym (t .limit-counted)) (t .limit-one)
 
-module _ {a b : List ℕ} {n₁ e₁ k₁ : ℕ} {m m₁ : Mem} (d input i j : ℕ) (c₁ : n₁ ≡ cell a b i 6) (p : LowersOver a b n₁ d j e₁ k₁ (orderL n₁ input) m m₁) where
-  keys-as : (n : ℕ) → n ≡ cell a b i 6 → LowersOver a b n d j e₁ k₁ (orderL n input) m m₁
+module _ {a b : List ℕ} {n₁ e₁ k₁ : ℕ} {m m₁ : Mem} (d input i j : ℕ) (c₁ : n₁ ≡ cell a b i keysAt) (p : LowersOver a b n₁ d j e₁ k₁ (orderL n₁ input) m m₁) where
+  keys-as : (n : ℕ) → n ≡ cell a b i keysAt → LowersOver a b n d j e₁ k₁ (orderL n input) m m₁
   keys-as n e = subst (λ (x : ℕ). LowersOver a b x d j e₁ k₁ (orderL x input) m m₁) (c₁ ∙ sym e) p
 
   keys-end : (sheet : Bytes) (t : Tail sheet a b d i j) → e₁ ≡ j + sizeOf (t .keys)
   keys-end sheet t = keys-as (t .keys-count) (t .keys-counted) .next sheet (t .keys) (t .held-keys)
 
-  pub skip-some : {n₂ : ℕ} → n₂ ≡ cell a b i 8 → SomeTail a b d i j → SomeTrees a b expr n₂ d e₁
+  pub skip-some : {n₂ : ℕ} → n₂ ≡ cell a b i skipAt → SomeTail a b d i j → SomeTrees a b expr n₂ d e₁
   skip-some c₂ x = let t = x .tail in rw (c₂ ∙ sym (t .skip-counted), keys-end (x .sheet) t) (record { sheet = x .sheet; trees = t .skip; held = t .held-skip })
 
   held-skip : (sheet : Bytes) (t : Tail sheet a b d i j) → HeldOf sheet a b (t .skip) d e₁
   held-skip sheet t = rw (keys-end sheet t) (t .held-skip)
 
-  module _ {n₂ e₂ : ℕ} (c₂ : n₂ ≡ cell a b i 8) (nx : (sheet : Bytes) (ts : Trees expr n₂) → HeldOf sheet a b ts d e₁ → e₂ ≡ e₁ + sizeOf ts) where
+  module _ {n₂ e₂ : ℕ} (c₂ : n₂ ≡ cell a b i skipAt) (nx : (sheet : Bytes) (ts : Trees expr n₂) → HeldOf sheet a b ts d e₁ → e₂ ≡ e₁ + sizeOf ts) where
     skip-end : (sheet : Bytes) (t : Tail sheet a b d i j) → e₂ ≡ j + sizeOf (t .keys) + sizeOf (t .skip)
     skip-end sheet t = subst (λ (x : ℕ). (ts : Trees expr x) → HeldOf sheet a b ts d e₁ → e₂ ≡ e₁ + sizeOf ts) (c₂ ∙ sym (t .skip-counted)) (nx sheet) (t .skip) (held-skip sheet t) ∙ ap (λ (x : ℕ). x + sizeOf (t .skip)) (keys-end sheet t)
 
-    pub limit-some : {n₃ : ℕ} → n₃ ≡ cell a b i 10 → SomeTail a b d i j → SomeTrees a b expr n₃ d e₂
+    pub limit-some : {n₃ : ℕ} → n₃ ≡ cell a b i limitAt → SomeTail a b d i j → SomeTrees a b expr n₃ d e₂
     limit-some c₃ x = let t = x .tail in rw (c₃ ∙ sym (t .limit-counted), skip-end (x .sheet) t) (record { sheet = x .sheet; trees = t .limit; held = t .held-limit })
 
-  module _ {n₂ e₂ k₂ : ℕ} {m₂ : Mem} (c₂ : n₂ ≡ cell a b i 8) (q : LowersOver a b n₂ d e₁ e₂ k₂ (overL n₂ 11 k₁) m₁ m₂) where
-    skip-as : (n : ℕ) → n ≡ cell a b i 8 → LowersOver a b n d e₁ e₂ k₂ (overL n 11 k₁) m₁ m₂
+  module _ {n₂ e₂ k₂ : ℕ} {m₂ : Mem} (c₂ : n₂ ≡ cell a b i skipAt) (q : LowersOver a b n₂ d e₁ e₂ k₂ (overL n₂ 11 k₁) m₁ m₂) where
+    skip-as : (n : ℕ) → n ≡ cell a b i skipAt → LowersOver a b n d e₁ e₂ k₂ (overL n 11 k₁) m₁ m₂
     skip-as n e = subst (λ (x : ℕ). LowersOver a b x d e₁ e₂ k₂ (overL x 11 k₁) m₁ m₂) (c₂ ∙ sym e) q
 
-    module _ {n₃ e₃ k₃ : ℕ} {m₃ : Mem} (c₃ : n₃ ≡ cell a b i 10) (l : LowersOver a b n₃ d e₂ e₃ k₃ (overL n₃ 12 k₂) m₂ m₃) where
-      limit-as : (n : ℕ) → n ≡ cell a b i 10 → LowersOver a b n d e₂ e₃ k₃ (overL n 12 k₂) m₂ m₃
+    module _ {n₃ e₃ k₃ : ℕ} {m₃ : Mem} (c₃ : n₃ ≡ cell a b i limitAt) (l : LowersOver a b n₃ d e₂ e₃ k₃ (overL n₃ 12 k₂) m₂ m₃) where
+      limit-as : (n : ℕ) → n ≡ cell a b i limitAt → LowersOver a b n d e₂ e₃ k₃ (overL n 12 k₂) m₂ m₃
       limit-as n e = subst (λ (x : ℕ). LowersOver a b x d e₂ e₃ k₃ (overL x 12 k₂) m₂ m₃) (c₃ ∙ sym e) l
 
       held-limit : (sheet : Bytes) (t : Tail sheet a b d i j) → HeldOf sheet a b (t .limit) d e₂

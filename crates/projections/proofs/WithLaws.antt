@@ -11,9 +11,12 @@ use Rattle.model.specs.Kind.{clause}
 use Rattle.model.specs.Record.{Rec, one}
 use Rattle.model.specs.Tree.{Tree}
 use Rattle.model.specs.Lower.{Recs, orSourceAll, lowerClause}
+use Rattle.model.specs.Call.{maxDepth}
 use Rattle.words.specs.Words.{Roomy, cell}
 use Rattle.words.specs.Held.{Held, HeldOf, size, sizeOf}
-use Rattle.context.specs.Tables.{Op, Pushed}
+use Rattle.words.specs.Places.{withKind, kindAt, itemsAt, withFilterAt}
+use Rattle.context.specs.Tables.{Pushed}
+use Rattle.context.specs.declared.op.Op.{Op}
 use Rattle.context.specs.declared.LowerCtx.{LowerCtx}
 use Rattle.lower.specs.Shows.{shift, shows-with}
 use Rattle.lower.specs.Rep.{State, Mem, mem, Written, Sub, Rep}
@@ -40,15 +43,15 @@ shown-both head rs rs′ ss ss′ e e′ = rw (e, e′)
 with-sub : (i j p q e : ℕ) (W : Written) → i + 1 ≤ j → j ≤ p → p ≡ q → p ≤ e → Sub ((0 + suc q, 0 + suc e) ∷ (0 + suc j, 0 + suc p) ∷ (0 + suc (i + 1), 0 + suc j) ∷ W) (bothPasses (suc i) (suc e) W)
 with-sub i j p q e W l₁ l₂ eq l₃ = sub-within (omega arith) (omega arith) (sub-within (omega arith) (omega arith) (sub-within (omega arith) (omega arith) (sub-then (sub-more (secondPass + suc i, secondPass + suc e) W) (sub-more (suc i, suc e) ((secondPass + suc i, secondPass + suc e) ∷ W)))))
 
-module _ {a b : List ℕ} (d i : ℕ) (room : Roomy a b) (k4 : cell a b i 0 ≡ 4) where
+module _ {a b : List ℕ} (d i : ℕ) (room : Roomy a b) (k4 : cell a b i kindAt ≡ withKind) where
   -- the items
-  pub with-items : {n : ℕ} → n ≡ cell a b i 2 → SomeTree a b clause d i → SomeCarried a b n 1 (d - 1 - 1) (i + 1)
+  pub with-items : {n : ℕ} → n ≡ cell a b i itemsAt → SomeTree a b clause d i → SomeCarried a b n 1 (d - 1 - 1) (i + 1)
   with-items en x =
       let v = a-with room (x .tree) (x .held) k4 in
       rw (en ∙ sym (v .counted)) (record { sheet = x .sheet; list = itemsC (v .items); held = items-held (x .sheet) a b (v .items) (d - 1) (i + 1) (v .held-items) })
 
-  module _ {n j : ℕ} {m₁ m₂ : Mem} (en : n ≡ cell a b i 2) (it : LowersExprs a b n 1 (d - 1 - 1) 0 (i + 1) j m₁ m₂) where
-    items-as : (x : ℕ) → x ≡ cell a b i 2 → LowersExprs a b x 1 (d - 1 - 1) 0 (i + 1) j m₁ m₂
+  module _ {n j : ℕ} {m₁ m₂ : Mem} (en : n ≡ cell a b i itemsAt) (it : LowersExprs a b n 1 (d - 1 - 1) 0 (i + 1) j m₁ m₂) where
+    items-as : (x : ℕ) → x ≡ cell a b i itemsAt → LowersExprs a b x 1 (d - 1 - 1) 0 (i + 1) j m₁ m₂
     items-as x e = rw (en ∙ sym e) at it
 
     items-end : (sheet : Bytes) (t : Tree clause) (v : IsWith sheet a b d i t) → j ≡ i + 1 + sizeOf (v .items)
@@ -61,13 +64,13 @@ module _ {a b : List ℕ} (d i : ℕ) (room : Roomy a b) (k4 : cell a b i 0 ≡ 
     predicate-held sheet t v = rw (items-end sheet t v) (v .held-predicate)
 
     -- the predicate
-    pub with-predicate : {l : ℕ} → l ≡ cell a b i 4 → SomeTree a b clause d i → SomeCarried a b l 0 (d - 1) j
+    pub with-predicate : {l : ℕ} → l ≡ cell a b i withFilterAt → SomeTree a b clause d i → SomeCarried a b l 0 (d - 1) j
     with-predicate el x =
         let v = a-with room (x .tree) (x .held) k4 in
         rw (el ∙ sym (v .flagged)) (record { sheet = x .sheet; list = plainC (v .predicate); held = plain-held (x .sheet) a b (v .predicate) (d - 1) j (predicate-held (x .sheet) (x .tree) v) })
 
-    module _ {l p : ℕ} {m₃ : Mem} (el : l ≡ cell a b i 4) (pr : LowersExprs a b l 0 (d - 1) 0 j p m₂ m₃) where
-      predicate-as : (x : ℕ) → x ≡ cell a b i 4 → LowersExprs a b x 0 (d - 1) 0 j p m₂ m₃
+    module _ {l p : ℕ} {m₃ : Mem} (el : l ≡ cell a b i withFilterAt) (pr : LowersExprs a b l 0 (d - 1) 0 j p m₂ m₃) where
+      predicate-as : (x : ℕ) → x ≡ cell a b i withFilterAt → LowersExprs a b x 0 (d - 1) 0 j p m₂ m₃
       predicate-as x e = rw (el ∙ sym e) at pr
 
       predicate-end : (sheet : Bytes) (t : Tree clause) (v : IsWith sheet a b d i t) → p ≡ i + 1 + sizeOf (v .items) + sizeOf (v .predicate)
@@ -83,7 +86,7 @@ module _ {a b : List ℕ} (d i : ℕ) (room : Roomy a b) (k4 : cell a b i 0 ≡ 
           let v = a-with room (x .tree) (x .held) k4 in
           rw (predicate-end (x .sheet) (x .tree) v) (record { sheet = x .sheet; tail = v .tail })
 
-      module _ {k₀ : ℕ} {c : LowerCtx} {os : List ℕ} {m : Mem} (current : Option ℕ) (sh : d ≤ 64) (sr : OrSource (orSourceAll current) k₀ m m₁) (ps : Pushed (m₃ .ctx) c (m₃ .ops) os (withOp i k₀ (d - 1))) (lo : length os ≡ length (m₃ .ops)) where
+      module _ {k₀ : ℕ} {c : LowerCtx} {os : List ℕ} {m : Mem} (current : Option ℕ) (sh : d ≤ maxDepth) (sr : OrSource (orSourceAll current) k₀ m m₁) (ps : Pushed (m₃ .ctx) c (m₃ .ops) os (withOp i k₀ (d - 1))) (lo : length os ≡ length (m₃ .ops)) where
         pub with-moved : MovedTwice i p m (mem c os (m₃ .rest))
         with-moved =
             let x = it .moved in

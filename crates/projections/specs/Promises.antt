@@ -11,9 +11,11 @@ use Rattle.model.specs.Kind.{Sort, ReadOp, expr, orderItem, projection}
 use Rattle.model.specs.Record.{Rec}
 use Rattle.model.specs.Tree.{Trees}
 use Rattle.model.specs.Lower.{Lowering, _>>=_, push, op, orSourceAll, orderBy, overExpr, lowerTrailers, lowerProjections, splitProjectionsAgg, aggregateIf, distinctIf}
-use Rattle.words.specs.Words.{cell}
+use Rattle.words.specs.Words.{cell, maxRecords}
 use Rattle.words.specs.Held.{HeldOf, sizeOf}
-use Rattle.context.specs.Tables.{Op, Pushed}
+use Rattle.words.specs.Places.{keysAt, skipAt, limitAt}
+use Rattle.context.specs.Tables.{Pushed}
+use Rattle.context.specs.declared.op.Op.{Op}
 use Rattle.context.specs.declared.LowerCtx.{LowerCtx}
 use Rattle.lower.specs.Render.{Notes, Ops, BelowOf, keyRecs, aggRecs}
 use Rattle.lower.specs.Shows.{shift}
@@ -47,9 +49,9 @@ pub record Tail (sheet : Bytes) (a b : List ℕ) (d i j : ℕ) : Type 0 where
   pub keys : Trees orderItem keys-count
   pub skip : Trees expr skip-count
   pub limit : Trees expr limit-count
-  pub keys-counted : keys-count ≡ cell a b i 6
-  pub skip-counted : skip-count ≡ cell a b i 8
-  pub limit-counted : limit-count ≡ cell a b i 10
+  pub keys-counted : keys-count ≡ cell a b i keysAt
+  pub skip-counted : skip-count ≡ cell a b i skipAt
+  pub limit-counted : limit-count ≡ cell a b i limitAt
   pub skip-one : skip-count ≤ 1
   pub limit-one : limit-count ≤ 1
   pub held-keys : HeldOf sheet a b keys d j
@@ -93,7 +95,7 @@ pub data PushedIf (n : ℕ) (x : Op) (input k : ℕ) (c c′ : LowerCtx) (o o′
 -- one lowering of the items, with up to two operators of its own: the source and the aggregate, or the projection and its distinct
 pub record LowersPass (sheet : Bytes) (a b : List ℕ) (n d base i e k : ℕ) (L : Trees projection n → Lowering ℕ) (m m′ : Mem) : Type 0 where
   pub up : i ≤ e
-  pub here : e ≤ 2048
+  pub here : e ≤ maxRecords
   pub few : m′ .ctx .ops + 2 * i ≤ m .ctx .ops + 2 + 2 * e
   pub fresh : m′ .ctx .next + i ≤ m .ctx .next + e
   pub met : m′ .ctx .mapped + i ≤ m .ctx .mapped + e

@@ -3,8 +3,10 @@ ghost use mathlib.Core.Path.{_≡_};
 ghost use mathlib.Core.Bool.{cond};
 ghost use Prim.Native.Nat.{_+_, _-_, _≤_, _<_};
 ghost use Rattle.model.specs.Kind.{projection};
+ghost use Rattle.model.specs.Call.{maxDepth};
 ghost use Rattle.words.specs.Words.{Roomy};
 ghost use Rattle.words.specs.Held.{HeldMany};
+ghost use Rattle.context.specs.Tables.{secondPass};
 ghost use Rattle.lower.specs.Rep.{mem, Good};
 ghost use Rattle.lower.specs.Pieces.{SomeCarried, LowersExprs};
 ghost use Rattle.projections.specs.Promises.{LowersSplit};
@@ -32,7 +34,7 @@ pub fn lower_items(
 ) -> Step
     requires { ⌜ Roomy (now a) (now b) ⌝ }
     requires { ⌜ SomeCarried (now a) (now b) n 1 (left - 1) i ⌝ }
-    requires { ⌜ Good left i (mem ctx (now ops) (now rest)) × (left ≤ 64) × (base ≤ 2048) ⌝ }
+    requires { ⌜ Good left i (mem ctx (now ops) (now rest)) × (left ≤ maxDepth) × (base ≤ secondPass) ⌝ }
     ensures { λ r. ⌜ LowersExprs (now (a .entry)) (now (b .entry)) n 1 (left - 1) base i (r .next) (mem ctx (now (ops .entry)) (now (rest .entry))) (mem (r .ctx) (now (ops .exit)) (now (rest .exit))) ⌝ }
 {
     if n == 0 {
@@ -66,7 +68,7 @@ pub fn split_projections_agg(
 ) -> Parted
     requires { ⌜ Roomy (now a) (now b) ⌝ }
     requires { ⌜ HeldMany (now sheet) (now a) (now b) projection n left i ⌝ }
-    requires { ⌜ Good left i (mem ctx (now ops) (now rest)) × (left ≤ 64) ⌝ }
+    requires { ⌜ Good left i (mem ctx (now ops) (now rest)) × (left ≤ maxDepth) ⌝ }
     ensures { λ r. ⌜ LowersSplit (now (sheet .entry)) (now (a .entry)) (now (b .entry)) n left i (r .next) (r .aggs) (mem ctx (now (ops .entry)) (now (rest .entry))) (mem (r .ctx) (now (ops .exit)) (now (rest .exit))) × (r .aggs ≤ n) ⌝ }
 {
     let mut at = i;

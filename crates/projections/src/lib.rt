@@ -4,14 +4,18 @@ ghost use mathlib.Core.List.{List};
 ghost use mathlib.Core.Option.{some};
 ghost use Prim.Native.Nat.{ℕ, _≤_, _<_};
 ghost use Rattle.model.specs.Kind.{clause};
+ghost use Rattle.model.specs.Call.{maxDepth};
 ghost use Rattle.words.specs.Words.{Roomy, cell};
 ghost use Rattle.words.specs.Held.{HeldSome};
+ghost use Rattle.words.specs.Places.{withKind, returnKind, kindAt};
 ghost use Rattle.lower.specs.Rep.{mem};
 ghost use Rattle.lower.specs.Pieces.{SomeTree};
 ghost use Rattle.lower.specs.Chains.{givenIf};
 ghost use Rattle.lower.specs.Clauses.{Ready, LowersClause};
 use context::LowerCtx;
+use context::op;
 use lower::Root;
+use words::field;
 
 pub mod items;
 pub mod passes;
@@ -30,13 +34,13 @@ pub fn lower_with(
     left: usize,
 ) -> Root
     requires { ⌜ Roomy (now a) (now b) ⌝ }
-    requires { ⌜ SomeTree (now a) (now b) clause left i × (cell (now a) (now b) i 0 ≡ 4) ⌝ }
-    requires { ⌜ Ready i (mem ctx (now ops) (now rest)) × (left ≤ 64) ⌝ }
+    requires { ⌜ SomeTree (now a) (now b) clause left i × (cell (now a) (now b) i kindAt ≡ withKind) ⌝ }
+    requires { ⌜ Ready i (mem ctx (now ops) (now rest)) × (left ≤ maxDepth) ⌝ }
     requires { ⌜ ((has ≡ 0 → ⊥) → last < ctx .ops) ⌝ }
     ensures { λ r. ⌜ ((sheet : List ℕ) → LowersClause sheet (now (a .entry)) (now (b .entry)) left i (r .next) (givenIf has last) (some (r .op)) (mem ctx (now (ops .entry)) (now (rest .entry))) (mem (r .ctx) (now (ops .exit)) (now (rest .exit)))) ⌝ }
 {
-    let items = lower::records::count(a, b, i, 2);
-    let filter = lower::records::count(a, b, i, 4);
+    let items = lower::records::count(a, b, i, field::ITEMS);
+    let filter = lower::records::count(a, b, i, field::WITH_FILTER);
     let less = left - 1;
     let q = lower::or_source_all(ops, ctx, has, last, i + 1);
     let c = q.ctx;
@@ -45,7 +49,7 @@ pub fn lower_with(
     let t = lower::lower_exprs(a, b, ops, rest, d, 0, s.next, filter, 0, less);
     let e = t.ctx;
     let k = e.ops;
-    let z = e.push(ops, 7, i as u32, q.op as u32, 0, 0, less as u32, 0);
+    let z = e.push(ops, op::WITH, i as u32, q.op as u32, 0, 0, less as u32, 0);
     trailers::lower_trailers(a, b, ops, rest, z, k, i, t.next, less)
 }
 
@@ -63,13 +67,13 @@ pub fn lower_return(
     left: usize,
 ) -> Root
     requires { ⌜ Roomy (now a) (now b) ⌝ }
-    requires { ⌜ HeldSome (now sheet) (now a) (now b) clause left i × (cell (now a) (now b) i 0 ≡ 5) ⌝ }
-    requires { ⌜ Ready i (mem ctx (now ops) (now rest)) × (left ≤ 64) ⌝ }
+    requires { ⌜ HeldSome (now sheet) (now a) (now b) clause left i × (cell (now a) (now b) i kindAt ≡ returnKind) ⌝ }
+    requires { ⌜ Ready i (mem ctx (now ops) (now rest)) × (left ≤ maxDepth) ⌝ }
     requires { ⌜ ((has ≡ 0 → ⊥) → last < ctx .ops) ⌝ }
     ensures { λ r. ⌜ LowersClause (now (sheet .entry)) (now (a .entry)) (now (b .entry)) left i (r .next) (givenIf has last) (some (r .op)) (mem ctx (now (ops .entry)) (now (rest .entry))) (mem (r .ctx) (now (ops .exit)) (now (rest .exit))) ⌝ }
 {
-    let items = lower::records::count(a, b, i, 2);
-    let distinct = lower::records::count(a, b, i, 4);
+    let items = lower::records::count(a, b, i, field::ITEMS);
+    let distinct = lower::records::count(a, b, i, field::RETURN_DISTINCT);
     let less = left - 1;
     let p = passes::first_pass(sheet, a, b, ops, rest, ctx, has, last, i, items, less);
     let c = p.ctx;

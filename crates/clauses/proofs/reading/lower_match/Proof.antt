@@ -1,10 +1,11 @@
 -- `clauses::reading::lower_match` meets its contract. An answer names a place by its type, and `search` finds the way back to it.
 use mathlib.Core.Logic.{inl, inr}
 use mathlib.Core.Path.{sym, _∙_}
-use Prim.Native.Nat.{_≤_}
+use Prim.Native.Nat.{_*_, _≤_}
 use native.Mathlib.Omega.{arith}
 use native.Mathlib.Nat.{le-refl}
 use borrow.Author.Needs.{needs}
+use Rattle.words.specs.Words.{maxRecords}
 use Rattle.clauses.proofs.Matching
 use Rattle.clauses.proofs.Room
 use Rattle.clauses.proofs.Moves
@@ -27,7 +28,7 @@ to-start c = search
 ruleset ways = (to-lower-parts, to-count, to-word, to-start)
 
 -- behind the parts there is room for another operator
-few : (r : tie.After-lower-parts) → r .lower-parts .result .ctx .ops ≤ 16384
+few : (r : tie.After-lower-parts) → r .lower-parts .result .ctx .ops ≤ 8 * maxRecords
 few r =
     let s : tie.Start = search ways in
     Room.few-after (s .pre .ready) (r .lower-parts .ensures .moved) (le-refl _)

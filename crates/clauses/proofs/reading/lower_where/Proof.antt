@@ -1,8 +1,9 @@
 -- `clauses::reading::lower_where` meets its contract. An answer names a place by its type, and `search` finds the way back to it.
 use mathlib.Core.List.{[]}
-use Prim.Native.Nat.{_≤_}
+use Prim.Native.Nat.{_*_, _≤_}
 use native.Mathlib.Omega.{arith}
 use borrow.Author.Needs.{needs}
+use Rattle.words.specs.Words.{maxRecords}
 use Rattle.clauses.proofs.Filtering
 use Rattle.clauses.proofs.Room
 use Rattle.clauses.proofs.Moves
@@ -22,7 +23,7 @@ to-start c = search
 ruleset ways = (to-input-or-source, to-lower-expr, to-start)
 
 -- behind the expression there is room for another operator
-few : (e : tie.After-lower-expr) → e .lower-expr .result .ctx .ops ≤ 16384
+few : (e : tie.After-lower-expr) → e .lower-expr .result .ctx .ops ≤ 8 * maxRecords
 few e =
     let s : tie.Start = search ways in
     Room.few-after (s .pre .ready) (e .lower-expr .ensures .moved) (omega arith)

@@ -3,6 +3,7 @@ use Rattle.projections.proofs.Room
 use Rattle.lower.specs.Exprs
 use mathlib.Core.Path.{_∙_}
 use native.Mathlib.Omega.{arith}
+use borrow.Author.Needs.{needs}
 use Rattle.projections.proofs.passes.second_pass.Statement.{statement}
 use Rattle.projections.proofs.passes.second_pass.Tie as tie
 
@@ -131,6 +132,7 @@ second-pass-spec =
     cast-push
     cast-push-2
     cast-push-3
+    (λ c. search needs)
     push-requires
     push-if-requires
     same-length
