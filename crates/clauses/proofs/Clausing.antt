@@ -37,12 +37,12 @@ given-one p = p
 
 module _ (sheet : Bytes) {a b : List ℕ} (d i : ℕ) (o : Option ℕ) (m : Mem) (room : Roomy a b) (k8 : cell a b i kindAt ≡ writeKind) (li : i < maxRecords) (st : Stands o m) where
   write-run : (t : Tree clause) → Held sheet a b t d i → (W : Written) (s : State) → Rep sheet a b W s m → Leaves sheet a b W (λ s. lowerClause t o s) o (suc i) (suc (i + 1)) s m m
-  write-run t hd W s r = let e = a-write sheet d i room t hd k8 .1 o s in record { to = rw e (to-wider sub-both (to-refl r)); left = ap (λ (x : Option ℕ × State). x .0) e }
+  write-run t hd W s r = let e = a-write sheet d i room t hd k8 .lower o s in record { to = rw e (to-wider sub-both (to-refl r)); left = ap (λ (x : Option ℕ × State). x .0) e }
 
   pub write-law : LowersClause sheet a b d i (i + 1) o o m m
   write-law = record {
     moved = record { up = omega arith; here = omega arith; few = omega arith; low = omega arith; met = omega arith; in-ops = refl; in-rest = refl; index = λ x. x };
     stands = st;
-    next = λ t hd. (let z = a-write sheet d i room t hd k8 .0 in omega arith);
+    next = λ t hd. (let z = a-write sheet d i room t hd k8 .sized in omega arith);
     run = λ t hd W s r bl. write-run t hd W s r;
   }

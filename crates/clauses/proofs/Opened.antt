@@ -8,32 +8,24 @@ use lib.Dec.{eqb}
 use Rattle.model.specs.Text.{Bytes}
 use Rattle.model.specs.Field.{Fields}
 use Rattle.model.specs.Kind.{Clause, ReadOp, statement, unionArm, clause, patternPart, yieldItem, expr}
-use Rattle.model.specs.Record.{forms, kinds}
-use Rattle.model.specs.Tree.{Tree, Trees, node, []ᵗ, _∷ᵗ_, end, _▸_, toList, fold, foldOf}
+use Rattle.model.specs.Record.{forms, children}
+use Rattle.model.specs.Tree.{Tree, Trees, Forest, node, []ᵗ, _∷ᵗ_, end, _▸_, toList, fold, foldOf}
 use Rattle.model.specs.Lower.{Lowered, made, _>>=_, ret, push, op, filter, orSourceAll, mapVar, optionalJoin, lowerMatchPattern, lowerPattern, lowerExpr, lowerExprs, lowerYields, lowerClause, lowerClauses, lowerArms, lower, empty, lowerStatement}
 use Rattle.model.specs.Call.{maxDepth}
-use Rattle.words.specs.Words.{Roomy, cell, firstKind, fieldsOf, fieldOf}
+use Rattle.words.specs.Words.{Roomy, cell, fieldsOf, fieldOf}
 use Rattle.words.specs.Held.{Held, HeldOf, RecordAt, size, sizeOf}
-use Rattle.words.specs.Cells.{shown, numbered, number-of}
+use Rattle.words.specs.Cells.{shown}
+use Rattle.words.specs.Numbers.{clauseNumber, clause-number}
 use Rattle.words.specs.Places.{matchKind, whereKind, withKind, returnKind, unwindKind, callKind, writeKind, kindAt, stmtClausesAt, stmtArmsAt, armAllAt, armClausesAt, matchOptionalAt, matchPartsAt, unwindVarAt, callArgsAt, callYieldsAt}
 use Rattle.lower.specs.Rep.{State}
 use Rattle.lower.specs.Patterns.{partsL}
+use Rattle.projections.specs.Kinds.{by-clause}
 use Rattle.clauses.specs.Steps.{lowerArm}
 
 -- ── the number of the kind ──
 
-unfoldable pub clauseNumber : Clause → ℕ
-clauseNumber Clause.Match = matchKind
-clauseNumber Clause.Where = whereKind
-clauseNumber Clause.With = withKind
-clauseNumber Clause.Return = returnKind
-clauseNumber Clause.Unwind = unwindKind
-clauseNumber Clause.Call = callKind
-clauseNumber Clause.Write = writeKind
-
-pub number-at : {sheet : Bytes} {a b : List ℕ} {i : ℕ} {k : Clause} {f : Fields (forms clause k)} → Roomy a b → RecordAt sheet a b i clause k f → cell a b i kindAt ≡ clauseNumber k
-unfolding numbered firstKind kinds clauseNumber
-number-at {k = k} room h = number-of clause (λ x. clauseNumber x) refl _ k (shown room h .kind)
+number-at : {sheet : Bytes} {a b : List ℕ} {i : ℕ} {k : Clause} {f : Fields (forms clause k)} → Roomy a b → RecordAt sheet a b i clause k f → cell a b i kindAt ≡ clauseNumber k
+number-at {k = k} room h = clause-number _ k (shown room h .kind)
 
 -- ── a pattern's parts ──
 
@@ -77,45 +69,39 @@ pub record IsCall (sheet : Bytes) (a b : List ℕ) (d i : ℕ) (t : Tree clause)
   pub lower : (o : Option ℕ) (s : State) → lowerClause t o s ≡ (lowerExprs args >>= λ rs. lowerYields yields >>= λ ss. push (op ReadOp.ProcedureCall (o, (fields .0, (fields .1 .0, (fields .1 .1 .0, (fields .1 .1 .1 .0, tt))))) ∷ (rs ++ ss)) >>= λ k. ret (some k)) s
 
 module _ {sheet : Bytes} {a b : List ℕ} {d i : ℕ} (room : Roomy a b) where
-  pub a-match : (t : Tree clause) → Held sheet a b t d i → cell a b i kindAt ≡ matchKind → IsMatch sheet a b d i t
-  unfolding Held size clauseNumber fieldsOf fieldOf lowerClause lowerMatchPattern _>>=_ ret
-  a-match (node clause line Clause.Match (optional, (n, u)) (ts ▸ end)) hd e =
+  match-of : (line : ℕ) (f : Fields (forms clause Clause.Match)) (kids : Forest (children clause Clause.Match f)) → Held sheet a b (node clause line Clause.Match f kids) d i → IsMatch sheet a b d i (node clause line Clause.Match f kids)
+  unfolding Held size fieldsOf fieldOf lowerClause lowerMatchPattern _>>=_ ret
+  match-of line (optional, (n, u)) (ts ▸ end) hd =
       let v = shown room (hd .1) in
       let e₁ : optional ≡ eqb (cell a b i matchOptionalAt) 1 = ap (λ (x : Fields (forms clause Clause.Match)). x .0) (v .fields) in
       let e₂ : n ≡ cell a b i matchPartsAt = ap (λ (x : Fields (forms clause Clause.Match)). x .1 .0) (v .fields) in
       record { n = n; parts = ts; many = e₂; low = v .flags .0; held = hd .3 .0; sized = omega arith; lower = λ o s. rw (e₁, pattern-parts ts) }
-  a-match (node clause line Clause.Where f kids) hd e = let z = number-at room (hd .1) in absurd (omega arith)
-  a-match (node clause line Clause.With f kids) hd e = let z = number-at room (hd .1) in absurd (omega arith)
-  a-match (node clause line Clause.Return f kids) hd e = let z = number-at room (hd .1) in absurd (omega arith)
-  a-match (node clause line Clause.Unwind f kids) hd e = let z = number-at room (hd .1) in absurd (omega arith)
-  a-match (node clause line Clause.Call f kids) hd e = let z = number-at room (hd .1) in absurd (omega arith)
-  a-match (node clause line Clause.Write f kids) hd e = let z = number-at room (hd .1) in absurd (omega arith)
+
+  pub a-match : (t : Tree clause) → Held sheet a b t d i → cell a b i kindAt ≡ matchKind → IsMatch sheet a b d i t
+  unfolding clauseNumber
+  a-match t hd e = by-clause sheet d i room (λ t. IsMatch sheet a b d i t) Clause.Match (λ line f kids hd. match-of line f kids hd) t hd e
+
+  where-of : (line : ℕ) (f : Fields (forms clause Clause.Where)) (kids : Forest (children clause Clause.Where f)) → Held sheet a b (node clause line Clause.Where f kids) d i → IsWhere sheet a b d i (node clause line Clause.Where f kids)
+  unfolding Held size lowerClause
+  where-of line f ((x ∷ᵗ []ᵗ) ▸ end) hd = record { tree = x; held = hd .3 .0 .0; sized = omega arith; lower = λ o s. refl }
 
   pub a-where : (t : Tree clause) → Held sheet a b t d i → cell a b i kindAt ≡ whereKind → IsWhere sheet a b d i t
-  unfolding Held size clauseNumber lowerClause
-  a-where (node clause line Clause.Where f ((x ∷ᵗ []ᵗ) ▸ end)) hd e = record { tree = x; held = hd .3 .0 .0; sized = omega arith; lower = λ o s. refl }
-  a-where (node clause line Clause.Match f kids) hd e = let z = number-at room (hd .1) in absurd (omega arith)
-  a-where (node clause line Clause.With f kids) hd e = let z = number-at room (hd .1) in absurd (omega arith)
-  a-where (node clause line Clause.Return f kids) hd e = let z = number-at room (hd .1) in absurd (omega arith)
-  a-where (node clause line Clause.Unwind f kids) hd e = let z = number-at room (hd .1) in absurd (omega arith)
-  a-where (node clause line Clause.Call f kids) hd e = let z = number-at room (hd .1) in absurd (omega arith)
-  a-where (node clause line Clause.Write f kids) hd e = let z = number-at room (hd .1) in absurd (omega arith)
+  unfolding clauseNumber
+  a-where t hd e = by-clause sheet d i room (λ t. IsWhere sheet a b d i t) Clause.Where (λ line f kids hd. where-of line f kids hd) t hd e
 
-  pub an-unwind : (t : Tree clause) → Held sheet a b t d i → cell a b i kindAt ≡ unwindKind → IsUnwind sheet a b d i t
-  unfolding Held size clauseNumber fieldsOf fieldOf lowerClause
-  an-unwind (node clause line Clause.Unwind (id, u) ((x ∷ᵗ []ᵗ) ▸ end)) hd e =
+  unwind-of : (line : ℕ) (f : Fields (forms clause Clause.Unwind)) (kids : Forest (children clause Clause.Unwind f)) → Held sheet a b (node clause line Clause.Unwind f kids) d i → IsUnwind sheet a b d i (node clause line Clause.Unwind f kids)
+  unfolding Held size fieldsOf fieldOf lowerClause
+  unwind-of line (id, u) ((x ∷ᵗ []ᵗ) ▸ end) hd =
       let e₁ : id ≡ cell a b i unwindVarAt = ap (λ (x : Fields (forms clause Clause.Unwind)). x .0) (shown room (hd .1) .fields) in
       record { tree = x; held = hd .3 .0 .0; sized = omega arith; lower = λ o s. rw e₁ }
-  an-unwind (node clause line Clause.Match f kids) hd e = let z = number-at room (hd .1) in absurd (omega arith)
-  an-unwind (node clause line Clause.Where f kids) hd e = let z = number-at room (hd .1) in absurd (omega arith)
-  an-unwind (node clause line Clause.With f kids) hd e = let z = number-at room (hd .1) in absurd (omega arith)
-  an-unwind (node clause line Clause.Return f kids) hd e = let z = number-at room (hd .1) in absurd (omega arith)
-  an-unwind (node clause line Clause.Call f kids) hd e = let z = number-at room (hd .1) in absurd (omega arith)
-  an-unwind (node clause line Clause.Write f kids) hd e = let z = number-at room (hd .1) in absurd (omega arith)
 
-  pub a-call : (t : Tree clause) → Held sheet a b t d i → cell a b i kindAt ≡ callKind → IsCall sheet a b d i t
-  unfolding Held size clauseNumber fieldsOf fieldOf lowerClause
-  a-call (node clause line Clause.Call (procedure, (args, (yields, (optional, u)))) (es ▸ ys ▸ end)) hd e =
+  pub an-unwind : (t : Tree clause) → Held sheet a b t d i → cell a b i kindAt ≡ unwindKind → IsUnwind sheet a b d i t
+  unfolding clauseNumber
+  an-unwind t hd e = by-clause sheet d i room (λ t. IsUnwind sheet a b d i t) Clause.Unwind (λ line f kids hd. unwind-of line f kids hd) t hd e
+
+  call-of : (line : ℕ) (f : Fields (forms clause Clause.Call)) (kids : Forest (children clause Clause.Call f)) → Held sheet a b (node clause line Clause.Call f kids) d i → IsCall sheet a b d i (node clause line Clause.Call f kids)
+  unfolding Held size fieldsOf fieldOf lowerClause
+  call-of line (procedure, (args, (yields, (optional, u)))) (es ▸ ys ▸ end) hd =
       let w = shown room (hd .1) .fields in
       record {
         fields = (procedure, (args, (yields, (optional, u))));
@@ -129,23 +115,24 @@ module _ {sheet : Bytes} {a b : List ℕ} {d i : ℕ} (room : Roomy a b) where
         sized = omega arith;
         lower = λ o s. refl;
       }
-  a-call (node clause line Clause.Match f kids) hd e = let z = number-at room (hd .1) in absurd (omega arith)
-  a-call (node clause line Clause.Where f kids) hd e = let z = number-at room (hd .1) in absurd (omega arith)
-  a-call (node clause line Clause.With f kids) hd e = let z = number-at room (hd .1) in absurd (omega arith)
-  a-call (node clause line Clause.Return f kids) hd e = let z = number-at room (hd .1) in absurd (omega arith)
-  a-call (node clause line Clause.Unwind f kids) hd e = let z = number-at room (hd .1) in absurd (omega arith)
-  a-call (node clause line Clause.Write f kids) hd e = let z = number-at room (hd .1) in absurd (omega arith)
+
+  pub a-call : (t : Tree clause) → Held sheet a b t d i → cell a b i kindAt ≡ callKind → IsCall sheet a b d i t
+  unfolding clauseNumber
+  a-call t hd e = by-clause sheet d i room (λ t. IsCall sheet a b d i t) Clause.Call (λ line f kids hd. call-of line f kids hd) t hd e
+
+-- a clause that writes leaves all as it is
+pub record IsWrite (t : Tree clause) : Type 0 where
+  pub sized : size t ≡ 1
+  pub lower : (o : Option ℕ) (s : State) → lowerClause t o s ≡ (o, s)
 
 module _ (sheet : Bytes) {a b : List ℕ} (d i : ℕ) (room : Roomy a b) where
-  pub a-write : (t : Tree clause) → Held sheet a b t d i → cell a b i kindAt ≡ writeKind → (size t ≡ 1) × ((o : Option ℕ) (s : State) → lowerClause t o s ≡ (o, s))
-  unfolding Held size clauseNumber lowerClause ret
-  a-write (node clause line Clause.Write f end) hd e = (refl, λ o s. refl)
-  a-write (node clause line Clause.Match f kids) hd e = let z = number-at room (hd .1) in absurd (omega arith)
-  a-write (node clause line Clause.Where f kids) hd e = let z = number-at room (hd .1) in absurd (omega arith)
-  a-write (node clause line Clause.With f kids) hd e = let z = number-at room (hd .1) in absurd (omega arith)
-  a-write (node clause line Clause.Return f kids) hd e = let z = number-at room (hd .1) in absurd (omega arith)
-  a-write (node clause line Clause.Unwind f kids) hd e = let z = number-at room (hd .1) in absurd (omega arith)
-  a-write (node clause line Clause.Call f kids) hd e = let z = number-at room (hd .1) in absurd (omega arith)
+  write-of : (line : ℕ) (f : Fields (forms clause Clause.Write)) (kids : Forest (children clause Clause.Write f)) → Held sheet a b (node clause line Clause.Write f kids) d i → IsWrite (node clause line Clause.Write f kids)
+  unfolding Held size lowerClause ret
+  write-of line f end hd = record { sized = refl; lower = λ o s. refl }
+
+  pub a-write : (t : Tree clause) → Held sheet a b t d i → cell a b i kindAt ≡ writeKind → IsWrite t
+  unfolding clauseNumber
+  a-write t hd e = by-clause sheet d i room (λ t. IsWrite t) Clause.Write (λ line f kids hd. write-of line f kids hd) t hd e
 
   -- the one kind that is left
   pub call-kind : (t : Tree clause) → Held sheet a b t d i → ((cell a b i kindAt ≡ matchKind) → ⊥) → ((cell a b i kindAt ≡ whereKind) → ⊥) → ((cell a b i kindAt ≡ withKind) → ⊥) → ((cell a b i kindAt ≡ returnKind) → ⊥) → ((cell a b i kindAt ≡ unwindKind) → ⊥) → ((cell a b i kindAt ≡ writeKind) → ⊥) → cell a b i kindAt ≡ callKind
