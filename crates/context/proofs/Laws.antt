@@ -11,7 +11,7 @@ use lib.ListN.{List·getD-append, length-drop, drop-of-length-le}
 use borrow.Author.Tests.{eq-eqb, ne-eqb}
 use Rattle.model.specs.Lower.{lookup, mapVar, numbered, fresh, endpointVar}
 use Rattle.words.specs.Words.{optionOf}
-use Rattle.context.specs.Tables.{varsOf, foundOf, Op, opAt, Indexed, Issued, Notes, Numbers, Pushed}
+use Rattle.context.specs.Tables.{varsOf, foundOf, Op, opAt, maxStored, opWords, Indexed, Issued, Notes, Numbers, Pushed}
 use Rattle.context.specs.declared.LowerCtx.{LowerCtx}
 use Rattle.context.specs.declared.Numbered.{Numbered}
 use Rattle.context.specs.declared.index.Found.{Found}
@@ -136,11 +136,15 @@ run-at o b j (x ∷ xs) (suc p) h l =
     let g : b + suc j + length xs ≤ length (set o (b + j) x) = rw length-set (omega arith) in
     rw e (run-at (set o (b + j) x) b (suc j) xs p (omega arith) g)
 
-pub stored : (c : LowerCtx) (o : List ℕ) (a i n x y l z : ℕ) → c .ops < 2048 → 16384 ≤ length o → Pushed c (record { ops = c .ops + 1; next = c .next; mapped = c .mapped }) o (set (set (set (set (set (set (set o (c .ops * 8 + 1) a) (c .ops * 8 + 2) i) (c .ops * 8 + 3) n) (c .ops * 8 + 4) x) (c .ops * 8 + 5) y) (c .ops * 8 + 6) l) (c .ops * 8 + 7) z) (record { kind = a; idx = i; input = n; x = x; y = y; left = l; base = z })
+-- the words of an operator, one after another
+abbrev wordsOf : Op → List ℕ
+wordsOf op = op .kind ∷ op .idx ∷ op .input ∷ op .x ∷ op .y ∷ op .left ∷ op .base ∷ []
+
+pub stored : (c : LowerCtx) (o : List ℕ) (op : Op) → c .ops < maxStored → 16384 ≤ length o → Pushed c (record { ops = c .ops + 1; next = c .next; mapped = c .mapped }) o (set (set (set (set (set (set (set o (c .ops * opWords + 1) (op .kind)) (c .ops * opWords + 2) (op .idx)) (c .ops * opWords + 3) (op .input)) (c .ops * opWords + 4) (op .x)) (c .ops * opWords + 5) (op .y)) (c .ops * opWords + 6) (op .left)) (c .ops * opWords + 7) (op .base)) op
 unfolding run opAt
-stored c o a i n x y l z h g =
-    let B : ℕ = c .ops * 8 in
-    let xs : List ℕ = a ∷ i ∷ n ∷ x ∷ y ∷ l ∷ z ∷ [] in
+stored c o op h g =
+    let B : ℕ = c .ops * opWords in
+    let xs : List ℕ = wordsOf op in
     let f : (p j : ℕ) → p < 7 → j ≡ 1 + p → getD (run o B 1 xs) (B + j) 0 ≡ getD xs p 0 = λ p j h′ e. (let e′ : B + j ≡ B + 1 + p = omega arith in rw e′ (run-at o B 1 xs p h′ (omega arith))) in
     record {
       count = refl;
@@ -148,9 +152,9 @@ stored c o a i n x y l z h g =
       mapped = refl;
       here = λ _. rw (f 0 1 (omega arith) refl, f 1 2 (omega arith) refl, f 2 3 (omega arith) refl, f 3 4 (omega arith) refl, f 4 5 (omega arith) refl, f 5 6 (omega arith) refl, f 6 7 (omega arith) refl);
       other = λ k l′ l″.
-          let r : (j : ℕ) → j < 8 → getD (run o B 1 xs) (k * 8 + j) 0 ≡ getD o (k * 8 + j) 0 = λ j h′. run-other o B 1 xs (k * 8 + j) (omega arith) in
+          let r : (j : ℕ) → j < 8 → getD (run o B 1 xs) (k * opWords + j) 0 ≡ getD o (k * opWords + j) 0 = λ j h′. run-other o B 1 xs (k * opWords + j) (omega arith) in
           rw (r 1 (omega arith), r 2 (omega arith), r 3 (omega arith), r 4 (omega arith), r 5 (omega arith), r 6 (omega arith), r 7 (omega arith));
     }
 
-pub not-stored : (c : LowerCtx) (o : List ℕ) (x : Op) → 2048 ≤ c .ops → Pushed c (record { ops = c .ops + 1; next = c .next; mapped = c .mapped }) o o x
+pub not-stored : (c : LowerCtx) (o : List ℕ) (x : Op) → maxStored ≤ c .ops → Pushed c (record { ops = c .ops + 1; next = c .next; mapped = c .mapped }) o o x
 not-stored c o x h = record { count = refl; next = refl; mapped = refl; here = λ l. absurd (omega arith); other = λ k l l′. refl }

@@ -1,2 +1,4 @@
+pub mod Ops
 pub mod Tables
 pub mod IndexLaws
+pub mod OpLaws

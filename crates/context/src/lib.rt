@@ -6,6 +6,7 @@ ghost use Rattle.model.specs.Lower.{lookup, mapVar, endpointVar};
 ghost use Rattle.words.specs.Words.{optionOf};
 ghost use Rattle.context.specs.Tables.{varsOf, foundOf, Indexed, Issued, Numbers, Notes, Pushed};
 use crate::index::Found;
+use crate::op::Op;
 
 pub mod index;
 pub mod op;
@@ -33,6 +34,19 @@ pub struct LowerCtx {
     pub ops: usize,
     pub next: u32,
     pub mapped: usize,
+}
+
+// Where something is lowered: the records from i on, how deep their trees may be, and where the notes of the pass begin.
+pub struct At {
+    pub base: usize,
+    pub i: usize,
+    pub left: usize,
+}
+
+// The operator that stands before, if there is one.
+pub enum Before {
+    Nothing,
+    Op(usize),
 }
 
 // A number issued, and the state behind it.
@@ -122,19 +136,9 @@ impl LowerCtx {
     }
 
     // One more operator, stored if the table has room.
-    pub fn push(
-        self,
-        ops: &mut [u32],
-        kind: u32,
-        idx: u32,
-        input: u32,
-        x: u32,
-        y: u32,
-        left: u32,
-        base: u32,
-    ) -> LowerCtx
+    pub fn push(self, ops: &mut [u32], op: Op) -> LowerCtx
         requires { ⌜ (self .ops < 65536) × (16384 ≤ length (now ops)) ⌝ }
-        ensures { λ r. ⌜ Pushed self r (now (ops .entry)) (now (ops .exit)) (record { kind = kind; idx = idx; input = input; x = x; y = y; left = left; base = base }) ⌝ }
+        ensures { λ r. ⌜ Pushed self r (now (ops .entry)) (now (ops .exit)) op ⌝ }
     {
         let k = self.ops;
         let more = LowerCtx {
@@ -146,13 +150,13 @@ impl LowerCtx {
             return more;
         }
         let at = k * OP_WORDS;
-        ops[at + 1] = kind;
-        ops[at + 2] = idx;
-        ops[at + 3] = input;
-        ops[at + 4] = x;
-        ops[at + 5] = y;
-        ops[at + 6] = left;
-        ops[at + 7] = base;
+        ops[at + 1] = op.kind;
+        ops[at + 2] = op.idx;
+        ops[at + 3] = op.input;
+        ops[at + 4] = op.x;
+        ops[at + 5] = op.y;
+        ops[at + 6] = op.left;
+        ops[at + 7] = op.base;
         more
     }
 }

@@ -15,38 +15,37 @@ use Rattle.model.specs.Lower.{Recs, Lowered, made, _>>=_, ret, push, op, source
 use Rattle.model.specs.Lower
 use Rattle.words.specs.Words.{Roomy, cell, optionOf, fieldsOf, fieldOf}
 use Rattle.words.specs.Held.{Held, HeldOf, size, sizeOf}
-use Rattle.context.specs.Tables.{Op, Pushed, Numbers}
+use Rattle.context.specs.Tables.{Pushed, Numbers}
+use Rattle.context.specs.declared.op.Op.{Op}
 use Rattle.context.specs.declared.LowerCtx.{LowerCtx}
 use Rattle.context.specs.declared.Numbered.{Numbered}
 use Rattle.words.specs.Cells.{shown}
+use Rattle.context.specs.declared.Before.{Before}
+use Rattle.context.specs.declared.Before.the-variants as before
+use Rattle.context.specs.Ops.{beforeOf, Under, bindPathOp, sourceAllOp}
 use Rattle.lower.specs.Shows.{shows-all, shows-path}
-use Rattle.lower.specs.Rep.{State, Mem, mem, Written, Sub, Blank, Rep, Rooted}
+use Rattle.lower.specs.Rep.{atPlace, State, Mem, mem, Written, Sub, Blank, Rep, Rooted}
 use Rattle.lower.specs.Pieces.{SomeTree}
 use Rattle.lower.specs.Patterns.{SomeTrees}
 use Rattle.lower.specs.Chains.{givenIf, seenIf, stepsOf, no-rel, Linked, Sturdy, Anchored, passed, ChainedAll, LowersElements, Sourced, OrSource, chainL, LowersChain, startChain}
 use Rattle.lower.specs.declared.Chain.{Chain}
 use Rattle.lower.specs.State.{sub-more, sub-within, blank-within, blank-before, back, to-refl, to-then, to-wider, push-to, Given, number-to, upcoming-number}
 use Rattle.lower.specs.Fits.{tree-low}
-use Rattle.lower.proofs.Parts.{allOp, all-sane}
+use Rattle.lower.proofs.Parts.{all-sane}
 
 -- ── the operator before, or a source of everything ──
 
-some-given : {A : Type 0} (h : ℕ) (x : A) → ((h ≡ 0) → ⊥) → givenIf h x ≡ some x
-unfolding givenIf
-some-given zero x n = absurd (n refl)
-some-given (suc h) x n = refl
+numberOf : Option ℕ → ℕ → ℕ
+numberOf none n = n
+numberOf (some k) n = k
 
-none-given : {A : Type 0} (h : ℕ) (x : A) → h ≡ 0 → givenIf h x ≡ none
-unfolding givenIf
-none-given h x e = rw e
+pub source-there : (current : Before) (k : ℕ) (m : Mem) → current ≡ before.Op k → k < m .ctx .ops → OrSource (orSourceAll (beforeOf current)) k m m
+unfolding orSourceAll ret beforeOf
+source-there current k m e l = record { grow = le-refl _; few = omega arith; next = refl; mapped = refl; rest = refl; in-ops = refl; low = l; run = λ sheet a b W s r. rw e (record { to = to-refl r; root = refl }) }
 
-pub source-there : (has last : ℕ) (m : Mem) → ((has ≡ 0) → ⊥) → last < m .ctx .ops → OrSource (orSourceAll (givenIf has last)) last m m
-unfolding orSourceAll ret
-source-there has last m h l = record { grow = le-refl _; few = omega arith; next = refl; mapped = refl; rest = refl; in-ops = refl; low = l; run = λ sheet a b W s r. rw (some-given has last h) (record { to = to-refl r; root = refl }) }
-
-pub source-new : (has last : ℕ) (m : Mem) (c : LowerCtx) (os : List ℕ) → has ≡ 0 → Pushed (m .ctx) c (m .ops) os (allOp (m .ctx .next)) → length os ≡ length (m .ops) → OrSource (orSourceAll (givenIf has last)) (m .ctx .ops) m (mem c os (m .rest))
-unfolding orSourceAll pushSourceAll upcoming _>>=_ push
-source-new has last m c os h p lo = record {
+pub source-new : (current : Before) (m : Mem) (c : LowerCtx) (os : List ℕ) → current ≡ before.Nothing → Pushed (m .ctx) c (m .ops) os (sourceAllOp (m .ctx .next)) → length os ≡ length (m .ops) → OrSource (orSourceAll (beforeOf current)) (m .ctx .ops) m (mem c os (m .rest))
+unfolding orSourceAll pushSourceAll upcoming _>>=_ push beforeOf
+source-new current m c os e p lo = record {
   grow = omega (arith, p .count);
   few = omega (arith, p .count);
   next = p .next;
@@ -54,8 +53,21 @@ source-new has last m c os h p lo = record {
   rest = refl;
   in-ops = lo;
   low = omega (arith, p .count);
-  run = λ sheet a b W s r. rw (none-given has last h) (record { to = push-to m c os (allOp (m .ctx .next)) (source (s .next) []) r p (λ N A f. record { sane = all-sane (m .ctx .next); shows = shows-all refl (ap (λ (x : ℕ). source x []) (sym (upcoming-number m r))) }); root = r .count });
+  run = λ sheet a b W s r. rw e (record { to = push-to m c os (sourceAllOp (m .ctx .next)) (source (s .next) []) r p (λ N A f. record { sane = all-sane (m .ctx .next); shows = shows-all refl (ap (λ (x : ℕ). source x []) (sym (upcoming-number m r))) }); root = r .count });
 }
+
+-- a root as the code has it
+pub source-as : {o o′ : Option ℕ} {k : ℕ} {m m′ : Mem} → o ≡ o′ → OrSource (orSourceAll o) k m m′ → OrSource (orSourceAll o′) k m m′
+source-as e p = rw e at p
+
+given-low : (has last n k : ℕ) → (((has ≡ 0) → ⊥) → last < n) → some k ≡ givenIf has last → k < n
+unfolding givenIf numberOf
+given-low zero last n k l e = let z : k ≡ suc k = ap (λ (o : Option ℕ). numberOf o (suc k)) e in absurd (omega arith)
+given-low (suc has) last n k l e = let z : k ≡ last = ap (λ (o : Option ℕ). numberOf o 0) e in let y = l (λ x. absurd (omega arith)) in omega arith
+
+pub root-under : {root : Before} {n : ℕ} (has last : ℕ) → beforeOf root ≡ givenIf has last → (((has ≡ 0) → ⊥) → last < n) → Under root n
+unfolding beforeOf
+root-under {n = n} has last e l = record { op = λ k h. given-low has last n k l (rw h at e) }
 
 -- ── a part, opened ──
 
@@ -106,9 +118,6 @@ afterElements ts s = lowerElements noChain (stepsOf ts) s
 chain-def : {n : ℕ} (o : Option ℕ) (ts : Trees patternElement n) (s : State) (g : Option ℕ) → rootOf (afterElements ts s .0 .last) ≡ g → lowerChain o (stepsOf ts) s ≡ bindPath o (orSourceAll g (afterElements ts s .1) .0) (afterElements ts s .0 .path) (orSourceAll g (afterElements ts s .1) .1)
 unfolding lowerChain _>>=_
 chain-def o ts s g e = rw e
-
-abbrev pub pathOp : (i input kept number d base : ℕ) → Op
-pathOp i input kept number d base = record { kind = 5; idx = i; input = input; x = kept; y = number; left = d - 1; base = base }
 
 option-some : (x y : ℕ) → ((x ≡ 0) → ⊥) → optionOf x y ≡ some y
 unfolding optionOf
@@ -162,7 +171,7 @@ module _ {a b : List ℕ} {n base : ℕ} {c : LowerCtx} {ch : Chain} {os os₁ r
           run = unnamed-run;
         }
 
-  module _ {place : ℕ} {r₃ : Numbered} {rest₃ os₄ : List ℕ} {c₄ : LowerCtx} (sh : d ≤ 64) (k2 : (cell a b i 2 ≡ 0) → ⊥) (ep : place ≡ base + (i + 1)) (nm : Numbers (mapVar (cell a b i 3)) place (m₂ .ctx) (m₂ .rest) rest₃ r₃) (lr : length rest₃ ≡ length (m₂ .rest)) (pp : Pushed (r₃ .ctx) c₄ (m₂ .ops) os₄ (pathOp i k (ch .kept) (r₃ .number) d base)) (lo : length os₄ ≡ length (m₂ .ops)) where
+  module _ {place : ℕ} {r₃ : Numbered} {rest₃ os₄ : List ℕ} {c₄ : LowerCtx} (sh : d ≤ 64) (k2 : (cell a b i 2 ≡ 0) → ⊥) (ep : place ≡ base + (i + 1)) (nm : Numbers (mapVar (cell a b i 3)) place (m₂ .ctx) (m₂ .rest) rest₃ r₃) (lr : length rest₃ ≡ length (m₂ .rest)) (pp : Pushed (r₃ .ctx) c₄ (m₂ .ops) os₄ (bindPathOp (atPlace base i (d - 1)) k (ch .kept) (r₃ .number))) (lo : length os₄ ≡ length (m₂ .ops)) where
     named-run : (sheet : Bytes) (t : Tree patternPart) → Held sheet a b t d i → (W : Written) (s : State) → Rep sheet a b W s (mem c os rs) → Blank W (base + suc i) (base + suc (ch .next)) → Rooted sheet a b W (chainL t) (r₃ .ctx .ops) base (suc i) (suc (ch .next)) s (mem c os rs) (mem c₄ os₄ rest₃)
     unfolding bindPath _>>=_ push optionOf seenIf
     named-run sheet t hd W s r bl =
@@ -178,7 +187,7 @@ module _ {a b : List ℕ} {n base : ℕ} {c : LowerCtx} {ch : Chain} {os os₁ r
         let ep′ : place ≡ base + suc i = omega arith in
         let g : Given sheet a b W₁ s₂ (mapVar id) (base + suc i) m₂ rest₃ r₃ = number-to (mapVar id) (base + suc i) m₂ rest₃ r₃ (x .src .to .rep) (rw ep′ at nm) (blank-before (omega arith) (blank-within (le-refl _) (omega arith) bl)) in
         let recs : Recs = op ReadOp.BindPath (k, (mapVar id s₂ .0, (length path, tt))) ∷ pathElements path in
-        let y = push-to (mem (r₃ .ctx) (m₂ .ops) rest₃) c₄ os₄ (pathOp i k (ch .kept) (r₃ .number) d base) recs (g .to .rep) pp
+        let y = push-to (mem (r₃ .ctx) (m₂ .ops) rest₃) c₄ os₄ (bindPathOp (atPlace base i (d - 1)) k (ch .kept) (r₃ .number)) recs (g .to .rep) pp
         (λ N A fu. record {
           sane = record { shallow = omega arith; near = lb; low = tree-low sheet a b t d i hd; far = λ e. absurd (omega arith); flagged = λ e. absurd (omega arith) };
           shows = shows-path refl (record {

@@ -16,12 +16,14 @@ use Rattle.model.specs.Lower.{Recs, Lowered, made, _>>=_, ret, push, op, endpoi
 use Rattle.model.specs.Lower
 use Rattle.words.specs.Words.{Roomy, cell, optionOf}
 use Rattle.words.specs.Held.{Held, size}
-use Rattle.context.specs.Tables.{Op, Pushed, Numbers}
+use Rattle.context.specs.Tables.{Pushed, Numbers}
+use Rattle.context.specs.declared.op.Op.{Op}
 use Rattle.context.specs.declared.LowerCtx.{LowerCtx}
 use Rattle.context.specs.declared.Numbered.{Numbered}
+use Rattle.context.specs.Ops.{expandOp}
 use Rattle.lower.specs.Render.{Notes, Ops, renderOf, specRecs}
 use Rattle.lower.specs.Shows.{shift, Sane, shows-expand}
-use Rattle.lower.specs.Rep.{State, Mem, mem, notes, Written, Sub, Blank, Future, Rep, To}
+use Rattle.lower.specs.Rep.{atPlace, State, Mem, mem, notes, Written, Sub, Blank, Future, Rep, To}
 use Rattle.lower.specs.Pieces.{lowerC, renderC, LowersExprs}
 use Rattle.lower.specs.Chains.{stepOf}
 use Rattle.lower.specs.State.{sub-more, sub-within, blank-within, blank-before, blank-behind, back, to-then, to-wider, push-to, Given, number-to}
@@ -60,9 +62,6 @@ module _ (bn br : Option ℕ) {n n′ : ℕ} (labels : Trees name n) (types : Tr
   unfolding lowerElement reach expandTo nodeRecs _>>=_ ret push
   expand-def c input origin ep el = rw (ep, el, rel-def, props-lower p props s₃, names-count labels, props-has p props)
 
-abbrev pub expandOp : (rel input origin far d base : ℕ) → Op
-expandOp rel input origin far d base = record { kind = 3; idx = rel; input = input; x = origin; y = far; left = d; base = base }
-
 -- where the notes of an expand stand
 pub record Places (B rel far e₁ e₂ nt nl : ℕ) : Type 0 where
   pub rf : B + suc rel ≤ B + suc far
@@ -92,10 +91,10 @@ place-at p B i e = omega arith
 recs-are : (N : Notes) (A : Ops) (t tr : Tree patternElement) {n n′ : ℕ} (names : Trees name n) (types : Trees name n′) (p p′ : Bool) (props : Trees expr (one p)) (props′ : Trees expr (one p′)) (h h′ : Rec) (x y input origin x′ y′ : ℕ) (q q′ : Recs) → x ≡ x′ → y ≡ y′ → specRecs N A tr ≡ h′ ∷ (renderOf N A types ++ renderOf N A props′) → specRecs N A t ≡ h ∷ (renderOf N A names ++ renderOf N A props) → renderC N A (plainC props′) ≡ q′ → renderC N A (plainC props) ≡ q → op ReadOp.Expand (input, (origin, (x′, (y′, tt)))) ∷ ((h′ ∷ (toList n′ (foldOf Lowered made types) ++ q′)) ++ (h ∷ (toList n (foldOf Lowered made names) ++ q))) ≡ op ReadOp.Expand (input, (origin, (x, (y, tt)))) ∷ (specRecs N A tr ++ specRecs N A t)
 recs-are N A t tr names types p p′ props props′ h h′ x y input origin x′ y′ q q′ ex ey et′ et eq′ eq = rw (ex, ey, et′, et, plain-render N A props′, plain-render N A props, eq′, eq, names-render N A types, names-render N A names)
 
-expand-sane : (rel input origin far d base : ℕ) → d ≤ 64 → base ≤ 2048 → rel < 2048 → Sane (expandOp rel input origin far d base)
+expand-sane : (rel input origin far d base : ℕ) → d ≤ 64 → base ≤ 2048 → rel < 2048 → Sane (expandOp (atPlace base rel d) input origin far)
 expand-sane rel input origin far d base sh lb l = record { shallow = sh; near = lb; low = l; far = λ e. absurd (omega arith); flagged = λ e. absurd (omega arith) }
 
-module _ {a b : List ℕ} (d base far rel : ℕ) {e₁ e₂ n₁ n₂ input origin p₁ p₂ : ℕ} {c₀ : LowerCtx} {os rest rest₁ rest₂ : List ℕ} {r₁ r₂ : Numbered} {m₃ m₄ : Mem} {c₅ : LowerCtx} {os₅ : List ℕ} (room : Roomy a b) (k12 : cell a b far 0 ≡ 12) (k13 : cell a b rel 0 ≡ 13) (lb : base ≤ 2048) (sh : d ≤ 64) (la : far < 2048) (ep₁ : p₁ ≡ base + (far + 1)) (nm₁ : Numbers (endpointVar (optionOf (cell a b far 2) (cell a b far 3))) p₁ c₀ rest rest₁ r₁) (ep₂ : p₂ ≡ base + (rel + 1)) (nm₂ : Numbers (endpointVar (optionOf (cell a b rel 2) (cell a b rel 3))) p₂ (r₁ .ctx) rest₁ rest₂ r₂) (en₁ : n₁ ≡ cell a b rel 10) (x₁ : LowersExprs a b n₁ 0 (d - 1) base (rel + 1 + cell a b rel 4) e₁ (mem (r₂ .ctx) os rest₂) m₃) (en₂ : n₂ ≡ cell a b far 6) (x₂ : LowersExprs a b n₂ 0 (d - 1) base (far + 1 + cell a b far 4) e₂ m₃ m₄) (pe : Pushed (m₄ .ctx) c₅ (m₄ .ops) os₅ (expandOp rel input origin far d base)) where
+module _ {a b : List ℕ} (d base far rel : ℕ) {e₁ e₂ n₁ n₂ input origin p₁ p₂ : ℕ} {c₀ : LowerCtx} {os rest rest₁ rest₂ : List ℕ} {r₁ r₂ : Numbered} {m₃ m₄ : Mem} {c₅ : LowerCtx} {os₅ : List ℕ} (room : Roomy a b) (k12 : cell a b far 0 ≡ 12) (k13 : cell a b rel 0 ≡ 13) (lb : base ≤ 2048) (sh : d ≤ 64) (la : far < 2048) (ep₁ : p₁ ≡ base + (far + 1)) (nm₁ : Numbers (endpointVar (optionOf (cell a b far 2) (cell a b far 3))) p₁ c₀ rest rest₁ r₁) (ep₂ : p₂ ≡ base + (rel + 1)) (nm₂ : Numbers (endpointVar (optionOf (cell a b rel 2) (cell a b rel 3))) p₂ (r₁ .ctx) rest₁ rest₂ r₂) (en₁ : n₁ ≡ cell a b rel 10) (x₁ : LowersExprs a b n₁ 0 (d - 1) base (rel + 1 + cell a b rel 4) e₁ (mem (r₂ .ctx) os rest₂) m₃) (en₂ : n₂ ≡ cell a b far 6) (x₂ : LowersExprs a b n₂ 0 (d - 1) base (far + 1 + cell a b far 4) e₂ m₃ m₄) (pe : Pushed (m₄ .ctx) c₅ (m₄ .ops) os₅ (expandOp (atPlace base rel d) input origin far)) where
   -- what an expand has done
   pub record Expanded (sheet : Bytes) (W : Written) (s : State) (c : Lower.Chain) (n : NodeStep) : Type 0 where
     pub to : To sheet a b W ((base + suc rel, base + suc e₂) ∷ W) s (lowerElement c (ofNode n) s .1) (mem c₀ os rest) (mem c₅ os₅ (m₄ .rest))
@@ -159,7 +158,7 @@ module _ {a b : List ℕ} (d base far rel : ℕ) {e₁ e₂ n₁ n₂ input orig
         f₂ .notes .at (base + suc rel) (P .low-rel) (inl (P .at-rel)) ∙ g₂ .noted ∙ g₂ .number,
         back (g₂ .to) f₂ .notes .at (base + suc far) (P .low-far) (inl (P .at-far)) ∙ g₁ .noted ∙ g₁ .number,
       )) in
-      let y₃ = push-to m₄ c₅ os₅ (expandOp rel input origin far d base) recs (y₂ .to .rep) pe
+      let y₃ = push-to m₄ c₅ os₅ (expandOp (atPlace base rel d) input origin far) recs (y₂ .to .rep) pe
       (λ N A f. record {
         sane = expand-sane rel input origin far d base sh lb (tree-low sheet a b tr d rel hr);
         shows = shows-expand refl (record {

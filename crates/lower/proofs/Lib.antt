@@ -11,4 +11,5 @@ pub mod Chaining
 pub mod Shortest
 pub mod Special
 pub mod Part
+pub mod Reading
 pub mod Room

@@ -18,10 +18,11 @@ use Rattle.words.specs.Held.{Held}
 use Rattle.context.specs.Tables.{Pushed, Numbers}
 use Rattle.context.specs.declared.LowerCtx.{LowerCtx}
 use Rattle.context.specs.declared.Numbered.{Numbered}
+use Rattle.context.specs.Ops.{expandOp}
 use Rattle.lower.specs.Count.{Ends}
 use Rattle.lower.specs.Render.{Notes, keptRel, keptFrom}
 use Rattle.lower.specs.Shows.{shift}
-use Rattle.lower.specs.Rep.{State, Mem, mem, notes, Written, Sub, Blank, Rep, Moved}
+use Rattle.lower.specs.Rep.{atPlace, State, Mem, mem, notes, Written, Sub, Blank, Rep, Moved}
 use Rattle.lower.specs.Pieces.{SomeTree, LowersExprs}
 use Rattle.lower.specs.Chains.{givenIf, seenIf, stepOf, Waiting, no-rel, a-rel, Linked, Sturdy, Anchored, Chained, LowersElement, startL, LowersStart, Starts}
 use Rattle.lower.specs.declared.Chain.{Chain}
@@ -31,7 +32,7 @@ use Rattle.words.specs.Numbers.{elementNumber}
 use Rattle.lower.specs.Exprs.{moved-refl, moved-within, narrow}
 use Rattle.lower.proofs.Elements.{a-node, element-number}
 use Rattle.lower.proofs.Elements
-use Rattle.lower.proofs.Expand.{expandOp, expand-run, far-end, rel-end}
+use Rattle.lower.proofs.Expand.{expand-run, far-end, rel-end}
 
 IsNodeStep : Lower.Step → Type 0
 IsNodeStep (ofNode n) = Unit {0}
@@ -210,7 +211,7 @@ unfolding Held elementNumber fold made elementStep
 rel-kind room sheet d i (node patternElement line PatternElement.Node (bind, (n, (p, (span, u)))) (names ▸ props ▸ end)) r hd e = absurd (step-apart e)
 rel-kind room sheet d i (node patternElement line PatternElement.Rel f kids) r hd e = element-number room (hd .1)
 
-module _ {a b : List ℕ} (d base : ℕ) (ch : Chain) {e₁ e₂ n₁ n₂ p₁ p₂ : ℕ} {os rest rest₁ rest₂ : List ℕ} {r₁ r₂ : Numbered} {m₃ m₄ : Mem} {c₅ : LowerCtx} {os₅ : List ℕ} (room : Roomy a b) (lb : base ≤ 2048) (sh : d ≤ 64) (st : Sturdy ch) (w1 : ch .waits ≡ 1) (h1 : ch .has ≡ 1) (k12 : cell a b (ch .next) 0 ≡ 12) (la : ch .next < 2048) (ep₁ : p₁ ≡ base + (ch .next + 1)) (nm₁ : Numbers (endpointVar (optionOf (cell a b (ch .next) 2) (cell a b (ch .next) 3))) p₁ (ch .ctx) rest rest₁ r₁) (lr₁ : length rest₁ ≡ length rest) (ep₂ : p₂ ≡ base + (ch .from + 1)) (nm₂ : Numbers (endpointVar (optionOf (cell a b (ch .from) 2) (cell a b (ch .from) 3))) p₂ (r₁ .ctx) rest₁ rest₂ r₂) (lr₂ : length rest₂ ≡ length rest₁) (en₁ : n₁ ≡ cell a b (ch .from) 10) (x₁ : LowersExprs a b n₁ 0 (d - 1) base (ch .from + 1 + cell a b (ch .from) 4) e₁ (mem (r₂ .ctx) os rest₂) m₃) (en₂ : n₂ ≡ cell a b (ch .next) 6) (x₂ : LowersExprs a b n₂ 0 (d - 1) base (ch .next + 1 + cell a b (ch .next) 4) e₂ m₃ m₄) (pe : Pushed (m₄ .ctx) c₅ (m₄ .ops) os₅ (expandOp (ch .from) (ch .last) (ch .origin) (ch .next) d base)) (lo : length os₅ ≡ length (m₄ .ops)) where
+module _ {a b : List ℕ} (d base : ℕ) (ch : Chain) {e₁ e₂ n₁ n₂ p₁ p₂ : ℕ} {os rest rest₁ rest₂ : List ℕ} {r₁ r₂ : Numbered} {m₃ m₄ : Mem} {c₅ : LowerCtx} {os₅ : List ℕ} (room : Roomy a b) (lb : base ≤ 2048) (sh : d ≤ 64) (st : Sturdy ch) (w1 : ch .waits ≡ 1) (h1 : ch .has ≡ 1) (k12 : cell a b (ch .next) 0 ≡ 12) (la : ch .next < 2048) (ep₁ : p₁ ≡ base + (ch .next + 1)) (nm₁ : Numbers (endpointVar (optionOf (cell a b (ch .next) 2) (cell a b (ch .next) 3))) p₁ (ch .ctx) rest rest₁ r₁) (lr₁ : length rest₁ ≡ length rest) (ep₂ : p₂ ≡ base + (ch .from + 1)) (nm₂ : Numbers (endpointVar (optionOf (cell a b (ch .from) 2) (cell a b (ch .from) 3))) p₂ (r₁ .ctx) rest₁ rest₂ r₂) (lr₂ : length rest₂ ≡ length rest₁) (en₁ : n₁ ≡ cell a b (ch .from) 10) (x₁ : LowersExprs a b n₁ 0 (d - 1) base (ch .from + 1 + cell a b (ch .from) 4) e₁ (mem (r₂ .ctx) os rest₂) m₃) (en₂ : n₂ ≡ cell a b (ch .next) 6) (x₂ : LowersExprs a b n₂ 0 (d - 1) base (ch .next + 1 + cell a b (ch .next) 4) e₂ m₃ m₄) (pe : Pushed (m₄ .ctx) c₅ (m₄ .ops) os₅ (expandOp (atPlace base (ch .from) d) (ch .last) (ch .origin) (ch .next))) (lo : length os₅ ≡ length (m₄ .ops)) where
   abbrev ch″ : Chain
   ch″ = nodeChain ch e₂ c₅ (m₄ .ctx .ops) (r₁ .number) 2
 

@@ -15,7 +15,7 @@ use Rattle.lower.specs.Render.{keptFrom}
 use Rattle.lower.specs.Rep.{State, mem, Written, Sub, Blank, Rep, Good}
 use Rattle.lower.specs.Pieces.{SomeTree}
 use Rattle.lower.specs.Patterns.{SomeTrees}
-use Rattle.lower.specs.Chains.{stepOf, Linked, Sturdy, Anchored, ChainedAll, LowersElement, LowersElements}
+use Rattle.lower.specs.Chains.{givenIf, stepOf, Linked, Sturdy, Anchored, ChainedAll, LowersElement, LowersElements}
 use Rattle.lower.specs.declared.Chain.{Chain}
 use Rattle.lower.specs.State.{sub-more, sub-within, blank-within, blank-behind, back, to-refl, to-then, to-wider}
 use Rattle.lower.specs.Exprs.{moved-refl, moved-then, good-after, narrow}
@@ -106,3 +106,8 @@ module _ {a b : List ℕ} {d base : ℕ} {Done : Chain → List ℕ → List ℕ
 
   pub done : {k : ℕ} {ch : Chain} {os rs : List ℕ} → k ≡ 0 → Left a b d base Done k ch os rs → Done ch os rs
   done {k} {ch} {os} {rs} h p = p .rest ch os rs (rw h (none-law d base ch os rs (p .sturdy) (p .anchored)))
+
+pub some-given : {A : Type 0} (h : ℕ) (x : A) → ((h ≡ 0) → ⊥) → givenIf h x ≡ some x
+unfolding givenIf
+some-given zero x n = absurd (n refl)
+some-given (suc h) x n = refl

@@ -11,9 +11,11 @@ use Rattle.model.specs.Tree.{Tree, Trees, []ᵗ, _∷ᵗ_, toList, fold}
 use Rattle.model.specs.Lower.{Lowering, _>>=_, ret, push, source, lowerParts}
 use Rattle.model.specs.Lower
 use Rattle.words.specs.Held.{Held, HeldOf, size, sizeOf}
-use Rattle.context.specs.Tables.{Op, Pushed}
+use Rattle.context.specs.Tables.{Pushed}
+use Rattle.context.specs.declared.op.Op.{Op}
 use Rattle.context.specs.declared.LowerCtx.{LowerCtx}
 use Rattle.context.specs.declared.Numbered.{Numbered}
+use Rattle.context.specs.Ops.{sourceAllOp}
 use Rattle.lower.specs.Shows.{Sane, shows-all}
 use Rattle.lower.specs.Rep.{State, Mem, mem, Written, Blank, Rep, Rooted, Good, Moved}
 use Rattle.lower.specs.Pieces.{SomeTree}
@@ -88,19 +90,16 @@ first-law i p q = record { moved = moved-within (omega arith) (le-refl _) (q .mo
 
 -- ── no parts ──
 
-abbrev pub allOp : ℕ → Op
-allOp number = record { kind = 0; idx = 0; input = 0; x = number; y = 0; left = 0; base = 0 }
-
-pub all-sane : (number : ℕ) → Sane (allOp number)
+pub all-sane : (number : ℕ) → Sane (sourceAllOp number)
 all-sane number = record { shallow = omega arith; near = omega arith; low = omega arith; far = λ e. absurd (omega arith); flagged = λ e. absurd (omega arith) }
 
-module _ {a b : List ℕ} (d base i : ℕ) (m : Mem) (f : Numbered) (c : LowerCtx) (os : List ℕ) (li : i < 2048) (fr : (f .number ≡ m .ctx .next) × (f .ctx .ops ≡ m .ctx .ops) × (f .ctx .next ≡ m .ctx .next + 1) × (f .ctx .mapped ≡ m .ctx .mapped)) (ps : Pushed (f .ctx) c (m .ops) os (allOp (f .number))) (lo : length os ≡ length (m .ops)) where
+module _ {a b : List ℕ} (d base i : ℕ) (m : Mem) (f : Numbered) (c : LowerCtx) (os : List ℕ) (li : i < 2048) (fr : (f .number ≡ m .ctx .next) × (f .ctx .ops ≡ m .ctx .ops) × (f .ctx .next ≡ m .ctx .next + 1) × (f .ctx .mapped ≡ m .ctx .mapped)) (ps : Pushed (f .ctx) c (m .ops) os (sourceAllOp (f .number))) (lo : length os ≡ length (m .ops)) where
   no-run : (sheet : Bytes) (ts : Trees patternPart 0) (W : Written) (s : State) → Rep sheet a b W s m → Rooted sheet a b W (partsL ts) (m .ctx .ops) base (suc (i + 1)) (suc (i + 1)) s m (mem c os (m .rest))
   unfolding lowerParts toList fold _>>=_ push
   no-run sheet []ᵗ W s r =
       let x = fresh-to m (f .ctx) r (fr .1) (fr .2) (fr .3) in
       let n : f .number ≡ Lower.fresh s .0 = fr .0 ∙ fresh-number m r in
-      let y = push-to (mem (f .ctx) (m .ops) (m .rest)) c os (allOp (f .number)) (source (Lower.fresh s .0) []) (x .rep) ps (λ N A z. record { sane = all-sane (f .number); shows = shows-all refl (ap (λ (q : ℕ). source q []) (sym n)) }) in
+      let y = push-to (mem (f .ctx) (m .ops) (m .rest)) c os (sourceAllOp (f .number)) (source (Lower.fresh s .0) []) (x .rep) ps (λ N A z. record { sane = all-sane (f .number); shows = shows-all refl (ap (λ (q : ℕ). source q []) (sym n)) }) in
       record { to = to-wider (sub-more (base + suc (i + 1), base + suc (i + 1)) W) (to-then x y); root = sym (fr .1) ∙ x .rep .count; low = let e : c .ops ≡ f .ctx .ops + 1 = ps .count in let e′ = fr .1 in omega arith }
 
   pub no-law : LowersParts a b 0 d base i (i + 1) (m .ctx .ops) m (mem c os (m .rest))

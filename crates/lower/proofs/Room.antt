@@ -24,11 +24,13 @@ use Rattle.lower.specs.declared.Chain.{Chain}
 use Rattle.model.specs.Tree.{Tree, node}
 use Rattle.words.specs.Words.{cell, Roomy, optionOf}
 use Rattle.words.specs.Held.{Held, size}
-use Rattle.context.specs.Tables.{Op, Pushed, Issued, Numbers, Indexed, varsAt}
+use Rattle.context.specs.Tables.{Pushed, Issued, Numbers, Indexed, varsAt}
+use Rattle.context.specs.declared.op.Op.{Op}
 use Rattle.context.specs.declared.LowerCtx.{LowerCtx}
 use Rattle.context.specs.declared.Numbered.{Numbered}
 use Rattle.model.specs.Lower.{Lowering, endpointVar}
-use Rattle.lower.specs.Rep.{Mem, mem, Good}
+use Rattle.context.specs.Ops.{Fits}
+use Rattle.lower.specs.Rep.{atPlace, Mem, mem, Good}
 use Rattle.lower.specs.Pieces.{SomeTree, SomeCarried, LowersExprs}
 
 deep-by : {s : Sort} (sheet : List ℕ) (a b : List ℕ) (t : Tree s) (d i : ℕ) → Held sheet a b t d i → (i < 2048) × (1 ≤ d)
@@ -59,6 +61,13 @@ module _ {d i : ℕ} {c : LowerCtx} {os rs : List ℕ} (g : Good d i (mem c os r
   -- an operator, and then what is behind the record
   pub pushed-on : {x : Op} {c′ : LowerCtx} {os′ : List ℕ} (d′ j : ℕ) → Pushed c c′ os os′ x → length os′ ≡ length os → d′ ≤ d → i + 1 ≤ j → j ≤ 2048 → Good d′ j (mem c′ os′ rs)
   pushed-on d′ j p l ld lj h = record { few = let x = g .few in let y = p .count in omega arith; low = let x = g .low in let y = p .next in omega arith; met = let x = g .met in let y = p .mapped in omega arith; here = h; in-ops = rw l (g .in-ops); in-rest = g .in-rest; index = rw (p .mapped) (g .index) }
+
+pub good-at : {d i j : ℕ} {m : Mem} → i ≡ j → Good d i m → Good d j m
+good-at e g = rw e at g
+
+-- a place's numbers fit into words
+pub fits : {base i d : ℕ} → base ≤ 2048 → i ≤ 2048 → d ≤ 64 → Fits (atPlace base i d)
+fits lb li ld = record { base = omega arith; i = omega arith; left = omega arith }
 
 pub few-ops : {d i : ℕ} {m : Mem} → Good d i m → m .ctx .ops < 40000
 few-ops g = let x = g .few in let y = g .here in omega arith

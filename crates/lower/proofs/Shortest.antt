@@ -14,7 +14,7 @@ use Rattle.model.specs.Tree.{Tree, Trees, []ᵗ, _∷ᵗ_, toList, fold, foldOf
 use Rattle.model.specs.Lower.{Recs, Lowered, made, _>>=_, ret, push, op, endpointVar, propsOf, lowerRelElement, lowerShortestPathPart, shapeOf, lowerShaped, lowerPatternPart, lowerChain, NodeStep, RelStep, Step, ofNode, ofRel, nodeRelNode, other}
 use Rattle.model.specs.Lower
 use Rattle.words.specs.Held.{Held, HeldOf, size, sizeOf}
-use Rattle.context.specs.Tables.{Op}
+use Rattle.context.specs.declared.op.Op.{Op}
 use Rattle.lower.specs.Render.{Notes, Ops, renderOf, specRecs}
 use Rattle.lower.specs.Rep.{State}
 use Rattle.lower.specs.Pieces.{lowerC, renderC}
@@ -22,9 +22,6 @@ use Rattle.lower.specs.Chains.{stepOf, stepsOf, startL}
 use Rattle.lower.specs.Carry.{plainC, plain-render}
 use Rattle.lower.proofs.Elements.{names-render, names-count, props-lower, props-has}
 use Rattle.lower.proofs.Elements
-
-abbrev pub shortOp : (i input rel far d base : ℕ) → Op
-shortOp i input rel far d base = record { kind = 4; idx = i; input = input; x = rel; y = far; left = d; base = base }
 
 -- what the definition's steps make of it
 module _ (o br bt : Option ℕ) (n b : NodeStep) {k : ℕ} (types : Trees name k) (p : Bool) (props : Trees expr (one p)) (r : RelStep) (er : r ≡ record { bind = br; types = toList k (foldOf Lowered made types); direction = r .direction; length = r .length; props = propsOf p (foldOf Lowered made props) }) (eb : b .bind ≡ bt) (s : State) where

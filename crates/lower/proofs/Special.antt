@@ -20,10 +20,11 @@ use Rattle.words.specs.Held.{Held, size}
 use Rattle.context.specs.Tables.{Pushed, Numbers}
 use Rattle.context.specs.declared.LowerCtx.{LowerCtx}
 use Rattle.context.specs.declared.Numbered.{Numbered}
+use Rattle.context.specs.Ops.{shortestPathOp}
 use Rattle.lower.specs.Count.{Ends}
 use Rattle.lower.specs.Render.{renderOf}
 use Rattle.lower.specs.Shows.{shift, Sane, shows-short}
-use Rattle.lower.specs.Rep.{State, Mem, mem, Written, Sub, Blank, Rep, Rooted, Moved}
+use Rattle.lower.specs.Rep.{atPlace, State, Mem, mem, Written, Sub, Blank, Rep, Rooted, Moved}
 use Rattle.lower.specs.Pieces.{lowerC, SomeTree, LowersExprs}
 use Rattle.lower.specs.Patterns.{partL, LowersPart}
 use Rattle.lower.specs.Chains.{stepsOf, startL, LowersStart, LowersRel}
@@ -34,7 +35,7 @@ use Rattle.lower.specs.Carry.{plainC, plain-held, plain-size, plain-belo
 use Rattle.lower.proofs.Elements.{a-node, a-rel}
 use Rattle.lower.proofs.Elements
 use Rattle.lower.proofs.Chaining.{IsPart, a-part}
-use Rattle.lower.proofs.Shortest.{shortOp, shortRecs, short-def, short-is, special-part, Three, three, spots, at-place, place-at}
+use Rattle.lower.proofs.Shortest.{shortRecs, short-def, short-is, special-part, Three, three, spots, at-place, place-at}
 
 one-more : {k n : ℕ} → n ≡ k + 1 → k < n
 one-more e = omega arith
@@ -43,12 +44,12 @@ shape-three : (ss : List Step) (x y z : Step) (n b : NodeStep) (r : RelStep) →
 unfolding shapeOf
 shape-three ss x y z n b r e ex ey ez = rw (e, ex, ey, ez)
 
-short-sane : (i input rel far d base : ℕ) → d ≤ 64 → base ≤ 2048 → i < 2048 → far < 2048 → Sane (shortOp i input rel far (d - 1) base)
+short-sane : (i input rel far d base : ℕ) → d ≤ 64 → base ≤ 2048 → i < 2048 → far < 2048 → Sane (shortestPathOp (atPlace base i (d - 1)) input rel far)
 short-sane i input rel far d base sh lb l h = record { shallow = omega arith; near = lb; low = l; far = λ e. h; flagged = λ e. absurd (omega arith) }
 
 module _ {a b : List ℕ} (d base i rel far e : ℕ) {p₁ p₃ p₄ e₁ e₂ k₁ : ℕ} {c₀ : LowerCtx} {os rest rest₁ rest₄ rest₅ os₆ : List ℕ} {r₁ r₃ r₄ : Numbered} {m₂ m₃ : Mem} {c₆ : LowerCtx} (room : Roomy a b) (lb : base ≤ 2048) (sh : d ≤ 64) (k4 : (cell a b i 4 ≡ 0) → ⊥) (k6 : cell a b i 6 ≡ 3) (ka : cell a b (i + 1) 0 ≡ 12) (kr : cell a b rel 0 ≡ 13) (kf : cell a b far 0 ≡ 12) (na : Ends a b (i + 1) rel) (nr : Ends a b rel far) (nf : Ends a b far e)
     (ep₁ : p₁ ≡ base + (i + 1 + 1)) (nm₁ : Numbers (endpointVar (optionOf (cell a b (i + 1) 2) (cell a b (i + 1) 3))) p₁ c₀ rest rest₁ r₁) (lr₁ : length rest₁ ≡ length rest) (ls : LowersStart a b (d - 1) base (i + 1) (r₁ .number) e₁ k₁ (mem (r₁ .ctx) os rest₁) m₂) (lr : LowersRel a b (d - 1) base rel e₂ (m₂ .ctx) (m₂ .ops) (m₂ .rest) m₃)
-    (ep₃ : p₃ ≡ base + (far + 1)) (nm₃ : Numbers (endpointVar (optionOf (cell a b far 2) (cell a b far 3))) p₃ (m₃ .ctx) (m₃ .rest) rest₄ r₃) (lr₃ : length rest₄ ≡ length (m₃ .rest)) (ep₄ : p₄ ≡ base + (i + 1)) (nm₄ : Numbers (endpointVar (optionOf (cell a b i 2) (cell a b i 3))) p₄ (r₃ .ctx) rest₄ rest₅ r₄) (lr₄ : length rest₅ ≡ length rest₄) (pp : Pushed (r₄ .ctx) c₆ (m₃ .ops) os₆ (shortOp i k₁ rel far (d - 1) base)) (lo : length os₆ ≡ length (m₃ .ops)) where
+    (ep₃ : p₃ ≡ base + (far + 1)) (nm₃ : Numbers (endpointVar (optionOf (cell a b far 2) (cell a b far 3))) p₃ (m₃ .ctx) (m₃ .rest) rest₄ r₃) (lr₃ : length rest₄ ≡ length (m₃ .rest)) (ep₄ : p₄ ≡ base + (i + 1)) (nm₄ : Numbers (endpointVar (optionOf (cell a b i 2) (cell a b i 3))) p₄ (r₃ .ctx) rest₄ rest₅ r₄) (lr₄ : length rest₅ ≡ length rest₄) (pp : Pushed (r₄ .ctx) c₆ (m₃ .ops) os₆ (shortestPathOp (atPlace base i (d - 1)) k₁ rel far)) (lo : length os₆ ≡ length (m₃ .ops)) where
   -- the three elements, and where they end
   pub record Sits (sheet : Bytes) (t : Tree patternPart) (v : IsPart sheet a b d i t) : Type 0 where
     pub trees : Three (v .elements)
@@ -147,7 +148,7 @@ module _ {a b : List ℕ} (d base i rel far e : ℕ) {p₁ p₃ p₄ e₁ e₂ k
       let s₅ : State = endpointVar bt s₄ .1 in
       let g₆ : Given sheet a b W₅ s₅ (endpointVar o) (base + suc i) (mem (r₃ .ctx) (m₃ .ops) rest₄) rest₅ r₄ = number-to (endpointVar o) (base + suc i) (mem (r₃ .ctx) (m₃ .ops) rest₄) rest₅ r₄ (g₅ .to .rep) (rw (place-at p₄ base i ep₄) at nm₄) (blank-before (P .i1f) (blank-before (P .i1t) (blank-before (P .i1r) (blank-before (P .i1j1) (blank-before (P .i1j) (blank-within (le-refl _) (P .i1e) bl)))))) in
       let recs : Recs = shortRecs o br bt n₀ b₀ (vr .el .names) (vr .el .p) (vr .el .props) r₀ refl refl s all in
-      let y₇ = push-to (mem (r₄ .ctx) (m₃ .ops) rest₅) c₆ os₆ (shortOp i k₁ rel far (d - 1) base) recs (g₆ .to .rep) pp
+      let y₇ = push-to (mem (r₄ .ctx) (m₃ .ops) rest₅) c₆ os₆ (shortestPathOp (atPlace base i (d - 1)) k₁ rel far) recs (g₆ .to .rep) pp
       (λ N A f.
       let f₅ = back (g₆ .to) f in
       let f₄ = back (g₅ .to) f₅ in

@@ -12,21 +12,17 @@ use Rattle.model.specs.Tree.{Tree, toList, foldOf}
 use Rattle.model.specs.Lower.{Recs, Lowered, made, _>>=_, ret, push, op, source, filter, filterByProps, propsOf, lowerExpr, NodeStep, ofNode, at}
 use Rattle.words.specs.Words.{Roomy, cell, optionOf}
 use Rattle.words.specs.Held.{Held}
-use Rattle.context.specs.Tables.{Op, Pushed}
+use Rattle.context.specs.Tables.{Pushed}
+use Rattle.context.specs.declared.op.Op.{Op}
 use Rattle.context.specs.declared.LowerCtx.{LowerCtx}
+use Rattle.context.specs.Ops.{filterOp, sourceOp}
 use Rattle.lower.specs.Shows.{shift, shows-source, shows-filter}
-use Rattle.lower.specs.Rep.{State, Mem, mem, Written, Blank, Rep, To, Rooted}
+use Rattle.lower.specs.Rep.{atPlace, State, Mem, mem, Written, Blank, Rep, To, Rooted}
 use Rattle.lower.specs.Pieces.{SomeTree, LowersExpr}
 use Rattle.lower.specs.Chains.{stepOf, startL, LowersStart}
 use Rattle.lower.specs.State.{sub-more, sub-within, blank-within, to-then, to-wider, push-to}
 use Rattle.lower.specs.Fits.{tree-fits, tree-low}
 use Rattle.lower.proofs.Elements.{names-render, a-node, OneProp, one-prop, no-prop, same-node}
-
-abbrev pub sourceOp : (i number d base : ℕ) → Op
-sourceOp i number d base = record { kind = 1; idx = i; input = 0; x = number; y = 0; left = d - 1; base = base }
-
-abbrev pub filterOp : (i input d base : ℕ) → Op
-filterOp i input d base = record { kind = 2; idx = i; input = input; x = 0; y = 0; left = d - 1; base = base }
 
 module _ {a b : List ℕ} (d i : ℕ) (room : Roomy a b) (k12 : cell a b i 0 ≡ 12) where
   pub some-end : SomeTree a b patternElement d i → i + 1 + cell a b i 4 ≤ 2048
@@ -64,13 +60,13 @@ filter-is : (k k′ : ℕ) (rs rs′ : Recs) → k ≡ k′ → rs ≡ rs′ →
 unfolding filter
 filter-is k k′ rs rs′ e e′ = rw (e, e′)
 
-module _ {a b : List ℕ} {base number : ℕ} {c : LowerCtx} {os′ : List ℕ} {m : Mem} (d i : ℕ) (room : Roomy a b) (k12 : cell a b i 0 ≡ 12) (sh : (d ≤ 64) × (base ≤ 2048)) (ps : Pushed (m .ctx) c (m .ops) os′ (sourceOp i number d base)) (lo : length os′ ≡ length (m .ops)) where
+module _ {a b : List ℕ} {base number : ℕ} {c : LowerCtx} {os′ : List ℕ} {m : Mem} (d i : ℕ) (room : Roomy a b) (k12 : cell a b i 0 ≡ 12) (sh : (d ≤ 64) × (base ≤ 2048)) (ps : Pushed (m .ctx) c (m .ops) os′ (sourceOp (atPlace base i (d - 1)) number)) (lo : length os′ ≡ length (m .ops)) where
   -- the source
   source-to : (sheet : Bytes) (t : Tree patternElement) (n : NodeStep) → Held sheet a b t d i → stepOf t ≡ ofNode n → (W : Written) (s : State) → Rep sheet a b W s m → To sheet a b W W s (push (source number (n .labels)) s .1) m (mem c os′ (m .rest))
   source-to sheet t n hd st W s r =
       let v = a-node room t hd k12 in
       let e : n ≡ record { bind = optionOf (cell a b i 2) (cell a b i 3); labels = toList (v .el .n) (foldOf Lowered made (v .el .names)); props = propsOf (v .el .p) (foldOf Lowered made (v .el .props)) } = same-node (sym st ∙ v .step) in
-      push-to m c os′ (sourceOp i number d base) (source number (n .labels)) r ps
+      push-to m c os′ (sourceOp (atPlace base i (d - 1)) number) (source number (n .labels)) r ps
       (λ N A f. record {
         sane = record { shallow = let z = sh .0 in omega arith; near = sh .1; low = tree-low sheet a b t d i hd; far = λ e. absurd (omega arith); flagged = λ e. absurd (omega arith) };
         shows = shows-source refl (record {
@@ -105,7 +101,7 @@ module _ {a b : List ℕ} {base number : ℕ} {c : LowerCtx} {os′ : List ℕ} 
           run = λ sheet t n hd st W s r bl. bare-run sheet t n hd st W s r;
         }
 
-  module _ {e : ℕ} {c₃ : LowerCtx} {os₃ : List ℕ} {m₂ : Mem} (k6 : (cell a b i 6 ≡ 0) → ⊥) (ex : LowersExpr a b (d - 1) base (i + 1 + cell a b i 4) e (mem c os′ (m .rest)) m₂) (pf : Pushed (m₂ .ctx) c₃ (m₂ .ops) os₃ (filterOp (i + 1 + cell a b i 4) (m .ctx .ops) d base)) (lo₃ : length os₃ ≡ length (m₂ .ops)) where
+  module _ {e : ℕ} {c₃ : LowerCtx} {os₃ : List ℕ} {m₂ : Mem} (k6 : (cell a b i 6 ≡ 0) → ⊥) (ex : LowersExpr a b (d - 1) base (i + 1 + cell a b i 4) e (mem c os′ (m .rest)) m₂) (pf : Pushed (m₂ .ctx) c₃ (m₂ .ops) os₃ (filterOp (atPlace base (i + 1 + cell a b i 4) (d - 1)) (m .ctx .ops))) (lo₃ : length os₃ ≡ length (m₂ .ops)) where
     prop-at : (sheet : Bytes) (t : Tree patternElement) (hd : Held sheet a b t d i) → OneProp (a-node room t hd k12 .el .p) (a-node room t hd k12 .el .props)
     prop-at sheet t hd = let v = a-node room t hd k12 .el in one-prop (v .p) (v .props) (λ z. k6 (sym (v .flagged) ∙ z))
 
@@ -122,7 +118,7 @@ module _ {a b : List ℕ} {base number : ℕ} {c : LowerCtx} {os′ : List ℕ} 
         let a₁ = source-to sheet t n hd st W s r in
         let a₂ = ex .run sheet (o .tree) (prop-held sheet t hd) W (sourced number n s) (a₁ .rep) (blank-within (omega arith) (le-refl _) bl) in
         let s₂ : State = lowerExpr (o .tree) (sourced number n s) .1 in
-        let a₃ = push-to m₂ c₃ os₃ (filterOp j (m .ctx .ops) d base) (filter (length (s .ops)) (lowerExpr (o .tree) (sourced number n s) .0)) (a₂ .to .rep) pf
+        let a₃ = push-to m₂ c₃ os₃ (filterOp (atPlace base j (d - 1)) (m .ctx .ops)) (filter (length (s .ops)) (lowerExpr (o .tree) (sourced number n s) .0)) (a₂ .to .rep) pf
         (λ N A f. record {
           sane = record { shallow = let y = sh .0 in omega arith; near = sh .1; low = tree-low sheet a b (o .tree) (d - 1) j (prop-held sheet t hd); far = λ e. absurd (omega arith); flagged = λ e. absurd (omega arith) };
           shows = shows-filter refl (record {
@@ -149,3 +145,7 @@ module _ {a b : List ℕ} {base number : ℕ} {c : LowerCtx} {os′ : List ℕ} 
           next = λ sheet t hd. (let w = a-node room t hd k12 .el in let q = ex .next sheet (prop-at sheet t hd .tree) (prop-held sheet t hd) in let y = w .sized in let x = w .many in let z = prop-at sheet t hd .sized in omega arith);
           run = filtered-run;
         }
+
+-- the same, with the count of labels as it was read
+pub filtered-read : {a b : List ℕ} {base number e : ℕ} {c c₃ : LowerCtx} {os′ os₃ : List ℕ} {m m₂ : Mem} (d i n : ℕ) → Roomy a b → cell a b i 0 ≡ 12 → (d ≤ 64) × (base ≤ 2048) → n ≡ cell a b i 4 → Pushed (m .ctx) c (m .ops) os′ (sourceOp (atPlace base i (d - 1)) number) → length os′ ≡ length (m .ops) → ((cell a b i 6 ≡ 0) → ⊥) → LowersExpr a b (d - 1) base (i + 1 + n) e (mem c os′ (m .rest)) m₂ → Pushed (m₂ .ctx) c₃ (m₂ .ops) os₃ (filterOp (atPlace base (i + 1 + n) (d - 1)) (m .ctx .ops)) → length os₃ ≡ length (m₂ .ops) → LowersStart a b d base i number e (m₂ .ctx .ops) m (mem c₃ os₃ (m₂ .rest))
+filtered-read d i n room k12 sh en ps lo k6 ex pf lo₃ = filtered-law d i room k12 sh ps lo k6 (rw en at ex) (rw en at pf) lo₃

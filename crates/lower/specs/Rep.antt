@@ -9,6 +9,7 @@ use Rattle.model.specs.Lower.{Recs, Lowering, at}
 use Rattle.model.specs.Lower
 use Rattle.context.specs.Tables.{stateOf, opAt, varsAt, maxStored, Indexed}
 use Rattle.context.specs.declared.LowerCtx.{LowerCtx}
+use Rattle.context.specs.declared.At.{At}
 use Rattle.lower.specs.Render.{Notes, Ops}
 use Rattle.lower.specs.Shows.{Stored, shift}
 
@@ -23,6 +24,10 @@ pub record Mem : Type 0 where
 
 abbrev pub mem : LowerCtx → List ℕ → List ℕ → Mem
 mem c os rs = record { ctx = c; ops = os; rest = rs }
+
+-- where something is lowered
+abbrev pub atPlace : (base i left : ℕ) → At
+atPlace base i left = record { base = base; i = i; left = left }
 
 abbrev pub notes : Mem → Notes
 notes m q = getD (m .rest) q 0

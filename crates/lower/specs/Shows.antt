@@ -13,7 +13,8 @@ use Rattle.model.specs.Tree.{Tree, Trees}
 use Rattle.model.specs.Lower.{Recs, op, source, pathElements}
 use Rattle.words.specs.Words.{cell, optionOf}
 use Rattle.words.specs.Held.{Held, HeldOf, RecordAt, sizeOf}
-use Rattle.context.specs.Tables.{Op}
+use Rattle.context.specs.declared.op.Op.{Op}
+use Rattle.context.specs.Ops.{sourceAllKind, sourceKind, filterKind, expandKind, shortestPathKind, bindPathKind, optionalJoinKind, withKind, projectKind, aggregateKind, orderByKind, skipKind, limitKind, distinctKind, unwindKind, unionKind, procedureCallKind}
 use Rattle.lower.specs.Render.{Notes, Ops, render, renderOf, Below, BelowOf, specRecs, KidsBelow, keptFrom, keyRecs, aggRecs}
 
 -- the notes of a pass stand from b on
@@ -25,8 +26,8 @@ pub record Sane (o : Op) : Type 0 where
   pub shallow : o .left ≤ 64
   pub near : o .base ≤ 2048
   pub low : o .idx < 2048
-  pub far : o .kind ≡ 4 → o .y < 2048
-  pub flagged : o .kind ≡ 15 → o .y ≤ 1
+  pub far : o .kind ≡ shortestPathKind → o .y < 2048
+  pub flagged : o .kind ≡ unionKind → o .y ≤ 1
 
 module _ (sheet : Bytes) (a b : List ℕ) (N : Notes) (A : Ops) (k : ℕ) (o : Op) where
   -- a record over one expression
@@ -126,23 +127,23 @@ module _ (sheet : Bytes) (a b : List ℕ) (N : Notes) (A : Ops) (k : ℕ) (o : O
 
   -- operator k
   pub data Shows (recs : Recs) : Type 0 where
-    shows-all : o .kind ≡ 0 → recs ≡ source (o .x) [] → Shows recs
-    shows-source : o .kind ≡ 1 → ByLabels recs → Shows recs
-    shows-filter : o .kind ≡ 2 → OverExpr (op ReadOp.Filter (o .input, tt)) recs → Shows recs
-    shows-expand : o .kind ≡ 3 → ByRel recs → Shows recs
-    shows-short : o .kind ≡ 4 → ByShortest recs → Shows recs
-    shows-path : o .kind ≡ 5 → ByPath recs → Shows recs
-    shows-optional : o .kind ≡ 6 → o .x < k → recs ≡ op ReadOp.OptionalJoin (o .input, tt) ∷ A (o .x) → Shows recs
-    shows-with : o .kind ≡ 7 → ByWith recs → Shows recs
-    shows-project : o .kind ≡ 8 → ByItems recs → Shows recs
-    shows-aggregate : o .kind ≡ 9 → ByParted recs → Shows recs
-    shows-order : o .kind ≡ 10 → ByKeys recs → Shows recs
-    shows-skip : o .kind ≡ 11 → OverExpr (op ReadOp.Skip (o .input, tt)) recs → Shows recs
-    shows-limit : o .kind ≡ 12 → OverExpr (op ReadOp.Limit (o .input, tt)) recs → Shows recs
-    shows-distinct : o .kind ≡ 13 → recs ≡ op ReadOp.Distinct (o .input, tt) ∷ [] → Shows recs
-    shows-unwind : o .kind ≡ 14 → OverExpr (op ReadOp.Unwind (o .input, (o .x, tt))) recs → Shows recs
-    shows-union : o .kind ≡ 15 → recs ≡ op ReadOp.Union (o .input, (o .x, (eqb (o .y) 1, tt))) ∷ [] → Shows recs
-    shows-call : o .kind ≡ 16 → ByCall recs → Shows recs
+    shows-all : o .kind ≡ sourceAllKind → recs ≡ source (o .x) [] → Shows recs
+    shows-source : o .kind ≡ sourceKind → ByLabels recs → Shows recs
+    shows-filter : o .kind ≡ filterKind → OverExpr (op ReadOp.Filter (o .input, tt)) recs → Shows recs
+    shows-expand : o .kind ≡ expandKind → ByRel recs → Shows recs
+    shows-short : o .kind ≡ shortestPathKind → ByShortest recs → Shows recs
+    shows-path : o .kind ≡ bindPathKind → ByPath recs → Shows recs
+    shows-optional : o .kind ≡ optionalJoinKind → o .x < k → recs ≡ op ReadOp.OptionalJoin (o .input, tt) ∷ A (o .x) → Shows recs
+    shows-with : o .kind ≡ withKind → ByWith recs → Shows recs
+    shows-project : o .kind ≡ projectKind → ByItems recs → Shows recs
+    shows-aggregate : o .kind ≡ aggregateKind → ByParted recs → Shows recs
+    shows-order : o .kind ≡ orderByKind → ByKeys recs → Shows recs
+    shows-skip : o .kind ≡ skipKind → OverExpr (op ReadOp.Skip (o .input, tt)) recs → Shows recs
+    shows-limit : o .kind ≡ limitKind → OverExpr (op ReadOp.Limit (o .input, tt)) recs → Shows recs
+    shows-distinct : o .kind ≡ distinctKind → recs ≡ op ReadOp.Distinct (o .input, tt) ∷ [] → Shows recs
+    shows-unwind : o .kind ≡ unwindKind → OverExpr (op ReadOp.Unwind (o .input, (o .x, tt))) recs → Shows recs
+    shows-union : o .kind ≡ unionKind → recs ≡ op ReadOp.Union (o .input, (o .x, (eqb (o .y) 1, tt))) ∷ [] → Shows recs
+    shows-call : o .kind ≡ procedureCallKind → ByCall recs → Shows recs
 
   -- operator k, as it is stored
   pub record Stored (recs : Recs) : Type 0 where

@@ -10,7 +10,11 @@ ghost use Rattle.lower.specs.Rep.{mem, Good};
 ghost use Rattle.lower.specs.Pieces.{SomeTree, SomeCarried, LowersExpr, LowersExprs};
 ghost use Rattle.lower.specs.Patterns.{SomeTrees, LowersPart, LowersParts};
 ghost use Rattle.lower.specs.Chains.{givenIf, Sturdy, Anchored, LowersElement, LowersElements, LowersStart, LowersRel, OrSource, LowersChain, elementOf, startChain, Special, Starts};
+ghost use Rattle.context.specs.Ops.{beforeOf, Under};
+use context::At;
+use context::Before;
 use context::LowerCtx;
+use context::op;
 
 pub mod records;
 
@@ -58,26 +62,33 @@ fn read_element(a: &[u32], b: &[u32], i: usize) -> Element
 }
 
 // The operator before, or a source of everything, which names the next number and does not take it.
-pub fn or_source_all(ops: &mut [u32], ctx: LowerCtx, has: u32, last: usize, next: usize) -> Root
+pub fn or_source_all(ops: &mut [u32], ctx: LowerCtx, current: Before, next: usize) -> Root
     requires { ⌜ (ctx .ops < 65535) × (16384 ≤ length (now ops)) ⌝ }
-    requires { ⌜ ((has ≡ 0 → ⊥) → last < ctx .ops) ⌝ }
-    ensures { λ r. ⌜ (r .next ≡ next) × ((rest : List ℕ) → OrSource (orSourceAll (givenIf has last)) (r .op) (mem ctx (now (ops .entry)) rest) (mem (r .ctx) (now (ops .exit)) rest)) ⌝ }
+    requires { ⌜ Under current (ctx .ops) ⌝ }
+    ensures { λ r. ⌜ (r .next ≡ next) × ((rest : List ℕ) → OrSource (orSourceAll (beforeOf current)) (r .op) (mem ctx (now (ops .entry)) rest) (mem (r .ctx) (now (ops .exit)) rest)) ⌝ }
 {
-    if has != 0 {
-        return Root {
-            next,
-            op: last,
-            ctx,
-        };
+    match current {
+        Before::Op(k) => Root { next, op: k, ctx },
+        Before::Nothing => {
+            let k = ctx.ops;
+            let c = ctx.push(ops, op::source_all(ctx.next));
+            Root {
+                next,
+                op: k,
+                ctx: c,
+            }
+        }
     }
-    let k = ctx.ops;
-    let n = ctx.next;
-    let c = ctx.push(ops, 0, 0, 0, n, 0, 0, 0);
-    Root {
-        next,
-        op: k,
-        ctx: c,
+}
+
+// The root of a chain so far, if it has one.
+fn root_of(has: u32, last: usize) -> Before
+    ensures { λ r. ⌜ beforeOf r ≡ givenIf has last ⌝ }
+{
+    if has == 0 {
+        return Before::Nothing;
     }
+    Before::Op(last)
 }
 
 // A pattern of no parts: a source that does take a number.
@@ -88,7 +99,7 @@ fn lower_no_parts(ops: &mut [u32], ctx: LowerCtx, next: usize) -> Root
     let k = ctx.ops;
     let f = ctx.fresh();
     let c = f.ctx;
-    let z = c.push(ops, 0, 0, 0, f.number, 0, 0, 0);
+    let z = c.push(ops, op::source_all(f.number));
     Root {
         next: next + 1,
         op: k,
@@ -295,16 +306,12 @@ fn lower_shortest_path_part(
     let path = f.endpoint_var(rest, named, id, base + first);
     let g = path.ctx;
     let k = g.ops;
-    let z = g.push(
-        ops,
-        4,
-        i as u32,
-        r.op as u32,
-        rel as u32,
-        far as u32,
-        less as u32,
-        base as u32,
-    );
+    let at = At {
+        base,
+        i,
+        left: less,
+    };
+    let z = g.push(ops, op::shortest_path(at, r.op, rel, far));
     let end = records::skip(a, b, far);
     Root {
         next: end,
@@ -333,7 +340,8 @@ fn lower_chain(
     let less = left - 1;
     let ch = lower_elements(a, b, ops, rest, ctx, base, i, n, less);
     let c = ch.ctx;
-    let q = or_source_all(ops, c, ch.has, ch.last, ch.next);
+    let root = root_of(ch.has, ch.last);
+    let q = or_source_all(ops, c, root, ch.next);
     let named = words::word(a, b, i, 2);
     if named == 0 {
         return q;
@@ -343,16 +351,12 @@ fn lower_chain(
     let m = d.number(rest, id, base + (i + 1));
     let e = m.ctx;
     let k = e.ops;
-    let z = e.push(
-        ops,
-        5,
-        i as u32,
-        q.op as u32,
-        ch.kept,
-        m.number,
-        less as u32,
-        base as u32,
-    );
+    let at = At {
+        base,
+        i,
+        left: less,
+    };
+    let z = e.push(ops, op::bind_path(at, q.op, ch.kept, m.number));
     Root {
         next: q.next,
         op: k,
@@ -516,16 +520,8 @@ fn expand_to(
     );
     let f = t.ctx;
     let k = f.ops;
-    let z = f.push(
-        ops,
-        3,
-        rel as u32,
-        ch.last as u32,
-        ch.origin,
-        at as u32,
-        left as u32,
-        base as u32,
-    );
+    let place = At { base, i: rel, left };
+    let z = f.push(ops, op::expand(place, ch.last, ch.origin, at));
     Chain {
         next: t.next,
         ctx: z,
@@ -560,7 +556,12 @@ fn start_node(
     let first = i + 1 + labels;
     let less = left - 1;
     let k = ctx.ops;
-    let p = ctx.push(ops, 1, i as u32, 0, number, 0, less as u32, base as u32);
+    let at = At {
+        base,
+        i,
+        left: less,
+    };
+    let p = ctx.push(ops, op::source(at, number));
     if props == 0 {
         return Root {
             next: first,
@@ -571,16 +572,12 @@ fn start_node(
     let s = lower_expr(a, b, ops, rest, p, base, first, less);
     let c = s.ctx;
     let r = c.ops;
-    let z = c.push(
-        ops,
-        2,
-        first as u32,
-        k as u32,
-        0,
-        0,
-        less as u32,
-        base as u32,
-    );
+    let by = At {
+        base,
+        i: first,
+        left: less,
+    };
+    let z = c.push(ops, op::filter(by, k));
     Root {
         next: s.next,
         op: r,

@@ -1,5 +1,6 @@
 use Rattle.context.proofs.Laws
 use lib.ListN.{length-set}
+use mathlib.Core.Path.{refl}
 use native.Mathlib.Omega.{arith}
 use borrow.Author.Needs.{needs}
 use Rattle.context.proofs.LowerCtx.push.Statement.{statement}
@@ -33,5 +34,5 @@ push-spec =
     (λ c. search needs)
     (λ c. search needs)
     (λ c. simp length-set (omega arith))
-    (λ c. search needs)
-    (λ c. Laws.stored _ _ _ _ _ _ _ _ _ (omega arith) ((c .before .pre .1))))
+    (λ c. simp length-set refl)
+    (λ c. Laws.stored _ _ _ (omega arith) ((c .before .pre .1))))

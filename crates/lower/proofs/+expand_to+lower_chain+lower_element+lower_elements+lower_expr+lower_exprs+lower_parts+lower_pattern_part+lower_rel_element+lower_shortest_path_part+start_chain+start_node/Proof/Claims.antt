@@ -41,9 +41,15 @@ use Rattle.lower.proofs.+expand_to+lower_chain+lower_element+lower_elem
 use Rattle.context.proofs.LowerCtx.endpoint_var.Reads as endpoint-var-reads
 use Rattle.context.proofs.LowerCtx.number.Reads as number-reads
 use Rattle.context.proofs.LowerCtx.push.Reads as push-reads
+use Rattle.context.proofs.op.source.Reads as source-reads
+use Rattle.context.proofs.op.filter.Reads as filter-reads
+use Rattle.context.proofs.op.expand.Reads as expand-reads
+use Rattle.context.proofs.op.shortest_path.Reads as shortest-path-reads
+use Rattle.context.proofs.op.bind_path.Reads as bind-path-reads
 use Rattle.context.proofs.note.Reads as note-reads
 use Rattle.lower.proofs.lower_no_parts.Reads as lower-no-parts-reads
 use Rattle.lower.proofs.or_source_all.Reads as or-source-all-reads
+use Rattle.lower.proofs.root_of.Reads as root-of-reads
 use Rattle.lower.proofs.read_element.Reads as read-element-reads
 use Rattle.lower.proofs.records.children.Reads as children-reads
 use Rattle.lower.proofs.records.count.Reads as count-reads
@@ -229,6 +235,8 @@ expand-to-calls t = (
   count-reads.Learnt,
   lower-exprs-below t,
   lower-exprs.Post,
+  expand-reads.Asked,
+  expand-reads.Learnt,
   push-reads.Asked,
   push-reads.Learnt,
 )
@@ -239,12 +247,16 @@ lower-chain-calls t = (
   count-reads.Learnt,
   lower-elements-below t,
   lower-elements.Post,
+  root-of-reads.Asked,
+  root-of-reads.Learnt,
   or-source-all-reads.Asked,
   or-source-all-reads.Learnt,
   word-reads.Asked,
   word-reads.Learnt,
   number-reads.Asked,
   number-reads.Learnt,
+  bind-path-reads.Asked,
+  bind-path-reads.Learnt,
   push-reads.Asked,
   push-reads.Learnt,
 )
@@ -327,6 +339,8 @@ lower-shortest-path-part-calls t = (
   start-node.Post,
   lower-rel-element-below t,
   lower-rel-element.Post,
+  shortest-path-reads.Asked,
+  shortest-path-reads.Learnt,
   push-reads.Asked,
   push-reads.Learnt,
   skip-reads.Asked,
@@ -343,8 +357,12 @@ start-node-calls t = (
   count-reads.Learnt,
   word-reads.Asked,
   word-reads.Learnt,
+  source-reads.Asked,
+  source-reads.Learnt,
   push-reads.Asked,
   push-reads.Learnt,
   lower-expr-below t,
   lower-expr.Post,
+  filter-reads.Asked,
+  filter-reads.Learnt,
 )

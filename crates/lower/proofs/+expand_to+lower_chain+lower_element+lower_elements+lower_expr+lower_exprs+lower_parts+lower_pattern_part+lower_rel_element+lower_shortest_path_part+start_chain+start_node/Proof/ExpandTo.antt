@@ -1,5 +1,7 @@
 -- `expand_to`, of the cycle.
 use Prim.Native.Nat.{_+_, ℕ}
+use Rattle.context.specs.OpLaws.{pushed-as}
+use Rattle.lower.proofs.Reading.{endpoint-read, exprs-behind}
 use Rattle.lower.proofs.Linking
 use Rattle.lower.specs.Exprs
 use Rattle.lower.proofs.Room
@@ -17,8 +19,11 @@ module _ (t : ℕ) where
   here X = X (expand-to-calls t) (expand-to-at t) reads.Post
 
   -- the ways back, from place to place
-  abbrev back-push : here lts.After-push → here lts.After-lower-exprs
+  abbrev back-push : here lts.After-push → here lts.After-expand
   back-push c = search
+
+  abbrev back-expand : here lts.After-expand → here lts.After-lower-exprs
+  back-expand c = search
 
   abbrev back-lower-exprs : here lts.After-lower-exprs → here lts.After-count2
   back-lower-exprs c = search
@@ -41,21 +46,21 @@ module _ (t : ℕ) where
   abbrev back-word : here lts.After-word → here lts.Start
   back-word c = search
 
-  ruleset ways = (back-push, back-lower-exprs, back-count2, back-count, back-lower-rel-element, back-endpoint-var, back-word2, back-word)
+  ruleset ways = (back-push, back-expand, back-lower-exprs, back-count2, back-count, back-lower-rel-element, back-endpoint-var, back-word2, back-word)
 
   word-requires : here lts.Need-word-requires
   word-requires c κs =
-      let start : here lts.Start = search ways depth 10 in
+      let start : here lts.Start = search ways depth 12 in
       (Room.low (start .pre .1 .1 .0), (omega arith, start .pre .1 .0))
 
   word-requires-2 : here lts.Need-word-requires-2
   word-requires-2 c κs =
-      let start : here lts.Start = search ways depth 10 in
+      let start : here lts.Start = search ways depth 12 in
       (Room.low (start .pre .1 .1 .0), (omega arith, start .pre .1 .0))
 
   add-endpoint-var : here lts.Need-add-endpoint-var
   add-endpoint-var c =
-      let start : here lts.Start = search ways depth 10 in
+      let start : here lts.Start = search ways depth 12 in
       let l₀ = Room.low (start .pre .1 .1 .0) in
       let l₁ = Room.deep (start .pre .1 .1 .0) in
       let l₂ = start .pre .1 .1 .1 .0 .1 in
@@ -64,7 +69,7 @@ module _ (t : ℕ) where
 
   add-endpoint-var-2 : here lts.Need-add-endpoint-var-2
   add-endpoint-var-2 c =
-      let start : here lts.Start = search ways depth 10 in
+      let start : here lts.Start = search ways depth 12 in
       let l₀ = Room.low (start .pre .1 .1 .0) in
       let l₁ = Room.deep (start .pre .1 .1 .0) in
       let l₂ = start .pre .1 .1 .1 .0 .1 in
@@ -73,7 +78,7 @@ module _ (t : ℕ) where
 
   endpoint-var-requires : here lts.Need-endpoint-var-requires
   endpoint-var-requires c κs =
-      let start : here lts.Start = search ways depth 10 in
+      let start : here lts.Start = search ways depth 12 in
       let l₀ = Room.low (start .pre .1 .1 .0) in
       let l₁ = Room.deep (start .pre .1 .1 .0) in
       let l₂ = start .pre .1 .1 .1 .0 .1 in
@@ -82,8 +87,8 @@ module _ (t : ℕ) where
 
   lower-rel-element-requires : here lts.Need-lower-rel-element-requires
   lower-rel-element-requires c κs =
-      let after-endpoint-var : here lts.After-endpoint-var = search ways depth 10 in
-      let start : here lts.Start = search ways depth 10 in (
+      let after-endpoint-var : here lts.After-endpoint-var = search ways depth 12 in
+      let start : here lts.Start = search ways depth 12 in (
         omega (arith, start .pre .0),
         (
           start .pre .1 .0,
@@ -108,17 +113,17 @@ module _ (t : ℕ) where
 
   count-requires : here lts.Need-count-requires
   count-requires c κs =
-      let start : here lts.Start = search ways depth 10 in
+      let start : here lts.Start = search ways depth 12 in
       (Room.low (start .pre .1 .1 .0), (omega arith, start .pre .1 .0))
 
   count-requires-2 : here lts.Need-count-requires-2
   count-requires-2 c κs =
-      let start : here lts.Start = search ways depth 10 in
+      let start : here lts.Start = search ways depth 12 in
       (Room.low (start .pre .1 .1 .0), (omega arith, start .pre .1 .0))
 
   add-lower-exprs : here lts.Need-add-lower-exprs
   add-lower-exprs c =
-      let start : here lts.Start = search ways depth 10 in
+      let start : here lts.Start = search ways depth 12 in
       let l₀ = Room.low (start .pre .1 .1 .0) in
       let l₁ = Room.deep (start .pre .1 .1 .0) in
       let l₂ = start .pre .1 .1 .1 .0 .1 in
@@ -127,15 +132,15 @@ module _ (t : ℕ) where
 
   add-lower-exprs-2 : here lts.Need-add-lower-exprs-2
   add-lower-exprs-2 c =
-      let after-count : here lts.After-count = search ways depth 10 in
-      let start : here lts.Start = search ways depth 10 in
+      let after-count : here lts.After-count = search ways depth 12 in
+      let start : here lts.Start = search ways depth 12 in
       let l₀ = Room.names-low (start .pre .1 .0) (start .pre .1 .1 .0) in
       let n₀ = after-count .count .ensures .0 in
       omega arith
 
   sub-lower-exprs : here lts.Need-sub-lower-exprs
   sub-lower-exprs c =
-      let start : here lts.Start = search ways depth 10 in
+      let start : here lts.Start = search ways depth 12 in
       let l₀ = Room.low (start .pre .1 .1 .0) in
       let l₁ = Room.deep (start .pre .1 .1 .0) in
       let l₂ = start .pre .1 .1 .1 .0 .1 in
@@ -144,11 +149,11 @@ module _ (t : ℕ) where
 
   lower-exprs-requires : here lts.Need-lower-exprs-requires
   lower-exprs-requires c κs =
-      let after-count2 : here lts.After-count2 = search ways depth 10 in
-      let after-count : here lts.After-count = search ways depth 10 in
-      let after-lower-rel-element : here lts.After-lower-rel-element = search ways depth 10 in
-      let after-endpoint-var : here lts.After-endpoint-var = search ways depth 10 in
-      let start : here lts.Start = search ways depth 10 in
+      let after-count2 : here lts.After-count2 = search ways depth 12 in
+      let after-count : here lts.After-count = search ways depth 12 in
+      let after-lower-rel-element : here lts.After-lower-rel-element = search ways depth 12 in
+      let after-endpoint-var : here lts.After-endpoint-var = search ways depth 12 in
+      let start : here lts.Start = search ways depth 12 in
       let l₁ = Room.deep (start .pre .1 .1 .0) in
       let l₀ =
       Room.waiting-end
@@ -193,54 +198,23 @@ module _ (t : ℕ) where
         ),
       )
 
-  cast-push : here lts.Need-cast-push
-  cast-push c =
-      let start : here lts.Start = search ways depth 10 in
+  expand-requires : here lts.Need-expand-requires
+  expand-requires c κs =
+      let start : here lts.Start = search ways depth 12 in
       let l₀ = Room.low (start .pre .1 .1 .0) in
+      let l₂ = start .pre .1 .1 .1 .0 .1 in
       let q = (start .pre .1 .1 .1 .1 .0 .0) .from in
-      omega arith
-
-  cast-push-2 : here lts.Need-cast-push-2
-  cast-push-2 c =
-      let start : here lts.Start = search ways depth 10 in
       let g = Room.few-ops (start .pre .1 .1 .1 .0 .0) in
-      let q = (start .pre .1 .1 .1 .1 .0 .0) .last in
-      omega arith
-
-  cast-push-3 : here lts.Need-cast-push-3
-  cast-push-3 c =
-      let start : here lts.Start = search ways depth 10 in
-      let l₀ = Room.low (start .pre .1 .1 .0) in
-      let l₁ = Room.deep (start .pre .1 .1 .0) in
-      let l₂ = start .pre .1 .1 .1 .0 .1 in
-      let l₃ = start .pre .1 .1 .1 .0 .2 in
-      omega arith
-
-  cast-push-4 : here lts.Need-cast-push-4
-  cast-push-4 c =
-      let start : here lts.Start = search ways depth 10 in
-      let l₀ = Room.low (start .pre .1 .1 .0) in
-      let l₁ = Room.deep (start .pre .1 .1 .0) in
-      let l₂ = start .pre .1 .1 .1 .0 .1 in
-      let l₃ = start .pre .1 .1 .1 .0 .2 in
-      omega arith
-
-  cast-push-5 : here lts.Need-cast-push-5
-  cast-push-5 c =
-      let start : here lts.Start = search ways depth 10 in
-      let l₀ = Room.low (start .pre .1 .1 .0) in
-      let l₁ = Room.deep (start .pre .1 .1 .0) in
-      let l₂ = start .pre .1 .1 .1 .0 .1 in
-      let l₃ = start .pre .1 .1 .1 .0 .2 in
-      omega arith
+      let q′ = (start .pre .1 .1 .1 .1 .0 .0) .last in
+      (Room.fits (start .pre .1 .1 .1 .0 .2) (omega arith) (omega arith), omega arith, omega arith)
 
   push-requires : here lts.Need-push-requires
   push-requires c κs =
-      let after-lower-exprs : here lts.After-lower-exprs = search ways depth 10 in
-      let after-count : here lts.After-count = search ways depth 10 in
-      let after-lower-rel-element : here lts.After-lower-rel-element = search ways depth 10 in
-      let after-endpoint-var : here lts.After-endpoint-var = search ways depth 10 in
-      let start : here lts.Start = search ways depth 10 in
+      let after-lower-exprs : here lts.After-lower-exprs = search ways depth 12 in
+      let after-count : here lts.After-count = search ways depth 12 in
+      let after-lower-rel-element : here lts.After-lower-rel-element = search ways depth 12 in
+      let after-endpoint-var : here lts.After-endpoint-var = search ways depth 12 in
+      let start : here lts.Start = search ways depth 12 in
       let l₀ =
       Room.waiting-end
       (start .pre .1 .0)
@@ -264,62 +238,41 @@ module _ (t : ℕ) where
       (omega arith)
       (omega arith)))
 
-  add-t38 : here lts.Need-add-t38
-  add-t38 c =
-      let start : here lts.Start = search ways depth 10 in
+  add-t40 : here lts.Need-add-t40
+  add-t40 c =
+      let start : here lts.Start = search ways depth 12 in
       let q = (start .pre .1 .1 .1 .1 .0 .0) .kept in
       let q′ = (start .pre .1 .1 .1 .1 .0 .0) .next in
       omega arith
 
   same-length : here lts.Need-same-length
   same-length c =
-      let after-push : here lts.After-push = search ways depth 10 in
-      let after-lower-exprs : here lts.After-lower-exprs = search ways depth 10 in
-      let after-lower-rel-element : here lts.After-lower-rel-element = search ways depth 10 in
+      let after-push : here lts.After-push = search ways depth 12 in
+      let after-lower-exprs : here lts.After-lower-exprs = search ways depth 12 in
+      let after-lower-rel-element : here lts.After-lower-rel-element = search ways depth 12 in
       (after-push .push .kept .1 .0) ∙ (after-lower-exprs .lower-exprs .kept .1 .1 .0) ∙ (after-lower-rel-element .lower-rel-element .kept .1 .1 .0)
 
   same-length-2 : here lts.Need-same-length-2
   same-length-2 c =
-      let after-lower-exprs : here lts.After-lower-exprs = search ways depth 10 in
-      let after-lower-rel-element : here lts.After-lower-rel-element = search ways depth 10 in
-      let after-endpoint-var : here lts.After-endpoint-var = search ways depth 10 in
+      let after-lower-exprs : here lts.After-lower-exprs = search ways depth 12 in
+      let after-lower-rel-element : here lts.After-lower-rel-element = search ways depth 12 in
+      let after-endpoint-var : here lts.After-endpoint-var = search ways depth 12 in
       (after-lower-exprs .lower-exprs .kept .1 .1 .1 .0) ∙
       (after-lower-rel-element .lower-rel-element .kept .1 .1 .1 .0) ∙
       (after-endpoint-var .endpoint-var .kept .1 .0)
 
   returns : here lts.Need-returns
   returns c =
-      let after-push : here lts.After-push = c .before .before .before in
-      let after-lower-exprs : here lts.After-lower-exprs =
-      c .before .before .before .before .before .before .before .before .before .before .before
-      in
-      let after-count2 : here lts.After-count2 =
-      c .before .before .before .before .before .before .before .before .before .before .before .before .before .before .before
-      in
-      let after-count : here lts.After-count =
-      c .before .before .before .before .before .before .before .before .before .before .before .before .before .before .before .before
-      in
-      let after-lower-rel-element : here lts.After-lower-rel-element =
-      c .before .before .before .before .before .before .before .before .before .before .before .before .before .before .before .before .before
-      .before .before .before .before
-      in
-      let after-endpoint-var : here lts.After-endpoint-var =
-      c .before .before .before .before .before .before .before .before .before .before .before .before .before .before .before .before .before
-      .before .before .before .before .before .before .before .before .before .before
-      in
-      let after-word2 : here lts.After-word2 =
-      c .before .before .before .before .before .before .before .before .before .before .before .before .before .before .before .before .before
-      .before .before .before .before .before .before .before .before .before .before .before .before .before
-      in
-      let after-word : here lts.After-word =
-      c .before .before .before .before .before .before .before .before .before .before .before .before .before .before .before .before .before
-      .before .before .before .before .before .before .before .before .before .before .before .before .before .before
-      in
-      let start : here lts.Start =
-      c .before .before .before .before .before .before .before .before .before .before .before .before .before .before .before .before .before
-      .before .before .before .before .before .before .before .before .before .before .before .before .before .before .before .before .before
-      .before .before
-      in
+      let after-push : here lts.After-push = search ways depth 12 in
+      let after-expand : here lts.After-expand = search ways depth 12 in
+      let after-lower-exprs : here lts.After-lower-exprs = search ways depth 12 in
+      let after-count2 : here lts.After-count2 = search ways depth 12 in
+      let after-count : here lts.After-count = search ways depth 12 in
+      let after-lower-rel-element : here lts.After-lower-rel-element = search ways depth 12 in
+      let after-endpoint-var : here lts.After-endpoint-var = search ways depth 12 in
+      let after-word2 : here lts.After-word2 = search ways depth 12 in
+      let after-word : here lts.After-word = search ways depth 12 in
+      let start : here lts.Start = search ways depth 12 in
       Linking.expand-law
       _
       _
@@ -333,7 +286,7 @@ module _ (t : ℕ) where
       (start .pre .1 .1 .1 .1 .1 .0)
       (Room.low (start .pre .1 .1 .0))
       refl
-      (rw (after-word .word .ensures, after-word2 .word2 .ensures) at (after-endpoint-var .endpoint-var .ensures))
+      (endpoint-read (after-word .word .ensures) (after-word2 .word2 .ensures) (after-endpoint-var .endpoint-var .ensures))
       (after-endpoint-var .endpoint-var .kept .1 .0)
       refl
       (after-lower-rel-element .lower-rel-element .ensures .noted)
@@ -341,8 +294,8 @@ module _ (t : ℕ) where
       refl
       (after-lower-rel-element .lower-rel-element .ensures .props)
       (after-count2 .count2 .ensures .0)
-      (rw (ap (λ z. (start .args .ch .next) + 1 + z) (after-count .count .ensures .0)) at (after-lower-exprs .lower-exprs .ensures))
-      (after-push .push .ensures)
+      (exprs-behind _ (after-count .count .ensures .0) (after-lower-exprs .lower-exprs .ensures))
+      (pushed-as (after-expand .expand .ensures) (after-push .push .ensures))
       (after-push .push .kept .1 .0)
       (start .pre .1 .1 .0)
       (start .pre .1 .1 .1 .1 .0 .1)
@@ -365,13 +318,9 @@ module _ (t : ℕ) where
       add-lower-exprs-2
       sub-lower-exprs
       lower-exprs-requires
-      cast-push
-      cast-push-2
-      cast-push-3
-      cast-push-4
-      cast-push-5
+      expand-requires
       push-requires
-      add-t38
+      add-t40
       same-length
       same-length-2
       returns

@@ -1,5 +1,7 @@
 -- `lower_shortest_path_part`, of the cycle.
 use Prim.Native.Nat.{_-_, _+_, ℕ}
+use Rattle.context.specs.OpLaws.{pushed-as}
+use Rattle.lower.proofs.Reading.{endpoint-read}
 use Rattle.lower.proofs.Part
 use Rattle.lower.proofs.Special
 use Rattle.lower.specs.Exprs
@@ -18,8 +20,11 @@ module _ (t : ℕ) where
   here X = X (lower-shortest-path-part-calls t) (lower-shortest-path-part-at t) reads.Post
 
   -- the ways back, from place to place
-  abbrev back-push : here lts.After-push → here lts.After-endpoint-var3
+  abbrev back-push : here lts.After-push → here lts.After-shortest-path
   back-push c = search
+
+  abbrev back-shortest-path : here lts.After-shortest-path → here lts.After-endpoint-var3
+  back-shortest-path c = search
 
   abbrev back-endpoint-var3 : here lts.After-endpoint-var3 → here lts.After-word6
   back-endpoint-var3 c = search
@@ -56,6 +61,7 @@ module _ (t : ℕ) where
 
   ruleset ways = (
     back-push,
+    back-shortest-path,
     back-endpoint-var3,
     back-word6,
     back-word5,
@@ -71,7 +77,7 @@ module _ (t : ℕ) where
 
   add-first : here lts.Need-add-first
   add-first c =
-      let start : here lts.Start = search ways depth 14 in
+      let start : here lts.Start = search ways depth 16 in
       let l₀ = Room.low (start .pre .1 .1 .0) in
       let l₁ = Room.deep (start .pre .1 .1 .0) in
       let l₂ = start .pre .1 .1 .1 .0 .1 in
@@ -81,7 +87,7 @@ module _ (t : ℕ) where
 
   sub-less : here lts.Need-sub-less
   sub-less c =
-      let start : here lts.Start = search ways depth 14 in
+      let start : here lts.Start = search ways depth 16 in
       let l₀ = Room.low (start .pre .1 .1 .0) in
       let l₁ = Room.deep (start .pre .1 .1 .0) in
       let l₂ = start .pre .1 .1 .1 .0 .1 in
@@ -91,17 +97,17 @@ module _ (t : ℕ) where
 
   word-requires : here lts.Need-word-requires
   word-requires c κs =
-      let start : here lts.Start = search ways depth 14 in
+      let start : here lts.Start = search ways depth 16 in
       (Room.low (Part.first-some _ _ (start .pre .1 .0) (start .pre .1 .1 .1 .1 .three) (start .pre .1 .1 .0)), (omega arith, start .pre .1 .0))
 
   word-requires-2 : here lts.Need-word-requires-2
   word-requires-2 c κs =
-      let start : here lts.Start = search ways depth 14 in
+      let start : here lts.Start = search ways depth 16 in
       (Room.low (Part.first-some _ _ (start .pre .1 .0) (start .pre .1 .1 .1 .1 .three) (start .pre .1 .1 .0)), (omega arith, start .pre .1 .0))
 
   add-endpoint-var : here lts.Need-add-endpoint-var
   add-endpoint-var c =
-      let start : here lts.Start = search ways depth 14 in
+      let start : here lts.Start = search ways depth 16 in
       let l₀ = Room.low (start .pre .1 .1 .0) in
       let l₁ = Room.deep (start .pre .1 .1 .0) in
       let l₂ = start .pre .1 .1 .1 .0 .1 in
@@ -111,7 +117,7 @@ module _ (t : ℕ) where
 
   add-endpoint-var-2 : here lts.Need-add-endpoint-var-2
   add-endpoint-var-2 c =
-      let start : here lts.Start = search ways depth 14 in
+      let start : here lts.Start = search ways depth 16 in
       let l₀ = Room.low (start .pre .1 .1 .0) in
       let l₁ = Room.deep (start .pre .1 .1 .0) in
       let l₂ = start .pre .1 .1 .1 .0 .1 in
@@ -121,7 +127,7 @@ module _ (t : ℕ) where
 
   endpoint-var-requires : here lts.Need-endpoint-var-requires
   endpoint-var-requires c κs =
-      let start : here lts.Start = search ways depth 14 in
+      let start : here lts.Start = search ways depth 16 in
       let l₀ = Room.low (start .pre .1 .1 .0) in
       let l₁ = Room.deep (start .pre .1 .1 .0) in
       let l₂ = start .pre .1 .1 .1 .0 .1 in
@@ -131,8 +137,8 @@ module _ (t : ℕ) where
 
   start-node-requires : here lts.Need-start-node-requires
   start-node-requires c κs =
-      let after-endpoint-var : here lts.After-endpoint-var = search ways depth 14 in
-      let start : here lts.Start = search ways depth 14 in
+      let after-endpoint-var : here lts.After-endpoint-var = search ways depth 16 in
+      let start : here lts.Start = search ways depth 16 in
       let l₁ = Room.deep (start .pre .1 .1 .0) in
       let l₀ = Room.low (start .pre .1 .1 .0) in
       let l₂ = start .pre .1 .1 .1 .0 .1 in
@@ -163,14 +169,9 @@ module _ (t : ℕ) where
 
   lower-rel-element-requires : here lts.Need-lower-rel-element-requires
   lower-rel-element-requires c κs =
-      let after-start-node : here lts.After-start-node = c .before .before .before .before .before .before .before in
-      let after-endpoint-var : here lts.After-endpoint-var =
-      c .before .before .before .before .before .before .before .before .before .before .before .before .before
-      in
-      let start : here lts.Start =
-      c .before .before .before .before .before .before .before .before .before .before .before .before .before .before .before .before .before
-      .before .before .before .before
-      in
+      let after-start-node : here lts.After-start-node = search ways depth 16 in
+      let after-endpoint-var : here lts.After-endpoint-var = search ways depth 16 in
+      let start : here lts.Start = search ways depth 16 in
       let l₁ = Room.deep (start .pre .1 .1 .0) in
       let l₀ = Room.low (start .pre .1 .1 .0) in
       let l₂ = start .pre .1 .1 .1 .0 .1 in
@@ -185,12 +186,11 @@ module _ (t : ℕ) where
               start .pre .1 .1 .1 .1 .second,
             ),
             (
-              (rw
+              (Room.good-at
                   (Room.start-ends
                   (Part.first-some _ _ (start .pre .1 .0) (start .pre .1 .1 .1 .1 .three) (start .pre .1 .1 .0))
                   (after-start-node .start-node .ensures)
                   (start .pre .1 .1 .1 .1 .first-end))
-                  at
                   (Exprs.good-after
                   (after-start-node .start-node .ensures .moved)
                   (Room.numbered-on
@@ -212,7 +212,7 @@ module _ (t : ℕ) where
 
   word-requires-3 : here lts.Need-word-requires-3
   word-requires-3 c κs =
-      let start : here lts.Start = search ways depth 14 in (
+      let start : here lts.Start = search ways depth 16 in (
         Room.low
             (Part.some-third
             _
@@ -227,7 +227,7 @@ module _ (t : ℕ) where
 
   word-requires-4 : here lts.Need-word-requires-4
   word-requires-4 c κs =
-      let start : here lts.Start = search ways depth 14 in (
+      let start : here lts.Start = search ways depth 16 in (
         Room.low
             (Part.some-third
             _
@@ -242,7 +242,7 @@ module _ (t : ℕ) where
 
   add-endpoint-var-3 : here lts.Need-add-endpoint-var-3
   add-endpoint-var-3 c =
-      let start : here lts.Start = search ways depth 14 in
+      let start : here lts.Start = search ways depth 16 in
       let l₃ = start .pre .1 .1 .1 .0 .2 in
       let l₄ =
       Room.low
@@ -259,7 +259,7 @@ module _ (t : ℕ) where
 
   add-endpoint-var-4 : here lts.Need-add-endpoint-var-4
   add-endpoint-var-4 c =
-      let start : here lts.Start = search ways depth 14 in
+      let start : here lts.Start = search ways depth 16 in
       let l₃ = start .pre .1 .1 .1 .0 .2 in
       let l₄ =
       Room.low
@@ -276,18 +276,10 @@ module _ (t : ℕ) where
 
   endpoint-var-requires-2 : here lts.Need-endpoint-var-requires-2
   endpoint-var-requires-2 c κs =
-      let after-lower-rel-element : here lts.After-lower-rel-element = c .before .before .before .before .before .before .before .before in
-      let after-start-node : here lts.After-start-node =
-      c .before .before .before .before .before .before .before .before .before .before .before .before .before .before .before .before
-      in
-      let after-endpoint-var : here lts.After-endpoint-var =
-      c .before .before .before .before .before .before .before .before .before .before .before .before .before .before .before .before .before
-      .before .before .before .before .before
-      in
-      let start : here lts.Start =
-      c .before .before .before .before .before .before .before .before .before .before .before .before .before .before .before .before .before
-      .before .before .before .before .before .before .before .before .before .before .before .before .before
-      in
+      let after-lower-rel-element : here lts.After-lower-rel-element = search ways depth 16 in
+      let after-start-node : here lts.After-start-node = search ways depth 16 in
+      let after-endpoint-var : here lts.After-endpoint-var = search ways depth 16 in
+      let start : here lts.Start = search ways depth 16 in
       let l₀ = Room.low (start .pre .1 .1 .0) in
       let l₁ = Room.deep (start .pre .1 .1 .0) in
       let l₂ = start .pre .1 .1 .1 .0 .1 in
@@ -315,12 +307,11 @@ module _ (t : ℕ) where
       Room.can-number
       (Room.after-rel
       (start .args .far)
-      (rw
+      (Room.good-at
       (Room.start-ends
       (Part.first-some _ _ (start .pre .1 .0) (start .pre .1 .1 .1 .1 .three) (start .pre .1 .1 .0))
       (after-start-node .start-node .ensures)
       (start .pre .1 .1 .1 .1 .first-end))
-      at
       (Exprs.good-after
       (after-start-node .start-node .ensures .moved)
       (Room.numbered-on
@@ -344,17 +335,17 @@ module _ (t : ℕ) where
 
   word-requires-5 : here lts.Need-word-requires-5
   word-requires-5 c κs =
-      let start : here lts.Start = search ways depth 14 in
+      let start : here lts.Start = search ways depth 16 in
       (Room.low (start .pre .1 .1 .0), (omega arith, start .pre .1 .0))
 
   word-requires-6 : here lts.Need-word-requires-6
   word-requires-6 c κs =
-      let start : here lts.Start = search ways depth 14 in
+      let start : here lts.Start = search ways depth 16 in
       (Room.low (start .pre .1 .1 .0), (omega arith, start .pre .1 .0))
 
   add-endpoint-var-5 : here lts.Need-add-endpoint-var-5
   add-endpoint-var-5 c =
-      let start : here lts.Start = search ways depth 14 in
+      let start : here lts.Start = search ways depth 16 in
       let l₀ = Room.low (start .pre .1 .1 .0) in
       let l₁ = Room.deep (start .pre .1 .1 .0) in
       let l₂ = start .pre .1 .1 .1 .0 .1 in
@@ -364,23 +355,11 @@ module _ (t : ℕ) where
 
   endpoint-var-requires-3 : here lts.Need-endpoint-var-requires-3
   endpoint-var-requires-3 c κs =
-      let after-endpoint-var2 : here lts.After-endpoint-var2 = c .before .before .before .before .before .before in
-      let after-lower-rel-element : here lts.After-lower-rel-element =
-      c .before .before .before .before .before .before .before .before .before .before .before .before .before .before .before
-      in
-      let after-start-node : here lts.After-start-node =
-      c .before .before .before .before .before .before .before .before .before .before .before .before .before .before .before .before .before
-      .before .before .before .before .before .before
-      in
-      let after-endpoint-var : here lts.After-endpoint-var =
-      c .before .before .before .before .before .before .before .before .before .before .before .before .before .before .before .before .before
-      .before .before .before .before .before .before .before .before .before .before .before .before
-      in
-      let start : here lts.Start =
-      c .before .before .before .before .before .before .before .before .before .before .before .before .before .before .before .before .before
-      .before .before .before .before .before .before .before .before .before .before .before .before .before .before .before .before .before
-      .before .before .before
-      in
+      let after-endpoint-var2 : here lts.After-endpoint-var2 = search ways depth 16 in
+      let after-lower-rel-element : here lts.After-lower-rel-element = search ways depth 16 in
+      let after-start-node : here lts.After-start-node = search ways depth 16 in
+      let after-endpoint-var : here lts.After-endpoint-var = search ways depth 16 in
+      let start : here lts.Start = search ways depth 16 in
       let l₀ = Room.low (start .pre .1 .1 .0) in
       let l₁ = Room.deep (start .pre .1 .1 .0) in
       let l₂ = start .pre .1 .1 .1 .0 .1 in
@@ -408,12 +387,11 @@ module _ (t : ℕ) where
       Room.can-again
       (Room.after-rel
       (start .args .far)
-      (rw
+      (Room.good-at
       (Room.start-ends
       (Part.first-some _ _ (start .pre .1 .0) (start .pre .1 .1 .1 .1 .three) (start .pre .1 .1 .0))
       (after-start-node .start-node .ensures)
       (start .pre .1 .1 .1 .1 .first-end))
-      at
       (Exprs.good-after
       (after-start-node .start-node .ensures .moved)
       (Room.numbered-on
@@ -437,32 +415,11 @@ module _ (t : ℕ) where
       (omega arith)
       refl
 
-  cast-push : here lts.Need-cast-push
-  cast-push c =
-      let start : here lts.Start = search ways depth 14 in
-      let l₀ = Room.low (start .pre .1 .1 .0) in
-      let l₁ = Room.deep (start .pre .1 .1 .0) in
-      let l₂ = start .pre .1 .1 .1 .0 .1 in
-      let l₃ = start .pre .1 .1 .1 .0 .2 in
-      let l₄ = Room.low (Part.first-some _ _ (start .pre .1 .0) (start .pre .1 .1 .1 .1 .three) (start .pre .1 .1 .0)) in
-      omega arith
-
-  cast-push-2 : here lts.Need-cast-push-2
-  cast-push-2 c =
-      let after-start-node : here lts.After-start-node =
-      c .before .before .before .before .before .before .before .before .before .before .before .before .before .before .before .before .before
-      .before .before .before .before .before .before .before .before .before .before .before .before
-      in
-      let after-endpoint-var : here lts.After-endpoint-var =
-      c .before .before .before .before .before .before .before .before .before .before .before .before .before .before .before .before .before
-      .before .before .before .before .before .before .before .before .before .before .before .before .before .before .before .before .before
-      .before
-      in
-      let start : here lts.Start =
-      c .before .before .before .before .before .before .before .before .before .before .before .before .before .before .before .before .before
-      .before .before .before .before .before .before .before .before .before .before .before .before .before .before .before .before .before
-      .before .before .before .before .before .before .before .before .before
-      in
+  shortest-path-requires : here lts.Need-shortest-path-requires
+  shortest-path-requires c κs =
+      let after-start-node : here lts.After-start-node = search ways depth 16 in
+      let after-endpoint-var : here lts.After-endpoint-var = search ways depth 16 in
+      let start : here lts.Start = search ways depth 16 in
       let l₀ = Room.low (start .pre .1 .1 .0) in
       let l₁ = Room.deep (start .pre .1 .1 .0) in
       let l₂ = start .pre .1 .1 .1 .0 .1 in
@@ -470,12 +427,11 @@ module _ (t : ℕ) where
       let l₄ = Room.low (Part.first-some _ _ (start .pre .1 .0) (start .pre .1 .1 .1 .1 .three) (start .pre .1 .1 .0)) in
       let x =
       Room.few-ops
-      (rw
+      (Room.good-at
       (Room.start-ends
       (Part.first-some _ _ (start .pre .1 .0) (start .pre .1 .1 .1 .1 .three) (start .pre .1 .1 .0))
       (after-start-node .start-node .ensures)
       (start .pre .1 .1 .1 .1 .first-end))
-      at
       (Exprs.good-after
       (after-start-node .start-node .ensures .moved)
       (Room.numbered-on
@@ -489,22 +445,10 @@ module _ (t : ℕ) where
       (omega arith))))
       in
       let y = after-start-node .start-node .ensures .low in
-      omega arith
-
-  cast-push-3 : here lts.Need-cast-push-3
-  cast-push-3 c =
-      let start : here lts.Start = search ways depth 14 in
-      let l₃ = start .pre .1 .1 .1 .0 .2 in
-      let l₄ =
+      let l₅ =
       Room.low (Part.some-second _ _ (start .pre .1 .0) (start .pre .1 .1 .1 .1 .three) (start .pre .1 .1 .1 .1 .first-end) (start .pre .1 .1 .0))
       in
-      omega arith
-
-  cast-push-4 : here lts.Need-cast-push-4
-  cast-push-4 c =
-      let start : here lts.Start = search ways depth 14 in
-      let l₃ = start .pre .1 .1 .1 .0 .2 in
-      let l₄ =
+      let l₆ =
       Room.low
       (Part.some-third
       _
@@ -515,52 +459,16 @@ module _ (t : ℕ) where
       (start .pre .1 .1 .1 .1 .second-end)
       (start .pre .1 .1 .0))
       in
-      omega arith
-
-  cast-push-5 : here lts.Need-cast-push-5
-  cast-push-5 c =
-      let start : here lts.Start = search ways depth 14 in
-      let l₀ = Room.low (start .pre .1 .1 .0) in
-      let l₁ = Room.deep (start .pre .1 .1 .0) in
-      let l₂ = start .pre .1 .1 .1 .0 .1 in
-      let l₃ = start .pre .1 .1 .1 .0 .2 in
-      let l₄ = Room.low (Part.first-some _ _ (start .pre .1 .0) (start .pre .1 .1 .1 .1 .three) (start .pre .1 .1 .0)) in
-      omega arith
-
-  cast-push-6 : here lts.Need-cast-push-6
-  cast-push-6 c =
-      let start : here lts.Start = search ways depth 14 in
-      let l₀ = Room.low (start .pre .1 .1 .0) in
-      let l₁ = Room.deep (start .pre .1 .1 .0) in
-      let l₂ = start .pre .1 .1 .1 .0 .1 in
-      let l₃ = start .pre .1 .1 .1 .0 .2 in
-      let l₄ = Room.low (Part.first-some _ _ (start .pre .1 .0) (start .pre .1 .1 .1 .1 .three) (start .pre .1 .1 .0)) in
-      omega arith
+      (Room.fits l₃ (omega arith) (omega arith), omega arith, omega arith, omega arith)
 
   push-requires : here lts.Need-push-requires
   push-requires c κs =
-      let after-endpoint-var3 : here lts.After-endpoint-var3 = c .before .before .before .before .before in
-      let after-endpoint-var2 : here lts.After-endpoint-var2 =
-      c .before .before .before .before .before .before .before .before .before .before .before .before
-      in
-      let after-lower-rel-element : here lts.After-lower-rel-element =
-      c .before .before .before .before .before .before .before .before .before .before .before .before .before .before .before .before .before
-      .before .before .before .before
-      in
-      let after-start-node : here lts.After-start-node =
-      c .before .before .before .before .before .before .before .before .before .before .before .before .before .before .before .before .before
-      .before .before .before .before .before .before .before .before .before .before .before .before
-      in
-      let after-endpoint-var : here lts.After-endpoint-var =
-      c .before .before .before .before .before .before .before .before .before .before .before .before .before .before .before .before .before
-      .before .before .before .before .before .before .before .before .before .before .before .before .before .before .before .before .before
-      .before
-      in
-      let start : here lts.Start =
-      c .before .before .before .before .before .before .before .before .before .before .before .before .before .before .before .before .before
-      .before .before .before .before .before .before .before .before .before .before .before .before .before .before .before .before .before
-      .before .before .before .before .before .before .before .before .before
-      in
+      let after-endpoint-var3 : here lts.After-endpoint-var3 = search ways depth 16 in
+      let after-endpoint-var2 : here lts.After-endpoint-var2 = search ways depth 16 in
+      let after-lower-rel-element : here lts.After-lower-rel-element = search ways depth 16 in
+      let after-start-node : here lts.After-start-node = search ways depth 16 in
+      let after-endpoint-var : here lts.After-endpoint-var = search ways depth 16 in
+      let start : here lts.Start = search ways depth 16 in
       let l₀ = Room.low (start .pre .1 .1 .0) in
       let l₁ = Room.deep (start .pre .1 .1 .0) in
       let l₂ = start .pre .1 .1 .1 .0 .1 in
@@ -588,12 +496,11 @@ module _ (t : ℕ) where
       Room.push-again
       (Room.after-rel
       (start .args .far)
-      (rw
+      (Room.good-at
       (Room.start-ends
       (Part.first-some _ _ (start .pre .1 .0) (start .pre .1 .1 .1 .1 .three) (start .pre .1 .1 .0))
       (after-start-node .start-node .ensures)
       (start .pre .1 .1 .1 .1 .first-end))
-      at
       (Exprs.good-after
       (after-start-node .start-node .ensures .moved)
       (Room.numbered-on
@@ -613,7 +520,7 @@ module _ (t : ℕ) where
 
   skip-requires : here lts.Need-skip-requires
   skip-requires c κs =
-      let start : here lts.Start = search ways depth 14 in (
+      let start : here lts.Start = search ways depth 16 in (
         start .pre .1 .0,
         Part.starts
             (Part.some-third
@@ -628,18 +535,18 @@ module _ (t : ℕ) where
 
   same-length : here lts.Need-same-length
   same-length c =
-      let after-push : here lts.After-push = search ways depth 14 in
-      let after-lower-rel-element : here lts.After-lower-rel-element = search ways depth 14 in
-      let after-start-node : here lts.After-start-node = search ways depth 14 in
+      let after-push : here lts.After-push = search ways depth 16 in
+      let after-lower-rel-element : here lts.After-lower-rel-element = search ways depth 16 in
+      let after-start-node : here lts.After-start-node = search ways depth 16 in
       (after-push .push .kept .1 .0) ∙ (after-lower-rel-element .lower-rel-element .kept .1 .1 .0) ∙ (after-start-node .start-node .kept .1 .1 .0)
 
   same-length-2 : here lts.Need-same-length-2
   same-length-2 c =
-      let after-endpoint-var3 : here lts.After-endpoint-var3 = search ways depth 14 in
-      let after-endpoint-var2 : here lts.After-endpoint-var2 = search ways depth 14 in
-      let after-lower-rel-element : here lts.After-lower-rel-element = search ways depth 14 in
-      let after-start-node : here lts.After-start-node = search ways depth 14 in
-      let after-endpoint-var : here lts.After-endpoint-var = search ways depth 14 in
+      let after-endpoint-var3 : here lts.After-endpoint-var3 = search ways depth 16 in
+      let after-endpoint-var2 : here lts.After-endpoint-var2 = search ways depth 16 in
+      let after-lower-rel-element : here lts.After-lower-rel-element = search ways depth 16 in
+      let after-start-node : here lts.After-start-node = search ways depth 16 in
+      let after-endpoint-var : here lts.After-endpoint-var = search ways depth 16 in
       (after-endpoint-var3 .endpoint-var3 .kept .1 .0) ∙
       (after-endpoint-var2 .endpoint-var2 .kept .1 .0) ∙
       (after-lower-rel-element .lower-rel-element .kept .1 .1 .1 .0) ∙
@@ -648,51 +555,20 @@ module _ (t : ℕ) where
 
   returns : here lts.Need-returns
   returns c =
-      let after-push : here lts.After-push = c .before .before .before in
-      let after-endpoint-var3 : here lts.After-endpoint-var3 = c .before .before .before .before .before .before .before .before .before in
-      let after-word6 : here lts.After-word6 = c .before .before .before .before .before .before .before .before .before .before .before .before in
-      let after-word5 : here lts.After-word5 =
-      c .before .before .before .before .before .before .before .before .before .before .before .before .before
-      in
-      let after-endpoint-var2 : here lts.After-endpoint-var2 =
-      c .before .before .before .before .before .before .before .before .before .before .before .before .before .before .before .before
-      in
-      let after-word4 : here lts.After-word4 =
-      c .before .before .before .before .before .before .before .before .before .before .before .before .before .before .before .before .before
-      .before .before
-      in
-      let after-word3 : here lts.After-word3 =
-      c .before .before .before .before .before .before .before .before .before .before .before .before .before .before .before .before .before
-      .before .before .before
-      in
-      let after-lower-rel-element : here lts.After-lower-rel-element =
-      c .before .before .before .before .before .before .before .before .before .before .before .before .before .before .before .before .before
-      .before .before .before .before .before .before .before .before
-      in
-      let after-start-node : here lts.After-start-node =
-      c .before .before .before .before .before .before .before .before .before .before .before .before .before .before .before .before .before
-      .before .before .before .before .before .before .before .before .before .before .before .before .before .before .before .before
-      in
-      let after-endpoint-var : here lts.After-endpoint-var =
-      c .before .before .before .before .before .before .before .before .before .before .before .before .before .before .before .before .before
-      .before .before .before .before .before .before .before .before .before .before .before .before .before .before .before .before .before
-      .before .before .before .before .before
-      in
-      let after-word2 : here lts.After-word2 =
-      c .before .before .before .before .before .before .before .before .before .before .before .before .before .before .before .before .before
-      .before .before .before .before .before .before .before .before .before .before .before .before .before .before .before .before .before
-      .before .before .before .before .before .before .before
-      in
-      let after-word : here lts.After-word =
-      c .before .before .before .before .before .before .before .before .before .before .before .before .before .before .before .before .before
-      .before .before .before .before .before .before .before .before .before .before .before .before .before .before .before .before .before
-      .before .before .before .before .before .before .before .before
-      in
-      let start : here lts.Start =
-      c .before .before .before .before .before .before .before .before .before .before .before .before .before .before .before .before .before
-      .before .before .before .before .before .before .before .before .before .before .before .before .before .before .before .before .before
-      .before .before .before .before .before .before .before .before .before .before .before .before .before
-      in
+      let after-push : here lts.After-push = search ways depth 16 in
+      let after-shortest-path : here lts.After-shortest-path = search ways depth 16 in
+      let after-endpoint-var3 : here lts.After-endpoint-var3 = search ways depth 16 in
+      let after-word6 : here lts.After-word6 = search ways depth 16 in
+      let after-word5 : here lts.After-word5 = search ways depth 16 in
+      let after-endpoint-var2 : here lts.After-endpoint-var2 = search ways depth 16 in
+      let after-word4 : here lts.After-word4 = search ways depth 16 in
+      let after-word3 : here lts.After-word3 = search ways depth 16 in
+      let after-lower-rel-element : here lts.After-lower-rel-element = search ways depth 16 in
+      let after-start-node : here lts.After-start-node = search ways depth 16 in
+      let after-endpoint-var : here lts.After-endpoint-var = search ways depth 16 in
+      let after-word2 : here lts.After-word2 = search ways depth 16 in
+      let after-word : here lts.After-word = search ways depth 16 in
+      let start : here lts.Start = search ways depth 16 in
       Special.special-law
       _
       _
@@ -712,17 +588,17 @@ module _ (t : ℕ) where
       (start .pre .1 .1 .1 .1 .second-end)
       (c .skip .ensures)
       refl
-      (rw (after-word .word .ensures, after-word2 .word2 .ensures) at (after-endpoint-var .endpoint-var .ensures))
+      (endpoint-read (after-word .word .ensures) (after-word2 .word2 .ensures) (after-endpoint-var .endpoint-var .ensures))
       (after-endpoint-var .endpoint-var .kept .1 .0)
       (after-start-node .start-node .ensures)
       (after-lower-rel-element .lower-rel-element .ensures)
       refl
-      (rw (after-word3 .word3 .ensures, after-word4 .word4 .ensures) at (after-endpoint-var2 .endpoint-var2 .ensures))
+      (endpoint-read (after-word3 .word3 .ensures) (after-word4 .word4 .ensures) (after-endpoint-var2 .endpoint-var2 .ensures))
       (after-endpoint-var2 .endpoint-var2 .kept .1 .0)
       refl
-      (rw (after-word5 .word5 .ensures, after-word6 .word6 .ensures) at (after-endpoint-var3 .endpoint-var3 .ensures))
+      (endpoint-read (after-word5 .word5 .ensures) (after-word6 .word6 .ensures) (after-endpoint-var3 .endpoint-var3 .ensures))
       (after-endpoint-var3 .endpoint-var3 .kept .1 .0)
-      (after-push .push .ensures)
+      (pushed-as (after-shortest-path .shortest-path .ensures) (after-push .push .ensures))
       (after-push .push .kept .1 .0)
       (start .pre .1 .1 .0)
 
@@ -750,12 +626,7 @@ module _ (t : ℕ) where
       word-requires-6
       add-endpoint-var-5
       endpoint-var-requires-3
-      cast-push
-      cast-push-2
-      cast-push-3
-      cast-push-4
-      cast-push-5
-      cast-push-6
+      shortest-path-requires
       push-requires
       skip-requires
       same-length

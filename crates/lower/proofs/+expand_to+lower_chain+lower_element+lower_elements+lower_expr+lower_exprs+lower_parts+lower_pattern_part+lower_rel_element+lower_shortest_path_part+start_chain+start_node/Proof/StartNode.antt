@@ -1,6 +1,7 @@
 -- `start_node`, of the cycle.
 use native.Mathlib.Nat.{le-refl}
 use Prim.Native.Nat.{_+_, ℕ}
+use Rattle.context.specs.OpLaws.{pushed-as}
 use Rattle.lower.proofs.Start
 use Rattle.lower.specs.Exprs
 use Rattle.lower.proofs.Room
@@ -18,8 +19,11 @@ module _ (t : ℕ) where
   here X = X (start-node-calls t) (start-node-at t) reads.Post
 
   -- the ways back, from place to place
-  abbrev back-push2 : here lts.After-push2 → here lts.After-lower-expr
+  abbrev back-push2 : here lts.After-push2 → here lts.After-filter
   back-push2 c = search
+
+  abbrev back-filter : here lts.After-filter → here lts.After-lower-expr
+  back-filter c = search
 
   abbrev back-lower-expr : here lts.After-lower-expr → here lts.Else1
   back-lower-expr c = search
@@ -27,8 +31,11 @@ module _ (t : ℕ) where
   abbrev back-else1 : here lts.Else1 → here lts.After-push
   back-else1 c = search
 
-  abbrev back-push : here lts.After-push → here lts.After-word
+  abbrev back-push : here lts.After-push → here lts.After-source
   back-push c = search
+
+  abbrev back-source : here lts.After-source → here lts.After-word
+  back-source c = search
 
   abbrev back-word : here lts.After-word → here lts.After-count
   back-word c = search
@@ -36,21 +43,21 @@ module _ (t : ℕ) where
   abbrev back-count : here lts.After-count → here lts.Start
   back-count c = search
 
-  ruleset ways = (back-push2, back-lower-expr, back-else1, back-push, back-word, back-count)
+  ruleset ways = (back-push2, back-filter, back-lower-expr, back-else1, back-push, back-source, back-word, back-count)
 
   count-requires : here lts.Need-count-requires
   count-requires c κs =
-      let start : here lts.Start = search ways depth 8 in
+      let start : here lts.Start = search ways depth 10 in
       (Room.low (start .pre .1 .1 .0 .0), (omega arith, start .pre .1 .0))
 
   word-requires : here lts.Need-word-requires
   word-requires c κs =
-      let start : here lts.Start = search ways depth 8 in
+      let start : here lts.Start = search ways depth 10 in
       (Room.low (start .pre .1 .1 .0 .0), (omega arith, start .pre .1 .0))
 
   add-first : here lts.Need-add-first
   add-first c =
-      let start : here lts.Start = search ways depth 8 in
+      let start : here lts.Start = search ways depth 10 in
       let l₀ = Room.low (start .pre .1 .1 .0 .0) in
       let l₁ = start .pre .1 .1 .1 .3 in
       let l₂ = start .pre .1 .1 .1 .1 in
@@ -59,8 +66,8 @@ module _ (t : ℕ) where
 
   add-first-2 : here lts.Need-add-first-2
   add-first-2 c =
-      let after-count : here lts.After-count = search ways depth 8 in
-      let start : here lts.Start = search ways depth 8 in
+      let after-count : here lts.After-count = search ways depth 10 in
+      let start : here lts.Start = search ways depth 10 in
       let l₀ = Room.names-low (start .pre .1 .0) (start .pre .1 .1 .0 .0) in
       let l₁ = start .pre .1 .1 .1 .3 in
       let l₂ = start .pre .1 .1 .1 .1 in
@@ -70,56 +77,37 @@ module _ (t : ℕ) where
 
   sub-less : here lts.Need-sub-less
   sub-less c =
-      let start : here lts.Start = search ways depth 8 in
+      let start : here lts.Start = search ways depth 10 in
       let l₀ = Room.low (start .pre .1 .1 .0 .0) in
       let l₁ = start .pre .1 .1 .1 .3 in
       let l₂ = start .pre .1 .1 .1 .1 in
       let l₃ = start .pre .1 .1 .1 .2 in
       omega arith
 
-  cast-push : here lts.Need-cast-push
-  cast-push c =
-      let start : here lts.Start = search ways depth 8 in
+  source-requires : here lts.Need-source-requires
+  source-requires c κs =
+      let start : here lts.Start = search ways depth 10 in
       let l₀ = Room.low (start .pre .1 .1 .0 .0) in
-      let l₁ = start .pre .1 .1 .1 .3 in
       let l₂ = start .pre .1 .1 .1 .1 in
-      let l₃ = start .pre .1 .1 .1 .2 in
-      omega arith
-
-  cast-push-2 : here lts.Need-cast-push-2
-  cast-push-2 c =
-      let start : here lts.Start = search ways depth 8 in
-      let l₀ = Room.low (start .pre .1 .1 .0 .0) in
-      let l₁ = start .pre .1 .1 .1 .3 in
-      let l₂ = start .pre .1 .1 .1 .1 in
-      let l₃ = start .pre .1 .1 .1 .2 in
-      omega arith
-
-  cast-push-3 : here lts.Need-cast-push-3
-  cast-push-3 c =
-      let start : here lts.Start = search ways depth 8 in
-      let l₀ = Room.low (start .pre .1 .1 .0 .0) in
-      let l₁ = start .pre .1 .1 .1 .3 in
-      let l₂ = start .pre .1 .1 .1 .1 in
-      let l₃ = start .pre .1 .1 .1 .2 in
-      omega arith
+      Room.fits (start .pre .1 .1 .1 .2) (omega arith) (omega arith)
 
   push-requires : here lts.Need-push-requires
   push-requires c κs =
-      let start : here lts.Start = search ways depth 8 in
+      let start : here lts.Start = search ways depth 10 in
       Room.can-push (start .pre .1 .1 .1 .0)
 
   same-length : here lts.Need-same-length
   same-length c =
-      let after-push : here lts.After-push = search ways depth 8 in
+      let after-push : here lts.After-push = search ways depth 10 in
       after-push .push .kept .1 .0
 
   returns : here lts.Need-returns
   returns c =
-      let after-push : here lts.After-push = search ways depth 8 in
-      let after-word : here lts.After-word = search ways depth 8 in
-      let after-count : here lts.After-count = search ways depth 8 in
-      let start : here lts.Start = search ways depth 8 in
+      let after-push : here lts.After-push = search ways depth 10 in
+      let after-source : here lts.After-source = search ways depth 10 in
+      let after-word : here lts.After-word = search ways depth 10 in
+      let after-count : here lts.After-count = search ways depth 10 in
+      let start : here lts.Start = search ways depth 10 in
       rw
       (ap (λ z. (start .args .i) + 1 + z) (after-count .count .ensures .0))
       (Start.bare-law
@@ -128,18 +116,18 @@ module _ (t : ℕ) where
       (start .pre .1 .0)
       (start .pre .1 .1 .0 .1)
       (start .pre .1 .1 .1 .1, start .pre .1 .1 .1 .2)
-      (after-push .push .ensures)
+      (pushed-as (after-source .source .ensures) (after-push .push .ensures))
       (after-push .push .kept .1 .0)
       (sym (after-word .word .ensures) ∙ (c .if1 .taken))
       (start .pre .1 .1 .0 .0))
 
   lower-expr-requires : here lts.Need-lower-expr-requires
   lower-expr-requires c κs =
-      let else1 : here lts.Else1 = search ways depth 8 in
-      let after-push : here lts.After-push = search ways depth 8 in
-      let after-word : here lts.After-word = search ways depth 8 in
-      let after-count : here lts.After-count = search ways depth 8 in
-      let start : here lts.Start = search ways depth 8 in
+      let else1 : here lts.Else1 = search ways depth 10 in
+      let after-push : here lts.After-push = search ways depth 10 in
+      let after-word : here lts.After-word = search ways depth 10 in
+      let after-count : here lts.After-count = search ways depth 10 in
+      let start : here lts.Start = search ways depth 10 in
       let l₀ = Room.low (start .pre .1 .1 .0 .0) in
       let l₁ = start .pre .1 .1 .1 .3 in
       let l₂ = start .pre .1 .1 .1 .1 in
@@ -176,47 +164,22 @@ module _ (t : ℕ) where
         ),
       )
 
-  cast-push-4 : here lts.Need-cast-push-4
-  cast-push-4 c =
-      let after-count : here lts.After-count = search ways depth 8 in
-      let start : here lts.Start = search ways depth 8 in
+  filter-requires : here lts.Need-filter-requires
+  filter-requires c κs =
+      let after-count : here lts.After-count = search ways depth 10 in
+      let start : here lts.Start = search ways depth 10 in
       let l₀ = Room.names-low (start .pre .1 .0) (start .pre .1 .1 .0 .0) in
-      let l₁ = start .pre .1 .1 .1 .3 in
       let l₂ = start .pre .1 .1 .1 .1 in
-      let l₃ = start .pre .1 .1 .1 .2 in
       let n₀ = after-count .count .ensures .0 in
-      omega arith
-
-  cast-push-5 : here lts.Need-cast-push-5
-  cast-push-5 c =
-      let start : here lts.Start = search ways depth 8 in
       let g = Room.few-ops (start .pre .1 .1 .1 .0) in
-      omega arith
-
-  cast-push-6 : here lts.Need-cast-push-6
-  cast-push-6 c =
-      let start : here lts.Start = search ways depth 8 in
-      let l₀ = Room.low (start .pre .1 .1 .0 .0) in
-      let l₁ = start .pre .1 .1 .1 .3 in
-      let l₂ = start .pre .1 .1 .1 .1 in
-      let l₃ = start .pre .1 .1 .1 .2 in
-      omega arith
-
-  cast-push-7 : here lts.Need-cast-push-7
-  cast-push-7 c =
-      let start : here lts.Start = search ways depth 8 in
-      let l₀ = Room.low (start .pre .1 .1 .0 .0) in
-      let l₁ = start .pre .1 .1 .1 .3 in
-      let l₂ = start .pre .1 .1 .1 .1 in
-      let l₃ = start .pre .1 .1 .1 .2 in
-      omega arith
+      (Room.fits (start .pre .1 .1 .1 .2) (omega arith) (omega arith), omega arith)
 
   push-requires-2 : here lts.Need-push-requires-2
   push-requires-2 c κs =
-      let after-lower-expr : here lts.After-lower-expr = search ways depth 8 in
-      let after-push : here lts.After-push = search ways depth 8 in
-      let after-count : here lts.After-count = search ways depth 8 in
-      let start : here lts.Start = search ways depth 8 in
+      let after-lower-expr : here lts.After-lower-expr = search ways depth 10 in
+      let after-push : here lts.After-push = search ways depth 10 in
+      let after-count : here lts.After-count = search ways depth 10 in
+      let start : here lts.Start = search ways depth 10 in
       let l₀ = Room.names-low (start .pre .1 .0) (start .pre .1 .1 .0 .0) in
       let l₁ = start .pre .1 .1 .1 .3 in
       let l₂ = start .pre .1 .1 .1 .1 in
@@ -229,46 +192,40 @@ module _ (t : ℕ) where
 
   same-length-2 : here lts.Need-same-length-2
   same-length-2 c =
-      let after-push2 : here lts.After-push2 = search ways depth 8 in
-      let after-lower-expr : here lts.After-lower-expr = search ways depth 8 in
-      let after-push : here lts.After-push = search ways depth 8 in
+      let after-push2 : here lts.After-push2 = search ways depth 10 in
+      let after-lower-expr : here lts.After-lower-expr = search ways depth 10 in
+      let after-push : here lts.After-push = search ways depth 10 in
       (after-push2 .push2 .kept .1 .0) ∙ (after-lower-expr .lower-expr .kept .1 .1 .0) ∙ (after-push .push .kept .1 .0)
 
   same-length-3 : here lts.Need-same-length-3
   same-length-3 c =
-      let after-lower-expr : here lts.After-lower-expr = search ways depth 8 in
+      let after-lower-expr : here lts.After-lower-expr = search ways depth 10 in
       after-lower-expr .lower-expr .kept .1 .1 .1 .0
 
   returns-2 : here lts.Need-returns-2
   returns-2 c =
-      let after-push2 : here lts.After-push2 = c .before .before in
-      let after-lower-expr : here lts.After-lower-expr = c .before .before .before .before .before .before .before .before .before in
-      let else1 : here lts.Else1 = c .before .before .before .before .before .before .before .before .before .before .before .before in
-      let after-push : here lts.After-push =
-      c .before .before .before .before .before .before .before .before .before .before .before .before .before .before .before
-      in
-      let after-word : here lts.After-word =
-      c .before .before .before .before .before .before .before .before .before .before .before .before .before .before .before .before .before
-      in
-      let after-count : here lts.After-count =
-      c .before .before .before .before .before .before .before .before .before .before .before .before .before .before .before .before .before
-      .before
-      in
-      let start : here lts.Start =
-      c .before .before .before .before .before .before .before .before .before .before .before .before .before .before .before .before .before
-      .before .before .before .before .before .before
-      in
-      Start.filtered-law
+      let after-push2 : here lts.After-push2 = search ways depth 10 in
+      let after-filter : here lts.After-filter = search ways depth 10 in
+      let after-lower-expr : here lts.After-lower-expr = search ways depth 10 in
+      let else1 : here lts.Else1 = search ways depth 10 in
+      let after-push : here lts.After-push = search ways depth 10 in
+      let after-source : here lts.After-source = search ways depth 10 in
+      let after-word : here lts.After-word = search ways depth 10 in
+      let after-count : here lts.After-count = search ways depth 10 in
+      let start : here lts.Start = search ways depth 10 in
+      Start.filtered-read
+      _
       _
       _
       (start .pre .1 .0)
       (start .pre .1 .1 .0 .1)
       (start .pre .1 .1 .1 .1, start .pre .1 .1 .1 .2)
-      (after-push .push .ensures)
+      (after-count .count .ensures .0)
+      (pushed-as (after-source .source .ensures) (after-push .push .ensures))
       (after-push .push .kept .1 .0)
       (λ e. (else1 .if1 .left) ((after-word .word .ensures) ∙ e))
-      (rw (ap (λ z. (start .args .i) + 1 + z) (after-count .count .ensures .0)) at (after-lower-expr .lower-expr .ensures))
-      (rw (ap (λ z. (start .args .i) + 1 + z) (after-count .count .ensures .0)) at (after-push2 .push2 .ensures))
+      (after-lower-expr .lower-expr .ensures)
+      (pushed-as (after-filter .filter .ensures) (after-push2 .push2 .ensures))
       (after-push2 .push2 .kept .1 .0)
 
   pub meets : {M : Type 1} → lts.Closed (start-node-calls t) (start-node-at t) reads.Post M
@@ -282,17 +239,12 @@ module _ (t : ℕ) where
       add-first
       add-first-2
       sub-less
-      cast-push
-      cast-push-2
-      cast-push-3
+      source-requires
       push-requires
       same-length
       returns
       lower-expr-requires
-      cast-push-4
-      cast-push-5
-      cast-push-6
-      cast-push-7
+      filter-requires
       push-requires-2
       same-length-2
       same-length-3
