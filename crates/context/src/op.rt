@@ -15,13 +15,14 @@
 // SKIP, LIMIT     its expression     input   -                     -                  of its expression
 // DISTINCT        -                  input   -                     -                  -
 // UNWIND          its list           input   number it binds       -                  of its list
-// UNION           its arm            left    right                 all                -
+// UNION           its arm            input   its other input       all                -
 // PROCEDURE_CALL  its clause         input   whether it has one    -                  of its arguments
 //
 // left is how deep the trees of its records may be, base where the notes of their pass begin.
 ghost use mathlib.Core.Path.{_≡_};
 ghost use Prim.Native.Nat.{_+_, _*_, _<_, _≤_};
 ghost use lib.ListN.{length, getD};
+ghost use Rattle.model.specs.Call.{workWords};
 ghost use Rattle.words.specs.Words.{two32};
 ghost use Rattle.context.specs.Tables.{opAt, maxStored, opWords};
 ghost use Rattle.context.specs.Ops.{Fits, Under, sourceAllOp, sourceOp, filterOp, expandOp, shortestPathOp, bindPathOp, optionalJoinOp, withOp, projectOp, aggregateOp, orderByOp, skipOp, limitOp, distinctOp, unwindOp, unionOp, procedureCallOp};
@@ -342,7 +343,7 @@ pub fn procedure_call(at: At, current: Before) -> Op
 // Word j of operator k.
 fn op_word(ops: &[u32], k: usize, j: usize) -> u32
     requires { ⌜ (k < maxStored) × (j < opWords) ⌝ }
-    requires { ⌜ 16384 ≤ length (now ops) ⌝ }
+    requires { ⌜ workWords ≤ length (now ops) ⌝ }
     ensures { λ r. ⌜ r ≡ getD (now (ops .entry)) (k * opWords + j) 0 ⌝ }
 {
     ops[k * OP_WORDS + j]
@@ -350,7 +351,7 @@ fn op_word(ops: &[u32], k: usize, j: usize) -> u32
 
 // Operator k.
 pub fn read_op(ops: &[u32], k: usize) -> Op
-    requires { ⌜ (k < maxStored) × (16384 ≤ length (now ops)) ⌝ }
+    requires { ⌜ (k < maxStored) × (workWords ≤ length (now ops)) ⌝ }
     ensures { λ r. ⌜ r ≡ opAt (now (ops .entry)) k ⌝ }
 {
     let kind = op_word(ops, k, 1);

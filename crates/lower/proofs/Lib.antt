@@ -1,4 +1,3 @@
-pub mod Counting
 pub mod Arms
 pub mod Named
 pub mod Elements
@@ -13,3 +12,4 @@ pub mod Special
 pub mod Part
 pub mod Reading
 pub mod Room
+pub mod Asking

@@ -1,22 +1,27 @@
-// The lowering of a statement that the words hold: operators, notes and variables into the tables. a and b hold the records, ops the operators, rest the notes and the variables; base is where the pass's notes begin, left how deep a tree may be.
+// The lowering of a statement that the words hold: operators, notes and variables into the tables. a and b hold the records, ops the operators, rest the notes and the variables; a place says at which record, how deep a tree may be, and where the pass's notes begin.
 ghost use mathlib.Core.Path.{_≡_};
 ghost use Prim.Native.Nat.{ℕ, _+_, _-_, _≤_, _<_};
 ghost use mathlib.Core.List.{List};
 ghost use lib.ListN.{length};
+ghost use Rattle.model.specs.Call.{workWords};
 ghost use Rattle.model.specs.Kind.{expr, patternPart, patternElement};
 ghost use Rattle.model.specs.Lower.{orSourceAll};
-ghost use Rattle.words.specs.Words.{Roomy, cell};
-ghost use Rattle.lower.specs.Rep.{mem, Good};
-ghost use Rattle.lower.specs.Pieces.{SomeTree, SomeCarried, LowersExpr, LowersExprs};
-ghost use Rattle.lower.specs.Patterns.{SomeTrees, LowersPart, LowersParts};
-ghost use Rattle.lower.specs.Chains.{givenIf, Sturdy, Anchored, LowersElement, LowersElements, LowersStart, LowersRel, OrSource, LowersChain, elementOf, startChain, Special, Starts};
+ghost use Rattle.words.specs.Words.{Roomy, cell, maxRecords};
+ghost use Rattle.words.specs.Places.{kindAt, nodeKind, relKind};
+ghost use Rattle.lower.specs.Rep.{mem};
+ghost use Rattle.lower.specs.Pieces.{LowersExpr, LowersExprs};
+ghost use Rattle.lower.specs.Patterns.{LowersPart, LowersParts};
+ghost use Rattle.lower.specs.Chains.{givenIf, LowersElement, LowersElements, LowersStart, LowersRel, OrSource, LowersChain, elementOf, startChain};
+ghost use Rattle.lower.specs.Asked.{TreeAsked, ExprsAsked, BehindAsked, ElementAsked, SpecialAsked, ChainAsked, StartAsked, ExpandAsked};
+ghost use Rattle.context.specs.Tables.{maxCount};
 ghost use Rattle.context.specs.Ops.{beforeOf, Under};
 use context::At;
 use context::Before;
 use context::LowerCtx;
 use context::op;
-
-pub mod records;
+use words::field;
+use words::kind;
+use words::records;
 
 // Elements of a part, so far: the next one's record; whether there is an operator, the last one and its node's number; whether a rel waits for its far node; the record from which nothing is lowered yet, which is the rel that waits; how many numbers the path has.
 pub struct Chain {
@@ -37,7 +42,7 @@ pub enum Element {
 }
 
 // The record behind what is lowered, and the state.
-pub struct Step {
+pub struct Reached {
     pub next: usize,
     pub ctx: LowerCtx,
 }
@@ -51,11 +56,11 @@ pub struct Root {
 
 fn read_element(a: &[u32], b: &[u32], i: usize) -> Element
     requires { ⌜ Roomy (now a) (now b) ⌝ }
-    requires { ⌜ i < 2048 ⌝ }
-    ensures { λ r. ⌜ r ≡ elementOf (cell (now (a .entry)) (now (b .entry)) i 0) i ⌝ }
+    requires { ⌜ i < maxRecords ⌝ }
+    ensures { λ r. ⌜ r ≡ elementOf (cell (now (a .entry)) (now (b .entry)) i kindAt) i ⌝ }
 {
-    let kind = words::word(a, b, i, 0);
-    if kind == 12 {
+    let kind = words::word(a, b, i, field::KIND);
+    if kind == kind::NODE {
         return Element::Node(i);
     }
     Element::Rel(i)
@@ -63,7 +68,7 @@ fn read_element(a: &[u32], b: &[u32], i: usize) -> Element
 
 // The operator before, or a source of everything, which names the next number and does not take it.
 pub fn or_source_all(ops: &mut [u32], ctx: LowerCtx, current: Before, next: usize) -> Root
-    requires { ⌜ (ctx .ops < 65535) × (16384 ≤ length (now ops)) ⌝ }
+    requires { ⌜ (ctx .ops < maxCount) × (workWords ≤ length (now ops)) ⌝ }
     requires { ⌜ Under current (ctx .ops) ⌝ }
     ensures { λ r. ⌜ (r .next ≡ next) × ((rest : List ℕ) → OrSource (orSourceAll (beforeOf current)) (r .op) (mem ctx (now (ops .entry)) rest) (mem (r .ctx) (now (ops .exit)) rest)) ⌝ }
 {
@@ -91,227 +96,247 @@ fn root_of(has: u32, last: usize) -> Before
     Before::Op(last)
 }
 
-// A pattern of no parts: a source that does take a number.
-fn lower_no_parts(ops: &mut [u32], ctx: LowerCtx, next: usize) -> Root
-    requires { ⌜ (ctx .ops < 65535) × (ctx .next < 65535) × (16384 ≤ length (now ops)) × (next < 2048) ⌝ }
-    ensures { λ r. ⌜ (r .next ≡ next + 1) × ((a b : List ℕ) (d base : ℕ) (rest : List ℕ) → LowersParts a b 0 d base next (r .next) (r .op) (mem ctx (now (ops .entry)) rest) (mem (r .ctx) (now (ops .exit)) rest)) ⌝ }
+// A pattern of no parts, at record i: a source that does take a number.
+fn lower_no_parts(ops: &mut [u32], ctx: LowerCtx, i: usize) -> Root
+    requires { ⌜ (ctx .ops < maxCount) × (ctx .next < maxCount) × (workWords ≤ length (now ops)) × (i < maxRecords) ⌝ }
+    ensures { λ r. ⌜ (r .next ≡ i + 1) × ((a b : List ℕ) (d base : ℕ) (rest : List ℕ) → LowersParts a b 0 d base i (r .next) (r .op) (mem ctx (now (ops .entry)) rest) (mem (r .ctx) (now (ops .exit)) rest)) ⌝ }
 {
     let k = ctx.ops;
     let f = ctx.fresh();
     let c = f.ctx;
     let z = c.push(ops, op::source_all(f.number));
     Root {
-        next: next + 1,
+        next: i + 1,
         op: k,
         ctx: z,
     }
 }
 
-// The expression at record i.
+// The expression at a place.
 pub fn lower_expr(
     a: &[u32],
     b: &[u32],
     ops: &mut [u32],
     rest: &mut [u32],
     ctx: LowerCtx,
-    base: usize,
-    i: usize,
-    left: usize,
-) -> Step
-    requires { ⌜ Roomy (now a) (now b) ⌝ }
-    requires { ⌜ SomeTree (now a) (now b) expr left i ⌝ }
-    requires { ⌜ Good left i (mem ctx (now ops) (now rest)) × (left ≤ 64) × (base ≤ 2048) ⌝ }
-    ensures { λ r. ⌜ LowersExpr (now (a .entry)) (now (b .entry)) left base i (r .next) (mem ctx (now (ops .entry)) (now (rest .entry))) (mem (r .ctx) (now (ops .exit)) (now (rest .exit))) ⌝ }
+    at: At,
+) -> Reached
+    requires { ⌜ TreeAsked expr (now a) (now b) at (mem ctx (now ops) (now rest)) ⌝ }
+    ensures { λ r. ⌜ LowersExpr (now (a .entry)) (now (b .entry)) (at .left) (at .base) (at .i) (r .next) (mem ctx (now (ops .entry)) (now (rest .entry))) (mem (r .ctx) (now (ops .exit)) (now (rest .exit))) ⌝ }
 {
-    let kind = words::word(a, b, i, 0);
-    let n = records::children(a, b, i);
+    let i = at.i;
+    let kind = words::word(a, b, i, field::KIND);
+    let n = records::children_of(a, b, i, kind);
     let first = i + 1;
-    let less = left - 1;
+    let place = at.base + first;
+    let less = at.left - 1;
+    let below = At {
+        base: at.base,
+        i: first,
+        left: less,
+    };
     match kind {
-        32 => {
-            let id = words::word(a, b, i, 2);
-            let m = ctx.number(rest, id, base + first);
+        kind::VAR => {
+            let id = words::word(a, b, i, field::VAR_ID);
+            let m = ctx.number(rest, id, place);
             let c = m.ctx;
-            Step {
+            Reached {
                 next: first,
                 ctx: c,
             }
         }
-        33 => lower_exprs(a, b, ops, rest, ctx, base, first, n, 1, less),
-        35 => {
-            let parts = records::count(a, b, i, 2);
-            let r = lower_parts(a, b, ops, rest, ctx, base, i, parts, less);
-            context::note(rest, base + first, r.op as u32);
+        kind::MAP => lower_exprs(a, b, ops, rest, ctx, below, n, 1),
+        kind::PAT => {
+            let here = At {
+                base: at.base,
+                i,
+                left: less,
+            };
+            let r = lower_parts(a, b, ops, rest, ctx, here, n);
+            context::note(rest, place, r.op as u32);
             let c = r.ctx;
-            Step {
+            Reached {
                 next: r.next,
                 ctx: c,
             }
         }
-        36 => {
-            let id = words::word(a, b, i, 4);
-            let m = ctx.number(rest, id, base + first);
+        kind::LIST_PREDICATE => {
+            let id = words::word(a, b, i, field::LIST_PREDICATE_VAR);
+            let m = ctx.number(rest, id, place);
             let c = m.ctx;
-            lower_exprs(a, b, ops, rest, c, base, first, n, 0, less)
+            lower_exprs(a, b, ops, rest, c, below, n, 0)
         }
-        _ => lower_exprs(a, b, ops, rest, ctx, base, first, n, 0, less),
+        _ => lower_exprs(a, b, ops, rest, ctx, below, n, 0),
     }
 }
 
-// n expressions from record i on, each so many records behind the one before it.
+// n expressions from a place on, each so many records behind the one before it.
 pub fn lower_exprs(
     a: &[u32],
     b: &[u32],
     ops: &mut [u32],
     rest: &mut [u32],
     ctx: LowerCtx,
-    base: usize,
-    i: usize,
+    at: At,
     n: usize,
     gap: usize,
-    left: usize,
-) -> Step
-    requires { ⌜ Roomy (now a) (now b) ⌝ }
-    requires { ⌜ SomeCarried (now a) (now b) n gap left i ⌝ }
-    requires { ⌜ Good left i (mem ctx (now ops) (now rest)) × (left ≤ 64) × (base ≤ 2048) × (gap ≤ 1) ⌝ }
-    ensures { λ r. ⌜ LowersExprs (now (a .entry)) (now (b .entry)) n gap left base i (r .next) (mem ctx (now (ops .entry)) (now (rest .entry))) (mem (r .ctx) (now (ops .exit)) (now (rest .exit))) ⌝ }
+) -> Reached
+    requires { ⌜ ExprsAsked (now a) (now b) n gap at (mem ctx (now ops) (now rest)) ⌝ }
+    ensures { λ r. ⌜ LowersExprs (now (a .entry)) (now (b .entry)) n gap (at .left) (at .base) (at .i) (r .next) (mem ctx (now (ops .entry)) (now (rest .entry))) (mem (r .ctx) (now (ops .exit)) (now (rest .exit))) ⌝ }
 {
-    let mut at = i;
+    let mut i = at.i;
     let mut m = n;
     let mut cur = ctx;
     while m != 0 {
-        let s = lower_expr(a, b, ops, rest, cur, base, at + gap, left);
-        at = s.next;
+        let j = i + gap;
+        let place = At {
+            base: at.base,
+            i: j,
+            left: at.left,
+        };
+        let s = lower_expr(a, b, ops, rest, cur, place);
+        i = s.next;
         let c = s.ctx;
         cur = c;
         m -= 1;
     }
-    Step { next: at, ctx: cur }
+    Reached { next: i, ctx: cur }
 }
 
-// The n parts behind record i.
+// The n parts behind the record at a place.
 pub fn lower_parts(
     a: &[u32],
     b: &[u32],
     ops: &mut [u32],
     rest: &mut [u32],
     ctx: LowerCtx,
-    base: usize,
-    i: usize,
+    at: At,
     n: usize,
-    left: usize,
 ) -> Root
-    requires { ⌜ Roomy (now a) (now b) ⌝ }
-    requires { ⌜ SomeTrees (now a) (now b) patternPart n left (i + 1) ⌝ }
-    requires { ⌜ Good left i (mem ctx (now ops) (now rest)) × (left ≤ 64) × (base ≤ 2048) × (i < 2048) ⌝ }
-    ensures { λ r. ⌜ LowersParts (now (a .entry)) (now (b .entry)) n left base i (r .next) (r .op) (mem ctx (now (ops .entry)) (now (rest .entry))) (mem (r .ctx) (now (ops .exit)) (now (rest .exit))) ⌝ }
+    requires { ⌜ BehindAsked patternPart (now a) (now b) n at (mem ctx (now ops) (now rest)) ⌝ }
+    ensures { λ r. ⌜ LowersParts (now (a .entry)) (now (b .entry)) n (at .left) (at .base) (at .i) (r .next) (r .op) (mem ctx (now (ops .entry)) (now (rest .entry))) (mem (r .ctx) (now (ops .exit)) (now (rest .exit))) ⌝ }
 {
     if n == 0 {
-        return lower_no_parts(ops, ctx, i);
+        return lower_no_parts(ops, ctx, at.i);
     }
-    let r = lower_pattern_part(a, b, ops, rest, ctx, base, i + 1, left);
-    let mut at = r.next;
+    let first = at.i + 1;
+    let below = At {
+        base: at.base,
+        i: first,
+        left: at.left,
+    };
+    let r = lower_pattern_part(a, b, ops, rest, ctx, below);
+    let mut i = r.next;
     let mut op = r.op;
     let c = r.ctx;
     let mut cur = c;
     let mut m = n - 1;
     while m != 0 {
-        let s = lower_pattern_part(a, b, ops, rest, cur, base, at, left);
-        at = s.next;
+        let place = At {
+            base: at.base,
+            i,
+            left: at.left,
+        };
+        let s = lower_pattern_part(a, b, ops, rest, cur, place);
+        i = s.next;
         op = s.op;
         let d = s.ctx;
         cur = d;
         m -= 1;
     }
     Root {
-        next: at,
+        next: i,
         op,
         ctx: cur,
     }
 }
 
-// The part at record i: special only if it is a shortest part of exactly node, rel, node.
+// The part at a place: special only if it is a shortest part of exactly node, rel, node.
 fn lower_pattern_part(
     a: &[u32],
     b: &[u32],
     ops: &mut [u32],
     rest: &mut [u32],
     ctx: LowerCtx,
-    base: usize,
-    i: usize,
-    left: usize,
+    at: At,
 ) -> Root
-    requires { ⌜ Roomy (now a) (now b) ⌝ }
-    requires { ⌜ SomeTree (now a) (now b) patternPart left i ⌝ }
-    requires { ⌜ Good left i (mem ctx (now ops) (now rest)) × (left ≤ 64) × (base ≤ 2048) ⌝ }
-    ensures { λ r. ⌜ LowersPart (now (a .entry)) (now (b .entry)) left base i (r .next) (r .op) (mem ctx (now (ops .entry)) (now (rest .entry))) (mem (r .ctx) (now (ops .exit)) (now (rest .exit))) ⌝ }
+    requires { ⌜ TreeAsked patternPart (now a) (now b) at (mem ctx (now ops) (now rest)) ⌝ }
+    ensures { λ r. ⌜ LowersPart (now (a .entry)) (now (b .entry)) (at .left) (at .base) (at .i) (r .next) (r .op) (mem ctx (now (ops .entry)) (now (rest .entry))) (mem (r .ctx) (now (ops .exit)) (now (rest .exit))) ⌝ }
 {
-    let shortest = words::word(a, b, i, 4);
+    let i = at.i;
+    let shortest = words::word(a, b, i, field::PART_SHORTEST);
     if shortest == 0 {
-        return lower_chain(a, b, ops, rest, ctx, base, i, left);
+        return lower_chain(a, b, ops, rest, ctx, at);
     }
-    let n = words::word(a, b, i, 6);
+    let n = words::word(a, b, i, field::PART_ELEMENTS);
     if n != 3 {
-        return lower_chain(a, b, ops, rest, ctx, base, i, left);
+        return lower_chain(a, b, ops, rest, ctx, at);
     }
     let rel = records::skip(a, b, i + 1);
     let Element::Node(x) = read_element(a, b, i + 1) else {
-        return lower_chain(a, b, ops, rest, ctx, base, i, left);
+        return lower_chain(a, b, ops, rest, ctx, at);
     };
     let far = records::skip(a, b, rel);
     let Element::Rel(y) = read_element(a, b, rel) else {
-        return lower_chain(a, b, ops, rest, ctx, base, i, left);
+        return lower_chain(a, b, ops, rest, ctx, at);
     };
     let Element::Node(z) = read_element(a, b, far) else {
-        return lower_chain(a, b, ops, rest, ctx, base, i, left);
+        return lower_chain(a, b, ops, rest, ctx, at);
     };
-    lower_shortest_path_part(a, b, ops, rest, ctx, base, i, rel, far, left)
+    lower_shortest_path_part(a, b, ops, rest, ctx, at, rel, far)
 }
 
-// The special shortest part at record i, whose rel and far node stand at rel and far.
+// The special shortest part at a place, whose rel and far node stand at rel and far.
 fn lower_shortest_path_part(
     a: &[u32],
     b: &[u32],
     ops: &mut [u32],
     rest: &mut [u32],
     ctx: LowerCtx,
-    base: usize,
-    i: usize,
+    at: At,
     rel: usize,
     far: usize,
-    left: usize,
 ) -> Root
-    requires { ⌜ Roomy (now a) (now b) ⌝ }
-    requires { ⌜ SomeTree (now a) (now b) patternPart left i ⌝ }
-    requires { ⌜ Good left i (mem ctx (now ops) (now rest)) × (left ≤ 64) × (base ≤ 2048) ⌝ }
-    requires { ⌜ Special (now a) (now b) i rel far ⌝ }
-    ensures { λ r. ⌜ LowersPart (now (a .entry)) (now (b .entry)) left base i (r .next) (r .op) (mem ctx (now (ops .entry)) (now (rest .entry))) (mem (r .ctx) (now (ops .exit)) (now (rest .exit))) ⌝ }
+    requires { ⌜ SpecialAsked (now a) (now b) at rel far (mem ctx (now ops) (now rest)) ⌝ }
+    ensures { λ r. ⌜ LowersPart (now (a .entry)) (now (b .entry)) (at .left) (at .base) (at .i) (r .next) (r .op) (mem ctx (now (ops .entry)) (now (rest .entry))) (mem (r .ctx) (now (ops .exit)) (now (rest .exit))) ⌝ }
 {
+    let i = at.i;
+    let base = at.base;
     let first = i + 1;
-    let less = left - 1;
-    let from_named = words::word(a, b, first, 2);
-    let from_id = words::word(a, b, first, 3);
+    let less = at.left - 1;
+    let from_named = words::word(a, b, first, field::ELEMENT_NAMED);
+    let from_id = words::word(a, b, first, field::ELEMENT_VAR);
     let from = ctx.endpoint_var(rest, from_named, from_id, base + (first + 1));
     let c = from.ctx;
-    let r = start_node(a, b, ops, rest, c, from.number, base, first, less);
+    let near = At {
+        base,
+        i: first,
+        left: less,
+    };
+    let r = start_node(a, b, ops, rest, c, near, from.number);
     let d = r.ctx;
-    let s = lower_rel_element(a, b, ops, rest, d, base, rel, less);
-    let to_named = words::word(a, b, far, 2);
-    let to_id = words::word(a, b, far, 3);
+    let between = At {
+        base,
+        i: rel,
+        left: less,
+    };
+    let s = lower_rel_element(a, b, ops, rest, d, between);
+    let to_named = words::word(a, b, far, field::ELEMENT_NAMED);
+    let to_id = words::word(a, b, far, field::ELEMENT_VAR);
     let e = s.ctx;
     let to = e.endpoint_var(rest, to_named, to_id, base + (far + 1));
-    let named = words::word(a, b, i, 2);
-    let id = words::word(a, b, i, 3);
+    let named = words::word(a, b, i, field::PART_NAMED);
+    let id = words::word(a, b, i, field::PART_VAR);
     let f = to.ctx;
     let path = f.endpoint_var(rest, named, id, base + first);
     let g = path.ctx;
     let k = g.ops;
-    let at = At {
+    let whole = At {
         base,
         i,
         left: less,
     };
-    let z = g.push(ops, op::shortest_path(at, r.op, rel, far));
+    let z = g.push(ops, op::shortest_path(whole, r.op, rel, far));
     let end = records::skip(a, b, far);
     Root {
         next: end,
@@ -320,43 +345,40 @@ fn lower_shortest_path_part(
     }
 }
 
-// The part at record i as a chain: its elements, then the path if it is named.
+// The part at a place as a chain: its elements, then the path if it is named.
 fn lower_chain(
     a: &[u32],
     b: &[u32],
     ops: &mut [u32],
     rest: &mut [u32],
     ctx: LowerCtx,
-    base: usize,
-    i: usize,
-    left: usize,
+    at: At,
 ) -> Root
-    requires { ⌜ Roomy (now a) (now b) ⌝ }
-    requires { ⌜ SomeTree (now a) (now b) patternPart left i ⌝ }
-    requires { ⌜ Good left i (mem ctx (now ops) (now rest)) × (left ≤ 64) × (base ≤ 2048) ⌝ }
-    ensures { λ r. ⌜ LowersChain (now (a .entry)) (now (b .entry)) left base i (r .next) (r .op) (mem ctx (now (ops .entry)) (now (rest .entry))) (mem (r .ctx) (now (ops .exit)) (now (rest .exit))) ⌝ }
+    requires { ⌜ TreeAsked patternPart (now a) (now b) at (mem ctx (now ops) (now rest)) ⌝ }
+    ensures { λ r. ⌜ LowersChain (now (a .entry)) (now (b .entry)) (at .left) (at .base) (at .i) (r .next) (r .op) (mem ctx (now (ops .entry)) (now (rest .entry))) (mem (r .ctx) (now (ops .exit)) (now (rest .exit))) ⌝ }
 {
-    let n = records::count(a, b, i, 6);
-    let less = left - 1;
-    let ch = lower_elements(a, b, ops, rest, ctx, base, i, n, less);
-    let c = ch.ctx;
-    let root = root_of(ch.has, ch.last);
-    let q = or_source_all(ops, c, root, ch.next);
-    let named = words::word(a, b, i, 2);
-    if named == 0 {
-        return q;
-    }
-    let id = words::word(a, b, i, 3);
-    let d = q.ctx;
-    let m = d.number(rest, id, base + (i + 1));
-    let e = m.ctx;
-    let k = e.ops;
-    let at = At {
-        base,
+    let i = at.i;
+    let n = records::count(a, b, i, field::PART_ELEMENTS);
+    let less = at.left - 1;
+    let below = At {
+        base: at.base,
         i,
         left: less,
     };
-    let z = e.push(ops, op::bind_path(at, q.op, ch.kept, m.number));
+    let ch = lower_elements(a, b, ops, rest, ctx, below, n);
+    let c = ch.ctx;
+    let root = root_of(ch.has, ch.last);
+    let q = or_source_all(ops, c, root, ch.next);
+    let named = words::word(a, b, i, field::PART_NAMED);
+    if named == 0 {
+        return q;
+    }
+    let id = words::word(a, b, i, field::PART_VAR);
+    let d = q.ctx;
+    let m = d.number(rest, id, at.base + (i + 1));
+    let e = m.ctx;
+    let k = e.ops;
+    let z = e.push(ops, op::bind_path(below, q.op, ch.kept, m.number));
     Root {
         next: q.next,
         op: k,
@@ -364,24 +386,20 @@ fn lower_chain(
     }
 }
 
-// The n elements behind record i.
+// The n elements behind the record at a place.
 fn lower_elements(
     a: &[u32],
     b: &[u32],
     ops: &mut [u32],
     rest: &mut [u32],
     ctx: LowerCtx,
-    base: usize,
-    i: usize,
+    at: At,
     n: usize,
-    left: usize,
 ) -> Chain
-    requires { ⌜ Roomy (now a) (now b) ⌝ }
-    requires { ⌜ SomeTrees (now a) (now b) patternElement n left (i + 1) ⌝ }
-    requires { ⌜ Good left (i + 1) (mem ctx (now ops) (now rest)) × (left ≤ 64) × (base ≤ 2048) ⌝ }
-    ensures { λ r. ⌜ LowersElements (now (a .entry)) (now (b .entry)) n left base (startChain i ctx) r (now (ops .entry)) (now (ops .exit)) (now (rest .entry)) (now (rest .exit)) ⌝ }
+    requires { ⌜ BehindAsked patternElement (now a) (now b) n at (mem ctx (now ops) (now rest)) ⌝ }
+    ensures { λ r. ⌜ LowersElements (now (a .entry)) (now (b .entry)) n (at .left) (at .base) (startChain (at .i) ctx) r (now (ops .entry)) (now (ops .exit)) (now (rest .entry)) (now (rest .exit)) ⌝ }
 {
-    let first = i + 1;
+    let first = at.i + 1;
     let mut ch = Chain {
         next: first,
         ctx,
@@ -394,7 +412,7 @@ fn lower_elements(
     };
     let mut m = n;
     while m != 0 {
-        let s = lower_element(a, b, ops, rest, ch, base, left);
+        let s = lower_element(a, b, ops, rest, ch, at.base, at.left);
         ch = s;
         m -= 1;
     }
@@ -411,15 +429,12 @@ fn lower_element(
     base: usize,
     left: usize,
 ) -> Chain
-    requires { ⌜ Roomy (now a) (now b) ⌝ }
-    requires { ⌜ SomeTree (now a) (now b) patternElement left (ch .next) ⌝ }
-    requires { ⌜ Good left (ch .from) (mem (ch .ctx) (now ops) (now rest)) × (left ≤ 64) × (base ≤ 2048) ⌝ }
-    requires { ⌜ Sturdy ch × Anchored (now a) (now b) left ch ⌝ }
+    requires { ⌜ ChainAsked (now a) (now b) base left ch (now ops) (now rest) ⌝ }
     ensures { λ r. ⌜ LowersElement (now (a .entry)) (now (b .entry)) left base ch r (now (ops .entry)) (now (ops .exit)) (now (rest .entry)) (now (rest .exit)) ⌝ }
 {
-    let at = ch.next;
-    let Element::Node(x) = read_element(a, b, at) else {
-        let end = records::skip(a, b, at);
+    let i = ch.next;
+    let Element::Node(x) = read_element(a, b, i) else {
+        let end = records::skip(a, b, i);
         let c = ch.ctx;
         return Chain {
             next: end,
@@ -428,7 +443,7 @@ fn lower_element(
             last: ch.last,
             origin: ch.origin,
             waits: 1,
-            from: at,
+            from: i,
             kept: ch.kept,
         };
     };
@@ -451,21 +466,19 @@ fn start_chain(
     base: usize,
     left: usize,
 ) -> Chain
-    requires { ⌜ Roomy (now a) (now b) ⌝ }
-    requires { ⌜ SomeTree (now a) (now b) patternElement left (ch .next) ⌝ }
-    requires { ⌜ Good left (ch .from) (mem (ch .ctx) (now ops) (now rest)) × (left ≤ 64) × (base ≤ 2048) ⌝ }
-    requires { ⌜ Sturdy ch × Anchored (now a) (now b) left ch ⌝ }
-    requires { ⌜ (cell (now a) (now b) (ch .next) 0 ≡ 12) × Starts ch ⌝ }
+    requires { ⌜ StartAsked (now a) (now b) base left ch (now ops) (now rest) ⌝ }
     ensures { λ r. ⌜ LowersElement (now (a .entry)) (now (b .entry)) left base ch r (now (ops .entry)) (now (ops .exit)) (now (rest .entry)) (now (rest .exit)) ⌝ }
 {
-    let at = ch.next;
-    let named = words::word(a, b, at, 2);
-    let id = words::word(a, b, at, 3);
+    let i = ch.next;
+    let named = words::word(a, b, i, field::ELEMENT_NAMED);
+    let id = words::word(a, b, i, field::ELEMENT_VAR);
     let cur = ch.ctx;
-    let m = cur.endpoint_var(rest, named, id, base + (at + 1));
+    let m = cur.endpoint_var(rest, named, id, base + (i + 1));
     let c = m.ctx;
-    let r = start_node(a, b, ops, rest, c, m.number, base, at, left);
+    let place = At { base, i, left };
+    let r = start_node(a, b, ops, rest, c, place, m.number);
     let d = r.ctx;
+    let kept = ch.kept + 1;
     Chain {
         next: r.next,
         ctx: d,
@@ -474,7 +487,7 @@ fn start_chain(
         origin: m.number,
         waits: 0,
         from: r.next,
-        kept: ch.kept + 1,
+        kept,
     }
 }
 
@@ -488,40 +501,33 @@ fn expand_to(
     base: usize,
     left: usize,
 ) -> Chain
-    requires { ⌜ Roomy (now a) (now b) ⌝ }
-    requires { ⌜ SomeTree (now a) (now b) patternElement left (ch .next) ⌝ }
-    requires { ⌜ Good left (ch .from) (mem (ch .ctx) (now ops) (now rest)) × (left ≤ 64) × (base ≤ 2048) ⌝ }
-    requires { ⌜ Sturdy ch × Anchored (now a) (now b) left ch ⌝ }
-    requires { ⌜ (cell (now a) (now b) (ch .next) 0 ≡ 12) × (ch .waits ≡ 1) × (ch .has ≡ 1) ⌝ }
+    requires { ⌜ ExpandAsked (now a) (now b) base left ch (now ops) (now rest) ⌝ }
     ensures { λ r. ⌜ LowersElement (now (a .entry)) (now (b .entry)) left base ch r (now (ops .entry)) (now (ops .exit)) (now (rest .entry)) (now (rest .exit)) ⌝ }
 {
-    let at = ch.next;
+    let i = ch.next;
     let rel = ch.from;
-    let named = words::word(a, b, at, 2);
-    let id = words::word(a, b, at, 3);
+    let named = words::word(a, b, i, field::ELEMENT_NAMED);
+    let id = words::word(a, b, i, field::ELEMENT_VAR);
     let cur = ch.ctx;
-    let m = cur.endpoint_var(rest, named, id, base + (at + 1));
+    let m = cur.endpoint_var(rest, named, id, base + (i + 1));
     let c = m.ctx;
-    let s = lower_rel_element(a, b, ops, rest, c, base, rel, left);
-    let labels = records::count(a, b, at, 4);
-    let props = records::count(a, b, at, 6);
+    let place = At { base, i: rel, left };
+    let s = lower_rel_element(a, b, ops, rest, c, place);
+    let labels = records::count(a, b, i, field::NODE_LABELS);
+    let props = records::count(a, b, i, field::NODE_PROPS);
     let d = s.ctx;
-    let t = lower_exprs(
-        a,
-        b,
-        ops,
-        rest,
-        d,
+    let first = i + 1 + labels;
+    let less = left - 1;
+    let below = At {
         base,
-        at + 1 + labels,
-        props,
-        0,
-        left - 1,
-    );
+        i: first,
+        left: less,
+    };
+    let t = lower_exprs(a, b, ops, rest, d, below, props, 0);
     let f = t.ctx;
     let k = f.ops;
-    let place = At { base, i: rel, left };
-    let z = f.push(ops, op::expand(place, ch.last, ch.origin, at));
+    let z = f.push(ops, op::expand(place, ch.last, ch.origin, i));
+    let kept = ch.kept + 2;
     Chain {
         next: t.next,
         ctx: z,
@@ -530,38 +536,40 @@ fn expand_to(
         origin: m.number,
         waits: 0,
         from: t.next,
-        kept: ch.kept + 2,
+        kept,
     }
 }
 
-// The operators of the node at record i, which has its number: a source, and a filter by its props.
+// The operators of the node at a place, which has its number: a source, and a filter by its props.
 fn start_node(
     a: &[u32],
     b: &[u32],
     ops: &mut [u32],
     rest: &mut [u32],
     ctx: LowerCtx,
+    at: At,
     number: u32,
-    base: usize,
-    i: usize,
-    left: usize,
 ) -> Root
-    requires { ⌜ Roomy (now a) (now b) ⌝ }
-    requires { ⌜ SomeTree (now a) (now b) patternElement left i × (cell (now a) (now b) i 0 ≡ 12) ⌝ }
-    requires { ⌜ Good (left - 1) i (mem ctx (now ops) (now rest)) × (left ≤ 64) × (base ≤ 2048) × (1 ≤ left) ⌝ }
-    ensures { λ r. ⌜ LowersStart (now (a .entry)) (now (b .entry)) left base i number (r .next) (r .op) (mem ctx (now (ops .entry)) (now (rest .entry))) (mem (r .ctx) (now (ops .exit)) (now (rest .exit))) ⌝ }
+    requires { ⌜ ElementAsked nodeKind (now a) (now b) at (mem ctx (now ops) (now rest)) ⌝ }
+    ensures { λ r. ⌜ LowersStart (now (a .entry)) (now (b .entry)) (at .left) (at .base) (at .i) number (r .next) (r .op) (mem ctx (now (ops .entry)) (now (rest .entry))) (mem (r .ctx) (now (ops .exit)) (now (rest .exit))) ⌝ }
 {
-    let labels = records::count(a, b, i, 4);
-    let props = words::word(a, b, i, 6);
+    let i = at.i;
+    let labels = records::count(a, b, i, field::NODE_LABELS);
+    let props = words::word(a, b, i, field::NODE_PROPS);
     let first = i + 1 + labels;
-    let less = left - 1;
-    let k = ctx.ops;
-    let at = At {
-        base,
+    let less = at.left - 1;
+    let here = At {
+        base: at.base,
         i,
         left: less,
     };
-    let p = ctx.push(ops, op::source(at, number));
+    let below = At {
+        base: at.base,
+        i: first,
+        left: less,
+    };
+    let k = ctx.ops;
+    let p = ctx.push(ops, op::source(here, number));
     if props == 0 {
         return Root {
             next: first,
@@ -569,15 +577,10 @@ fn start_node(
             ctx: p,
         };
     }
-    let s = lower_expr(a, b, ops, rest, p, base, first, less);
+    let s = lower_expr(a, b, ops, rest, p, below);
     let c = s.ctx;
     let r = c.ops;
-    let by = At {
-        base,
-        i: first,
-        left: less,
-    };
-    let z = c.push(ops, op::filter(by, k));
+    let z = c.push(ops, op::filter(below, k));
     Root {
         next: s.next,
         op: r,
@@ -585,27 +588,31 @@ fn start_node(
     }
 }
 
-// The number and the props of the rel at record i.
+// The number and the props of the rel at a place.
 fn lower_rel_element(
     a: &[u32],
     b: &[u32],
     ops: &mut [u32],
     rest: &mut [u32],
     ctx: LowerCtx,
-    base: usize,
-    i: usize,
-    left: usize,
-) -> Step
-    requires { ⌜ Roomy (now a) (now b) ⌝ }
-    requires { ⌜ SomeTree (now a) (now b) patternElement left i × (cell (now a) (now b) i 0 ≡ 13) ⌝ }
-    requires { ⌜ Good (left - 1) i (mem ctx (now ops) (now rest)) × (left ≤ 64) × (base ≤ 2048) × (1 ≤ left) ⌝ }
-    ensures { λ r. ⌜ LowersRel (now (a .entry)) (now (b .entry)) left base i (r .next) ctx (now (ops .entry)) (now (rest .entry)) (mem (r .ctx) (now (ops .exit)) (now (rest .exit))) ⌝ }
+    at: At,
+) -> Reached
+    requires { ⌜ ElementAsked relKind (now a) (now b) at (mem ctx (now ops) (now rest)) ⌝ }
+    ensures { λ r. ⌜ LowersRel (now (a .entry)) (now (b .entry)) (at .left) (at .base) (at .i) (r .next) ctx (now (ops .entry)) (now (rest .entry)) (mem (r .ctx) (now (ops .exit)) (now (rest .exit))) ⌝ }
 {
-    let named = words::word(a, b, i, 2);
-    let id = words::word(a, b, i, 3);
-    let m = ctx.endpoint_var(rest, named, id, base + (i + 1));
-    let types = records::count(a, b, i, 4);
-    let props = records::count(a, b, i, 10);
+    let i = at.i;
+    let named = words::word(a, b, i, field::ELEMENT_NAMED);
+    let id = words::word(a, b, i, field::ELEMENT_VAR);
+    let m = ctx.endpoint_var(rest, named, id, at.base + (i + 1));
+    let types = records::count(a, b, i, field::REL_TYPES);
+    let props = records::count(a, b, i, field::REL_PROPS);
     let c = m.ctx;
-    lower_exprs(a, b, ops, rest, c, base, i + 1 + types, props, 0, left - 1)
+    let first = i + 1 + types;
+    let less = at.left - 1;
+    let below = At {
+        base: at.base,
+        i: first,
+        left: less,
+    };
+    lower_exprs(a, b, ops, rest, c, below, props, 0)
 }

@@ -17,8 +17,8 @@ use Rattle.output.specs.Page.{Page, Puts}
 use Rattle.output.specs.Writes.{_⨾_, stay, same}
 use Rattle.words.specs.Words.{fieldOf, fieldsOf, piecesOf, intOf, part}
 use Rattle.words.specs.Held.{Flag, Flags, Text, Texts, PlaceAt}
-use Rattle.line.specs.TableLaws.{code-row}
-use Rattle.line.specs.Table.{codes, codeAt, otherForms, formOf, formsIn, formsFrom, formsAt}
+use Rattle.words.specs.TableLaws.{code-row}
+use Rattle.words.specs.Table.{codes, codeAt, otherForms, formOf, formsIn, formsFrom, formsAt}
 use Rattle.plan_line.specs.Field.{plain, allPlain, fieldText, fieldsText, Fielded}
 
 -- ── a field ──

@@ -9,10 +9,10 @@ ghost use Rattle.model.specs.Text.{decimal, signed, hexDigits};
 ghost use Rattle.output.specs.Page.{on, Puts};
 ghost use Rattle.words.specs.Words.{Roomy, part, intOf};
 ghost use Rattle.words.specs.Held.{Flag, Text};
-ghost use Rattle.line.specs.Table.{formOf, formsAt};
+ghost use Rattle.words.specs.Table.{formOf, formsAt};
 ghost use Rattle.plan_line.specs.Keywords.{word};
 ghost use Rattle.plan_line.specs.Field.{plain, fieldText, fieldsText, Fielded, lineText};
-use line::table::form_code;
+use words::table::form_code;
 
 // The 64 bits of two words.
 fn bits(low: u32, high: u32) -> u64

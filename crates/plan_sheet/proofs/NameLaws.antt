@@ -16,7 +16,7 @@ use Rattle.output.specs.Page.{Page, Puts}
 use Rattle.output.specs.Writes.{_⨾_, stay}
 use Rattle.words.specs.Words.{Roomy, cell, fieldOf, fieldsOf}
 use Rattle.words.specs.Held.{Held, HeldOf, RecordAt, PlaceAt, size, sizeOf}
-use Rattle.line.specs.Table.{sorts, sortOf}
+use Rattle.words.specs.Table.{sorts, sortOf}
 use Rattle.words.specs.Cells.{shown}
 use Rattle.lower.specs.Render.{Notes, Ops, recsOver, render, renderOf, specRec}
 use Rattle.lower.proofs.Counting.{innerNumber, inner-number}

@@ -20,7 +20,8 @@ use Rattle.output.specs.Writes.{_⨾_}
 use Rattle.words.specs.Words.{Roomy, cell, optionOf, fieldOf, fieldsOf}
 use Rattle.words.specs.Held.{Held, PlaceAt}
 use Rattle.words.specs.Cells.{shown}
-use Rattle.context.specs.Tables.{Op, opAt}
+use Rattle.context.specs.Tables.{opAt}
+use Rattle.context.specs.declared.op.Op.{Op}
 use Rattle.lower.specs.Render.{Notes, Ops, specRecs}
 use Rattle.lower.specs.Shows.{shift, Sane, Shows, OverExpr, ByLabels, ByRel, ByShortest, ByPath, ByWith, ByItems, ByParted, ByKeys, ByCall, shows-all, shows-source, shows-filter, shows-expand, shows-short, shows-path, shows-optional, shows-with, shows-project, shows-aggregate, shows-order, shows-skip, shows-limit, shows-distinct, shows-unwind, shows-union, shows-call}
 use Rattle.plan_line.specs.Keywords.{word, letters}

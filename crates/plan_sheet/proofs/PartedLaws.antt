@@ -17,7 +17,8 @@ use Rattle.output.specs.Writes.{_⨾_, stay}
 use Rattle.words.specs.Words.{Roomy, cell, fieldOf, fieldsOf}
 use Rattle.words.specs.Held.{Held, HeldOf, RecordAt, PlaceAt, size}
 use Rattle.words.specs.Cells.{shown}
-use Rattle.context.specs.Tables.{Op, opAt}
+use Rattle.context.specs.Tables.{opAt}
+use Rattle.context.specs.declared.op.Op.{Op}
 use Rattle.lower.specs.Render.{Notes, Ops, Below, BelowOf, belowIn, copiesBelow, itemExpr, isAggregate, aggOf, keyRecs, aggRecs}
 use Rattle.lower.specs.Shows.{shift}
 use Rattle.lower.specs.Count.{Ends}

@@ -12,7 +12,8 @@ use Rattle.model.specs.Lower.{Recs, planned, sameAlias, aliasOr}
 use Rattle.output.specs.Page.{Page, Puts}
 use Rattle.words.specs.Words.{Roomy}
 use Rattle.words.specs.Held.{Held, RecordAt, size}
-use Rattle.context.specs.Tables.{Op, opAt}
+use Rattle.context.specs.Tables.{opAt}
+use Rattle.context.specs.declared.op.Op.{Op}
 use Rattle.lower.specs.Render.{Notes, Ops, render, Below, specRecs, KidsBelow}
 use Rattle.lower.specs.Shows.{Stored, shift}
 use Rattle.plan_sheet.specs.declared.op.OpWords.{OpWords}

@@ -8,10 +8,10 @@ use Rattle.context.proofs.index.descend.Statement.{statement}
 use Rattle.context.proofs.index.descend.Tie as tie
 
 abbrev Inv-loop : tie.InvT-loop
-Inv-loop vars count id p₀ rest₀ p rest = Descends vars count id p rest
+Inv-loop vars count id p₀ rest₀ p bits = Descends vars count id p bits
 
 abbrev μ-loop : tie.MeasureT-loop
-μ-loop vars count id p₀ rest₀ p rest = count - p
+μ-loop vars count id p₀ rest₀ p bits = count - p
 
 pub descend-spec : {M : Type 1} → statement M
 descend-spec =

@@ -6,9 +6,10 @@ use Rattle.context.proofs.Laws
 use borrow.Author.Needs.{needs}
 use Rattle.context.proofs.index.find.Statement.{statement}
 use Rattle.context.proofs.index.find.Tie as tie
+use Rattle.context.specs.Tables.{maxIndexed}
 
 abbrev Inv-loop : tie.InvT-loop
-Inv-loop vars count id k₀ k = (k ≤ count) × (k - (k - 2048) ≡ count - (count - 2048)) × (Laws.from vars count id ≡ Laws.from vars k id)
+Inv-loop vars count id k₀ k = (k ≤ count) × (k - (k - maxIndexed) ≡ count - (count - maxIndexed)) × (Laws.from vars count id ≡ Laws.from vars k id)
 
 abbrev μ-loop : tie.MeasureT-loop
 μ-loop vars count id k₀ k = k

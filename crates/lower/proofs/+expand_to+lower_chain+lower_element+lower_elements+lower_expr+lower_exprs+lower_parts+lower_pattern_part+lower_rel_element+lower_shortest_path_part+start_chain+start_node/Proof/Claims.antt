@@ -51,46 +51,46 @@ use Rattle.lower.proofs.lower_no_parts.Reads as lower-no-parts-reads
 use Rattle.lower.proofs.or_source_all.Reads as or-source-all-reads
 use Rattle.lower.proofs.root_of.Reads as root-of-reads
 use Rattle.lower.proofs.read_element.Reads as read-element-reads
-use Rattle.lower.proofs.records.children.Reads as children-reads
-use Rattle.lower.proofs.records.count.Reads as count-reads
-use Rattle.lower.proofs.records.skip.Reads as skip-reads
+use Rattle.words.proofs.records.children_of.Reads as children-of-reads
+use Rattle.words.proofs.records.count.Reads as count-reads
+use Rattle.words.proofs.records.skip.Reads as skip-reads
 use Rattle.words.proofs.word.Reads as word-reads
 
 abbrev pub μ-expand-to : Measures 4 expand-to-kinds.ps ℕ
 μ-expand-to κs a = 8 * a .1 .1 .1 .1 .1 .1 .0 + 2
 
 abbrev pub μ-lower-chain : Measures 4 lower-chain-kinds.ps ℕ
-μ-lower-chain κs a = 8 * a .1 .1 .1 .1 .1 .1 .1 .0 + 1
+μ-lower-chain κs a = 8 * a .1 .1 .1 .1 .1 .0 .left + 1
 
 abbrev pub μ-lower-element : Measures 4 lower-element-kinds.ps ℕ
 μ-lower-element κs a = 8 * a .1 .1 .1 .1 .1 .1 .0 + 3
 
 abbrev pub μ-lower-elements : Measures 4 lower-elements-kinds.ps ℕ
-μ-lower-elements κs a = 8 * a .1 .1 .1 .1 .1 .1 .1 .1 .0 + 4
+μ-lower-elements κs a = 8 * a .1 .1 .1 .1 .1 .0 .left + 4
 
 abbrev pub μ-lower-expr : Measures 4 lower-expr-kinds.ps ℕ
-μ-lower-expr κs a = 8 * a .1 .1 .1 .1 .1 .1 .1 .0
+μ-lower-expr κs a = 8 * a .1 .1 .1 .1 .1 .0 .left
 
 abbrev pub μ-lower-exprs : Measures 4 lower-exprs-kinds.ps ℕ
-μ-lower-exprs κs a = 8 * a .1 .1 .1 .1 .1 .1 .1 .1 .1 .0 + 1
+μ-lower-exprs κs a = 8 * a .1 .1 .1 .1 .1 .0 .left + 1
 
 abbrev pub μ-lower-parts : Measures 4 lower-parts-kinds.ps ℕ
-μ-lower-parts κs a = 8 * a .1 .1 .1 .1 .1 .1 .1 .1 .0 + 3
+μ-lower-parts κs a = 8 * a .1 .1 .1 .1 .1 .0 .left + 3
 
 abbrev pub μ-lower-pattern-part : Measures 4 lower-pattern-part-kinds.ps ℕ
-μ-lower-pattern-part κs a = 8 * a .1 .1 .1 .1 .1 .1 .1 .0 + 2
+μ-lower-pattern-part κs a = 8 * a .1 .1 .1 .1 .1 .0 .left + 2
 
 abbrev pub μ-lower-rel-element : Measures 4 lower-rel-element-kinds.ps ℕ
-μ-lower-rel-element κs a = 8 * a .1 .1 .1 .1 .1 .1 .1 .0 + 1
+μ-lower-rel-element κs a = 8 * a .1 .1 .1 .1 .1 .0 .left + 1
 
 abbrev pub μ-lower-shortest-path-part : Measures 4 lower-shortest-path-part-kinds.ps ℕ
-μ-lower-shortest-path-part κs a = 8 * a .1 .1 .1 .1 .1 .1 .1 .1 .1 .0 + 1
+μ-lower-shortest-path-part κs a = 8 * a .1 .1 .1 .1 .1 .0 .left + 1
 
 abbrev pub μ-start-chain : Measures 4 start-chain-kinds.ps ℕ
 μ-start-chain κs a = 8 * a .1 .1 .1 .1 .1 .1 .0 + 2
 
 abbrev pub μ-start-node : Measures 4 start-node-kinds.ps ℕ
-μ-start-node κs a = 8 * a .1 .1 .1 .1 .1 .1 .1 .1 .0 + 1
+μ-start-node κs a = 8 * a .1 .1 .1 .1 .1 .0 .left + 1
 
 abbrev pub expand-to-at : ℕ → In 4 expand-to-kinds.ps
 expand-to-at t = and 4 expand-to-kinds.ps (is 4 expand-to-kinds.ps μ-expand-to t) expand-to.Pre
@@ -281,14 +281,12 @@ abbrev pub lower-expr-calls : ℕ → lower-expr-lts.Claims
 lower-expr-calls t = (
   word-reads.Asked,
   word-reads.Learnt,
-  children-reads.Asked,
-  children-reads.Learnt,
+  children-of-reads.Asked,
+  children-of-reads.Learnt,
   number-reads.Asked,
   number-reads.Learnt,
   lower-exprs-below t,
   lower-exprs.Post,
-  count-reads.Asked,
-  count-reads.Learnt,
   lower-parts-below t,
   lower-parts.Post,
   note-reads.Asked,

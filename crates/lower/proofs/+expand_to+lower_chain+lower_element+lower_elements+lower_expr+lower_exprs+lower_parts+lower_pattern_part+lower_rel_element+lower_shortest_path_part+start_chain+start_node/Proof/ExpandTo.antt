@@ -51,101 +51,78 @@ module _ (t : ℕ) where
   word-requires : here lts.Need-word-requires
   word-requires c κs =
       let start : here lts.Start = search ways depth 12 in
-      (Room.low (start .pre .1 .1 .0), (omega arith, start .pre .1 .0))
+      (Room.low (start .pre .1 .chain .tree), (omega arith, start .pre .1 .chain .words))
 
   word-requires-2 : here lts.Need-word-requires-2
   word-requires-2 c κs =
       let start : here lts.Start = search ways depth 12 in
-      (Room.low (start .pre .1 .1 .0), (omega arith, start .pre .1 .0))
+      (Room.low (start .pre .1 .chain .tree), (omega arith, start .pre .1 .chain .words))
 
   add-endpoint-var : here lts.Need-add-endpoint-var
   add-endpoint-var c =
       let start : here lts.Start = search ways depth 12 in
-      let l₀ = Room.low (start .pre .1 .1 .0) in
-      let l₁ = Room.deep (start .pre .1 .1 .0) in
-      let l₂ = start .pre .1 .1 .1 .0 .1 in
-      let l₃ = start .pre .1 .1 .1 .0 .2 in
-      omega arith
+      omega (arith, Room.chain-bounds (start .pre .1 .chain))
 
   add-endpoint-var-2 : here lts.Need-add-endpoint-var-2
   add-endpoint-var-2 c =
       let start : here lts.Start = search ways depth 12 in
-      let l₀ = Room.low (start .pre .1 .1 .0) in
-      let l₁ = Room.deep (start .pre .1 .1 .0) in
-      let l₂ = start .pre .1 .1 .1 .0 .1 in
-      let l₃ = start .pre .1 .1 .1 .0 .2 in
-      omega arith
+      omega (arith, Room.chain-bounds (start .pre .1 .chain))
 
   endpoint-var-requires : here lts.Need-endpoint-var-requires
   endpoint-var-requires c κs =
       let start : here lts.Start = search ways depth 12 in
-      let l₀ = Room.low (start .pre .1 .1 .0) in
-      let l₁ = Room.deep (start .pre .1 .1 .0) in
-      let l₂ = start .pre .1 .1 .1 .0 .1 in
-      let l₃ = start .pre .1 .1 .1 .0 .2 in
-      Room.can-number (start .pre .1 .1 .1 .0 .0) _ _ _ (start .pre .1 .1 .1 .0 .2) (omega arith) refl
+      let l = Room.chain-bounds (start .pre .1 .chain) in
+      Room.can-number (start .pre .1 .chain .room) _ _ _ (start .pre .1 .chain .pass) (omega arith) refl
 
   lower-rel-element-requires : here lts.Need-lower-rel-element-requires
   lower-rel-element-requires c κs =
       let after-endpoint-var : here lts.After-endpoint-var = search ways depth 12 in
       let start : here lts.Start = search ways depth 12 in (
         omega (arith, start .pre .0),
-        (
-          start .pre .1 .0,
-          (
-            (
-              Room.waiting-rel (start .pre .1 .0) (start .pre .1 .1 .1 .1 .1 .1) (start .pre .1 .1 .1 .1 .0 .1),
-              Room.waiting-kind (start .pre .1 .0) (start .pre .1 .1 .1 .1 .1 .1) (start .pre .1 .1 .1 .1 .0 .1),
-            ),
-            (
+        record {
+          words = start .pre .1 .chain .words;
+          tree = record {
+            tree = Room.waiting-rel (start .pre .1 .chain .words) (start .pre .1 .waits) (start .pre .1 .chain .anchored);
+            is = Room.waiting-kind (start .pre .1 .chain .words) (start .pre .1 .waits) (start .pre .1 .chain .anchored);
+          };
+          room =
               Room.numbered
-                  (start .pre .1 .1 .1 .0 .0)
-                  (after-endpoint-var .endpoint-var .ensures .issued)
-                  (after-endpoint-var .endpoint-var .kept .1 .0)
-                  (Room.deep (start .pre .1 .1 .0)),
-              start .pre .1 .1 .1 .0 .1,
-              start .pre .1 .1 .1 .0 .2,
-              Room.deep (start .pre .1 .1 .0),
-            ),
-          ),
-        ),
+              (start .pre .1 .chain .room)
+              (after-endpoint-var .endpoint-var .ensures .issued)
+              (after-endpoint-var .endpoint-var .kept .1 .0)
+              (Room.deep (start .pre .1 .chain .tree));
+          depth = start .pre .1 .chain .depth;
+          pass = start .pre .1 .chain .pass;
+        },
       )
 
   count-requires : here lts.Need-count-requires
   count-requires c κs =
       let start : here lts.Start = search ways depth 12 in
-      (Room.low (start .pre .1 .1 .0), (omega arith, start .pre .1 .0))
+      (Room.low (start .pre .1 .chain .tree), (omega arith, start .pre .1 .chain .words))
 
   count-requires-2 : here lts.Need-count-requires-2
   count-requires-2 c κs =
       let start : here lts.Start = search ways depth 12 in
-      (Room.low (start .pre .1 .1 .0), (omega arith, start .pre .1 .0))
+      (Room.low (start .pre .1 .chain .tree), (omega arith, start .pre .1 .chain .words))
 
-  add-lower-exprs : here lts.Need-add-lower-exprs
-  add-lower-exprs c =
+  add-first : here lts.Need-add-first
+  add-first c =
       let start : here lts.Start = search ways depth 12 in
-      let l₀ = Room.low (start .pre .1 .1 .0) in
-      let l₁ = Room.deep (start .pre .1 .1 .0) in
-      let l₂ = start .pre .1 .1 .1 .0 .1 in
-      let l₃ = start .pre .1 .1 .1 .0 .2 in
-      omega arith
+      omega (arith, Room.chain-bounds (start .pre .1 .chain))
 
-  add-lower-exprs-2 : here lts.Need-add-lower-exprs-2
-  add-lower-exprs-2 c =
+  add-first-2 : here lts.Need-add-first-2
+  add-first-2 c =
       let after-count : here lts.After-count = search ways depth 12 in
       let start : here lts.Start = search ways depth 12 in
-      let l₀ = Room.names-low (start .pre .1 .0) (start .pre .1 .1 .0) in
+      let l₀ = Room.names-low (start .pre .1 .chain .words) (start .pre .1 .chain .tree) in
       let n₀ = after-count .count .ensures .0 in
       omega arith
 
-  sub-lower-exprs : here lts.Need-sub-lower-exprs
-  sub-lower-exprs c =
+  sub-less : here lts.Need-sub-less
+  sub-less c =
       let start : here lts.Start = search ways depth 12 in
-      let l₀ = Room.low (start .pre .1 .1 .0) in
-      let l₁ = Room.deep (start .pre .1 .1 .0) in
-      let l₂ = start .pre .1 .1 .1 .0 .1 in
-      let l₃ = start .pre .1 .1 .1 .0 .2 in
-      omega arith
+      omega (arith, Room.chain-bounds (start .pre .1 .chain))
 
   lower-exprs-requires : here lts.Need-lower-exprs-requires
   lower-exprs-requires c κs =
@@ -154,59 +131,56 @@ module _ (t : ℕ) where
       let after-lower-rel-element : here lts.After-lower-rel-element = search ways depth 12 in
       let after-endpoint-var : here lts.After-endpoint-var = search ways depth 12 in
       let start : here lts.Start = search ways depth 12 in
-      let l₁ = Room.deep (start .pre .1 .1 .0) in
+      let l₁ = Room.deep (start .pre .1 .chain .tree) in
       let l₀ =
       Room.waiting-end
-      (start .pre .1 .0)
-      (start .pre .1 .1 .1 .1 .1 .1)
-      (start .pre .1 .1 .1 .1 .0 .1)
+      (start .pre .1 .chain .words)
+      (start .pre .1 .waits)
+      (start .pre .1 .chain .anchored)
       (after-lower-rel-element .lower-rel-element .ensures)
       in
-      let l₀′ = Room.names-low (start .pre .1 .0) (start .pre .1 .1 .0) in
+      let l₀′ = Room.names-low (start .pre .1 .chain .words) (start .pre .1 .chain .tree) in
       let n₀ = after-count .count .ensures .0 in
-      let l₀′′ = Room.low (start .pre .1 .1 .0) in
-      let l₂ = start .pre .1 .1 .1 .0 .1 in
-      let l₃ = start .pre .1 .1 .1 .0 .2 in (
-        (omega (arith, start .pre .0)),
-        (
-          start .pre .1 .0,
-          (
-            Room.node-some
-                (start .pre .1 .0)
-                (start .pre .1 .1 .0)
-                (start .pre .1 .1 .1 .1 .1 .0)
-                _
-                _
-                (after-count2 .count2 .ensures .0)
-                (ap (λ z. (start .args .ch .next) + 1 + z) (after-count .count .ensures .0)),
-            (
+      let l₀′′ = Room.low (start .pre .1 .chain .tree) in
+      let l₂ = start .pre .1 .chain .depth in
+      let l₃ = start .pre .1 .chain .pass in (
+        omega (arith, start .pre .0),
+        record {
+          words = start .pre .1 .chain .words;
+          tree =
+              Room.node-some
+              (start .pre .1 .chain .words)
+              (start .pre .1 .chain .tree)
+              (start .pre .1 .node)
+              _
+              _
+              (after-count2 .count2 .ensures .0)
+              (ap (λ z. (start .args .ch .next) + 1 + z) (after-count .count .ensures .0));
+          room =
               Room.after-rel
-                  _
-                  (Room.numbered
-                  (start .pre .1 .1 .1 .0 .0)
-                  (after-endpoint-var .endpoint-var .ensures .issued)
-                  (after-endpoint-var .endpoint-var .kept .1 .0)
-                  (Room.deep (start .pre .1 .1 .0)))
-                  (after-lower-rel-element .lower-rel-element .ensures)
-                  (omega arith)
-                  (omega arith),
-              omega arith,
-              start .pre .1 .1 .1 .0 .2,
-              omega arith,
-            ),
-          ),
-        ),
+              _
+              (Room.numbered
+              (start .pre .1 .chain .room)
+              (after-endpoint-var .endpoint-var .ensures .issued)
+              (after-endpoint-var .endpoint-var .kept .1 .0)
+              (Room.deep (start .pre .1 .chain .tree)))
+              (after-lower-rel-element .lower-rel-element .ensures)
+              (omega arith)
+              (omega arith);
+          depth = omega arith;
+          pass = start .pre .1 .chain .pass;
+        },
       )
 
   expand-requires : here lts.Need-expand-requires
   expand-requires c κs =
       let start : here lts.Start = search ways depth 12 in
-      let l₀ = Room.low (start .pre .1 .1 .0) in
-      let l₂ = start .pre .1 .1 .1 .0 .1 in
-      let q = (start .pre .1 .1 .1 .1 .0 .0) .from in
-      let g = Room.few-ops (start .pre .1 .1 .1 .0 .0) in
-      let q′ = (start .pre .1 .1 .1 .1 .0 .0) .last in
-      (Room.fits (start .pre .1 .1 .1 .0 .2) (omega arith) (omega arith), omega arith, omega arith)
+      let l₀ = Room.low (start .pre .1 .chain .tree) in
+      let l₂ = start .pre .1 .chain .depth in
+      let q = (start .pre .1 .chain .bounded) .from in
+      let g = Room.few-ops (start .pre .1 .chain .room) in
+      let q′ = (start .pre .1 .chain .bounded) .last in
+      (Room.fits (start .pre .1 .chain .pass) (omega arith) (omega arith), omega arith, omega arith)
 
   push-requires : here lts.Need-push-requires
   push-requires c κs =
@@ -217,12 +191,12 @@ module _ (t : ℕ) where
       let start : here lts.Start = search ways depth 12 in
       let l₀ =
       Room.waiting-end
-      (start .pre .1 .0)
-      (start .pre .1 .1 .1 .1 .1 .1)
-      (start .pre .1 .1 .1 .1 .0 .1)
+      (start .pre .1 .chain .words)
+      (start .pre .1 .waits)
+      (start .pre .1 .chain .anchored)
       (after-lower-rel-element .lower-rel-element .ensures)
       in
-      let l₀′ = Room.names-low (start .pre .1 .0) (start .pre .1 .1 .0) in
+      let l₀′ = Room.names-low (start .pre .1 .chain .words) (start .pre .1 .chain .tree) in
       let n₀ = after-count .count .ensures .0 in
       Room.can-push
       (Exprs.good-after
@@ -230,19 +204,19 @@ module _ (t : ℕ) where
       (Room.after-rel
       _
       (Room.numbered
-      (start .pre .1 .1 .1 .0 .0)
+      (start .pre .1 .chain .room)
       (after-endpoint-var .endpoint-var .ensures .issued)
       (after-endpoint-var .endpoint-var .kept .1 .0)
-      (Room.deep (start .pre .1 .1 .0)))
+      (Room.deep (start .pre .1 .chain .tree)))
       (after-lower-rel-element .lower-rel-element .ensures)
       (omega arith)
       (omega arith)))
 
-  add-t40 : here lts.Need-add-t40
-  add-t40 c =
+  add-kept : here lts.Need-add-kept
+  add-kept c =
       let start : here lts.Start = search ways depth 12 in
-      let q = (start .pre .1 .1 .1 .1 .0 .0) .kept in
-      let q′ = (start .pre .1 .1 .1 .1 .0 .0) .next in
+      let q = (start .pre .1 .chain .bounded) .kept in
+      let q′ = (start .pre .1 .chain .bounded) .next in
       omega arith
 
   same-length : here lts.Need-same-length
@@ -277,14 +251,14 @@ module _ (t : ℕ) where
       _
       _
       _
-      (start .pre .1 .0)
-      (start .pre .1 .1 .1 .0 .2)
-      (start .pre .1 .1 .1 .0 .1)
-      (start .pre .1 .1 .1 .1 .0 .0)
-      (start .pre .1 .1 .1 .1 .1 .1)
-      (start .pre .1 .1 .1 .1 .1 .2)
-      (start .pre .1 .1 .1 .1 .1 .0)
-      (Room.low (start .pre .1 .1 .0))
+      (start .pre .1 .chain .words)
+      (start .pre .1 .chain .pass)
+      (start .pre .1 .chain .depth)
+      (start .pre .1 .chain .bounded)
+      (start .pre .1 .waits)
+      (start .pre .1 .has)
+      (start .pre .1 .node)
+      (Room.low (start .pre .1 .chain .tree))
       refl
       (endpoint-read (after-word .word .ensures) (after-word2 .word2 .ensures) (after-endpoint-var .endpoint-var .ensures))
       (after-endpoint-var .endpoint-var .kept .1 .0)
@@ -297,8 +271,8 @@ module _ (t : ℕ) where
       (exprs-behind _ (after-count .count .ensures .0) (after-lower-exprs .lower-exprs .ensures))
       (pushed-as (after-expand .expand .ensures) (after-push .push .ensures))
       (after-push .push .kept .1 .0)
-      (start .pre .1 .1 .0)
-      (start .pre .1 .1 .1 .1 .0 .1)
+      (start .pre .1 .chain .tree)
+      (start .pre .1 .chain .anchored)
 
   pub meets : {M : Type 1} → lts.Closed (expand-to-calls t) (expand-to-at t) reads.Post M
   meets =
@@ -314,13 +288,13 @@ module _ (t : ℕ) where
       lower-rel-element-requires
       count-requires
       count-requires-2
-      add-lower-exprs
-      add-lower-exprs-2
-      sub-lower-exprs
+      add-first
+      add-first-2
+      sub-less
       lower-exprs-requires
       expand-requires
       push-requires
-      add-t40
+      add-kept
       same-length
       same-length-2
       returns

@@ -54,33 +54,22 @@ module _ (t : ℕ) where
   count-requires : here lts.Need-count-requires
   count-requires c κs =
       let start : here lts.Start = search ways depth 12 in
-      (Room.low (start .pre .1 .1 .0), (omega arith, start .pre .1 .0))
+      (Room.low (start .pre .1 .tree), (omega arith, start .pre .1 .words))
 
   sub-less : here lts.Need-sub-less
   sub-less c =
       let start : here lts.Start = search ways depth 12 in
-      let l₀ = Room.low (start .pre .1 .1 .0) in
-      let l₁ = Room.deep (start .pre .1 .1 .0) in
-      let l₂ = start .pre .1 .1 .1 .1 in
-      let l₃ = start .pre .1 .1 .1 .2 in
-      omega arith
+      omega (arith, Room.bounds (start .pre .1))
 
   lower-elements-requires : here lts.Need-lower-elements-requires
   lower-elements-requires c κs =
       let after-count : here lts.After-count = search ways depth 12 in
       let start : here lts.Start = search ways depth 12 in
-      let l₀ = Room.low (start .pre .1 .1 .0) in
-      let l₁ = Room.deep (start .pre .1 .1 .0) in
-      let l₂ = start .pre .1 .1 .1 .1 in
-      let l₃ = start .pre .1 .1 .1 .2 in (
+      let l = Room.bounds (start .pre .1) in (
         omega arith,
-        (
-          start .pre .1 .0,
-          (
-            Chaining.some-elements (start .pre .1 .0) (after-count .count .ensures .0) (start .pre .1 .1 .0),
-            (Exprs.good-from (omega arith) (omega arith) (omega arith) (start .pre .1 .1 .1 .0), omega arith, start .pre .1 .1 .1 .2),
-          ),
-        ),
+        Room.asked-on _ _ _ (start .pre .1) (omega arith)
+            (record { low = l .low; trees = Chaining.some-elements (start .pre .1 .words) (after-count .count .ensures .0) (start .pre .1 .tree) })
+            (Exprs.good-from (omega arith) (omega arith) (omega arith) (start .pre .1 .room)),
       )
 
   root-of-requires : here lts.Need-root-of-requires
@@ -91,41 +80,38 @@ module _ (t : ℕ) where
       let after-root-of : here lts.After-root-of = search ways depth 12 in
       let after-lower-elements : here lts.After-lower-elements = search ways depth 12 in
       let start : here lts.Start = search ways depth 12 in
-      let l₀ = Room.low (start .pre .1 .1 .0) in
-      let l₁ = Room.deep (start .pre .1 .1 .0) in
-      let l₂ = start .pre .1 .1 .1 .1 in
-      let l₃ = start .pre .1 .1 .1 .2 in
+      let l = Room.bounds (start .pre .1) in
       let x =
       Room.few-ops
       (Exprs.good-after
       (after-lower-elements .lower-elements .ensures .moved)
       (Exprs.good-from
-      {d′ = (start .args .left) - 1}
-      {j = (start .args .i) + 1}
+      {d′ = (start .args .at .left) - 1}
+      {j = (start .args .at .i) + 1}
       (omega arith)
       (omega arith)
       (omega arith)
-      (start .pre .1 .1 .1 .0)))
+      (start .pre .1 .room)))
       in (
         (
           omega arith,
           (Exprs.good-after
               (after-lower-elements .lower-elements .ensures .moved)
               (Exprs.good-from
-              {d′ = (start .args .left) - 1}
-              {j = (start .args .i) + 1}
+              {d′ = (start .args .at .left) - 1}
+              {j = (start .args .at .i) + 1}
               (omega arith)
               (omega arith)
               (omega arith)
-              (start .pre .1 .1 .1 .0))) .in-ops,
+              (start .pre .1 .room))) .in-ops,
         ),
-        Chaining.root-under _ _ (after-root-of .root-of .ensures) (after-lower-elements .lower-elements .ensures .sturdy .below),
+        Chaining.root-under _ _ (after-root-of .root-of .ensures) (after-lower-elements .lower-elements .ensures .bounded .below),
       )
 
   word-requires : here lts.Need-word-requires
   word-requires c κs =
       let start : here lts.Start = search ways depth 12 in
-      (Room.low (start .pre .1 .1 .0), (omega arith, start .pre .1 .0))
+      (Room.low (start .pre .1 .tree), (omega arith, start .pre .1 .words))
 
   same-length : here lts.Need-same-length
   same-length c =
@@ -151,8 +137,8 @@ module _ (t : ℕ) where
       (Chaining.unnamed-law
       _
       _
-      (start .pre .1 .0)
-      (start .pre .1 .1 .1 .2)
+      (start .pre .1 .words)
+      (start .pre .1 .pass)
       (after-count .count .ensures .0)
       (after-lower-elements .lower-elements .ensures)
       (Chaining.source-as (after-root-of .root-of .ensures) ((after-or-source-all .or-source-all .ensures .1) _))
@@ -161,44 +147,33 @@ module _ (t : ℕ) where
   word-requires-2 : here lts.Need-word-requires-2
   word-requires-2 c κs =
       let start : here lts.Start = search ways depth 12 in
-      (Room.low (start .pre .1 .1 .0), (omega arith, start .pre .1 .0))
+      (Room.low (start .pre .1 .tree), (omega arith, start .pre .1 .words))
 
   add-number : here lts.Need-add-number
   add-number c =
       let start : here lts.Start = search ways depth 12 in
-      let l₀ = Room.low (start .pre .1 .1 .0) in
-      let l₁ = Room.deep (start .pre .1 .1 .0) in
-      let l₂ = start .pre .1 .1 .1 .1 in
-      let l₃ = start .pre .1 .1 .1 .2 in
-      omega arith
+      omega (arith, Room.bounds (start .pre .1))
 
   add-number-2 : here lts.Need-add-number-2
   add-number-2 c =
       let start : here lts.Start = search ways depth 12 in
-      let l₀ = Room.low (start .pre .1 .1 .0) in
-      let l₁ = Room.deep (start .pre .1 .1 .0) in
-      let l₂ = start .pre .1 .1 .1 .1 in
-      let l₃ = start .pre .1 .1 .1 .2 in
-      omega arith
+      omega (arith, Room.bounds (start .pre .1))
 
   number-requires : here lts.Need-number-requires
   number-requires c κs =
       let after-or-source-all : here lts.After-or-source-all = search ways depth 12 in
       let after-lower-elements : here lts.After-lower-elements = search ways depth 12 in
       let start : here lts.Start = search ways depth 12 in
-      let l₀ = Room.low (start .pre .1 .1 .0) in
-      let l₁ = Room.deep (start .pre .1 .1 .0) in
-      let l₂ = start .pre .1 .1 .1 .1 in
-      let l₃ = start .pre .1 .1 .1 .2 in
+      let l = Room.bounds (start .pre .1) in
       Room.source-number
       (Exprs.good-after
       (after-lower-elements .lower-elements .ensures .moved)
-      (Exprs.good-from {d′ = (start .args .left) - 1} {j = (start .args .i) + 1} (omega arith) (omega arith) (omega arith) (start .pre .1 .1 .1 .0)))
+      (Exprs.good-from {d′ = (start .args .at .left) - 1} {j = (start .args .at .i) + 1} (omega arith) (omega arith) (omega arith) (start .pre .1 .room)))
       ((after-or-source-all .or-source-all .ensures .1) _)
       _
       _
       _
-      (start .pre .1 .1 .1 .2)
+      (start .pre .1 .pass)
       (omega arith)
       refl
 
@@ -207,24 +182,21 @@ module _ (t : ℕ) where
       let after-or-source-all : here lts.After-or-source-all = search ways depth 12 in
       let after-lower-elements : here lts.After-lower-elements = search ways depth 12 in
       let start : here lts.Start = search ways depth 12 in
-      let l₀ = Room.low (start .pre .1 .1 .0) in
-      let l₁ = Room.deep (start .pre .1 .1 .0) in
-      let l₂ = start .pre .1 .1 .1 .1 in
-      let l₃ = start .pre .1 .1 .1 .2 in
+      let l = Room.bounds (start .pre .1) in
       let x =
       Room.source-few
       (Exprs.good-after
       (after-lower-elements .lower-elements .ensures .moved)
       (Exprs.good-from
-      {d′ = (start .args .left) - 1}
-      {j = (start .args .i) + 1}
+      {d′ = (start .args .at .left) - 1}
+      {j = (start .args .at .i) + 1}
       (omega arith)
       (omega arith)
       (omega arith)
-      (start .pre .1 .1 .1 .0)))
+      (start .pre .1 .room)))
       ((after-or-source-all .or-source-all .ensures .1) _) .1
       in
-      (Room.fits l₃ (omega arith) (omega arith), omega arith)
+      (Room.fits (l .near) (omega arith) (omega arith), omega arith)
 
   push-requires : here lts.Need-push-requires
   push-requires c κs =
@@ -232,21 +204,18 @@ module _ (t : ℕ) where
       let after-or-source-all : here lts.After-or-source-all = search ways depth 12 in
       let after-lower-elements : here lts.After-lower-elements = search ways depth 12 in
       let start : here lts.Start = search ways depth 12 in
-      let l₀ = Room.low (start .pre .1 .1 .0) in
-      let l₁ = Room.deep (start .pre .1 .1 .0) in
-      let l₂ = start .pre .1 .1 .1 .1 in
-      let l₃ = start .pre .1 .1 .1 .2 in
+      let l = Room.bounds (start .pre .1) in
       let x =
       Room.source-few
       (Exprs.good-after
       (after-lower-elements .lower-elements .ensures .moved)
       (Exprs.good-from
-      {d′ = (start .args .left) - 1}
-      {j = (start .args .i) + 1}
+      {d′ = (start .args .at .left) - 1}
+      {j = (start .args .at .i) + 1}
       (omega arith)
       (omega arith)
       (omega arith)
-      (start .pre .1 .1 .1 .0)))
+      (start .pre .1 .room)))
       ((after-or-source-all .or-source-all .ensures .1) _) .0
       in
       let y = after-number .number .ensures .issued .ops in (
@@ -256,12 +225,12 @@ module _ (t : ℕ) where
             ((Exprs.good-after
             (after-lower-elements .lower-elements .ensures .moved)
             (Exprs.good-from
-            {d′ = (start .args .left) - 1}
-            {j = (start .args .i) + 1}
+            {d′ = (start .args .at .left) - 1}
+            {j = (start .args .at .i) + 1}
             (omega arith)
             (omega arith)
             (omega arith)
-            (start .pre .1 .1 .1 .0))) .in-ops),
+            (start .pre .1 .room))) .in-ops),
       )
 
   same-length-3 : here lts.Need-same-length-3
@@ -295,12 +264,12 @@ module _ (t : ℕ) where
       (Chaining.named-law
       _
       _
-      (start .pre .1 .0)
-      (start .pre .1 .1 .1 .2)
+      (start .pre .1 .words)
+      (start .pre .1 .pass)
       (after-count .count .ensures .0)
       (after-lower-elements .lower-elements .ensures)
       (Chaining.source-as (after-root-of .root-of .ensures) ((after-or-source-all .or-source-all .ensures .1) _))
-      (start .pre .1 .1 .1 .1)
+      (start .pre .1 .depth)
       (λ e. (else1 .if1 .left) ((after-word .word .ensures) ∙ e))
       refl
       (var-read (after-word2 .word2 .ensures) (after-number .number .ensures))

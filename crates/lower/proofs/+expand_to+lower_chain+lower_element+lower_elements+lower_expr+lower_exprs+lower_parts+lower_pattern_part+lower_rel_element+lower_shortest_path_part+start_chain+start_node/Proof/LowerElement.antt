@@ -68,12 +68,12 @@ module _ (t : ℕ) where
   read-element-requires : here lts.Need-read-element-requires
   read-element-requires c κs =
       let start : here lts.Start = search ways depth 7 in
-      (start .pre .1 .0, Room.low (start .pre .1 .1 .0))
+      (start .pre .1 .words, Room.low (start .pre .1 .tree))
 
   skip-requires : here lts.Need-skip-requires
   skip-requires c κs =
       let start : here lts.Start = search ways depth 7 in
-      (start .pre .1 .0, Part.starts (start .pre .1 .1 .0))
+      (start .pre .1 .words, Part.starts (start .pre .1 .tree))
 
   returns : here lts.Need-returns
   returns c =
@@ -88,14 +88,14 @@ module _ (t : ℕ) where
       _
       _
       _
-      (start .pre .1 .0)
-      (start .pre .1 .1 .1 .1 .0)
+      (start .pre .1 .words)
+      (start .pre .1 .bounded)
       (Part.other-kind
-      (start .pre .1 .0)
-      (start .pre .1 .1 .0)
+      (start .pre .1 .words)
+      (start .pre .1 .tree)
       (Part.is-rel _ _ _ _ (after-read-element .read-element .ensures) (after-enum-told .enum-told .given .1)))
       (after-skip .skip .ensures)
-      (start .pre .1 .1 .0)
+      (start .pre .1 .tree)
 
   start-chain-requires : here lts.Need-start-chain-requires
   start-chain-requires c κs =
@@ -104,19 +104,7 @@ module _ (t : ℕ) where
       let after-read-element : here lts.After-read-element = search ways depth 7 in
       let start : here lts.Start = search ways depth 7 in (
         omega arith,
-        (
-          start .pre .1 .0,
-          (
-            start .pre .1 .1 .0,
-            (
-              start .pre .1 .1 .1 .0,
-              (
-                (start .pre .1 .1 .1 .1 .0, start .pre .1 .1 .1 .1 .1),
-                (Part.is-node _ _ _ _ (after-read-element .read-element .ensures) (after-x .x .given .1), inl (then1 .if1 .taken)),
-              ),
-            ),
-          ),
-        ),
+        record { chain = start .pre .1; node = Part.is-node _ _ _ _ (after-read-element .read-element .ensures) (after-x .x .given .1); anew = inl (then1 .if1 .taken) },
       )
 
   same-length : here lts.Need-same-length
@@ -141,19 +129,7 @@ module _ (t : ℕ) where
       let after-read-element : here lts.After-read-element = search ways depth 7 in
       let start : here lts.Start = search ways depth 7 in (
         omega arith,
-        (
-          start .pre .1 .0,
-          (
-            start .pre .1 .1 .0,
-            (
-              start .pre .1 .1 .1 .0,
-              (
-                (start .pre .1 .1 .1 .1 .0, start .pre .1 .1 .1 .1 .1),
-                (Part.is-node _ _ _ _ (after-read-element .read-element .ensures) (after-x .x .given .1), inr (then2 .if2 .taken)),
-              ),
-            ),
-          ),
-        ),
+        record { chain = start .pre .1; node = Part.is-node _ _ _ _ (after-read-element .read-element .ensures) (after-x .x .given .1); anew = inr (then2 .if2 .taken) },
       )
 
   same-length-3 : here lts.Need-same-length-3
@@ -179,23 +155,12 @@ module _ (t : ℕ) where
       let after-read-element : here lts.After-read-element = search ways depth 7 in
       let start : here lts.Start = search ways depth 7 in (
         omega arith,
-        (
-          start .pre .1 .0,
-          (
-            start .pre .1 .1 .0,
-            (
-              start .pre .1 .1 .1 .0,
-              (
-                (start .pre .1 .1 .1 .1 .0, start .pre .1 .1 .1 .1 .1),
-                (
-                  Part.is-node _ _ _ _ (after-read-element .read-element .ensures) (after-x .x .given .1),
-                  Part.one-of ((start .pre .1 .1 .1 .1 .0) .waits) (else1 .if1 .left),
-                  Part.one-of ((start .pre .1 .1 .1 .1 .0) .has) (else2 .if2 .left),
-                ),
-              ),
-            ),
-          ),
-        ),
+        record {
+          chain = start .pre .1;
+          node = Part.is-node _ _ _ _ (after-read-element .read-element .ensures) (after-x .x .given .1);
+          waits = Part.one-of ((start .pre .1 .bounded) .waits) (else1 .if1 .left);
+          has = Part.one-of ((start .pre .1 .bounded) .has) (else2 .if2 .left);
+        },
       )
 
   same-length-5 : here lts.Need-same-length-5

@@ -115,12 +115,12 @@ module _ (t : ℕ) where
   word-requires : here lts.Need-word-requires
   word-requires c κs =
       let start : here lts.Start = search ways depth 15 in
-      (Room.low (start .pre .1 .1 .0), (omega arith, start .pre .1 .0))
+      (Room.low (start .pre .1 .tree), (omega arith, start .pre .1 .words))
 
   lower-chain-requires : here lts.Need-lower-chain-requires
   lower-chain-requires c κs =
       let start : here lts.Start = search ways depth 15 in
-      (omega arith, (start .pre .1 .0, (start .pre .1 .1 .0, (start .pre .1 .1 .1 .0, start .pre .1 .1 .1 .1, start .pre .1 .1 .1 .2))))
+      (omega arith, start .pre .1)
 
   same-length : here lts.Need-same-length
   same-length c =
@@ -139,18 +139,18 @@ module _ (t : ℕ) where
       let after-word : here lts.After-word = search ways depth 15 in
       let start : here lts.Start = search ways depth 15 in
       Part.chain-part
-      (Part.no-shortest _ _ (start .pre .1 .0) (sym (after-word .word .ensures) ∙ (then1 .if1 .taken)))
+      (Part.no-shortest _ _ (start .pre .1 .words) (sym (after-word .word .ensures) ∙ (then1 .if1 .taken)))
       (after-lower-chain .lower-chain .ensures)
 
   word-requires-2 : here lts.Need-word-requires-2
   word-requires-2 c κs =
       let start : here lts.Start = search ways depth 15 in
-      (Room.low (start .pre .1 .1 .0), (omega arith, start .pre .1 .0))
+      (Room.low (start .pre .1 .tree), (omega arith, start .pre .1 .words))
 
   lower-chain-requires-2 : here lts.Need-lower-chain-requires-2
   lower-chain-requires-2 c κs =
       let start : here lts.Start = search ways depth 15 in
-      (omega arith, (start .pre .1 .0, (start .pre .1 .1 .0, (start .pre .1 .1 .1 .0, start .pre .1 .1 .1 .1, start .pre .1 .1 .1 .2))))
+      (omega arith, start .pre .1)
 
   same-length-3 : here lts.Need-same-length-3
   same-length-3 c =
@@ -169,48 +169,40 @@ module _ (t : ℕ) where
       let after-word2 : here lts.After-word2 = search ways depth 15 in
       let start : here lts.Start = search ways depth 15 in
       Part.chain-part
-      (Part.not-three _ _ (start .pre .1 .0) (λ e. (then2 .if2 .taken) ((after-word2 .word2 .ensures) ∙ e)))
+      (Part.not-three _ _ (start .pre .1 .words) (λ e. (then2 .if2 .taken) ((after-word2 .word2 .ensures) ∙ e)))
       (after-lower-chain2 .lower-chain2 .ensures)
 
   add-skip : here lts.Need-add-skip
   add-skip c =
       let start : here lts.Start = search ways depth 15 in
-      let l₀ = Room.low (start .pre .1 .1 .0) in
-      let l₁ = Room.deep (start .pre .1 .1 .0) in
-      let l₂ = start .pre .1 .1 .1 .1 in
-      let l₃ = start .pre .1 .1 .1 .2 in
-      omega arith
+      omega (arith, Room.bounds (start .pre .1))
 
   skip-requires : here lts.Need-skip-requires
   skip-requires c κs =
       let after-word2 : here lts.After-word2 = search ways depth 15 in
       let start : here lts.Start = search ways depth 15 in (
-        start .pre .1 .0,
-        Part.starts (Part.first-some _ _ (start .pre .1 .0) (sym (after-word2 .word2 .ensures) ∙ (c .if2 .left)) (start .pre .1 .1 .0)),
+        start .pre .1 .words,
+        Part.starts (Part.first-some _ _ (start .pre .1 .words) (sym (after-word2 .word2 .ensures) ∙ (c .if2 .left)) (start .pre .1 .tree)),
       )
 
   add-read-element : here lts.Need-add-read-element
   add-read-element c =
       let start : here lts.Start = search ways depth 15 in
-      let l₀ = Room.low (start .pre .1 .1 .0) in
-      let l₁ = Room.deep (start .pre .1 .1 .0) in
-      let l₂ = start .pre .1 .1 .1 .1 in
-      let l₃ = start .pre .1 .1 .1 .2 in
-      omega arith
+      omega (arith, Room.bounds (start .pre .1))
 
   read-element-requires : here lts.Need-read-element-requires
   read-element-requires c κs =
       let else2 : here lts.Else2 = search ways depth 15 in
       let after-word2 : here lts.After-word2 = search ways depth 15 in
       let start : here lts.Start = search ways depth 15 in (
-        start .pre .1 .0,
-        Room.low (Part.first-some _ _ (start .pre .1 .0) (sym (after-word2 .word2 .ensures) ∙ (else2 .if2 .left)) (start .pre .1 .1 .0)),
+        start .pre .1 .words,
+        Room.low (Part.first-some _ _ (start .pre .1 .words) (sym (after-word2 .word2 .ensures) ∙ (else2 .if2 .left)) (start .pre .1 .tree)),
       )
 
   lower-chain-requires-3 : here lts.Need-lower-chain-requires-3
   lower-chain-requires-3 c κs =
       let start : here lts.Start = search ways depth 15 in
-      (omega arith, (start .pre .1 .0, (start .pre .1 .1 .0, (start .pre .1 .1 .1 .0, start .pre .1 .1 .1 .1, start .pre .1 .1 .1 .2))))
+      (omega arith, start .pre .1)
 
   same-length-5 : here lts.Need-same-length-5
   same-length-5 c =
@@ -235,7 +227,7 @@ module _ (t : ℕ) where
       (Part.not-first
       _
       _
-      (start .pre .1 .0)
+      (start .pre .1 .words)
       (sym (after-word2 .word2 .ensures) ∙ (else2 .if2 .left))
       (after-skip .skip .ensures)
       (Part.is-rel _ _ _ _ (after-read-element .read-element .ensures) (after-enum-told .enum-told .given .1)))
@@ -247,15 +239,15 @@ module _ (t : ℕ) where
       let else2 : here lts.Else2 = search ways depth 15 in
       let after-word2 : here lts.After-word2 = search ways depth 15 in
       let start : here lts.Start = search ways depth 15 in (
-        start .pre .1 .0,
+        start .pre .1 .words,
         Part.starts
             (Part.some-second
             _
             _
-            (start .pre .1 .0)
+            (start .pre .1 .words)
             (sym (after-word2 .word2 .ensures) ∙ (else2 .if2 .left))
             (after-skip .skip .ensures)
-            (start .pre .1 .1 .0)),
+            (start .pre .1 .tree)),
       )
 
   read-element-requires-2 : here lts.Need-read-element-requires-2
@@ -264,21 +256,21 @@ module _ (t : ℕ) where
       let else2 : here lts.Else2 = search ways depth 15 in
       let after-word2 : here lts.After-word2 = search ways depth 15 in
       let start : here lts.Start = search ways depth 15 in (
-        start .pre .1 .0,
+        start .pre .1 .words,
         Room.low
             (Part.some-second
             _
             _
-            (start .pre .1 .0)
+            (start .pre .1 .words)
             (sym (after-word2 .word2 .ensures) ∙ (else2 .if2 .left))
             (after-skip .skip .ensures)
-            (start .pre .1 .1 .0)),
+            (start .pre .1 .tree)),
       )
 
   lower-chain-requires-4 : here lts.Need-lower-chain-requires-4
   lower-chain-requires-4 c κs =
       let start : here lts.Start = search ways depth 15 in
-      (omega arith, (start .pre .1 .0, (start .pre .1 .1 .0, (start .pre .1 .1 .1 .0, start .pre .1 .1 .1 .1, start .pre .1 .1 .1 .2))))
+      (omega arith, start .pre .1)
 
   same-length-7 : here lts.Need-same-length-7
   same-length-7 c =
@@ -305,7 +297,7 @@ module _ (t : ℕ) where
       (Part.not-second
       _
       _
-      (start .pre .1 .0)
+      (start .pre .1 .words)
       (sym (after-word2 .word2 .ensures) ∙ (else2 .if2 .left))
       (after-skip .skip .ensures)
       (Part.is-node _ _ _ _ (after-read-element .read-element .ensures) (after-x .x .given .1))
@@ -319,23 +311,23 @@ module _ (t : ℕ) where
       let else2 : here lts.Else2 = search ways depth 15 in
       let after-word2 : here lts.After-word2 = search ways depth 15 in
       let start : here lts.Start = search ways depth 15 in (
-        start .pre .1 .0,
+        start .pre .1 .words,
         Room.low
             (Part.some-third
             _
             _
-            (start .pre .1 .0)
+            (start .pre .1 .words)
             (sym (after-word2 .word2 .ensures) ∙ (else2 .if2 .left))
             (after-skip .skip .ensures)
             (after-skip2 .skip2 .ensures)
-            (start .pre .1 .1 .0)),
+            (start .pre .1 .tree)),
       )
 
   lower-chain-requires-5 : here lts.Need-lower-chain-requires-5
   lower-chain-requires-5 c κs =
       let start : here lts.Start = search ways depth 15 in (
         omega (arith, start .pre .0),
-        (start .pre .1 .0, (start .pre .1 .1 .0, (start .pre .1 .1 .1 .0, start .pre .1 .1 .1 .1, start .pre .1 .1 .1 .2))),
+        start .pre .1,
       )
 
   same-length-9 : here lts.Need-same-length-9
@@ -366,7 +358,7 @@ module _ (t : ℕ) where
       (Part.not-third
       _
       _
-      (start .pre .1 .0)
+      (start .pre .1 .words)
       (sym (after-word2 .word2 .ensures) ∙ (else2 .if2 .left))
       (after-skip .skip .ensures)
       (after-skip2 .skip2 .ensures)
@@ -391,34 +383,28 @@ module _ (t : ℕ) where
       let after-word : here lts.After-word = search ways depth 15 in
       let start : here lts.Start = search ways depth 15 in (
         omega (arith, start .pre .0),
-        (
-          start .pre .1 .0,
-          (
-            start .pre .1 .1 .0,
-            (
-              (start .pre .1 .1 .1 .0, start .pre .1 .1 .1 .1, start .pre .1 .1 .1 .2),
-              record {
-                shortest = λ e. (else1 .if1 .left) ((after-word .word .ensures) ∙ e);
-                three = (sym (after-word2 .word2 .ensures) ∙ (else2 .if2 .left));
-                first = (Part.is-node _ _ _ _ (after-read-element .read-element .ensures) (after-x .x .given .1));
-                second =
-                    Part.other-kind
-                    (start .pre .1 .0)
-                    (Part.some-second
-                    _
-                    _
-                    (start .pre .1 .0)
-                    (sym (after-word2 .word2 .ensures) ∙ (else2 .if2 .left))
-                    (after-skip .skip .ensures)
-                    (start .pre .1 .1 .0))
-                    (Part.is-rel _ _ _ _ (after-read-element2 .read-element2 .ensures) (after-y .y .given .1));
-                third = Part.is-node _ _ _ _ (after-read-element3 .read-element3 .ensures) (after-z .z .given .1);
-                first-end = (after-skip .skip .ensures);
-                second-end = (after-skip2 .skip2 .ensures);
-              },
-            ),
-          ),
-        ),
+        record {
+          part = start .pre .1;
+          special = record {
+            shortest = λ e. (else1 .if1 .left) ((after-word .word .ensures) ∙ e);
+            three = (sym (after-word2 .word2 .ensures) ∙ (else2 .if2 .left));
+            first = (Part.is-node _ _ _ _ (after-read-element .read-element .ensures) (after-x .x .given .1));
+            second =
+                Part.other-kind
+                (start .pre .1 .words)
+                (Part.some-second
+                _
+                _
+                (start .pre .1 .words)
+                (sym (after-word2 .word2 .ensures) ∙ (else2 .if2 .left))
+                (after-skip .skip .ensures)
+                (start .pre .1 .tree))
+                (Part.is-rel _ _ _ _ (after-read-element2 .read-element2 .ensures) (after-y .y .given .1));
+            third = Part.is-node _ _ _ _ (after-read-element3 .read-element3 .ensures) (after-z .z .given .1);
+            first-end = (after-skip .skip .ensures);
+            second-end = (after-skip2 .skip2 .ensures);
+          };
+        },
       )
 
   same-length-11 : here lts.Need-same-length-11

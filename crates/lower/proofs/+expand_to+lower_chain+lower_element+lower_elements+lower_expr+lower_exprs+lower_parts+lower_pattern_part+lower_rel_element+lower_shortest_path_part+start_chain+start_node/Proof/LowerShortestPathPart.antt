@@ -1,6 +1,7 @@
 -- `lower_shortest_path_part`, of the cycle.
 use Prim.Native.Nat.{_-_, _+_, ℕ}
 use Rattle.context.specs.OpLaws.{pushed-as}
+use Rattle.lower.proofs.Asking
 use Rattle.lower.proofs.Reading.{endpoint-read}
 use Rattle.lower.proofs.Part
 use Rattle.lower.proofs.Special
@@ -78,199 +79,116 @@ module _ (t : ℕ) where
   add-first : here lts.Need-add-first
   add-first c =
       let start : here lts.Start = search ways depth 16 in
-      let l₀ = Room.low (start .pre .1 .1 .0) in
-      let l₁ = Room.deep (start .pre .1 .1 .0) in
-      let l₂ = start .pre .1 .1 .1 .0 .1 in
-      let l₃ = start .pre .1 .1 .1 .0 .2 in
-      let l₄ = Room.low (Part.first-some _ _ (start .pre .1 .0) (start .pre .1 .1 .1 .1 .three) (start .pre .1 .1 .0)) in
+      let l = Room.bounds (start .pre .1 .part) in
+      let l₄ = Room.low (Asking.first-of (start .pre .1) .tree) in
       omega arith
 
   sub-less : here lts.Need-sub-less
   sub-less c =
       let start : here lts.Start = search ways depth 16 in
-      let l₀ = Room.low (start .pre .1 .1 .0) in
-      let l₁ = Room.deep (start .pre .1 .1 .0) in
-      let l₂ = start .pre .1 .1 .1 .0 .1 in
-      let l₃ = start .pre .1 .1 .1 .0 .2 in
-      let l₄ = Room.low (Part.first-some _ _ (start .pre .1 .0) (start .pre .1 .1 .1 .1 .three) (start .pre .1 .1 .0)) in
+      let l = Room.bounds (start .pre .1 .part) in
+      let l₄ = Room.low (Asking.first-of (start .pre .1) .tree) in
       omega arith
 
   word-requires : here lts.Need-word-requires
   word-requires c κs =
       let start : here lts.Start = search ways depth 16 in
-      (Room.low (Part.first-some _ _ (start .pre .1 .0) (start .pre .1 .1 .1 .1 .three) (start .pre .1 .1 .0)), (omega arith, start .pre .1 .0))
+      (Room.low (Asking.first-of (start .pre .1) .tree), (omega arith, start .pre .1 .part .words))
 
   word-requires-2 : here lts.Need-word-requires-2
   word-requires-2 c κs =
       let start : here lts.Start = search ways depth 16 in
-      (Room.low (Part.first-some _ _ (start .pre .1 .0) (start .pre .1 .1 .1 .1 .three) (start .pre .1 .1 .0)), (omega arith, start .pre .1 .0))
+      (Room.low (Asking.first-of (start .pre .1) .tree), (omega arith, start .pre .1 .part .words))
 
   add-endpoint-var : here lts.Need-add-endpoint-var
   add-endpoint-var c =
       let start : here lts.Start = search ways depth 16 in
-      let l₀ = Room.low (start .pre .1 .1 .0) in
-      let l₁ = Room.deep (start .pre .1 .1 .0) in
-      let l₂ = start .pre .1 .1 .1 .0 .1 in
-      let l₃ = start .pre .1 .1 .1 .0 .2 in
-      let l₄ = Room.low (Part.first-some _ _ (start .pre .1 .0) (start .pre .1 .1 .1 .1 .three) (start .pre .1 .1 .0)) in
+      let l = Room.bounds (start .pre .1 .part) in
+      let l₄ = Room.low (Asking.first-of (start .pre .1) .tree) in
       omega arith
 
   add-endpoint-var-2 : here lts.Need-add-endpoint-var-2
   add-endpoint-var-2 c =
       let start : here lts.Start = search ways depth 16 in
-      let l₀ = Room.low (start .pre .1 .1 .0) in
-      let l₁ = Room.deep (start .pre .1 .1 .0) in
-      let l₂ = start .pre .1 .1 .1 .0 .1 in
-      let l₃ = start .pre .1 .1 .1 .0 .2 in
-      let l₄ = Room.low (Part.first-some _ _ (start .pre .1 .0) (start .pre .1 .1 .1 .1 .three) (start .pre .1 .1 .0)) in
+      let l = Room.bounds (start .pre .1 .part) in
+      let l₄ = Room.low (Asking.first-of (start .pre .1) .tree) in
       omega arith
 
   endpoint-var-requires : here lts.Need-endpoint-var-requires
   endpoint-var-requires c κs =
       let start : here lts.Start = search ways depth 16 in
-      let l₀ = Room.low (start .pre .1 .1 .0) in
-      let l₁ = Room.deep (start .pre .1 .1 .0) in
-      let l₂ = start .pre .1 .1 .1 .0 .1 in
-      let l₃ = start .pre .1 .1 .1 .0 .2 in
-      let l₄ = Room.low (Part.first-some _ _ (start .pre .1 .0) (start .pre .1 .1 .1 .1 .three) (start .pre .1 .1 .0)) in
-      Room.can-number (start .pre .1 .1 .1 .0 .0) _ _ _ (start .pre .1 .1 .1 .0 .2) (omega arith) refl
+      let l = Room.bounds (start .pre .1 .part) in
+      let l₄ = Room.low (Asking.first-of (start .pre .1) .tree) in
+      Room.can-number (start .pre .1 .part .room) _ _ _ (start .pre .1 .part .pass) (omega arith) refl
 
   start-node-requires : here lts.Need-start-node-requires
   start-node-requires c κs =
       let after-endpoint-var : here lts.After-endpoint-var = search ways depth 16 in
-      let start : here lts.Start = search ways depth 16 in
-      let l₁ = Room.deep (start .pre .1 .1 .0) in
-      let l₀ = Room.low (start .pre .1 .1 .0) in
-      let l₂ = start .pre .1 .1 .1 .0 .1 in
-      let l₃ = start .pre .1 .1 .1 .0 .2 in
-      let l₄ = Room.low (Part.first-some _ _ (start .pre .1 .0) (start .pre .1 .1 .1 .1 .three) (start .pre .1 .1 .0)) in (
-        (omega (arith, start .pre .0)),
-        (
-          start .pre .1 .0,
-          (
-            (Part.first-some _ _ (start .pre .1 .0) (start .pre .1 .1 .1 .1 .three) (start .pre .1 .1 .0), start .pre .1 .1 .1 .1 .first),
-            (
-              Room.numbered-on
-                  (start .pre .1 .1 .1 .0 .0)
-                  (((start .args .left) - 1) - 1)
-                  ((start .args .i) + 1)
-                  (after-endpoint-var .endpoint-var .ensures .issued)
-                  (after-endpoint-var .endpoint-var .kept .1 .0)
-                  (omega arith)
-                  (omega arith)
-                  (omega arith),
-              omega arith,
-              start .pre .1 .1 .1 .0 .2,
-              Room.deep (Part.first-some _ _ (start .pre .1 .0) (start .pre .1 .1 .1 .1 .three) (start .pre .1 .1 .0)),
-            ),
-          ),
-        ),
+      let start : here lts.Start = search ways depth 16 in (
+        omega (arith, start .pre .0, Room.bounds (start .pre .1 .part)),
+        Room.asked-on
+            _
+            _
+            _
+            (start .pre .1 .part)
+            (omega (arith, Room.bounds (start .pre .1 .part)))
+            (Asking.first-of (start .pre .1))
+            (Asking.near-room (start .pre .1) (after-endpoint-var .endpoint-var .ensures) (after-endpoint-var .endpoint-var .kept .1 .0)),
       )
 
   lower-rel-element-requires : here lts.Need-lower-rel-element-requires
   lower-rel-element-requires c κs =
       let after-start-node : here lts.After-start-node = search ways depth 16 in
       let after-endpoint-var : here lts.After-endpoint-var = search ways depth 16 in
-      let start : here lts.Start = search ways depth 16 in
-      let l₁ = Room.deep (start .pre .1 .1 .0) in
-      let l₀ = Room.low (start .pre .1 .1 .0) in
-      let l₂ = start .pre .1 .1 .1 .0 .1 in
-      let l₃ = start .pre .1 .1 .1 .0 .2 in
-      let l₄ = Room.low (Part.first-some _ _ (start .pre .1 .0) (start .pre .1 .1 .1 .1 .three) (start .pre .1 .1 .0)) in (
-        (omega (arith, start .pre .0)),
-        (
-          start .pre .1 .0,
-          (
-            (
-              Part.some-second _ _ (start .pre .1 .0) (start .pre .1 .1 .1 .1 .three) (start .pre .1 .1 .1 .1 .first-end) (start .pre .1 .1 .0),
-              start .pre .1 .1 .1 .1 .second,
-            ),
-            (
-              (Room.good-at
-                  (Room.start-ends
-                  (Part.first-some _ _ (start .pre .1 .0) (start .pre .1 .1 .1 .1 .three) (start .pre .1 .1 .0))
-                  (after-start-node .start-node .ensures)
-                  (start .pre .1 .1 .1 .1 .first-end))
-                  (Exprs.good-after
-                  (after-start-node .start-node .ensures .moved)
-                  (Room.numbered-on
-                  (start .pre .1 .1 .1 .0 .0)
-                  (((start .args .left) - 1) - 1)
-                  ((start .args .i) + 1)
-                  (after-endpoint-var .endpoint-var .ensures .issued)
-                  (after-endpoint-var .endpoint-var .kept .1 .0)
-                  (omega arith)
-                  (omega arith)
-                  (omega arith)))),
-              omega arith,
-              start .pre .1 .1 .1 .0 .2,
-              Room.deep (Part.first-some _ _ (start .pre .1 .0) (start .pre .1 .1 .1 .1 .three) (start .pre .1 .1 .0)),
-            ),
-          ),
-        ),
+      let start : here lts.Start = search ways depth 16 in (
+        omega (arith, start .pre .0, Room.bounds (start .pre .1 .part)),
+        Room.asked-on
+            _
+            _
+            _
+            (start .pre .1 .part)
+            (omega (arith, Room.bounds (start .pre .1 .part)))
+            (Asking.rel-of (start .pre .1))
+            (Asking.rel-room
+            (start .pre .1)
+            (after-endpoint-var .endpoint-var .ensures)
+            (after-endpoint-var .endpoint-var .kept .1 .0)
+            (after-start-node .start-node .ensures)),
       )
 
   word-requires-3 : here lts.Need-word-requires-3
   word-requires-3 c κs =
       let start : here lts.Start = search ways depth 16 in (
         Room.low
-            (Part.some-third
-            _
-            _
-            (start .pre .1 .0)
-            (start .pre .1 .1 .1 .1 .three)
-            (start .pre .1 .1 .1 .1 .first-end)
-            (start .pre .1 .1 .1 .1 .second-end)
-            (start .pre .1 .1 .0)),
-        (omega arith, start .pre .1 .0),
+            (Asking.far-of (start .pre .1) .tree),
+        (omega arith, start .pre .1 .part .words),
       )
 
   word-requires-4 : here lts.Need-word-requires-4
   word-requires-4 c κs =
       let start : here lts.Start = search ways depth 16 in (
         Room.low
-            (Part.some-third
-            _
-            _
-            (start .pre .1 .0)
-            (start .pre .1 .1 .1 .1 .three)
-            (start .pre .1 .1 .1 .1 .first-end)
-            (start .pre .1 .1 .1 .1 .second-end)
-            (start .pre .1 .1 .0)),
-        (omega arith, start .pre .1 .0),
+            (Asking.far-of (start .pre .1) .tree),
+        (omega arith, start .pre .1 .part .words),
       )
 
   add-endpoint-var-3 : here lts.Need-add-endpoint-var-3
   add-endpoint-var-3 c =
       let start : here lts.Start = search ways depth 16 in
-      let l₃ = start .pre .1 .1 .1 .0 .2 in
+      let l₃ = start .pre .1 .part .pass in
       let l₄ =
       Room.low
-      (Part.some-third
-      _
-      _
-      (start .pre .1 .0)
-      (start .pre .1 .1 .1 .1 .three)
-      (start .pre .1 .1 .1 .1 .first-end)
-      (start .pre .1 .1 .1 .1 .second-end)
-      (start .pre .1 .1 .0))
+      (Asking.far-of (start .pre .1) .tree)
       in
       omega arith
 
   add-endpoint-var-4 : here lts.Need-add-endpoint-var-4
   add-endpoint-var-4 c =
       let start : here lts.Start = search ways depth 16 in
-      let l₃ = start .pre .1 .1 .1 .0 .2 in
+      let l₃ = start .pre .1 .part .pass in
       let l₄ =
       Room.low
-      (Part.some-third
-      _
-      _
-      (start .pre .1 .0)
-      (start .pre .1 .1 .1 .1 .three)
-      (start .pre .1 .1 .1 .1 .first-end)
-      (start .pre .1 .1 .1 .1 .second-end)
-      (start .pre .1 .1 .0))
+      (Asking.far-of (start .pre .1) .tree)
       in
       omega arith
 
@@ -280,77 +198,51 @@ module _ (t : ℕ) where
       let after-start-node : here lts.After-start-node = search ways depth 16 in
       let after-endpoint-var : here lts.After-endpoint-var = search ways depth 16 in
       let start : here lts.Start = search ways depth 16 in
-      let l₀ = Room.low (start .pre .1 .1 .0) in
-      let l₁ = Room.deep (start .pre .1 .1 .0) in
-      let l₂ = start .pre .1 .1 .1 .0 .1 in
-      let l₃ = start .pre .1 .1 .1 .0 .2 in
-      let l₄ = Room.low (Part.first-some _ _ (start .pre .1 .0) (start .pre .1 .1 .1 .1 .three) (start .pre .1 .1 .0)) in
+      let l = Room.bounds (start .pre .1 .part) in
+      let l₄ = Room.low (Asking.first-of (start .pre .1) .tree) in
       let l₅ =
       Room.rel-ends
-      (start .pre .1 .0)
-      (start .pre .1 .1 .1 .1 .second)
-      (Part.some-second _ _ (start .pre .1 .0) (start .pre .1 .1 .1 .1 .three) (start .pre .1 .1 .1 .1 .first-end) (start .pre .1 .1 .0))
+      (start .pre .1 .part .words)
+      (start .pre .1 .special .second)
+      (Asking.rel-of (start .pre .1) .tree)
       (after-lower-rel-element .lower-rel-element .ensures)
-      (start .pre .1 .1 .1 .1 .second-end)
+      (start .pre .1 .special .second-end)
       in
       let l₄′ =
       Room.low
-      (Part.some-third
-      _
-      _
-      (start .pre .1 .0)
-      (start .pre .1 .1 .1 .1 .three)
-      (start .pre .1 .1 .1 .1 .first-end)
-      (start .pre .1 .1 .1 .1 .second-end)
-      (start .pre .1 .1 .0))
+      (Asking.far-of (start .pre .1) .tree)
       in
       Room.can-number
-      (Room.after-rel
-      (start .args .far)
-      (Room.good-at
-      (Room.start-ends
-      (Part.first-some _ _ (start .pre .1 .0) (start .pre .1 .1 .1 .1 .three) (start .pre .1 .1 .0))
-      (after-start-node .start-node .ensures)
-      (start .pre .1 .1 .1 .1 .first-end))
-      (Exprs.good-after
-      (after-start-node .start-node .ensures .moved)
-      (Room.numbered-on
-      (start .pre .1 .1 .1 .0 .0)
-      (((start .args .left) - 1) - 1)
-      ((start .args .i) + 1)
-      (after-endpoint-var .endpoint-var .ensures .issued)
+      (Asking.far-room
+      (start .pre .1)
+      (Asking.rel-room
+      (start .pre .1)
+      (after-endpoint-var .endpoint-var .ensures)
       (after-endpoint-var .endpoint-var .kept .1 .0)
-      (omega arith)
-      (omega arith)
-      (omega arith))))
-      (after-lower-rel-element .lower-rel-element .ensures)
-      (omega arith)
-      (omega arith))
+      (after-start-node .start-node .ensures))
+      (after-lower-rel-element .lower-rel-element .ensures))
       _
       _
       _
-      (start .pre .1 .1 .1 .0 .2)
+      (start .pre .1 .part .pass)
       (omega arith)
       refl
 
   word-requires-5 : here lts.Need-word-requires-5
   word-requires-5 c κs =
       let start : here lts.Start = search ways depth 16 in
-      (Room.low (start .pre .1 .1 .0), (omega arith, start .pre .1 .0))
+      (Room.low (start .pre .1 .part .tree), (omega arith, start .pre .1 .part .words))
 
   word-requires-6 : here lts.Need-word-requires-6
   word-requires-6 c κs =
       let start : here lts.Start = search ways depth 16 in
-      (Room.low (start .pre .1 .1 .0), (omega arith, start .pre .1 .0))
+      (Room.low (start .pre .1 .part .tree), (omega arith, start .pre .1 .part .words))
 
   add-endpoint-var-5 : here lts.Need-add-endpoint-var-5
   add-endpoint-var-5 c =
       let start : here lts.Start = search ways depth 16 in
-      let l₀ = Room.low (start .pre .1 .1 .0) in
-      let l₁ = Room.deep (start .pre .1 .1 .0) in
-      let l₂ = start .pre .1 .1 .1 .0 .1 in
-      let l₃ = start .pre .1 .1 .1 .0 .2 in
-      let l₄ = Room.low (Part.first-some _ _ (start .pre .1 .0) (start .pre .1 .1 .1 .1 .three) (start .pre .1 .1 .0)) in
+      let l = Room.bounds (start .pre .1 .part) in
+      let l₄ = Room.low (Asking.first-of (start .pre .1) .tree) in
       omega arith
 
   endpoint-var-requires-3 : here lts.Need-endpoint-var-requires-3
@@ -360,58 +252,35 @@ module _ (t : ℕ) where
       let after-start-node : here lts.After-start-node = search ways depth 16 in
       let after-endpoint-var : here lts.After-endpoint-var = search ways depth 16 in
       let start : here lts.Start = search ways depth 16 in
-      let l₀ = Room.low (start .pre .1 .1 .0) in
-      let l₁ = Room.deep (start .pre .1 .1 .0) in
-      let l₂ = start .pre .1 .1 .1 .0 .1 in
-      let l₃ = start .pre .1 .1 .1 .0 .2 in
-      let l₄ = Room.low (Part.first-some _ _ (start .pre .1 .0) (start .pre .1 .1 .1 .1 .three) (start .pre .1 .1 .0)) in
+      let l = Room.bounds (start .pre .1 .part) in
+      let l₄ = Room.low (Asking.first-of (start .pre .1) .tree) in
       let l₅ =
       Room.rel-ends
-      (start .pre .1 .0)
-      (start .pre .1 .1 .1 .1 .second)
-      (Part.some-second _ _ (start .pre .1 .0) (start .pre .1 .1 .1 .1 .three) (start .pre .1 .1 .1 .1 .first-end) (start .pre .1 .1 .0))
+      (start .pre .1 .part .words)
+      (start .pre .1 .special .second)
+      (Asking.rel-of (start .pre .1) .tree)
       (after-lower-rel-element .lower-rel-element .ensures)
-      (start .pre .1 .1 .1 .1 .second-end)
+      (start .pre .1 .special .second-end)
       in
       let l₄′ =
       Room.low
-      (Part.some-third
-      _
-      _
-      (start .pre .1 .0)
-      (start .pre .1 .1 .1 .1 .three)
-      (start .pre .1 .1 .1 .1 .first-end)
-      (start .pre .1 .1 .1 .1 .second-end)
-      (start .pre .1 .1 .0))
+      (Asking.far-of (start .pre .1) .tree)
       in
       Room.can-again
-      (Room.after-rel
-      (start .args .far)
-      (Room.good-at
-      (Room.start-ends
-      (Part.first-some _ _ (start .pre .1 .0) (start .pre .1 .1 .1 .1 .three) (start .pre .1 .1 .0))
-      (after-start-node .start-node .ensures)
-      (start .pre .1 .1 .1 .1 .first-end))
-      (Exprs.good-after
-      (after-start-node .start-node .ensures .moved)
-      (Room.numbered-on
-      (start .pre .1 .1 .1 .0 .0)
-      (((start .args .left) - 1) - 1)
-      ((start .args .i) + 1)
-      (after-endpoint-var .endpoint-var .ensures .issued)
+      (Asking.far-room
+      (start .pre .1)
+      (Asking.rel-room
+      (start .pre .1)
+      (after-endpoint-var .endpoint-var .ensures)
       (after-endpoint-var .endpoint-var .kept .1 .0)
-      (omega arith)
-      (omega arith)
-      (omega arith))))
-      (after-lower-rel-element .lower-rel-element .ensures)
-      (omega arith)
-      (omega arith))
+      (after-start-node .start-node .ensures))
+      (after-lower-rel-element .lower-rel-element .ensures))
       (after-endpoint-var2 .endpoint-var2 .ensures .issued)
       (after-endpoint-var2 .endpoint-var2 .kept .1 .0)
       _
       _
       _
-      (start .pre .1 .1 .1 .0 .2)
+      (start .pre .1 .part .pass)
       (omega arith)
       refl
 
@@ -420,46 +289,25 @@ module _ (t : ℕ) where
       let after-start-node : here lts.After-start-node = search ways depth 16 in
       let after-endpoint-var : here lts.After-endpoint-var = search ways depth 16 in
       let start : here lts.Start = search ways depth 16 in
-      let l₀ = Room.low (start .pre .1 .1 .0) in
-      let l₁ = Room.deep (start .pre .1 .1 .0) in
-      let l₂ = start .pre .1 .1 .1 .0 .1 in
-      let l₃ = start .pre .1 .1 .1 .0 .2 in
-      let l₄ = Room.low (Part.first-some _ _ (start .pre .1 .0) (start .pre .1 .1 .1 .1 .three) (start .pre .1 .1 .0)) in
+      let l = Room.bounds (start .pre .1 .part) in
+      let l₄ = Room.low (Asking.first-of (start .pre .1) .tree) in
       let x =
       Room.few-ops
-      (Room.good-at
-      (Room.start-ends
-      (Part.first-some _ _ (start .pre .1 .0) (start .pre .1 .1 .1 .1 .three) (start .pre .1 .1 .0))
-      (after-start-node .start-node .ensures)
-      (start .pre .1 .1 .1 .1 .first-end))
-      (Exprs.good-after
-      (after-start-node .start-node .ensures .moved)
-      (Room.numbered-on
-      (start .pre .1 .1 .1 .0 .0)
-      (((start .args .left) - 1) - 1)
-      ((start .args .i) + 1)
-      (after-endpoint-var .endpoint-var .ensures .issued)
+      (Asking.rel-room
+      (start .pre .1)
+      (after-endpoint-var .endpoint-var .ensures)
       (after-endpoint-var .endpoint-var .kept .1 .0)
-      (omega arith)
-      (omega arith)
-      (omega arith))))
+      (after-start-node .start-node .ensures))
       in
       let y = after-start-node .start-node .ensures .low in
       let l₅ =
-      Room.low (Part.some-second _ _ (start .pre .1 .0) (start .pre .1 .1 .1 .1 .three) (start .pre .1 .1 .1 .1 .first-end) (start .pre .1 .1 .0))
+      Room.low (Asking.rel-of (start .pre .1) .tree)
       in
       let l₆ =
       Room.low
-      (Part.some-third
-      _
-      _
-      (start .pre .1 .0)
-      (start .pre .1 .1 .1 .1 .three)
-      (start .pre .1 .1 .1 .1 .first-end)
-      (start .pre .1 .1 .1 .1 .second-end)
-      (start .pre .1 .1 .0))
+      (Asking.far-of (start .pre .1) .tree)
       in
-      (Room.fits l₃ (omega arith) (omega arith), omega arith, omega arith, omega arith)
+      (Room.fits (start .pre .1 .part .pass) (omega arith) (omega arith), omega arith, omega arith, omega arith)
 
   push-requires : here lts.Need-push-requires
   push-requires c κs =
@@ -469,68 +317,38 @@ module _ (t : ℕ) where
       let after-start-node : here lts.After-start-node = search ways depth 16 in
       let after-endpoint-var : here lts.After-endpoint-var = search ways depth 16 in
       let start : here lts.Start = search ways depth 16 in
-      let l₀ = Room.low (start .pre .1 .1 .0) in
-      let l₁ = Room.deep (start .pre .1 .1 .0) in
-      let l₂ = start .pre .1 .1 .1 .0 .1 in
-      let l₃ = start .pre .1 .1 .1 .0 .2 in
-      let l₄ = Room.low (Part.first-some _ _ (start .pre .1 .0) (start .pre .1 .1 .1 .1 .three) (start .pre .1 .1 .0)) in
+      let l = Room.bounds (start .pre .1 .part) in
+      let l₄ = Room.low (Asking.first-of (start .pre .1) .tree) in
       let l₅ =
       Room.rel-ends
-      (start .pre .1 .0)
-      (start .pre .1 .1 .1 .1 .second)
-      (Part.some-second _ _ (start .pre .1 .0) (start .pre .1 .1 .1 .1 .three) (start .pre .1 .1 .1 .1 .first-end) (start .pre .1 .1 .0))
+      (start .pre .1 .part .words)
+      (start .pre .1 .special .second)
+      (Asking.rel-of (start .pre .1) .tree)
       (after-lower-rel-element .lower-rel-element .ensures)
-      (start .pre .1 .1 .1 .1 .second-end)
+      (start .pre .1 .special .second-end)
       in
       let l₄′ =
       Room.low
-      (Part.some-third
-      _
-      _
-      (start .pre .1 .0)
-      (start .pre .1 .1 .1 .1 .three)
-      (start .pre .1 .1 .1 .1 .first-end)
-      (start .pre .1 .1 .1 .1 .second-end)
-      (start .pre .1 .1 .0))
+      (Asking.far-of (start .pre .1) .tree)
       in
       Room.push-again
-      (Room.after-rel
-      (start .args .far)
-      (Room.good-at
-      (Room.start-ends
-      (Part.first-some _ _ (start .pre .1 .0) (start .pre .1 .1 .1 .1 .three) (start .pre .1 .1 .0))
-      (after-start-node .start-node .ensures)
-      (start .pre .1 .1 .1 .1 .first-end))
-      (Exprs.good-after
-      (after-start-node .start-node .ensures .moved)
-      (Room.numbered-on
-      (start .pre .1 .1 .1 .0 .0)
-      (((start .args .left) - 1) - 1)
-      ((start .args .i) + 1)
-      (after-endpoint-var .endpoint-var .ensures .issued)
+      (Asking.far-room
+      (start .pre .1)
+      (Asking.rel-room
+      (start .pre .1)
+      (after-endpoint-var .endpoint-var .ensures)
       (after-endpoint-var .endpoint-var .kept .1 .0)
-      (omega arith)
-      (omega arith)
-      (omega arith))))
-      (after-lower-rel-element .lower-rel-element .ensures)
-      (omega arith)
-      (omega arith))
+      (after-start-node .start-node .ensures))
+      (after-lower-rel-element .lower-rel-element .ensures))
       (after-endpoint-var2 .endpoint-var2 .ensures .issued)
       (after-endpoint-var3 .endpoint-var3 .ensures .issued)
 
   skip-requires : here lts.Need-skip-requires
   skip-requires c κs =
       let start : here lts.Start = search ways depth 16 in (
-        start .pre .1 .0,
+        start .pre .1 .part .words,
         Part.starts
-            (Part.some-third
-            _
-            _
-            (start .pre .1 .0)
-            (start .pre .1 .1 .1 .1 .three)
-            (start .pre .1 .1 .1 .1 .first-end)
-            (start .pre .1 .1 .1 .1 .second-end)
-            (start .pre .1 .1 .0)),
+            (Asking.far-of (start .pre .1) .tree),
       )
 
   same-length : here lts.Need-same-length
@@ -576,16 +394,16 @@ module _ (t : ℕ) where
       _
       _
       _
-      (start .pre .1 .0)
-      (start .pre .1 .1 .1 .0 .2)
-      (start .pre .1 .1 .1 .0 .1)
-      (start .pre .1 .1 .1 .1 .shortest)
-      (start .pre .1 .1 .1 .1 .three)
-      (start .pre .1 .1 .1 .1 .first)
-      (start .pre .1 .1 .1 .1 .second)
-      (start .pre .1 .1 .1 .1 .third)
-      (start .pre .1 .1 .1 .1 .first-end)
-      (start .pre .1 .1 .1 .1 .second-end)
+      (start .pre .1 .part .words)
+      (start .pre .1 .part .pass)
+      (start .pre .1 .part .depth)
+      (start .pre .1 .special .shortest)
+      (start .pre .1 .special .three)
+      (start .pre .1 .special .first)
+      (start .pre .1 .special .second)
+      (start .pre .1 .special .third)
+      (start .pre .1 .special .first-end)
+      (start .pre .1 .special .second-end)
       (c .skip .ensures)
       refl
       (endpoint-read (after-word .word .ensures) (after-word2 .word2 .ensures) (after-endpoint-var .endpoint-var .ensures))
@@ -600,7 +418,7 @@ module _ (t : ℕ) where
       (after-endpoint-var3 .endpoint-var3 .kept .1 .0)
       (pushed-as (after-shortest-path .shortest-path .ensures) (after-push .push .ensures))
       (after-push .push .kept .1 .0)
-      (start .pre .1 .1 .0)
+      (start .pre .1 .part .tree)
 
   pub meets : {M : Type 1} → lts.Closed (lower-shortest-path-part-calls t) (lower-shortest-path-part-at t) reads.Post M
   meets =

@@ -48,53 +48,43 @@ module _ (t : ℕ) where
   count-requires : here lts.Need-count-requires
   count-requires c κs =
       let start : here lts.Start = search ways depth 10 in
-      (Room.low (start .pre .1 .1 .0 .0), (omega arith, start .pre .1 .0))
+      (Room.low (start .pre .1 .tree .tree), (omega arith, start .pre .1 .words))
 
   word-requires : here lts.Need-word-requires
   word-requires c κs =
       let start : here lts.Start = search ways depth 10 in
-      (Room.low (start .pre .1 .1 .0 .0), (omega arith, start .pre .1 .0))
+      (Room.low (start .pre .1 .tree .tree), (omega arith, start .pre .1 .words))
 
   add-first : here lts.Need-add-first
   add-first c =
       let start : here lts.Start = search ways depth 10 in
-      let l₀ = Room.low (start .pre .1 .1 .0 .0) in
-      let l₁ = start .pre .1 .1 .1 .3 in
-      let l₂ = start .pre .1 .1 .1 .1 in
-      let l₃ = start .pre .1 .1 .1 .2 in
-      omega arith
+      omega (arith, Room.element-bounds (start .pre .1))
 
   add-first-2 : here lts.Need-add-first-2
   add-first-2 c =
       let after-count : here lts.After-count = search ways depth 10 in
       let start : here lts.Start = search ways depth 10 in
-      let l₀ = Room.names-low (start .pre .1 .0) (start .pre .1 .1 .0 .0) in
-      let l₁ = start .pre .1 .1 .1 .3 in
-      let l₂ = start .pre .1 .1 .1 .1 in
-      let l₃ = start .pre .1 .1 .1 .2 in
+      let l₀ = Room.names-low (start .pre .1 .words) (start .pre .1 .tree .tree) in
+      let l = Room.element-bounds (start .pre .1) in
       let n₀ = after-count .count .ensures .0 in
       omega arith
 
   sub-less : here lts.Need-sub-less
   sub-less c =
       let start : here lts.Start = search ways depth 10 in
-      let l₀ = Room.low (start .pre .1 .1 .0 .0) in
-      let l₁ = start .pre .1 .1 .1 .3 in
-      let l₂ = start .pre .1 .1 .1 .1 in
-      let l₃ = start .pre .1 .1 .1 .2 in
-      omega arith
+      omega (arith, Room.element-bounds (start .pre .1))
 
   source-requires : here lts.Need-source-requires
   source-requires c κs =
       let start : here lts.Start = search ways depth 10 in
-      let l₀ = Room.low (start .pre .1 .1 .0 .0) in
-      let l₂ = start .pre .1 .1 .1 .1 in
-      Room.fits (start .pre .1 .1 .1 .2) (omega arith) (omega arith)
+      let l₀ = Room.low (start .pre .1 .tree .tree) in
+      let l₂ = start .pre .1 .depth in
+      Room.fits (start .pre .1 .pass) (omega arith) (omega arith)
 
   push-requires : here lts.Need-push-requires
   push-requires c κs =
       let start : here lts.Start = search ways depth 10 in
-      Room.can-push (start .pre .1 .1 .1 .0)
+      Room.can-push (start .pre .1 .room)
 
   same-length : here lts.Need-same-length
   same-length c =
@@ -109,17 +99,17 @@ module _ (t : ℕ) where
       let after-count : here lts.After-count = search ways depth 10 in
       let start : here lts.Start = search ways depth 10 in
       rw
-      (ap (λ z. (start .args .i) + 1 + z) (after-count .count .ensures .0))
+      (ap (λ z. (start .args .at .i) + 1 + z) (after-count .count .ensures .0))
       (Start.bare-law
       _
       _
-      (start .pre .1 .0)
-      (start .pre .1 .1 .0 .1)
-      (start .pre .1 .1 .1 .1, start .pre .1 .1 .1 .2)
+      (start .pre .1 .words)
+      (start .pre .1 .tree .is)
+      (start .pre .1 .depth, start .pre .1 .pass)
       (pushed-as (after-source .source .ensures) (after-push .push .ensures))
       (after-push .push .kept .1 .0)
       (sym (after-word .word .ensures) ∙ (c .if1 .taken))
-      (start .pre .1 .1 .0 .0))
+      (start .pre .1 .tree .tree))
 
   lower-expr-requires : here lts.Need-lower-expr-requires
   lower-expr-requires c κs =
@@ -128,51 +118,40 @@ module _ (t : ℕ) where
       let after-word : here lts.After-word = search ways depth 10 in
       let after-count : here lts.After-count = search ways depth 10 in
       let start : here lts.Start = search ways depth 10 in
-      let l₀ = Room.low (start .pre .1 .1 .0 .0) in
-      let l₁ = start .pre .1 .1 .1 .3 in
-      let l₂ = start .pre .1 .1 .1 .1 in
-      let l₃ = start .pre .1 .1 .1 .2 in
-      let l₀′ = Room.names-low (start .pre .1 .0) (start .pre .1 .1 .0 .0) in
+      let l = Room.element-bounds (start .pre .1) in
+      let l₀′ = Room.names-low (start .pre .1 .words) (start .pre .1 .tree .tree) in
       let n₀ = after-count .count .ensures .0 in (
         omega arith,
-        (
-          start .pre .1 .0,
-          (
-            rw
-                (ap (λ z. (start .args .i) + 1 + z) (after-count .count .ensures .0))
-                (Start.some-prop
-                _
-                _
-                (start .pre .1 .0)
-                (start .pre .1 .1 .0 .1)
-                (start .pre .1 .1 .0 .0)
-                (λ e. (else1 .if1 .left) ((after-word .word .ensures) ∙ e))),
-            (
-              Room.pushed-on
-                  (start .pre .1 .1 .1 .0)
-                  _
-                  _
-                  (after-push .push .ensures)
-                  (after-push .push .kept .1 .0)
-                  (le-refl _)
-                  (omega arith)
-                  (omega arith),
-              omega arith,
-              start .pre .1 .1 .1 .2,
-            ),
-          ),
-        ),
+        Room.asked-on _ _ _ (start .pre .1) (omega arith)
+            (rw
+            (ap (λ z. (start .args .at .i) + 1 + z) (after-count .count .ensures .0))
+            (Start.some-prop
+            _
+            _
+            (start .pre .1 .words)
+            (start .pre .1 .tree .is)
+            (start .pre .1 .tree .tree)
+            (λ e. (else1 .if1 .left) ((after-word .word .ensures) ∙ e))))
+            (Room.pushed-on
+            (start .pre .1 .room)
+            _
+            _
+            (after-push .push .ensures)
+            (after-push .push .kept .1 .0)
+            (le-refl _)
+            (omega arith)
+            (omega arith)),
       )
 
   filter-requires : here lts.Need-filter-requires
   filter-requires c κs =
       let after-count : here lts.After-count = search ways depth 10 in
       let start : here lts.Start = search ways depth 10 in
-      let l₀ = Room.names-low (start .pre .1 .0) (start .pre .1 .1 .0 .0) in
-      let l₂ = start .pre .1 .1 .1 .1 in
+      let l₀ = Room.names-low (start .pre .1 .words) (start .pre .1 .tree .tree) in
+      let l₂ = start .pre .1 .depth in
       let n₀ = after-count .count .ensures .0 in
-      let g = Room.few-ops (start .pre .1 .1 .1 .0) in
-      (Room.fits (start .pre .1 .1 .1 .2) (omega arith) (omega arith), omega arith)
+      let g = Room.few-ops (start .pre .1 .room) in
+      (Room.fits (start .pre .1 .pass) (omega arith) (omega arith), omega arith)
 
   push-requires-2 : here lts.Need-push-requires-2
   push-requires-2 c κs =
@@ -180,15 +159,13 @@ module _ (t : ℕ) where
       let after-push : here lts.After-push = search ways depth 10 in
       let after-count : here lts.After-count = search ways depth 10 in
       let start : here lts.Start = search ways depth 10 in
-      let l₀ = Room.names-low (start .pre .1 .0) (start .pre .1 .1 .0 .0) in
-      let l₁ = start .pre .1 .1 .1 .3 in
-      let l₂ = start .pre .1 .1 .1 .1 in
-      let l₃ = start .pre .1 .1 .1 .2 in
+      let l₀ = Room.names-low (start .pre .1 .words) (start .pre .1 .tree .tree) in
+      let l = Room.element-bounds (start .pre .1) in
       let n₀ = after-count .count .ensures .0 in
       Room.can-push
       (Exprs.good-after
       (after-lower-expr .lower-expr .ensures .moved)
-      (Room.pushed-on (start .pre .1 .1 .1 .0) _ _ (after-push .push .ensures) (after-push .push .kept .1 .0) (le-refl _) (omega arith) (omega arith)))
+      (Room.pushed-on (start .pre .1 .room) _ _ (after-push .push .ensures) (after-push .push .kept .1 .0) (le-refl _) (omega arith) (omega arith)))
 
   same-length-2 : here lts.Need-same-length-2
   same-length-2 c =
@@ -217,9 +194,9 @@ module _ (t : ℕ) where
       _
       _
       _
-      (start .pre .1 .0)
-      (start .pre .1 .1 .0 .1)
-      (start .pre .1 .1 .1 .1, start .pre .1 .1 .1 .2)
+      (start .pre .1 .words)
+      (start .pre .1 .tree .is)
+      (start .pre .1 .depth, start .pre .1 .pass)
       (after-count .count .ensures .0)
       (pushed-as (after-source .source .ensures) (after-push .push .ensures))
       (after-push .push .kept .1 .0)
