@@ -10,12 +10,12 @@ use Rattle.model.specs.Field.{Fields}
 use Rattle.model.specs.Kind.{Clause, ReadOp, statement, unionArm, clause, patternPart, yieldItem, expr}
 use Rattle.model.specs.Record.{forms, children}
 use Rattle.model.specs.Tree.{Tree, Trees, Forest, node, []ᵗ, _∷ᵗ_, end, _▸_, toList, fold, foldOf}
-use Rattle.model.specs.Lower.{Lowered, made, _>>=_, ret, push, op, filter, orSourceAll, mapVar, optionalJoin, lowerMatchPattern, lowerPattern, lowerExpr, lowerExprs, lowerYields, lowerClause, lowerClauses, lowerArms, lower, empty, lowerStatement}
-use Rattle.model.specs.Call.{maxDepth}
+use Rattle.model.specs.Lower.{Lowered, made, _>>=_, ret, push, op, filter, orSourceAll, mapVar, optionalJoin, lowerMatchPattern, lowerPattern, lowerExpr, lowerExprs, lowerYields, lowerClause, lowerClauses, lowerArms}
+use Rattle.model.specs.Lower
 use Rattle.words.specs.Words.{Roomy, cell, fieldsOf, fieldOf}
 use Rattle.words.specs.Held.{Held, HeldOf, RecordAt, size, sizeOf}
 use Rattle.words.specs.Cells.{shown}
-use Rattle.words.specs.Numbers.{clauseNumber, clause-number}
+use Rattle.words.specs.Numbers.{Others, clauseNumber, clause-number}
 use Rattle.words.specs.Places.{matchKind, whereKind, withKind, returnKind, unwindKind, callKind, writeKind, kindAt, stmtClausesAt, stmtArmsAt, armAllAt, armClausesAt, matchOptionalAt, matchPartsAt, unwindVarAt, callArgsAt, callYieldsAt}
 use Rattle.lower.specs.Rep.{State}
 use Rattle.lower.specs.Patterns.{partsL}
@@ -135,15 +135,15 @@ module _ (sheet : Bytes) {a b : List ℕ} (d i : ℕ) (room : Roomy a b) where
   a-write t hd e = by-clause sheet d i room (λ t. IsWrite t) Clause.Write (λ line f kids hd. write-of line f kids hd) t hd e
 
   -- the one kind that is left
-  pub call-kind : (t : Tree clause) → Held sheet a b t d i → ((cell a b i kindAt ≡ matchKind) → ⊥) → ((cell a b i kindAt ≡ whereKind) → ⊥) → ((cell a b i kindAt ≡ withKind) → ⊥) → ((cell a b i kindAt ≡ returnKind) → ⊥) → ((cell a b i kindAt ≡ unwindKind) → ⊥) → ((cell a b i kindAt ≡ writeKind) → ⊥) → cell a b i kindAt ≡ callKind
+  pub call-kind : (t : Tree clause) → Held sheet a b t d i → Others (cell a b i kindAt) (unwindKind ∷ returnKind ∷ withKind ∷ whereKind ∷ matchKind ∷ []) → ((cell a b i kindAt ≡ writeKind) → ⊥) → cell a b i kindAt ≡ callKind
   unfolding Held clauseNumber
-  call-kind (node clause line Clause.Match f kids) hd n2 n3 n4 n5 n6 n8 = absurd (n2 (number-at room (hd .1)))
-  call-kind (node clause line Clause.Where f kids) hd n2 n3 n4 n5 n6 n8 = absurd (n3 (number-at room (hd .1)))
-  call-kind (node clause line Clause.With f kids) hd n2 n3 n4 n5 n6 n8 = absurd (n4 (number-at room (hd .1)))
-  call-kind (node clause line Clause.Return f kids) hd n2 n3 n4 n5 n6 n8 = absurd (n5 (number-at room (hd .1)))
-  call-kind (node clause line Clause.Unwind f kids) hd n2 n3 n4 n5 n6 n8 = absurd (n6 (number-at room (hd .1)))
-  call-kind (node clause line Clause.Call f kids) hd n2 n3 n4 n5 n6 n8 = number-at room (hd .1)
-  call-kind (node clause line Clause.Write f kids) hd n2 n3 n4 n5 n6 n8 = absurd (n8 (number-at room (hd .1)))
+  call-kind (node clause line Clause.Match f kids) hd o w = absurd (o .0 .0 .0 .0 .1 (number-at room (hd .1)))
+  call-kind (node clause line Clause.Where f kids) hd o w = absurd (o .0 .0 .0 .1 (number-at room (hd .1)))
+  call-kind (node clause line Clause.With f kids) hd o w = absurd (o .0 .0 .1 (number-at room (hd .1)))
+  call-kind (node clause line Clause.Return f kids) hd o w = absurd (o .0 .1 (number-at room (hd .1)))
+  call-kind (node clause line Clause.Unwind f kids) hd o w = absurd (o .1 (number-at room (hd .1)))
+  call-kind (node clause line Clause.Call f kids) hd o w = number-at room (hd .1)
+  call-kind (node clause line Clause.Write f kids) hd o w = absurd (w (number-at room (hd .1)))
 
 -- ── arms and statements ──
 
@@ -156,16 +156,18 @@ pub record IsArm (sheet : Bytes) (a b : List ℕ) (d i : ℕ) (t : Tree unionArm
   pub sized : size t ≡ suc (sizeOf clauses)
   pub lower : (o : Option ℕ) (s : State) → lowerArm t o s ≡ (lowerClauses clauses none >>= λ below. orSourceAll o >>= λ left. orSourceAll below >>= λ right. push (op ReadOp.Union (left, (right, (eqb (cell a b i armAllAt) 1, tt))) ∷ []) >>= λ both. ret (some both)) s
 
-pub record IsStatement (sheet : Bytes) (a b : List ℕ) (t : Tree statement) : Type 0 where
+pub record IsStatement (sheet : Bytes) (a b : List ℕ) (d : ℕ) (t : Tree statement) : Type 0 where
   pub n : ℕ
   pub clauses : Trees clause n
   pub n′ : ℕ
   pub arms : Trees unionArm n′
   pub many : n ≡ cell a b 0 stmtClausesAt
   pub armed : n′ ≡ cell a b 0 stmtArmsAt
-  pub held-clauses : HeldOf sheet a b clauses 63 1
-  pub held-arms : HeldOf sheet a b arms 63 (1 + sizeOf clauses)
-  pub lower : lowerStatement t ≡ lowerArms arms (lowerClauses clauses none empty .0) (lowerClauses clauses none empty .1) .1
+  pub held-clauses : HeldOf sheet a b clauses (d - 1) 1
+  pub held-arms : HeldOf sheet a b arms (d - 1) (1 + sizeOf clauses)
+  pub sized : size t ≡ 1 + sizeOf clauses + sizeOf arms
+  pub deep : 1 ≤ d
+  pub lower : (s : State) → Lower.lower t s ≡ lowerArms arms (lowerClauses clauses none s .0) (lowerClauses clauses none s .1)
 
 module _ {sheet : Bytes} {a b : List ℕ} (room : Roomy a b) where
   pub an-arm : {d i : ℕ} (t : Tree unionArm) → Held sheet a b t d i → IsArm sheet a b d i t
@@ -176,8 +178,8 @@ module _ {sheet : Bytes} {a b : List ℕ} (room : Roomy a b) where
       let e₂ : n ≡ cell a b i armClausesAt = ap (λ (x : Fields (forms unionArm tt)). x .1 .0) (v .fields) in
       record { n = n; clauses = cs; many = e₂; low = v .flags .0; held = hd .3 .0; sized = omega arith; lower = λ o s. rw e₁ }
 
-  pub a-statement : (t : Tree statement) → Held sheet a b t maxDepth 0 → IsStatement sheet a b t
-  unfolding Held size fieldsOf fieldOf lowerStatement lower _>>=_
+  pub a-statement : {d : ℕ} (t : Tree statement) → Held sheet a b t d 0 → IsStatement sheet a b d t
+  unfolding Held size fieldsOf fieldOf Lower.lower _>>=_
   a-statement (node statement line k (n, (n′, u)) (cs ▸ arms ▸ end)) hd =
       let w = shown room (hd .1) .fields in
       record {
@@ -189,5 +191,7 @@ module _ {sheet : Bytes} {a b : List ℕ} (room : Roomy a b) where
         armed = ap (λ (x : Fields (forms statement tt)). x .1 .0) w;
         held-clauses = hd .3 .0;
         held-arms = hd .3 .1 .0;
-        lower = refl;
+        sized = omega arith;
+        deep = hd .2;
+        lower = λ s. refl;
       }

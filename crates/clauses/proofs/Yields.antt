@@ -75,6 +75,10 @@ module _ {a b : List ℕ} {n i e : ℕ} {m m₂ : Mem} {rest₁ : List ℕ} {r�
         run = cons-run;
       }
 
+-- the number of a variable whose name is known by another name
+pub numbered : {id id′ place : ℕ} {c : LowerCtx} {r r′ : List ℕ} {n : Numbered} → id ≡ id′ → Numbers (mapVar id) place c r r′ n → Numbers (mapVar id′) place c r r′ n
+numbered e x = rw e at x
+
 -- ── the loop ──
 
 -- k are left from record i on, and once they are numbered from here, all is done

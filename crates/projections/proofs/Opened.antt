@@ -55,9 +55,14 @@ pub record IsWith (sheet : Bytes) (a b : List ℕ) (d i : ℕ) (t : Tree clause)
   pub held-items : HeldOf sheet a b items (d - 1) (i + 1)
   pub held-predicate : HeldOf sheet a b predicate (d - 1) (i + 1 + sizeOf items)
   pub sized : size t ≡ 1 + sizeOf items + sizeOf predicate + tailSize tail
-  pub def : (current : Option ℕ) (s : State) (input k : ℕ) → input ≡ orSourceAll current s .0 → k ≡ length (behindExprs predicate (behindItems items (orSourceAll current s .1)) .ops) → lowerClause t current s ≡ leaving (lowerTrailers k (tail .keys) (tail .skip) (tail .limit) (push (withRecs filtered items predicate input (orSourceAll current s .1)) (behindExprs predicate (behindItems items (orSourceAll current s .1))) .1))
+  pub def : (current : Option ℕ) (s : State) (input k : ℕ) →
+      input ≡ orSourceAll current s .0 →
+      k ≡ length (behindExprs predicate (behindItems items (orSourceAll current s .1)) .ops) →
+      lowerClause t current s ≡ leaving (lowerTrailers k (tail .keys) (tail .skip) (tail .limit) (push (withRecs filtered items predicate input (orSourceAll current s .1)) (behindExprs predicate (behindItems items (orSourceAll current s .1))) .1))
 
-with-def : {n x y z : ℕ} (filtered : Bool) (items : Trees projection n) (predicate : Trees expr (one filtered)) (keys : Trees orderItem x) (skip : Trees expr y) (limit : Trees expr z) (current : Option ℕ) (s : State) (input k : ℕ) → input ≡ orSourceAll current s .0 → k ≡ length (behindExprs predicate (behindItems items (orSourceAll current s .1)) .ops) →
+with-def : {n x y z : ℕ} (filtered : Bool) (items : Trees projection n) (predicate : Trees expr (one filtered)) (keys : Trees orderItem x) (skip : Trees expr y) (limit : Trees expr z) (current : Option ℕ) (s : State) (input k : ℕ) →
+    input ≡ orSourceAll current s .0 →
+    k ≡ length (behindExprs predicate (behindItems items (orSourceAll current s .1)) .ops) →
     (do
       input ← orSourceAll current
       rs ← Lower.lowerProjections items
@@ -124,7 +129,10 @@ pub record IsReturn (sheet : Bytes) (a b : List ℕ) (d i : ℕ) (t : Tree claus
   pub flag : cell a b i returnDistinctAt ≤ 1
   pub held-items : HeldOf sheet a b items (d - 1) (i + 1)
   pub sized : size t ≡ 1 + sizeOf items + tailSize tail
-  pub def : (current : Option ℕ) (s : State) (k₁ k₂ : ℕ) → k₁ ≡ firstL n current items s .0 → k₂ ≡ secondL n (eqb (cell a b i returnDistinctAt) 1) k₁ items (firstL n current items s .1) .0 → lowerClause t current s ≡ leaving (lowerTrailers k₂ (tail .keys) (tail .skip) (tail .limit) (secondL n (eqb (cell a b i returnDistinctAt) 1) k₁ items (firstL n current items s .1) .1))
+  pub def : (current : Option ℕ) (s : State) (k₁ k₂ : ℕ) →
+      k₁ ≡ firstL n current items s .0 →
+      k₂ ≡ secondL n (eqb (cell a b i returnDistinctAt) 1) k₁ items (firstL n current items s .1) .0 →
+      lowerClause t current s ≡ leaving (lowerTrailers k₂ (tail .keys) (tail .skip) (tail .limit) (secondL n (eqb (cell a b i returnDistinctAt) 1) k₁ items (firstL n current items s .1) .1))
 
 module _ {sheet : Bytes} {a b : List ℕ} {d i : ℕ} (room : Roomy a b) where
   return-of : (line : ℕ) (f : Fields (forms clause Clause.Return)) (kids : Forest (children clause Clause.Return f)) → Held sheet a b (node clause line Clause.Return f kids) d i → IsReturn sheet a b d i (node clause line Clause.Return f kids)

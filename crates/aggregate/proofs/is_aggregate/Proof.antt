@@ -1,5 +1,5 @@
 -- `aggregate::is_aggregate` meets its contract. An answer names a place by its type, and `search` finds the way back to it. Assumes nothing.
-use mathlib.Core.Path.{_≡_, sym, _∙_}
+use mathlib.Core.Path.{sym, _∙_}
 use native.Mathlib.Omega.{arith}
 use borrow.Author.Needs.{needs}
 use Rattle.aggregate.proofs.CallLaws.{low, no-call, call-place, call-is}
