@@ -17,7 +17,7 @@ use Rattle.words.specs.Words.{kindOf, firstKind, fieldsOf}
 use Rattle.words.specs.Held.{Flags}
 use Rattle.words.specs.Table.{sorts, sortOf, groupSort, groupsFrom, groupsOf, groupCount}
 use Rattle.words.specs.TableLaws.{Rows, done, _▸_, kind-row}
-use Rattle.line.specs.GroupLaws.{groups-are}
+use Rattle.words.specs.GroupLaws.{groups-are}
 use Rattle.sheet.specs.Due.{due, dueOf, roomBelow}
 use Rattle.sheet.specs.Writes.{writes}
 use Rattle.sheet.specs.Stack.{Alike, alike-trans, alike-behind, alike-groups, slack, Fit, dueWords, allowed, entrySlack}

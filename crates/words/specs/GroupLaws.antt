@@ -13,11 +13,10 @@ use lib.ListN.{getD, take, replicate, replicate-append-replicate}
 use Rattle.model.specs.Text.{Bytes}
 use Rattle.model.specs.Kind.{Sort, Kind, Clause, PatternElement, Same, Expr, clause, patternElement, expr}
 use Rattle.model.specs.Record.{Group, one, forms, kinds, sames, children}
-use Rattle.laws.specs.TextLaws.{and-left, and-right}
 use Rattle.words.specs.Words.{part, cell, firstKind, kindOf, fieldOf, fieldsOf}
 use Rattle.words.specs.Held.{Flags}
 use Rattle.words.specs.Table.{sorts, sortOf, groupSort, groupSource, groupsFrom, groupsOf}
-use Rattle.words.specs.TableLaws.{passesTo, passes-at, Rows, done, _▸_, kind-row}
+use Rattle.words.specs.TableLaws.{and-left, and-right, passesTo, passes-at, Rows, done, _▸_, kind-row}
 
 -- ── entries of the table ──
 
