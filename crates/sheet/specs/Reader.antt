@@ -168,7 +168,10 @@ module _ (sheet : Bytes) (a b w a′ b′ w′ : List ℕ) (i pos m wr : ℕ) (o
   unfolding writeAmong
   seen-write q new old ss = ap (writeAmong 1) (append-assoc (o .done) (rec (group w m .sort) (x .0) (x .1) ∷ []) ss) ∙ o .wrote (rec (group w m .sort) (x .0) (x .1) ∷ ss) ∙ rw q (first-of wr wr′ i (writeAmong (suc (suc i)) ss) new old)
 
-  left-is : readLine (group w m .sort) (isZero (group w m .room)) (placeAt sheet pos (suc i)) ≡ got x (placeAt sheet to (suc (suc i))) → Alike (dues w′ m′) (dueOf (roomBelow (group w m .sort) (group w m .room)) (children (group w m .sort) (x .0) (x .1)) ++ (due (group w m .sort) (group w m .count - 1) (group w m .room) ∷ dues w m)) → whole maxDepth sheet ≡ mapped (λ rs. (o .done ++ (rec (group w m .sort) (x .0) (x .1) ∷ [])) ++ rs) (rest (dues w′ m′) (placeAt sheet to (suc (suc i))))
+  left-is :
+      readLine (group w m .sort) (isZero (group w m .room)) (placeAt sheet pos (suc i)) ≡ got x (placeAt sheet to (suc (suc i)))
+      → Alike (dues w′ m′) (dueOf (roomBelow (group w m .sort) (group w m .room)) (children (group w m .sort) (x .0) (x .1)) ++ (due (group w m .sort) (group w m .count - 1) (group w m .room) ∷ dues w m))
+      → whole maxDepth sheet ≡ mapped (λ rs. (o .done ++ (rec (group w m .sort) (x .0) (x .1) ∷ [])) ++ rs) (rest (dues w′ m′) (placeAt sheet to (suc (suc i))))
   left-is r alike =
       o .left
       ∙ ap (λ st. mapped (λ rs. o .done ++ rs) (rest st (placeAt sheet pos (suc i)))) (top-is w m (o .fit))
