@@ -59,7 +59,10 @@ pub fn read_line(sheet: &[u8], p: usize, e: usize, sort: u32, part: &mut [u32]) 
     let KindFound::Is(k) = kind_named(&sheet[p..r], sort) else {
         return Line::Not;
     };
+    let behind = e + 1;
     part[field::KIND] = k;
+    part[field::LINE_START] = p as u32;
+    part[field::LINE_END] = behind as u32;
     if read_fields(sheet, r + 1, e, k, part) {
         return Line::Kind(k);
     }

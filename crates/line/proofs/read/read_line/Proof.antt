@@ -45,7 +45,7 @@ read-fields-requires c κs =
             (after-kind-named .kind-named .ensures)
             _
             (after-k .k .given .1),
-        rw length-set (start .pre .1 .1 .1),
+        rw (length-set, length-set, length-set) (start .pre .1 .1 .1),
       ),
     )
 
@@ -92,6 +92,11 @@ read-line-spec =
     (λ c. search needs)
     (λ c. search needs)
     returns
+    (λ c. search needs)
+    (λ c. search needs)
+    (λ c. search needs)
+    (λ c. search needs)
+    (λ c. search needs)
     (λ c. search needs)
     (λ c. search needs)
     read-fields-requires
