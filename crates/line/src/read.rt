@@ -55,14 +55,14 @@ pub fn read_line(sheet: &[u8], p: usize, e: usize, sort: u32, part: &mut [u32]) 
     requires { ⌜ (sort < sortCount) × (length (now part) ≡ recordWords) ⌝ }
     ensures { λ r. ⌜ LineRead (sortOf sort) (now (sheet .entry)) p e (now (part .exit)) r ⌝ }
 {
+    let behind = e + 1;
+    part[field::LINE_START] = p as u32;
+    part[field::LINE_END] = behind as u32;
     let r = piece_to(sheet, p, e);
     let KindFound::Is(k) = kind_named(&sheet[p..r], sort) else {
         return Line::Not;
     };
-    let behind = e + 1;
     part[field::KIND] = k;
-    part[field::LINE_START] = p as u32;
-    part[field::LINE_END] = behind as u32;
     if read_fields(sheet, r + 1, e, k, part) {
         return Line::Kind(k);
     }

@@ -28,23 +28,24 @@ read-fields-requires c κs =
     let after-k : tie.After-k = search ways in
     let after-kind-named : tie.After-kind-named = search ways in
     let after-piece-to : tie.After-piece-to = search ways in
-    let start : tie.Start = search ways in (
+    let start : tie.Start = search ways in
+    (
       (start .pre .0 .1, start .pre .1 .0),
       (
         line-low
-            _
-            _
-            _
-            _
-            _
-            (start .pre .0 .1)
-            (start .pre .0 .0)
-            (start .pre .1 .1 .0)
-            (after-piece-to .piece-to .ensures)
-            _
-            (after-kind-named .kind-named .ensures)
-            _
-            (after-k .k .given .1),
+        _
+        _
+        _
+        _
+        _
+        (start .pre .0 .1)
+        (start .pre .0 .0)
+        (start .pre .1 .1 .0)
+        (after-piece-to .piece-to .ensures)
+        _
+        (after-kind-named .kind-named .ensures)
+        _
+        (after-k .k .given .1),
         rw (length-set, length-set, length-set) (start .pre .1 .1 .1),
       ),
     )
@@ -84,19 +85,20 @@ pub read-line-spec : {M : Type 1} → statement M
 read-line-spec =
     tie.close
     (tie.spec
+    (λ c. search needs)
+    (λ c. search needs)
+    (λ c. search needs)
+    (λ c. search needs)
+    (λ c. search needs)
     (λ c κs. search needs)
     (λ c. search needs)
     (λ c. search needs)
     (λ c. search needs)
     (λ c κs. search needs)
+    (λ c. search needs)
     (λ c. search needs)
     (λ c. search needs)
     returns
-    (λ c. search needs)
-    (λ c. search needs)
-    (λ c. search needs)
-    (λ c. search needs)
-    (λ c. search needs)
     (λ c. search needs)
     (λ c. search needs)
     read-fields-requires
