@@ -18,7 +18,7 @@ number-requires c κs =
     let after-limit : tie.After-limit = search ways in
     let else1 : tie.Else1 = search ways in
     let start : tie.Start = search ways in
-    rw (after-limit .limit .ensures) (code-low _ (start .pre .1 .1 .0 .1) (else1 .if1 .left) (start .pre .1 .1 .1 .0) (start .pre .1 .1 .1 .1))
+    rw (after-limit .limit .ensures) (code-low _ (start .pre .1 .0 .1) (else1 .if1 .left) (start .pre .1 .1 .0) (start .pre .1 .1 .1))
 
 returns-2 : tie.Need-returns-2
 returns-2 c = search (arm-number, needs)

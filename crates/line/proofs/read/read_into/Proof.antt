@@ -24,14 +24,14 @@ returns c =
     let after-read-line : tie.After-read-line = search ways in
     let then1 : tie.Then1 = search ways in
     let start : tie.Start = search ways in
-    into-first _ _ _ _ _ _ _ _ _ (start .pre .1 .1 .1) (after-read-line .read-line .ensures) (then1 .if1 .taken)
+    into-first _ _ _ _ _ _ _ _ _ (start .pre .1 .1) (after-read-line .read-line .ensures) (then1 .if1 .taken)
 
 returns-2 : tie.Need-returns-2
 returns-2 c =
     let after-read-line2 : tie.After-read-line2 = search ways in
     let else1 : tie.Else1 = search ways in
     let start : tie.Start = search ways in
-    into-second _ _ _ _ _ _ _ _ _ (start .pre .1 .1 .1) (after-read-line2 .read-line2 .ensures) (else1 .if1 .left) (start .pre .1 .1 .0 .1)
+    into-second _ _ _ _ _ _ _ _ _ (start .pre .1 .1) (after-read-line2 .read-line2 .ensures) (else1 .if1 .left) (start .pre .1 .0 .1)
 
 pub read-into-spec : {M : Type 1} → statement M
 read-into-spec =

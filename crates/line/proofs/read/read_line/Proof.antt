@@ -28,25 +28,24 @@ read-fields-requires c κs =
     let after-k : tie.After-k = search ways in
     let after-kind-named : tie.After-kind-named = search ways in
     let after-piece-to : tie.After-piece-to = search ways in
-    let start : tie.Start = search ways in
-    (
-      (start .pre .0 .1, start .pre .1 .0),
+    let start : tie.Start = search ways in (
+      (record { to = start .pre .0 .to; short = start .pre .0 .short }),
       (
         line-low
-        _
-        _
-        _
-        _
-        _
-        (start .pre .0 .1)
-        (start .pre .0 .0)
-        (start .pre .1 .1 .0)
-        (after-piece-to .piece-to .ensures)
-        _
-        (after-kind-named .kind-named .ensures)
-        _
-        (after-k .k .given .1),
-        rw (length-set, length-set, length-set) (start .pre .1 .1 .1),
+            _
+            _
+            _
+            _
+            _
+            (start .pre .0 .to)
+            (start .pre .0 .from)
+            (start .pre .1 .0)
+            (after-piece-to .piece-to .ensures)
+            _
+            (after-kind-named .kind-named .ensures)
+            _
+            (after-k .k .given .1),
+        rw (length-set, length-set, length-set) (start .pre .1 .1),
       ),
     )
 
@@ -63,9 +62,9 @@ returns-2 c =
     _
     _
     _
-    (start .pre .0 .1)
-    (start .pre .0 .0)
-    (start .pre .1 .1 .0)
+    (start .pre .0 .to)
+    (start .pre .0 .from)
+    (start .pre .1 .0)
     (after-piece-to .piece-to .ensures)
     _
     (after-kind-named .kind-named .ensures)
@@ -73,7 +72,7 @@ returns-2 c =
     (after-k .k .given .1)
     (start .args .part .now)
     _
-    (start .pre .1 .1 .1)
+    (start .pre .1 .1)
     _
     (after-read-fields .read-fields .ensures)
     (c .if1 .taken)
