@@ -1,6 +1,6 @@
 // The field at a place of a line, by its form.
 ghost use mathlib.Core.Path.{_≡_};
-ghost use Prim.Native.Nat.{_+_, _<_, _≤_};
+ghost use Prim.Native.Nat.{_+_, _<_};
 ghost use mathlib.Core.List.{[], _∷_};
 ghost use lib.Seq.{slice};
 ghost use Rattle.model.specs.Field.{Form};

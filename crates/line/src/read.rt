@@ -1,6 +1,6 @@
 // A line read into the sixteen words of a record.
 ghost use mathlib.Core.Path.{_≡_};
-ghost use Prim.Native.Nat.{_<_, _≤_};
+ghost use Prim.Native.Nat.{_<_};
 ghost use lib.ListN.{length};
 ghost use Rattle.line.specs.Place.{LineTo, Within};
 ghost use Rattle.line.specs.LineRead.{FieldsRead, LineRead, IntoRead};

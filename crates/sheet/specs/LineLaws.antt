@@ -10,7 +10,7 @@ use lib.Seq.{slice, slice-cons, slice-empty, length-slice, length-take-le, take-
 use Rattle.model.specs.Text.{Bytes, lineFeed, split, join, behind}
 use Rattle.model.specs.Field.{Fields}
 use Rattle.model.specs.Kind.{Sort, Kind}
-use Rattle.model.specs.Record.{rec, forms, spellRec, readRec}
+use Rattle.model.specs.Record.{forms, spellRec, readRec}
 use Rattle.laws.specs.TextLaws.{join-split}
 use Rattle.laws.specs.RecordLaws.{linePieces, lineText, read-line}
 use Rattle.words.specs.Held.{LineAt}
