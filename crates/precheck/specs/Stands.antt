@@ -7,16 +7,15 @@ use mathlib.Core.Option.{some}
 use lib.Dec.{eqb}
 use Rattle.model.specs.Text.{Bytes}
 use Rattle.model.specs.Field.{Span}
-use Rattle.model.specs.Kind.{Sort, Expr, expr, patternPart, patternElement}
-use Rattle.model.specs.Record.{Group, exprForms, exprChildren}
+use Rattle.model.specs.Kind.{Sort, expr, patternPart, patternElement}
+use Rattle.model.specs.Record.{Group}
 use Rattle.model.specs.Tree.{Tree}
 use Rattle.model.specs.Check.{Verdict, fine, violated, check}
-use Rattle.words.specs.Words.{cell, kindOf, fieldsOf, maxRecords}
-use Rattle.words.specs.Places.{kindAt, matchKind, matchSpanAt, whereKind, whereSpanAt, unwindKind, unwindSpanAt, callKind, callSpanAt, callArgsAt, callYieldsAt, writeKind, writeSpanAt, projectionSpanAt, itemsAt, keysAt, skipAt, limitAt, partElementsAt}
-use Rattle.words.specs.Held.{Held, Flags, size}
+use Rattle.words.specs.Words.{cell, maxRecords}
+use Rattle.words.specs.Places.{matchKind, matchSpanAt, whereKind, whereSpanAt, unwindKind, unwindSpanAt, callKind, callSpanAt, callArgsAt, callYieldsAt, writeKind, writeSpanAt, projectionSpanAt, itemsAt, keysAt, skipAt, limitAt, partElementsAt}
+use Rattle.words.specs.Held.{Held, size}
 use Rattle.precheck.specs.Answer.{spanOf}
 use Rattle.precheck.specs.Steps.{Stage, Some, firstOf, Then, Run}
-use Rattle.words.specs.Cells.{cells}
 use Rattle.precheck.specs.declared.HirSpan.{HirSpan}
 use Rattle.precheck.specs.declared.Props.{Props}
 

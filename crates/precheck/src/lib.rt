@@ -6,7 +6,7 @@ ghost use Rattle.model.specs.Check.{Verdict, noSpan, precheckStatement};
 ghost use Rattle.model.specs.Text.{Bytes};
 ghost use Rattle.model.specs.Tree.{Tree};
 ghost use Rattle.words.specs.Held.{Held, HeldSome};
-ghost use Rattle.words.specs.Words.{Roomy, cell, maxRecords};
+ghost use Rattle.words.specs.Words.{Roomy, maxRecords};
 ghost use Rattle.model.specs.Call.{maxDepth};
 ghost use Rattle.precheck.specs.Answer.{spanOf, verdictOf};
 ghost use Rattle.precheck.specs.Steps.{Some, Ends, Walks, Run};

@@ -97,10 +97,10 @@ flag-one (suc zero) h = refl
 flag-one (suc (suc n)) h = absurd (omega arith)
 
 module _ (sheet : Bytes) (w₀ w₁ x w₃ y w₅ z w₇ w₈ w₉ u : ℕ) (more : List ℕ) where
-  abbrev recordWords : List ℕ
-  recordWords = w₀ ∷ w₁ ∷ x ∷ w₃ ∷ y ∷ w₅ ∷ z ∷ w₇ ∷ w₈ ∷ w₉ ∷ u ∷ more
+  abbrev theWords : List ℕ
+  theWords = w₀ ∷ w₁ ∷ x ∷ w₃ ∷ y ∷ w₅ ∷ z ∷ w₇ ∷ w₈ ∷ w₉ ∷ u ∷ more
 
-  same-count : (h : Same) → Flags (forms expr (Expr.Over h)) recordWords 0 → countBy (sameNumber h) x y z u ≡ total (children expr (Expr.Over h) (fieldsOf (forms expr (Expr.Over h)) sheet recordWords 0))
+  same-count : (h : Same) → Flags (forms expr (Expr.Over h)) theWords 0 → countBy (sameNumber h) x y z u ≡ total (children expr (Expr.Over h) (fieldsOf (forms expr (Expr.Over h)) sheet theWords 0))
   unfolding countBy sameNumber fieldsOf fieldOf
   same-count Same.Null f = refl
   same-count Same.Bool f = refl
@@ -118,7 +118,7 @@ module _ (sheet : Bytes) (w₀ w₁ x w₃ y w₅ z w₇ w₈ w₉ u : ℕ) (mor
   same-count Same.IsNull f = refl
   same-count Same.InList f = refl
 
-  count-of : (s : Sort) (k : Kind s) → Inner s → Flags (forms s k) recordWords 0 → countBy (innerNumber s k) x y z u ≡ total (children s k (fieldsOf (forms s k) sheet recordWords 0))
+  count-of : (s : Sort) (k : Kind s) → Inner s → Flags (forms s k) theWords 0 → countBy (innerNumber s k) x y z u ≡ total (children s k (fieldsOf (forms s k) sheet theWords 0))
   unfolding countBy innerNumber exprNumber elementNumber fieldsOf fieldOf
   count-of statement k i f = absurd i
   count-of unionArm k i f = absurd i

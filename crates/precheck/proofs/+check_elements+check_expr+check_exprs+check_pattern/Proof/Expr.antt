@@ -2,6 +2,7 @@
 use Prim.Native.Nat.{ℕ}
 use native.Mathlib.Omega.{arith}
 use borrow.Author.Needs.{needs}
+use Rattle.precheck.proofs.Laws.{some-none}
 use Rattle.precheck.proofs.Checks.{some-turned, walks-turned, as-entries, as-pattern, as-plain, as-unresolved, as-undesugared}
 use borrow.Fn.Kinds.{In, Out}
 use Rattle.precheck.proofs.check_expr.Reads as reads
@@ -58,7 +59,7 @@ module _ (t : ℕ) where
       (λ c. search needs)
       (λ c. search needs)
       (λ c κs. search (some-turned, as-entries, needs))
-      (λ c κs. search (some-turned, as-pattern, needs))
+      (λ c κs. search (some-turned, as-pattern, some-none, needs))
       check-exprs-requires-2
       (λ c. search (walks-turned, as-entries, needs))
       (λ c. search (walks-turned, as-pattern, needs))

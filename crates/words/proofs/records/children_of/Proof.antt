@@ -1,10 +1,10 @@
 -- `words::records::children_of` meets its contract: each arm counts as the words say; the kinds that no arm names have no children. Assumes nothing.
-use mathlib.Core.Path.{_≡_, refl, _∙_}
+use mathlib.Core.Path.{_≡_, refl}
 use Prim.Native.Nat.{ℕ}
 use native.Mathlib.Omega.{arith}
 use borrow.Author.Needs.{needs}
 use Rattle.words.specs.Words.{cell}
-use Rattle.words.specs.Places.{kindAt, partKind, nodeKind, relKind, entryKind, propKind, indexKind, sliceKind, listKind, binKind, unKind, caseKind, isNullKind, inKind, mapKind, fnKind, patKind, listPredicateKind}
+use Rattle.words.specs.Places.{partKind, nodeKind, relKind, entryKind, propKind, indexKind, sliceKind, listKind, binKind, unKind, caseKind, isNullKind, inKind, mapKind, fnKind, patKind, listPredicateKind}
 use Rattle.words.specs.Count.{countBy, countAt}
 use Rattle.words.proofs.Counting.{arm, none-left}
 use Rattle.words.proofs.records.children_of.Statement.{statement}

@@ -6,35 +6,54 @@ use mathlib.Core.Bool.{Bool, true, false, cond, _&&_}
 use mathlib.Core.List.{List, [], _∷_, _++_, append-assoc}
 use mathlib.Core.Option.{some}
 use native.Mathlib.Omega.{arith}
-use borrow.Author.Tests.{ltb-true}
+use borrow.Author.Tests.{ltb-true, le-ltb, eqb-true}
 use lib.Dec.{eqb, ltb}
 use lib.Seq.{slice, getD-take, getD-drop}
 use lib.ListN.{getD, take, replicate, replicate-append-replicate}
+use Rattle.words.specs.Places.{kindCount, sortCount}
 use Rattle.model.specs.Text.{Bytes}
 use Rattle.model.specs.Kind.{Sort, Kind, Clause, PatternElement, Same, Expr, clause, patternElement, expr}
 use Rattle.model.specs.Record.{Group, one, forms, kinds, sames, children}
-use Rattle.laws.specs.TextLaws.{and-left, and-right}
-use Rattle.words.specs.Words.{part, cell, firstKind, kindOf, fieldOf, fieldsOf}
+use Rattle.words.specs.Words.{part, cell, firstKind, kindOf, fieldOf, fieldsOf, recordWords}
 use Rattle.words.specs.Held.{Flags}
-use Rattle.words.specs.Table.{sorts, sortOf, groupSort, groupSource, groupsFrom, groupsOf}
-use Rattle.words.specs.TableLaws.{passesTo, passes-at, Rows, done, _▸_, kind-row}
+use Rattle.words.specs.Table.{groupCount, groupNumbers, sorts, sortOf, groupSort, groupSource, groupsFrom, groupsOf}
+use Rattle.words.specs.TableLaws.{and-left, and-right, passesTo, passes-at, Rows, done, _▸_, kind-row}
 
 -- ── entries of the table ──
 
 -- group by group, the sort is one of eleven and the source is a count or a field
 entryTest : ℕ → Bool
-entryTest i = ltb (groupSort (i / 5) (i % 5)) 11 && ltb (groupSource (i / 5) (i % 5)) 8
+entryTest i = ltb (groupSort (i / 5) (i % 5)) sortCount && ltb (groupSource (i / 5) (i % 5)) 8
 
-pub entries-low : (n g : ℕ) → n < 39 → g < 5 → (groupSort n g < 11) × (groupSource n g < 8)
+pub entries-low : (n g : ℕ) → n < kindCount → g < groupCount → (groupSort n g < sortCount) × (groupSource n g < 8)
 unfolding entryTest passesTo
 entries-low n g h k =
     let over : (n * 5 + g) / 5 ≡ n = mul-add-div-right (omega arith) n g ∙ rw (div-eq-of-lt k) (add-zero n) in
     let left : (n * 5 + g) % 5 ≡ g = mul-add-mod-self-right n 5 g ∙ mod-eq-of-lt k in
-    let test : (ltb (groupSort n g) 11 && ltb (groupSource n g) 8) ≡ true = rw (over, left) at (passes-at entryTest 195 refl (n * 5 + g) (omega arith)) in
-    (ltb-true (groupSort n g) 11 (and-left _ _ test), ltb-true (groupSource n g) 8 (and-right (ltb (groupSort n g) 11) _ test))
+    let test : (ltb (groupSort n g) sortCount && ltb (groupSource n g) 8) ≡ true = rw (over, left) at (passes-at entryTest 195 refl (n * 5 + g) (omega arith)) in
+    (ltb-true (groupSort n g) sortCount (and-left _ _ test), ltb-true (groupSource n g) 8 (and-right (ltb (groupSort n g) sortCount) _ test))
+
+-- kind by kind, the groups behind its last are groups of none
+behindTest : ℕ → Bool
+behindTest i = cond (ltb (i % 5) (getD groupNumbers (i / 5) 0)) true (eqb (groupSource (i / 5) (i % 5)) 0)
+
+pub none-behind : (n g : ℕ) → n < kindCount → getD groupNumbers n 0 ≤ g → g < groupCount → groupSource n g ≡ 0
+unfolding behindTest passesTo
+none-behind n g h b k =
+    let over : (n * 5 + g) / 5 ≡ n = mul-add-div-right (omega arith) n g ∙ rw (div-eq-of-lt k) (add-zero n) in
+    let left : (n * 5 + g) % 5 ≡ g = mul-add-mod-self-right n 5 g ∙ mod-eq-of-lt k in
+    let test : cond (ltb g (getD groupNumbers n 0)) true (eqb (groupSource n g) 0) ≡ true = rw (over, left) at (passes-at behindTest 195 refl (n * 5 + g) (omega arith)) in
+    eqb-true (groupSource n g) 0 (rw (le-ltb g (getD groupNumbers n 0) b) at test)
+
+numberTest : ℕ → Bool
+numberTest n = ltb (getD groupNumbers n 0) 6
+
+pub groups-few : (n : ℕ) → n < kindCount → getD groupNumbers n 0 ≤ groupCount
+unfolding numberTest passesTo
+groups-few n h = let low : getD groupNumbers n 0 < 6 = ltb-true _ 6 (passes-at numberTest kindCount refl n h) in omega arith
 
 -- word c of a record's sixteen
-pub part-cell : (a b : List ℕ) (i c : ℕ) → c < 16 → getD (part a b i) c 0 ≡ cell a b i c
+pub part-cell : (a b : List ℕ) (i c : ℕ) → c < recordWords → getD (part a b i) c 0 ≡ cell a b i c
 unfolding part
 part-cell a b i c h = go (ltb i 1024)
   where
@@ -112,7 +131,11 @@ group-rows (suc (suc (suc (suc (suc (suc zero)))))) l = node-groups ▸ rel-grou
 group-rows (suc (suc (suc (suc (suc (suc (suc zero))))))) l = (λ sheet ws h. refl) ▸ done
 group-rows (suc (suc (suc (suc (suc (suc (suc (suc zero)))))))) l = (λ sheet ws h. refl) ▸ done
 group-rows (suc (suc (suc (suc (suc (suc (suc (suc (suc zero))))))))) l = (λ sheet ws h. refl) ▸ done
-group-rows (suc (suc (suc (suc (suc (suc (suc (suc (suc (suc zero)))))))))) l = (λ sheet ws h. refl) ▸ (λ sheet ws h. refl) ▸ (λ sheet ws h. refl) ▸ (λ sheet ws h. refl) ▸ (λ sheet ws h. refl) ▸ (λ sheet ws h. refl) ▸ (λ sheet ws h. refl) ▸ (λ sheet ws h. refl) ▸ slice-groups ▸ (λ sheet ws h. refl) ▸ (λ sheet ws h. refl) ▸ (λ sheet ws h. refl) ▸ case-groups ▸ (λ sheet ws h. refl) ▸ (λ sheet ws h. refl) ▸ (λ sheet ws h. refl) ▸ (λ sheet ws h. refl) ▸ (λ sheet ws h. refl) ▸ (λ sheet ws h. refl) ▸ listp-groups ▸ (λ sheet ws h. refl) ▸ (λ sheet ws h. refl) ▸ done
+group-rows (suc (suc (suc (suc (suc (suc (suc (suc (suc (suc zero)))))))))) l =
+    (λ sheet ws h. refl) ▸ (λ sheet ws h. refl) ▸ (λ sheet ws h. refl) ▸ (λ sheet ws h. refl) ▸ (λ sheet ws h. refl) ▸ (λ sheet ws h. refl) ▸
+    (λ sheet ws h. refl) ▸ (λ sheet ws h. refl) ▸ slice-groups ▸ (λ sheet ws h. refl) ▸ (λ sheet ws h. refl) ▸ (λ sheet ws h. refl) ▸
+    case-groups ▸ (λ sheet ws h. refl) ▸ (λ sheet ws h. refl) ▸ (λ sheet ws h. refl) ▸ (λ sheet ws h. refl) ▸ (λ sheet ws h. refl) ▸
+    (λ sheet ws h. refl) ▸ listp-groups ▸ (λ sheet ws h. refl) ▸ (λ sheet ws h. refl) ▸ done
 group-rows (suc (suc (suc (suc (suc (suc (suc (suc (suc (suc (suc n))))))))))) l = absurd (omega arith)
 
 -- the groups of a kind by its number
