@@ -15,7 +15,8 @@ use Rattle.model.specs.Lower.{Recs, Lowered, made, _>>=_, ret, push, op, source
 use Rattle.model.specs.Lower
 use Rattle.words.specs.Words.{Roomy, cell, optionOf, fieldsOf, fieldOf}
 use Rattle.words.specs.Held.{Held, HeldOf, size, sizeOf}
-use Rattle.context.specs.Tables.{Op, Pushed, Numbers}
+use Rattle.context.specs.Tables.{Pushed, Numbers}
+use Rattle.context.specs.declared.op.Op.{Op}
 use Rattle.context.specs.declared.LowerCtx.{LowerCtx}
 use Rattle.context.specs.declared.Numbered.{Numbered}
 use Rattle.words.specs.Cells.{shown}

@@ -16,7 +16,8 @@ use Rattle.model.specs.Lower.{Recs, Lowered, made, _>>=_, ret, push, op, endpoi
 use Rattle.model.specs.Lower
 use Rattle.words.specs.Words.{Roomy, cell, optionOf}
 use Rattle.words.specs.Held.{Held, size}
-use Rattle.context.specs.Tables.{Op, Pushed, Numbers}
+use Rattle.context.specs.Tables.{Pushed, Numbers}
+use Rattle.context.specs.declared.op.Op.{Op}
 use Rattle.context.specs.declared.LowerCtx.{LowerCtx}
 use Rattle.context.specs.declared.Numbered.{Numbered}
 use Rattle.lower.specs.Render.{Notes, Ops, renderOf, specRecs}

@@ -12,7 +12,8 @@ use Rattle.model.specs.Tree.{Tree, toList, foldOf}
 use Rattle.model.specs.Lower.{Recs, Lowered, made, _>>=_, ret, push, op, source, filter, filterByProps, propsOf, lowerExpr, NodeStep, ofNode, at}
 use Rattle.words.specs.Words.{Roomy, cell, optionOf}
 use Rattle.words.specs.Held.{Held}
-use Rattle.context.specs.Tables.{Op, Pushed}
+use Rattle.context.specs.Tables.{Pushed}
+use Rattle.context.specs.declared.op.Op.{Op}
 use Rattle.context.specs.declared.LowerCtx.{LowerCtx}
 use Rattle.lower.specs.Shows.{shift, shows-source, shows-filter}
 use Rattle.lower.specs.Rep.{State, Mem, mem, Written, Blank, Rep, To, Rooted}

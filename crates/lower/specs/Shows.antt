@@ -13,7 +13,7 @@ use Rattle.model.specs.Tree.{Tree, Trees}
 use Rattle.model.specs.Lower.{Recs, op, source, pathElements}
 use Rattle.words.specs.Words.{cell, optionOf}
 use Rattle.words.specs.Held.{Held, HeldOf, RecordAt, sizeOf}
-use Rattle.context.specs.Tables.{Op}
+use Rattle.context.specs.declared.op.Op.{Op}
 use Rattle.lower.specs.Render.{Notes, Ops, render, renderOf, Below, BelowOf, specRecs, KidsBelow, keptFrom, keyRecs, aggRecs}
 
 -- the notes of a pass stand from b on

@@ -13,7 +13,8 @@ use borrow.Author.Tests.{eq-eqb, ne-eqb, ltb-true, ltb-false}
 use Rattle.model.specs.Text.{Bytes}
 use Rattle.model.specs.Lower.{Recs, Lowering, at, push}
 use Rattle.model.specs.Lower
-use Rattle.context.specs.Tables.{stateOf, Op, Noted, Notes, Numbers, Pushed, varsAt}
+use Rattle.context.specs.Tables.{stateOf, Noted, Notes, Numbers, Pushed, varsAt}
+use Rattle.context.specs.declared.op.Op.{Op}
 use Rattle.context.specs.declared.LowerCtx.{LowerCtx}
 use Rattle.context.specs.declared.Numbered.{Numbered}
 use Rattle.lower.specs.Render.{Ops}
