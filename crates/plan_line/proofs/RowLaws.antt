@@ -27,6 +27,9 @@ unfolding numbersText behind
 pieces-are [] = refl
 pieces-are (n ∷ ns) = ap (λ (t : Bytes). (tab ∷ decimal n) ++ t) (pieces-are ns) ∙ sym (append-assoc (tab ∷ decimal n) (numbersText ns) (lineFeed ∷ []))
 
+pub ended : (ns : List ℕ) {g g′ : Page} → Puts (pieces ns) g g′ → Puts (numbersText ns ++ (lineFeed ∷ [])) g g′
+ended ns p = rw (← pieces-are ns) p
+
 pub row : (k : ℕ) (ns : List ℕ) {g g′ : Page} → Puts (word k ++ pieces ns) g g′ → Puts (rowText k ns) g g′
 unfolding rowText
 row k ns p = rw (← pieces-are ns) p

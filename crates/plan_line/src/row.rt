@@ -1,11 +1,12 @@
 // Lines of numbers, and lines of a name and numbers.
-ghost use mathlib.Core.List.{[], _∷_};
+ghost use mathlib.Core.List.{[], _∷_, _++_};
 ghost use Prim.Native.Nat.{_<_, _≤_};
 ghost use lib.ListN.{length};
 ghost use lib.Seq.{slice};
+ghost use Rattle.model.specs.Text.{lineFeed};
 ghost use Rattle.output.specs.Page.{on, Puts};
 ghost use Rattle.plan_line.specs.Keywords.{wordCount};
-ghost use Rattle.plan_line.specs.Row.{rowText, namedText};
+ghost use Rattle.plan_line.specs.Row.{numbersText, rowText, namedText};
 use crate::field::put_number;
 use crate::field::put_text;
 use crate::keyword::put_keyword;
@@ -38,6 +39,16 @@ pub fn put_row2(plan: &mut [u8], out: usize, k: usize, x: u32, y: u32) -> usize
     let o = put_keyword(plan, out, k);
     let p = put_number(plan, o, x);
     let q = put_number(plan, p, y);
+    put_byte(plan, q, b'\n')
+}
+
+// Three numbers, and the end of the line.
+pub fn put_end3(plan: &mut [u8], out: usize, x: u32, y: u32, z: u32) -> usize
+    ensures { λ r. ⌜ Puts (numbersText (x ∷ y ∷ z ∷ []) ++ (lineFeed ∷ [])) (on (now (plan .entry)) out) (on (now (plan .exit)) r) ⌝ }
+{
+    let o = put_number(plan, out, x);
+    let p = put_number(plan, o, y);
+    let q = put_number(plan, p, z);
     put_byte(plan, q, b'\n')
 }
 

@@ -13,7 +13,7 @@ use Rattle.model.specs.Lower.{Recs, pathElements}
 use Rattle.output.specs.Page.{Page, Puts}
 use Rattle.words.specs.Words.{cell}
 use Rattle.words.specs.Held.{RecordAt}
-use Rattle.context.specs.Tables.{Op}
+use Rattle.context.specs.declared.op.Op.{Op}
 use Rattle.lower.specs.Render.{Notes, keptFrom}
 use Rattle.lower.specs.Shows.{shift}
 use Rattle.plan_sheet.specs.Due.{noted, Names, namesRecs}

@@ -17,7 +17,7 @@ use Rattle.output.specs.Page.{Page, Puts}
 use Rattle.output.specs.Writes.{_⨾_, stay}
 use Rattle.context.specs.Tables.{varsOf, varsAt}
 use Rattle.lower.specs.Render.{Ops}
-use Rattle.plan_line.specs.Keywords.{word, letters}
+use Rattle.plan_line.specs.Keywords.{word, letters, variableWord, planWord}
 use Rattle.plan_line.specs.Row.{rowText}
 use Rattle.plan_sheet.specs.Due.{WroteOp}
 use Rattle.plan_writer.specs.Whole.{upTo, WroteOps, WroteVars, WroteSheet}
@@ -64,9 +64,9 @@ module _ {sheet : Bytes} {a b os rest : List ℕ} {n : ℕ} {start : Page} where
 
 -- ── named variables ──
 
-variable-line : (number id : ℕ) → spellRec (rec (inPlan mapped) tt (number, (id, tt))) ≡ rowText 43 (number ∷ id ∷ [])
+variable-line : (number id : ℕ) → spellRec (rec (inPlan mapped) tt (number, (id, tt))) ≡ rowText variableWord (number ∷ id ∷ [])
 unfolding keyword planKeyword word letters bytes bytesFrom spellFields spell
-variable-line number id = row-rec _ 43 (number ∷ id ∷ []) refl refl
+variable-line number id = row-rec _ variableWord (number ∷ id ∷ []) refl refl
 
 pub record Listing (rest : List ℕ) (n : ℕ) (start : Page) (k : ℕ) (p : Page) : Type 0 where
   pub low : k ≤ n
@@ -78,7 +78,7 @@ module _ {rest : List ℕ} {n : ℕ} {start : Page} where
   unfolding varsOf mappedRecs spellRecs
   no-vars = record { low = omega arith; wrote = stay; long = refl }
 
-  pub next-var : {k id number : ℕ} {p q : Page} → k < n → Listing rest n start k p → id ≡ getD rest (4608 + k * 2) 0 → number ≡ getD rest (4608 + k * 2 + 1) 0 → Puts (rowText 43 (number ∷ id ∷ [])) p q → length (q .bytes) ≡ length (p .bytes) → Listing rest n start (k + 1) q
+  pub next-var : {k id number : ℕ} {p q : Page} → k < n → Listing rest n start k p → id ≡ getD rest (4608 + k * 2) 0 → number ≡ getD rest (4608 + k * 2 + 1) 0 → Puts (rowText variableWord (number ∷ id ∷ [])) p q → length (q .bytes) ≡ length (p .bytes) → Listing rest n start (k + 1) q
   unfolding varsOf mappedRecs spellRecs
   next-var {k} {id} {number} {p} {q} l w e f v g =
       let i : getD (drop 4608 rest) (k * 2) 0 ≡ id = getD-drop 4608 rest (k * 2) 0 ∙ sym e in
@@ -95,16 +95,16 @@ module _ {rest : List ℕ} {n : ℕ} {start : Page} where
 
 -- ── the whole ──
 
-first-line : (n m : ℕ) → spellRec (rec (inPlan plan) tt (n, (m, tt))) ≡ rowText 36 (n ∷ m ∷ [])
+first-line : (n m : ℕ) → spellRec (rec (inPlan plan) tt (n, (m, tt))) ≡ rowText planWord (n ∷ m ∷ [])
 unfolding keyword planKeyword word letters bytes bytesFrom spellFields spell
-first-line n m = row-rec _ 36 (n ∷ m ∷ []) refl refl
+first-line n m = row-rec _ planWord (n ∷ m ∷ []) refl refl
 
 vars-count : (n : ℕ) (vs : List ℕ) → length (varsOf n vs) ≡ n
 unfolding varsOf
 vars-count zero vs = refl
 vars-count (suc n) vs = ap suc (vars-count n vs)
 
-pub sheet-wrote : {sheet : Bytes} {a b os rest : List ℕ} {n m : ℕ} {p q r t : Page} → Puts (rowText 36 (n ∷ m ∷ [])) p q → WroteOps sheet a b os rest n n q r → WroteVars rest m r t → WroteSheet sheet a b os rest n m p t
+pub sheet-wrote : {sheet : Bytes} {a b os rest : List ℕ} {n m : ℕ} {p q r t : Page} → Puts (rowText planWord (n ∷ m ∷ [])) p q → WroteOps sheet a b os rest n n q r → WroteVars rest m r t → WroteSheet sheet a b os rest n m p t
 unfolding planSheet planRecs firstRec spellRecs
 sheet-wrote {rest = rest} {n = n} {m = m} first ops vars s h =
     let mapped-are : length (s .vars) ≡ m = ap length (sym (h .vars)) ∙ vars-count m (drop varsAt rest) in
