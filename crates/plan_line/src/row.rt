@@ -65,15 +65,7 @@ pub fn put_row3(plan: &mut [u8], out: usize, k: usize, x: u32, y: u32, z: u32) -
 }
 
 // Keyword k and four numbers.
-pub fn put_row4(
-    plan: &mut [u8],
-    out: usize,
-    k: usize,
-    x: u32,
-    y: u32,
-    z: u32,
-    u: u32,
-) -> usize
+pub fn put_row4(plan: &mut [u8], out: usize, k: usize, x: u32, y: u32, z: u32, u: u32) -> usize
     requires { ⌜ k < wordCount ⌝ }
     ensures { λ r. ⌜ Puts (rowText k (x ∷ y ∷ z ∷ u ∷ [])) (on (now (plan .entry)) out) (on (now (plan .exit)) r) ⌝ }
 {

@@ -1,11 +1,10 @@
 -- The whole plan sheet: the operators by number, the named variables, and the first line. Assumes nothing: every law is proved.
 use mathlib.Core.Path.{_≡_, refl, sym, ap, _∙_}
-use Prim.Native.Nat.{ℕ, zero, suc, _+_, _*_, _≤_, _<_}
+use Prim.Native.Nat.{ℕ, zero, suc, _+_, _≤_, _<_}
 use native.Mathlib.Numerals.{add-one}
 use native.Mathlib.Omega.{arith}
 use mathlib.Core.List.{List, [], _∷_, _++_, append-nil}
-use lib.ListN.{length, getD, drop}
-use lib.Seq.{getD-drop}
+use lib.ListN.{length, drop}
 use borrow.Author.Tests.{eq-eqb, ne-eqb}
 use Rattle.model.specs.Text.{Bytes, bytes, bytesFrom}
 use Rattle.model.specs.Field.{spell, spellFields}
@@ -78,15 +77,13 @@ module _ {rest : List ℕ} {n : ℕ} {start : Page} where
   unfolding varsOf mappedRecs spellRecs
   no-vars = record { low = omega arith; wrote = stay; long = refl }
 
-  pub next-var : {k id number : ℕ} {p q : Page} → k < n → Listing rest n start k p → id ≡ getD rest (4608 + k * 2) 0 → number ≡ getD rest (4608 + k * 2 + 1) 0 → Puts (rowText variableWord (number ∷ id ∷ [])) p q → length (q .bytes) ≡ length (p .bytes) → Listing rest n start (k + 1) q
-  unfolding varsOf mappedRecs spellRecs
-  next-var {k} {id} {number} {p} {q} l w e f v g =
-      let i : getD (drop 4608 rest) (k * 2) 0 ≡ id = getD-drop 4608 rest (k * 2) 0 ∙ sym e in
-      let j : getD (drop 4608 rest) (k * 2 + 1) 0 ≡ number = getD-drop 4608 rest (k * 2 + 1) 0 ∙ ap (λ (x : ℕ). getD rest x 0) (omega arith) ∙ sym f in
+  pub next-var : {k id number : ℕ} {p q : Page} → k < n → Listing rest n start k p → varsOf (suc k) (drop varsAt rest) ≡ (id, number) ∷ varsOf k (drop varsAt rest) → Puts (rowText variableWord (number ∷ id ∷ [])) p q → length (q .bytes) ≡ length (p .bytes) → Listing rest n start (k + 1) q
+  unfolding mappedRecs spellRecs
+  next-var {k} {id} {number} {p} {q} l w e v g =
       let line : Puts (spellRecs (rec (inPlan mapped) tt (number, (id, tt)) ∷ [])) p q = rw (append-nil (spellRec (rec (inPlan mapped) tt (number, (id, tt)))), variable-line number id) v in
       rw (add-one k) (record {
         low = l;
-        wrote = rw (i, j, spell-append (mappedRecs (varsOf k (drop varsAt rest))) (rec (inPlan mapped) tt (number, (id, tt)) ∷ [])) (w .wrote ⨾ line);
+        wrote = rw (e, spell-append (mappedRecs (varsOf k (drop varsAt rest))) (rec (inPlan mapped) tt (number, (id, tt)) ∷ [])) (w .wrote ⨾ line);
         long = g ∙ w .long;
       })
 

@@ -45,8 +45,7 @@ module _ (t : ℕ) where
   put-agg-requires c κs =
       let then : here lts.Then1 = search ways depth 9 in
       let told : here lts.After-is-aggregate = search ways depth 9 in
-      let s : here lts.Start = search ways depth 9 in
-      (
+      let s : here lts.Start = search ways depth 9 in (
         s .pre .1 .0 .records,
         (
           CycleLaws.one-low (s .pre .1 .1 .1),
@@ -74,8 +73,7 @@ module _ (t : ℕ) where
       let count : here lts.After-count = search ways depth 9 in
       let then : here lts.Then1 = search ways depth 9 in
       let told : here lts.After-is-aggregate = search ways depth 9 in
-      let s : here lts.Start = search ways depth 9 in
-      (
+      let s : here lts.Start = search ways depth 9 in (
         omega (arith, s .pre .0, CycleLaws.one-deep (s .pre .1 .1 .1)),
         (
           s .pre .1 .0,

@@ -78,8 +78,7 @@ module _ (t : ℕ) where
       let props : here lts.After-props-of = search ways depth 9 in
       let count : here lts.After-count = search ways depth 9 in
       let kind : here lts.After-word = search ways depth 9 in
-      let s : here lts.Start = search ways depth 9 in
-      (
+      let s : here lts.Start = search ways depth 9 in (
         omega (arith, (CycleLaws.element-is (s .pre .1 .0 .records) (s .pre .1 .1 .1)) .deep, s .pre .0),
         (
           s .pre .1 .0,

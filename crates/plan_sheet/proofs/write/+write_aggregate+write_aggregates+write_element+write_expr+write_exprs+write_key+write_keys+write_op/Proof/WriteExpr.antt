@@ -112,8 +112,7 @@ module _ (t : ℕ) where
       let count : here lts.After-children = search ways depth 9 in
       let else : here lts.Else1 = search ways depth 9 in
       let kind : here lts.After-word = search ways depth 9 in
-      let s : here lts.Start = search ways depth 9 in
-      (
+      let s : here lts.Start = search ways depth 9 in (
         omega (arith, CycleLaws.one-deep (s .pre .1 .1 .1), s .pre .0),
         (
           s .pre .1 .0,

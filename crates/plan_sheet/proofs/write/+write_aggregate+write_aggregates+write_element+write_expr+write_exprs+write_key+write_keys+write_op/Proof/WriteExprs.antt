@@ -54,8 +54,7 @@ module _ (t : ℕ) where
       let line : here lts.After-put-before = search ways depth 9 in
       let turn : here lts.In-loop = search ways depth 9 in
       let l : here lts.At-loop = search ways depth 9 in
-      let s : here lts.Start = search ways depth 9 in
-      (
+      let s : here lts.Start = search ways depth 9 in (
         omega (arith, s .pre .0),
         (s .pre .1 .0, (s .pre .1 .1 .0, DueLaws.one-there (turn .loop-test .taken) (l .loop .inv .some) (line .put-before .ensures))),
       )

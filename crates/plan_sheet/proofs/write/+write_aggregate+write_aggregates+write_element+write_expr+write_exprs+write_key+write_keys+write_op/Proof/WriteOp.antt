@@ -112,8 +112,7 @@ module _ (t : ℕ) where
   write-op-requires c κs =
       let arm : here lts.At-match-keys3 = search ways depth 9 in
       let w : here lts.After-read-op = search ways depth 9 in
-      let s : here lts.Start = search ways depth 9 in
-      (
+      let s : here lts.Start = search ways depth 9 in (
         omega (arith, s .pre .0, OpLaws.optional-low _ (s .pre .1 .1 .planned) (w .read-op .ensures) (arm .match .keys3)),
         (s .pre .1 .0, OpLaws.optional-plan _ (s .pre .1 .1 .planned) (w .read-op .ensures) (arm .match .keys3)),
       )
