@@ -11,6 +11,7 @@ use crate::op::Op;
 
 pub mod index;
 pub mod op;
+pub mod read;
 
 // So many operators are stored; those beyond are counted alone.
 pub const MAX_STORED: usize = 2048;
