@@ -1,21 +1,22 @@
 #!/usr/bin/env python3
-"""Draws what `compare speed` prints: nanoseconds for one record by size.
+"""Draws the times of `compare speed`: nanoseconds for one record by size.
 
-  target/rust/release/compare speed >docs/speed.txt
+  python3 tools/measure.py >docs/speed.txt
   python3 rust/plot.py docs/speed.txt docs/speed.svg
 """
 import math
 import re
 import sys
 
-ROW = re.compile(r'(\d+) records +\d+ +(\d+) +([\d.]+) +([\d.]+) +([\d.]+) ')
+ROW = re.compile(r'(\d+) records +\d+ +(\d+)' + 4 * r' +([\d.]+\b)' + r' +[\d.]+ +[\d.]+$')
 # What each column of times is called, and its colour.
-CURVES = [('our lowering call', '#b03a2e', 1), ('our sizing call', '#ca8a04', 0), ('the Rust', '#1f618d', 2)]
+CURVES = [('our sizing call', '#ca8a04', 0), ('our lowering call', '#b03a2e', 1), ('the Rust, tree ready', '#5499c7', 2),
+          ('the Rust with reading', '#1f618d', 3)]
 WIDTH, HEIGHT, LEFT, RIGHT, TOP, FOOT = 640, 360, 60, 150, 30, 50
 
 
 def rows(path):
-    """Records of a sheet, and nanoseconds for one of them: sizing, lowering, the Rust."""
+    """Records of a sheet, and nanoseconds for one of them, for each curve."""
     with open(path, encoding='utf-8') as file:
         found = [match for match in map(ROW.match, file) if match]
     return [(int(m[2]), [1000 * float(time) / int(m[2]) for time in m.groups()[2:]]) for m in found]
@@ -23,7 +24,7 @@ def rows(path):
 
 def draw(table):
     sizes = [records for records, _ in table]
-    most = 100 * math.ceil(max(max(times) for _, times in table) / 100)
+    most = 50 * math.ceil(max(max(times) for _, times in table) / 50)
 
     def x(records):
         return LEFT + (WIDTH - LEFT - RIGHT) * math.log(records / sizes[0]) / math.log(sizes[-1] / sizes[0])
@@ -35,19 +36,22 @@ def draw(table):
            'font-family="sans-serif" font-size="12">',
            f'<rect width="{WIDTH}" height="{HEIGHT}" fill="white"/>',
            f'<text x="{LEFT}" y="18">nanoseconds for one record</text>']
-    for nanos in range(0, most + 1, 100):
+    for nanos in range(0, most + 1, 50):
         out.append(f'<path d="M{LEFT} {y(nanos):.1f}H{WIDTH - RIGHT}" stroke="#ddd"/>')
         out.append(f'<text x="{LEFT - 8}" y="{y(nanos) + 4:.1f}" text-anchor="end">{nanos}</text>')
     for records in sizes:
         out.append(f'<text x="{x(records):.1f}" y="{HEIGHT - FOOT + 18}" text-anchor="middle">{records:,}</text>')
     middle = (LEFT + WIDTH - RIGHT) / 2
     out.append(f'<text x="{middle}" y="{HEIGHT - 12}" text-anchor="middle">records of a sheet</text>')
-    for name, colour, column in CURVES:
+    free = HEIGHT
+    for name, colour, column in sorted(CURVES, key=lambda curve: table[-1][1][curve[2]]):
         points = [(x(records), y(times[column])) for records, times in table]
         path = ' '.join(f'{a:.1f},{b:.1f}' for a, b in points)
         out.append(f'<polyline points="{path}" fill="none" stroke="{colour}" stroke-width="2"/>')
         out.extend(f'<circle cx="{a:.1f}" cy="{b:.1f}" r="3" fill="{colour}"/>' for a, b in points)
-        out.append(f'<text x="{points[-1][0] + 10:.1f}" y="{points[-1][1] + 4:.1f}" fill="{colour}">{name}</text>')
+        # From the lowest curve up, no label on another.
+        free = min(points[-1][1] + 4, free - 14)
+        out.append(f'<text x="{points[-1][0] + 10:.1f}" y="{free:.1f}" fill="{colour}">{name}</text>')
     return '\n'.join(out + ['</svg>', ''])
 
 

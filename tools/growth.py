@@ -8,8 +8,8 @@ the instructions of target/bin/plan on each (`rt check plan` makes it), and
 prints them for one record of the sheet and for one byte read or written, less
 what the program needs for a sheet with no clause. A record's cost rises with the
 length of the plan lines that it makes (numbers get more digits, copies nest);
-the figure for a byte leaves that out. A figure that is a quarter larger for the
-largest sheet than for the smallest is marked.
+the figure for a byte leaves that out. A figure that is more than a tenth larger
+for the largest sheet than for the smallest is marked.
 """
 
 import re
@@ -103,7 +103,7 @@ def count(sheet):
 
 
 def shown(figures):
-    mark = "*" if figures[-1] > 1.25 * figures[0] else " "
+    mark = "*" if figures[-1] > 1.1 * figures[0] else " "
     return "".join(f"{f:7.0f}" for f in figures) + mark
 
 

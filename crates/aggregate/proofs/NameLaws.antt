@@ -12,7 +12,7 @@ use borrow.Author.Tests.{eq-eqb, ne-eqb, lt-leb, le-leb, leb-true}
 use Rattle.model.specs.Text.{Bytes, bytes, bytesFrom, same, sameBy}
 use Rattle.model.specs.Lower.{lowercase, among, aggregates}
 use Rattle.laws.specs.TextLaws.{and-left, and-right}
-use Rattle.aggregate.specs.Names.{letters, starts, aggregate}
+use Rattle.aggregate.specs.Names.{letters, names, starts, aggregate}
 
 abbrev pub lowered : Bytes → Bytes
 lowered s = map (λ b. lowercase b) s
@@ -49,24 +49,24 @@ unfoldable pub from : ℕ → ℕ → List Bytes
 from zero k = []
 from (suc n) k = aggregate k ∷ from n (suc k)
 
-pub all-names : from 10 0 ≡ aggregates
+pub all-names : from names 0 ≡ aggregates
 unfolding from aggregate letters aggregates bytes bytesFrom
 all-names = refl
 
-module _ (t : Bytes) (k : ℕ) (inv : among t (from (10 - k) k) ≡ among t aggregates) where
-  pub tried : 10 ≤ k → false ≡ among t aggregates
+module _ (t : Bytes) (k : ℕ) (inv : among t (from (names - k) k) ≡ among t aggregates) where
+  pub tried : names ≤ k → false ≡ among t aggregates
   unfolding among from
-  tried h = let e : 10 - k ≡ 0 = omega arith in rw e at inv
+  tried h = let e : names - k ≡ 0 = omega arith in rw e at inv
 
-  module _ (h : k < 10) (r : Bool) (q : r ≡ same t (aggregate k)) where
-    stepped-on : (r || among t (from (10 - (k + 1)) (k + 1))) ≡ among t aggregates
+  module _ (h : k < names) (r : Bool) (q : r ≡ same t (aggregate k)) where
+    stepped-on : (r || among t (from (names - (k + 1)) (k + 1))) ≡ among t aggregates
     unfolding among from
-    stepped-on = let e : 10 - k ≡ suc (10 - (k + 1)) = omega arith in rw (q, add-one k) (rw (e, add-one k) at inv)
+    stepped-on = let e : names - k ≡ suc (names - (k + 1)) = omega arith in rw (q, add-one k) (rw (e, add-one k) at inv)
 
     pub found : r ≡ true → true ≡ among t aggregates
     found e = rw e at stepped-on
 
-    pub on : r ≡ false → among t (from (10 - (k + 1)) (k + 1)) ≡ among t aggregates
+    pub on : r ≡ false → among t (from (names - (k + 1)) (k + 1)) ≡ among t aggregates
     on e = rw e at stepped-on
 
 -- ── where the names stand ──
@@ -86,10 +86,10 @@ passes test zero k e h = absurd (omega arith)
 passes test (suc n) zero e h = and-left _ _ e
 passes test (suc n) (suc k) e h = passes (λ x. test (suc x)) n k (and-right (test 0) _ e) (omega arith)
 
-pub name-within : (k : ℕ) → k < 10 → Within 63 (getD starts k 0) (getD starts (suc k) 0)
+pub name-within : (k : ℕ) → k < names → Within 63 (getD starts k 0) (getD starts (suc k) 0)
 unfolding all
 name-within k h =
-    let p : (leb (getD starts k 0) (getD starts (suc k) 0) && leb (getD starts (suc k) 0) 63) ≡ true = passes (λ x. leb (getD starts x 0) (getD starts (suc x) 0) && leb (getD starts (suc x) 0) 63) 10 k refl h in
+    let p : (leb (getD starts k 0) (getD starts (suc k) 0) && leb (getD starts (suc k) 0) 63) ≡ true = passes (λ x. leb (getD starts x 0) (getD starts (suc x) 0) && leb (getD starts (suc x) 0) 63) names k refl h in
     record { from = leb-true _ _ (and-left _ _ p); to = leb-true _ _ (and-right (leb (getD starts k 0) (getD starts (suc k) 0)) _ p) }
 
 -- ── letters ──

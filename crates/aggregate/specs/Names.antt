@@ -11,6 +11,10 @@ unfoldable pub letters : Bytes
 unfolding bytes
 letters = bytes "countsumavgminmaxcollectstdevstdevppercentilecontpercentiledisc"
 
+-- there are so many
+abbrev pub names : ℕ
+names = 10
+
 abbrev pub starts : List ℕ
 starts = 0 ∷ 5 ∷ 8 ∷ 11 ∷ 14 ∷ 17 ∷ 24 ∷ 29 ∷ 35 ∷ 49 ∷ 63 ∷ []
 

@@ -12,7 +12,15 @@ ghost use Rattle.model.specs.Lower.{lowercase as lowercaseOf, among, aggregates
 ghost use Rattle.words.specs.Words.{Roomy, fieldOf};
 ghost use Rattle.words.specs.Held.{PlaceAt, Held};
 ghost use Rattle.lower.specs.Render.{isAggregate};
-ghost use Rattle.aggregate.specs.Names.{aggregate, SomeExpr};
+ghost use Rattle.aggregate.specs.Names.{aggregate, names, SomeExpr};
+use words::field;
+use words::kind;
+
+// There are so many names.
+const NAMES: usize = 10;
+
+// A small letter is so far behind its capital.
+const TO_SMALL: u8 = 32;
 
 // Where each name begins in the text of all of them, and where the last ends.
 const STARTS: [usize; 11] = [0, 5, 8, 11, 14, 17, 24, 29, 35, 49, 63];
@@ -20,13 +28,13 @@ const STARTS: [usize; 11] = [0, 5, 8, 11, 14, 17, 24, 29, 35, 49, 63];
 fn lowercase(b: u8) -> u8
     ensures { λ r. ⌜ r ≡ lowercaseOf b ⌝ }
 {
-    if b < 65 {
+    if b < b'A' {
         return b;
     }
-    if 90 < b {
+    if b'Z' < b {
         return b;
     }
-    b + 32
+    b + TO_SMALL
 }
 
 fn same_name(s: &[u8], name: &[u8]) -> bool
@@ -55,7 +63,7 @@ fn same_part(s: &[u8], names: &[u8], from: usize, to: usize) -> bool
 
 // Name k of the ten.
 fn is_aggregate_at(s: &[u8], k: usize) -> bool
-    requires { ⌜ k < 10 ⌝ }
+    requires { ⌜ k < names ⌝ }
     ensures { λ r. ⌜ r ≡ same (map (λ b. lowercaseOf b) (now (s .entry))) (aggregate k) ⌝ }
 {
     let from = STARTS[k];
@@ -72,7 +80,7 @@ fn is_aggregate_name(s: &[u8]) -> bool
     ensures { λ r. ⌜ r ≡ among (map (λ b. lowercaseOf b) (now (s .entry))) aggregates ⌝ }
 {
     let mut k = 0;
-    while k < 10 {
+    while k < NAMES {
         if is_aggregate_at(s, k) {
             return true;
         }
@@ -95,11 +103,11 @@ pub fn is_aggregate(sheet: &[u8], a: &[u32], b: &[u32], i: usize) -> bool
     requires { ⌜ SomeExpr (now sheet) (now a) (now b) i ⌝ }
     ensures { λ r. ⌜ ((d : ℕ) (t : Tree expr) → Held (now (sheet .entry)) (now (a .entry)) (now (b .entry)) t d i → r ≡ isAggregate t) ⌝ }
 {
-    let kind = words::word(a, b, i, 0);
-    if kind != 34 {
+    let kind = words::word(a, b, i, field::KIND);
+    if kind != kind::FN {
         return false;
     }
-    let from = words::word(a, b, i, 2) as usize;
-    let to = words::word(a, b, i, 3) as usize;
+    let from = words::word(a, b, i, field::NAME) as usize;
+    let to = words::word(a, b, i, field::NAME + 1) as usize;
     is_aggregate_func(sheet, from, to)
 }

@@ -2,46 +2,50 @@
 use mathlib.Core.Path.{_≡_, refl, ap}
 use Prim.Native.Nat.{ℕ, suc, _+_, _<_}
 use native.Mathlib.Omega.{arith}
-use mathlib.Core.List.{List}
+use mathlib.Core.List.{List, [], _∷_}
 use mathlib.Core.Option.{Option, some}
 use Rattle.model.specs.Text.{Bytes}
-use Rattle.model.specs.Kind.{Sort, clause}
+use Rattle.model.specs.Kind.{clause}
 use Rattle.model.specs.Tree.{Tree}
 use Rattle.model.specs.Lower.{lowerClause}
-use Rattle.words.specs.Words.{Roomy, cell}
-use Rattle.words.specs.Held.{Held, HeldSome}
+use Rattle.words.specs.Words.{Roomy, cell, maxRecords}
+use Rattle.words.specs.Held.{Held}
+use Rattle.words.specs.Numbers.{Others}
+use Rattle.context.specs.Ops.{beforeOf}
+use Rattle.context.specs.declared.At.{At}
+use Rattle.context.specs.declared.Before.{Before}
+use Rattle.context.specs.declared.Before.the-variants as before
+use Rattle.words.specs.Places.{matchKind, whereKind, withKind, returnKind, unwindKind, callKind, writeKind, kindAt}
 use Rattle.lower.specs.Rep.{State, Mem, Written, Rep}
-use Rattle.lower.specs.Pieces.{SomeTree}
-use Rattle.lower.specs.Chains.{givenIf}
 use Rattle.lower.specs.Clauses.{Stands, Leaves, LowersClause}
 use Rattle.lower.specs.State.{to-refl, to-wider}
-use Rattle.clauses.specs.Asked.{ClauseAsked, ReadingAsked}
-use Rattle.clauses.proofs.Moves.{sub-both}
+use Rattle.projections.specs.Asked.{ClauseAsked}
+use Rattle.projections.specs.Room.{some-tree}
+use Rattle.projections.specs.Passes.{sub-both}
+use Rattle.clauses.specs.Asked.{ReadingAsked}
 use Rattle.clauses.proofs.Opened.{a-write, call-kind}
 
-pub some-tree : {sheet : Bytes} {a b : List ℕ} {s : Sort} {d i : ℕ} → HeldSome sheet a b s d i → SomeTree a b s d i
-some-tree {sheet} x = record { sheet = sheet; tree = x .tree; held = x .is }
-
 -- what the function of one kind asks
-pub asked : {sheet : Bytes} {a b : List ℕ} {k d i has last : ℕ} {m : Mem} → ReadingAsked sheet a b d i has last m → cell a b i 0 ≡ k → ClauseAsked k a b d i has last m
-asked g e = record { room = g .room; tree = some-tree (g .held); kind = e; ready = g .ready; shallow = g .shallow; input = g .input; stands = g .stands }
+pub asked : {sheet : Bytes} {a b : List ℕ} {k : ℕ} {at : At} {current : Before} {m : Mem} → ReadingAsked sheet a b at current m → cell a b (at .i) kindAt ≡ k → ClauseAsked k a b at current m
+asked g e = record { room = g .room; tree = some-tree (g .held); kind = e; ready = g .ready; shallow = g .shallow; stands = g .stands }
 
-pub seven : {sheet : Bytes} {a b : List ℕ} {d i : ℕ} → Roomy a b → HeldSome sheet a b clause d i → ((cell a b i 0 ≡ 2) → ⊥) → ((cell a b i 0 ≡ 3) → ⊥) → ((cell a b i 0 ≡ 4) → ⊥) → ((cell a b i 0 ≡ 5) → ⊥) → ((cell a b i 0 ≡ 6) → ⊥) → ((cell a b i 0 ≡ 8) → ⊥) → cell a b i 0 ≡ 7
-seven {sheet} {d = d} {i = i} room x n2 n3 n4 n5 n6 n8 = call-kind sheet d i room (x .tree) (x .is) n2 n3 n4 n5 n6 n8
+-- the one kind that is left
+pub a-call-left : {sheet : Bytes} {a b : List ℕ} {at : At} {current : Before} {m : Mem} {n : ℕ} → ReadingAsked sheet a b at current m → n ≡ cell a b (at .i) kindAt → Others n (unwindKind ∷ returnKind ∷ withKind ∷ whereKind ∷ matchKind ∷ []) → cell a b (at .i) kindAt ≡ callKind
+a-call-left {sheet} {at = at} g e o = call-kind sheet (at .left) (at .i) (g .room) (g .held .tree) (g .held .is) (rw e at o) (g .reads)
 
 -- an operator that is left, as the code has it
-pub given-one : {sheet : Bytes} {a b : List ℕ} {d i e k : ℕ} {o : Option ℕ} {m m′ : Mem} → LowersClause sheet a b d i e o (some k) m m′ → LowersClause sheet a b d i e o (givenIf 1 k) m m′
-unfolding givenIf
-given-one p = p
+pub left-one : {sheet : Bytes} {a b : List ℕ} {d i e k : ℕ} {o : Option ℕ} {m m′ : Mem} → LowersClause sheet a b d i e o (some k) m m′ → LowersClause sheet a b d i e o (beforeOf (before.Op k)) m m′
+unfolding beforeOf
+left-one p = p
 
-module _ (sheet : Bytes) {a b : List ℕ} (d i : ℕ) (o : Option ℕ) (m : Mem) (room : Roomy a b) (k8 : cell a b i 0 ≡ 8) (li : i < 2048) (st : Stands o m) where
+module _ (sheet : Bytes) {a b : List ℕ} (d i : ℕ) (o : Option ℕ) (m : Mem) (room : Roomy a b) (k8 : cell a b i kindAt ≡ writeKind) (li : i < maxRecords) (st : Stands o m) where
   write-run : (t : Tree clause) → Held sheet a b t d i → (W : Written) (s : State) → Rep sheet a b W s m → Leaves sheet a b W (λ s. lowerClause t o s) o (suc i) (suc (i + 1)) s m m
-  write-run t hd W s r = let e = a-write sheet d i room t hd k8 .1 o s in record { to = rw e (to-wider sub-both (to-refl r)); left = ap (λ (x : Option ℕ × State). x .0) e }
+  write-run t hd W s r = let e = a-write sheet d i room t hd k8 .lower o s in record { to = rw e (to-wider sub-both (to-refl r)); left = ap (λ (x : Option ℕ × State). x .0) e }
 
   pub write-law : LowersClause sheet a b d i (i + 1) o o m m
   write-law = record {
     moved = record { up = omega arith; here = omega arith; few = omega arith; low = omega arith; met = omega arith; in-ops = refl; in-rest = refl; index = λ x. x };
     stands = st;
-    next = λ t hd. (let z = a-write sheet d i room t hd k8 .0 in omega arith);
+    next = λ t hd. (let z = a-write sheet d i room t hd k8 .sized in omega arith);
     run = λ t hd W s r bl. write-run t hd W s r;
   }

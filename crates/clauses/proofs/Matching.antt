@@ -1,6 +1,7 @@
--- A `match`: the last part's root, or an optional join of the operator before with a copy of it. Assumes nothing.
+-- A `match`: the root of its parts, and how it goes with the operator before it. Assumes nothing.
 use mathlib.Core.Path.{_≡_, refl, sym, ap, _∙_}
 use Prim.Native.Nat.{ℕ, suc, _+_, _-_, _≤_, _<_}
+use native.Mathlib.Nat.{le-refl}
 use native.Mathlib.Omega.{arith}
 use mathlib.Core.Bool.{Bool, true, false}
 use mathlib.Core.List.{List, _∷_}
@@ -11,110 +12,146 @@ use lib.ListN.{length}
 use Rattle.model.specs.Text.{Bytes}
 use Rattle.model.specs.Kind.{ReadOp, clause, patternPart}
 use Rattle.model.specs.Tree.{Tree}
-use Rattle.model.specs.Lower.{Recs, _>>=_, ret, push, op, copy, at, optionalJoin, lowerClause}
-use Rattle.words.specs.Words.{Roomy, cell}
+use Rattle.model.specs.Lower.{Recs, Lowering, _>>=_, ret, push, op, copy, optionalJoin, lowerClause}
+use Rattle.model.specs.Lower
+use Rattle.words.specs.Words.{cell, maxRecords}
+use Rattle.words.specs.Places.{matchKind, matchOptionalAt, matchPartsAt}
 use Rattle.words.specs.Held.{Held, size}
+use Rattle.words.specs.Fits.{tree-fits}
 use Rattle.context.specs.Tables.{Pushed}
-use Rattle.context.specs.declared.op.Op.{Op}
+use Rattle.context.specs.Ops.{beforeOf, optionalJoinOp}
+use Rattle.context.specs.declared.At.{At}
+use Rattle.context.specs.declared.Before.{Before}
+use Rattle.context.specs.declared.Before.the-variants as before
 use Rattle.context.specs.declared.LowerCtx.{LowerCtx}
 use Rattle.lower.specs.Shows.{shows-optional}
 use Rattle.lower.specs.Rep.{State, Mem, mem, Written, Sub, Rep, To, Rooted}
-use Rattle.lower.specs.Pieces.{SomeTree}
 use Rattle.lower.specs.Patterns.{partsL, SomeTrees, LowersParts}
-use Rattle.lower.specs.Chains.{givenIf}
+use Rattle.lower.specs.Chains.{Sourced, OrSource}
 use Rattle.lower.specs.Clauses.{BothBlank, bothPasses, Leaves, LowersClause}
-use Rattle.lower.specs.State.{blank-within, to-then, to-wider, push-to}
-use Rattle.lower.specs.Fits.{tree-fits, tree-low}
-use Rattle.clauses.proofs.Moves.{twice-once, sub-first, some-given, none-given}
+use Rattle.lower.specs.State.{blank-within, to-refl, to-then, to-wider, push-to}
+use Rattle.projections.specs.Asked.{ClauseAsked}
+use Rattle.projections.specs.Passes.{sub-first}
 use Rattle.clauses.proofs.Opened.{a-match}
 
 -- the definition ends on operator k in state s′
-pub leaves : {sheet : Bytes} {a b : List ℕ} {W W′ : Written} {lo hi : ℕ} {m m′ : Mem} (t : Tree clause) (before : Option ℕ) (k : ℕ) (s s′ : State) → lowerClause t before s ≡ (some k, s′) → To sheet a b W W′ s s′ m m′ → Sub W′ (bothPasses lo hi W) → Leaves sheet a b W (λ s. lowerClause t before s) (some k) lo hi s m m′
-leaves t before k s s′ e p u = record { to = rw e (to-wider u p); left = ap (λ (x : Option ℕ × State). x .0) e }
+pub leaves : {sheet : Bytes} {a b : List ℕ} {W W′ : Written} {lo hi : ℕ} {m m′ : Mem} (t : Tree clause) (current : Option ℕ) (k : ℕ) (s s′ : State) → lowerClause t current s ≡ (some k, s′) → To sheet a b W W′ s s′ m m′ → Sub W′ (bothPasses lo hi W) → Leaves sheet a b W (λ s. lowerClause t current s) (some k) lo hi s m m′
+leaves t current k s s′ e p u = record { to = rw e (to-wider u p); left = ap (λ (x : Option ℕ × State). x .0) e }
 
-pub some-parts : {a b : List ℕ} {n d i : ℕ} → Roomy a b → cell a b i 0 ≡ 2 → n ≡ cell a b i 4 → SomeTree a b clause d i → SomeTrees a b patternPart n (d - 1) (i + 1)
-some-parts room k2 en x = let v = a-match room (x .tree) (x .held) k2 in rw (en ∙ sym (v .many)) (record { sheet = x .sheet; trees = v .parts; held = v .held })
+-- the record behind a clause, by another name
+pub ends-at : {sheet : Bytes} {a b : List ℕ} {d i e e′ : ℕ} {o o′ : Option ℕ} {m m′ : Mem} → e′ ≡ e → LowersClause sheet a b d i e o o′ m m′ → LowersClause sheet a b d i e′ o o′ m m′
+ends-at q p = rw q p
 
--- no join
+-- ── with the operator before ──
+
+-- how a match of which the parts have their root goes with the operator before it
+abbrev pub joinL : (optional : ℕ) → Before → (root : ℕ) → Lowering ℕ
+joinL optional current root = λ s. optionalJoin (eqb optional 1) (beforeOf current) root s
+
 join-none : (t : Bool) (k : ℕ) (s : State) → optionalJoin t none k s ≡ (k, s)
 unfolding optionalJoin ret
 join-none true k s = refl
 join-none false k s = refl
 
-plain-join : (q h l k : ℕ) (s : State) → (q ≡ 0) ⊎ (h ≡ 0) → optionalJoin (eqb q 1) (givenIf h l) k s ≡ (k, s)
-unfolding optionalJoin ret
-plain-join q h l k s (inl e) = rw e
-plain-join q h l k s (inr e) = rw (none-given h l e) (join-none (eqb q 1) k s)
+-- no join
+plain-join : (q k : ℕ) (o : Before) (s : State) → (q ≡ 0) ⊎ (o ≡ before.Nothing) → optionalJoin (eqb q 1) (beforeOf o) k s ≡ (k, s)
+unfolding optionalJoin ret beforeOf
+plain-join q k o s (inl e) = rw e
+plain-join q k o s (inr e) = rw e (join-none (eqb q 1) k s)
 
-joined : (q h l k : ℕ) (s : State) → q ≡ 1 → ((h ≡ 0) → ⊥) → optionalJoin (eqb q 1) (givenIf h l) k s ≡ (length (s .ops), push (op ReadOp.OptionalJoin (l, tt) ∷ at (s .ops) k) s .1)
-unfolding optionalJoin _>>=_ copy push
-joined q h l k s e n = rw (e, some-given h l n)
+pub plain-law : {k : ℕ} {o : Before} {m : Mem} (q : ℕ) → (q ≡ 0) ⊎ (o ≡ before.Nothing) → k < m .ctx .ops → OrSource (joinL q o k) k m m
+plain-law {k} {o} {m} q nj l = record {
+  grow = le-refl _;
+  few = omega arith;
+  next = refl;
+  mapped = refl;
+  rest = refl;
+  in-ops = refl;
+  low = l;
+  run = λ sheet a b W s r. record { to = rw (plain-join q k o s nj) (to-refl r); root = rw (plain-join q k o s nj) };
+}
 
-abbrev pub joinOp : (i input copied : ℕ) → Op
-joinOp i input copied = record { kind = 6; idx = i; input = input; x = copied; y = 0; left = 0; base = 0 }
+-- a join
+joined : (q k l : ℕ) (o : Before) (s : State) → q ≡ 1 → o ≡ before.Op l → optionalJoin (eqb q 1) (beforeOf o) k s ≡ (length (s .ops), push (op ReadOp.OptionalJoin (l, tt) ∷ Lower.at (s .ops) k) s .1)
+unfolding optionalJoin _>>=_ copy push beforeOf
+joined q k l o s e n = rw (e, n)
 
-module _ {a b : List ℕ} {n k e : ℕ} {m m₁ : Mem} (d i has last : ℕ) (room : Roomy a b) (k2 : cell a b i 0 ≡ 2) (en : n ≡ cell a b i 4) (p : LowersParts a b n (d - 1) 0 i e k m m₁) where
-  match-next : (sheet : Bytes) (t : Tree clause) → Held sheet a b t d i → e ≡ i + size t
-  match-next sheet t hd =
-      let v = a-match room t hd k2 in
-      let p′ : LowersParts a b (v .n) (d - 1) 0 i e k m m₁ = rw (en ∙ sym (v .many)) at p in
-      let x = p′ .next sheet (v .parts) (v .held) in
-      let y = v .sized in
-      omega arith
+module _ {q k l i : ℕ} {o : Before} {c c′ : LowerCtx} {os os′ : List ℕ} (rest : List ℕ) (q1 : q ≤ 1) (qn : (q ≡ 0) → ⊥) (is : o ≡ before.Op l) (li : i < maxRecords) (lk : k < c .ops) (pj : Pushed c c′ os os′ (optionalJoinOp i l k)) (lo : length os′ ≡ length os) where
+  joined-run : (sheet : Bytes) (a b : List ℕ) (W : Written) (s : State) → Rep sheet a b W s (mem c os rest) → Sourced sheet a b (joinL q o k) (c .ops) W s (mem c os rest) (mem c′ os′ rest)
+  joined-run sheet a b W s r =
+      let D = joined q k l o s (omega arith) is in
+      let recs : Recs = op ReadOp.OptionalJoin (l, tt) ∷ Lower.at (s .ops) k in
+      let z = push-to (mem c os rest) c′ os′ (optionalJoinOp i l k) recs r pj
+      (λ N A f. record {
+        bounded = record { shallow = omega arith; near = omega arith; low = li; far = λ e. absurd (omega arith); flagged = λ e. absurd (omega arith) };
+        shows = shows-optional refl lk (ap (λ (g : Recs). op ReadOp.OptionalJoin (l, tt) ∷ g) (sym (f .ops k lk)));
+      }) in
+      record { to = rw D z; root = rw D (r .count) }
 
-  -- its parts
-  parts-run : (sheet : Bytes) (t : Tree clause) (hd : Held sheet a b t d i) (W : Written) (s : State) → Rep sheet a b W s m → BothBlank W (suc i) (suc e) → Rooted sheet a b W (partsL (a-match room t hd k2 .parts)) k 0 (suc (i + 1)) (suc e) s m m₁
-  parts-run sheet t hd W s r bl =
-      let v = a-match room t hd k2 in
-      let p′ : LowersParts a b (v .n) (d - 1) 0 i e k m m₁ = rw (en ∙ sym (v .many)) at p in
-      p′ .run sheet (v .parts) (v .held) W s r (blank-within (omega arith) (omega arith) (bl .first))
+  pub joined-law : OrSource (joinL q o k) (c .ops) (mem c os rest) (mem c′ os′ rest)
+  joined-law = record { grow = omega (arith, pj .count); few = omega (arith, pj .count); next = pj .next; mapped = pj .mapped; rest = refl; in-ops = lo; low = omega (arith, pj .count); run = joined-run }
 
-  module _ (no : (cell a b i 2 ≡ 0) ⊎ (has ≡ 0)) where
-    plain-run : (sheet : Bytes) (t : Tree clause) → Held sheet a b t d i → (W : Written) (s : State) → Rep sheet a b W s m → BothBlank W (suc i) (suc e) → Leaves sheet a b W (λ s. lowerClause t (givenIf has last) s) (some k) (suc i) (suc e) s m m₁
-    plain-run sheet t hd W s r bl =
-        let v = a-match room t hd k2 in
+-- ── the clause ──
+
+module _ {a b : List ℕ} {at : At} {current : Before} {m : Mem} (g : ClauseAsked matchKind a b at current m) where
+  pub some-parts : {n : ℕ} → n ≡ cell a b (at .i) matchPartsAt → SomeTrees a b patternPart n (at .left - 1) (at .i + 1)
+  some-parts en = let v = a-match (g .room) (g .tree .tree) (g .tree .held) (g .kind) in rw (en ∙ sym (v .many)) (record { sheet = g .tree .sheet; trees = v .parts; held = v .held })
+
+  -- whether it is optional is a flag
+  pub optional-flag : {q : ℕ} → q ≡ cell a b (at .i) matchOptionalAt → q ≤ 1
+  optional-flag eq = rw eq (a-match (g .room) (g .tree .tree) (g .tree .held) (g .kind) .low)
+
+  module _ {n q k k′ e : ℕ} {m₁ m₂ : Mem}
+      (en : n ≡ cell a b (at .i) matchPartsAt) (eq : q ≡ cell a b (at .i) matchOptionalAt)
+      (p : LowersParts a b n (at .left - 1) 0 (at .i) e k m m₁) (j : OrSource (joinL q current k) k′ m₁ m₂) where
+    match-next : (sheet : Bytes) (t : Tree clause) → Held sheet a b t (at .left) (at .i) → e ≡ at .i + size t
+    match-next sheet t hd =
+        let v = a-match (g .room) t hd (g .kind) in
+        let p′ : LowersParts a b (v .n) (at .left - 1) 0 (at .i) e k m m₁ = rw (en ∙ sym (v .many)) at p in
+        let x = p′ .next sheet (v .parts) (v .held) in
+        let y = v .sized in
+        omega arith
+
+    -- its parts
+    parts-run : (sheet : Bytes) (t : Tree clause) (hd : Held sheet a b t (at .left) (at .i)) (W : Written) (s : State) → Rep sheet a b W s m → BothBlank W (suc (at .i)) (suc e) → Rooted sheet a b W (partsL (a-match (g .room) t hd (g .kind) .parts)) k 0 (suc (at .i + 1)) (suc e) s m m₁
+    parts-run sheet t hd W s r bl =
+        let v = a-match (g .room) t hd (g .kind) in
+        let p′ : LowersParts a b (v .n) (at .left - 1) 0 (at .i) e k m m₁ = rw (en ∙ sym (v .many)) at p in
+        p′ .run sheet (v .parts) (v .held) W s r (blank-within (omega arith) (omega arith) (bl .first))
+
+    match-run : (sheet : Bytes) (t : Tree clause) → Held sheet a b t (at .left) (at .i) → (W : Written) (s : State) → Rep sheet a b W s m → BothBlank W (suc (at .i)) (suc e) → Leaves sheet a b W (λ s. lowerClause t (beforeOf current) s) (some k′) (suc (at .i)) (suc e) s m m₂
+    match-run sheet t hd W s r bl =
+        let v = a-match (g .room) t hd (g .kind) in
         let x = parts-run sheet t hd W s r bl in
         let s₁ : State = partsL (v .parts) s .1 in
-        let D = v .lower (givenIf has last) s ∙ ap (λ (z : ℕ × State). (some (z .0), z .1)) (plain-join (cell a b i 2) has last (partsL (v .parts) s .0) s₁ no) ∙ ap (λ (z : ℕ). (some z, s₁)) (sym (x .root)) in
-        leaves t (givenIf has last) k s s₁ D (x .to) (sub-first (omega arith) (omega arith))
-
-    pub plain-law : (sheet : Bytes) → LowersClause sheet a b d i e (givenIf has last) (some k) m m₁
-    plain-law sheet = record { moved = twice-once (p .moved); stands = p .low; next = match-next sheet; run = plain-run sheet }
-
-  module _ {c : LowerCtx} {os : List ℕ} (q2 : (cell a b i 2 ≡ 0) → ⊥) (hn : (has ≡ 0) → ⊥) (x : SomeTree a b clause d i) (pj : Pushed (m₁ .ctx) c (m₁ .ops) os (joinOp i last k)) (lo : length os ≡ length (m₁ .ops)) where
-    joined-run : (sheet : Bytes) (t : Tree clause) → Held sheet a b t d i → (W : Written) (s : State) → Rep sheet a b W s m → BothBlank W (suc i) (suc e) → Leaves sheet a b W (λ s. lowerClause t (givenIf has last) s) (some (m₁ .ctx .ops)) (suc i) (suc e) s m (mem c os (m₁ .rest))
-    joined-run sheet t hd W s r bl =
-        let v = a-match room t hd k2 in
-        let y = parts-run sheet t hd W s r bl in
-        let s₁ : State = partsL (v .parts) s .1 in
-        let l = v .low in
-        let q1 : cell a b i 2 ≡ 1 = flag-up (cell a b i 2) l q2 in
-        let recs : Recs = op ReadOp.OptionalJoin (last, tt) ∷ at (s₁ .ops) k in
+        let y = j .run sheet a b _ s₁ (x .to .rep) in
         let D =
-        v .lower (givenIf has last) s
-        ∙ ap (λ (z : ℕ). (some (optionalJoin (eqb (cell a b i 2) 1) (givenIf has last) z s₁ .0), optionalJoin (eqb (cell a b i 2) 1) (givenIf has last) z s₁ .1)) (sym (y .root))
-        ∙ ap (λ (z : ℕ × State). (some (z .0), z .1)) (joined (cell a b i 2) has last k s₁ q1 hn)
-        ∙ ap (λ (z : ℕ). (some z, push recs s₁ .1)) (sym (y .to .rep .count))
+        v .lower (beforeOf current) s
+        ∙ ap (λ (z : ℕ). (some (joinL (cell a b (at .i) matchOptionalAt) current z s₁ .0), joinL (cell a b (at .i) matchOptionalAt) current z s₁ .1)) (sym (x .root))
+        ∙ ap (λ (z : ℕ). (some (joinL z current k s₁ .0), joinL z current k s₁ .1)) (sym eq)
+        ∙ ap (λ (z : ℕ). (some z, joinL q current k s₁ .1)) (sym (y .root))
         in
-        let z = push-to m₁ c os (joinOp i last k) recs (y .to .rep) pj
-        (λ N A f. record {
-          sane = record { shallow = omega arith; near = omega arith; low = tree-low sheet a b t d i hd; far = λ e. absurd (omega arith); flagged = λ e. absurd (omega arith) };
-          shows = shows-optional refl (y .low) (ap (λ (g : Recs). op ReadOp.OptionalJoin (last, tt) ∷ g) (sym (f .ops k (y .low))));
-        }) in
-        leaves t (givenIf has last) (m₁ .ctx .ops) s (push recs s₁ .1) D (to-then (y .to) z) (sub-first (omega arith) (omega arith))
-      where
-        flag-up : (z : ℕ) → z ≤ 1 → ((z ≡ 0) → ⊥) → z ≡ 1
-        flag-up z l n = omega arith
+        leaves t (beforeOf current) k′ s (joinL q current k s₁ .1) D (to-then (x .to) (y .to)) (sub-first (omega arith) (omega arith))
 
-    pub joined-law : (sheet : Bytes) → LowersClause sheet a b d i e (givenIf has last) (some (m₁ .ctx .ops)) m (mem c os (m₁ .rest))
-    joined-law sheet =
+    pub match-law : (sheet : Bytes) → LowersClause sheet a b (at .left) (at .i) e (beforeOf current) (some k′) m m₂
+    match-law sheet =
         let v = p .moved in
-        let y = match-next (x .sheet) (x .tree) (x .held) in
-        let f = tree-fits (x .sheet) a b (x .tree) d i (x .held) .0 in
-        let u : i < e = omega arith in
+        let some = g .tree in
+        let y = match-next (some .sheet) (some .tree) (some .held) in
+        let f = tree-fits (some .sheet) a b (some .tree) (at .left) (at .i) (some .held) .0 in
+        let u : at .i < e = omega arith in
         record {
-          moved = record { up = v .up; here = v .here; few = omega (arith, v .few, pj .count, u); low = omega (arith, v .low, pj .next, u); met = omega (arith, v .met, pj .mapped, u); in-ops = lo ∙ v .in-ops; in-rest = v .in-rest; index = λ z. rw (pj .mapped) (v .index z) };
-          stands = omega (arith, pj .count);
+          moved = record {
+            up = v .up;
+            here = v .here;
+            few = omega (arith, v .few, j .few, u);
+            low = omega (arith, v .low, j .next, u);
+            met = omega (arith, v .met, j .mapped, u);
+            in-ops = j .in-ops ∙ v .in-ops;
+            in-rest = ap length (j .rest) ∙ v .in-rest;
+            index = λ z. rw (j .mapped, j .rest) (v .index z);
+          };
+          stands = j .low;
           next = match-next sheet;
-          run = joined-run sheet;
+          run = match-run sheet;
         }

@@ -10,13 +10,16 @@ use Rattle.model.specs.Kind.{Sort, clause, unionArm}
 use Rattle.model.specs.Tree.{Tree, Trees, node, []ᵗ, _∷ᵗ_, end, _▸_}
 use Rattle.model.specs.Lower.{_>>=_, ret, lowerClause, lowerClauses, lowerArms}
 use Rattle.words.specs.Held.{Held, HeldOf, HeldSome, HeldMany, size, sizeOf}
+use Rattle.words.specs.Words.{maxRecords}
 use Rattle.lower.specs.Rep.{State, Mem, Written, Rep}
-use Rattle.lower.specs.Chains.{givenIf}
+use Rattle.context.specs.Ops.{beforeOf}
+use Rattle.context.specs.declared.Before.the-variants as before
 use Rattle.lower.specs.Clauses.{Ready, BothBlank, bothPasses, Stands, Leaves, LowersClause}
 use Rattle.lower.specs.State.{to-refl, to-then, to-wider}
 use Rattle.clauses.specs.Turns.{Turn, inTurn, LowersTurn, LowersTurns}
 use Rattle.clauses.specs.Steps.{clauseTurn, armTurn, lowerArm}
-use Rattle.clauses.proofs.Moves.{ready-after, twice-refl, twice-then, sub-both, sub-turns, both-within, both-behind}
+use Rattle.projections.specs.Room.{ready-after, twice-refl, twice-then}
+use Rattle.projections.specs.Passes.{sub-both, sub-turns, both-within, both-behind}
 
 -- ── the definition's clauses and arms, in turn ──
 
@@ -48,7 +51,7 @@ module _ (S : Sort) (turn : Turn S) (sheet : Bytes) (a b : List ℕ) (d : ℕ) w
   unfolding inTurn
   nil-run i o m []ᵗ W s r = record { to = to-wider sub-both (to-refl r); left = refl }
 
-  pub nil-law : (i : ℕ) (o : Option ℕ) (m : Mem) → i ≤ 2048 → Stands o m → LowersTurns S turn sheet a b 0 d i i o o m m
+  pub nil-law : (i : ℕ) (o : Option ℕ) (m : Mem) → i ≤ maxRecords → Stands o m → LowersTurns S turn sheet a b 0 d i i o o m m
   nil-law i o m h st = record { moved = twice-refl h; stands = st; next = λ ts hd. nil-next i ts; run = λ ts hd W s r bl. nil-run i o m ts W s r }
 
   module _ {n i j e : ℕ} {o o₁ o₂ : Option ℕ} {m m₁ m₂ : Mem} (p : LowersTurn S turn sheet a b d i j o o₁ m m₁) (q : LowersTurns S turn sheet a b n d j e o₁ o₂ m₁ m₂) where
@@ -107,8 +110,8 @@ module _ {S : Sort} {turn : Turn S} {sheet : Bytes} {a b : List ℕ} {d : ℕ} {
   done {k} {i} {o} {m} h p = p .rest i o m (rw h (nil-law S turn sheet a b d i o m (p .ready .here) (p .stands)))
 
 -- before the first round, from nothing
-pub from-nothing : {S : Sort} {turn : Turn S} {sheet : Bytes} {a b : List ℕ} {d n i : ℕ} {m : Mem} → HeldMany sheet a b S n d i → Ready i m → Left S turn sheet a b d (λ e o m′. LowersTurns S turn sheet a b n d i e none o m m′) n i (givenIf 0 0) m
-unfolding givenIf
+pub from-nothing : {S : Sort} {turn : Turn S} {sheet : Bytes} {a b : List ℕ} {d n i : ℕ} {m : Mem} → HeldMany sheet a b S n d i → Ready i m → Left S turn sheet a b d (λ e o m′. LowersTurns S turn sheet a b n d i e none o m m′) n i (beforeOf before.Nothing) m
+unfolding beforeOf
 from-nothing x g = record { some = x; ready = g; stands = tt; rest = λ e o m′ q. q }
 
 -- behind an operator

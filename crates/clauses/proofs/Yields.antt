@@ -12,10 +12,12 @@ use Rattle.model.specs.Kind.{yieldItem}
 use Rattle.model.specs.Record.{rec, forms}
 use Rattle.model.specs.Tree.{Trees, node, []ᵗ, _∷ᵗ_, end}
 use Rattle.model.specs.Lower.{Recs, _>>=_, ret, mapVar, lowerYields}
-use Rattle.words.specs.Words.{Roomy, cell, fieldsOf, fieldOf}
+use Rattle.model.specs.Call.{workWords}
+use Rattle.words.specs.Words.{Roomy, cell, fieldsOf, fieldOf, maxRecords}
 use Rattle.words.specs.Held.{Held, HeldOf, size, sizeOf}
 use Rattle.words.specs.Cells.{shown}
-use Rattle.context.specs.Tables.{Numbers, Indexed}
+use Rattle.words.specs.Places.{yieldVarAt}
+use Rattle.context.specs.Tables.{Numbers, Indexed, varsAt, maxVars}
 use Rattle.context.specs.declared.LowerCtx.{LowerCtx}
 use Rattle.context.specs.declared.Numbered.{Numbered}
 use Rattle.lower.specs.Render.{render, recsOver}
@@ -33,19 +35,19 @@ nil-run : {sheet : Bytes} {a b : List ℕ} (i : ℕ) (m : Mem) (ts : Trees yield
 unfolding lowerYields render ret
 nil-run i m []ᵗ W s r = record { to = to-wider (sub-more (0 + suc i, 0 + suc i) W) (to-refl r); shown = λ N A f. refl; below = λ N A f. tt }
 
-pub nil-law : (a b : List ℕ) (i : ℕ) (m : Mem) → i ≤ 2048 → LowersYields a b 0 i i m m
+pub nil-law : (a b : List ℕ) (i : ℕ) (m : Mem) → i ≤ maxRecords → LowersYields a b 0 i i m m
 nil-law a b i m h = record { moved = moved-refl h; same = refl; next = omega arith; run = λ sheet d ts hd W s r bl. nil-run i m ts W s r }
 
 yield-is : (column : Bytes) (x y : ℕ) (rs ss : Recs) → x ≡ y → rs ≡ ss → _≡_ {A = Recs} (rec yieldItem tt (column, (x, tt)) ∷ rs) (rec yieldItem tt (column, (y, tt)) ∷ ss)
 yield-is column x y rs ss e e′ = rw (e, e′)
 
 -- one more, whose number is noted
-module _ {a b : List ℕ} {n i e : ℕ} {m m₂ : Mem} {rest₁ : List ℕ} {r₁ : Numbered} (room : Roomy a b) (nm : Numbers (mapVar (cell a b i 4)) (i + 1) (m .ctx) (m .rest) rest₁ r₁) (lr : length rest₁ ≡ length (m .rest)) (q : LowersYields a b n (i + 1) e (mem (r₁ .ctx) (m .ops) rest₁) m₂) where
+module _ {a b : List ℕ} {n i e : ℕ} {m m₂ : Mem} {rest₁ : List ℕ} {r₁ : Numbered} (room : Roomy a b) (nm : Numbers (mapVar (cell a b i yieldVarAt)) (i + 1) (m .ctx) (m .rest) rest₁ r₁) (lr : length rest₁ ≡ length (m .rest)) (q : LowersYields a b n (i + 1) e (mem (r₁ .ctx) (m .ops) rest₁) m₂) where
   cons-run : (sheet : Bytes) (d : ℕ) (ts : Trees yieldItem (suc n)) → HeldOf sheet a b ts d i → (W : Written) (s : State) → Rep sheet a b W s m → Blank W (suc i) (suc e) → Ran sheet a b W (yieldsPiece ts) 0 (suc i) (suc e) s m m₂
   unfolding Held size lowerYields render recsOver _>>=_ ret fieldsOf fieldOf
   cons-run sheet d (node yieldItem line k (column, (id, u)) end ∷ᵗ ts) hd W s r bl =
       let up = q .moved .up in
-      let ei : id ≡ cell a b i 4 = ap (λ (x : Fields (forms yieldItem tt)). x .1 .0) (shown room (hd .0 .1) .fields) in
+      let ei : id ≡ cell a b i yieldVarAt = ap (λ (x : Fields (forms yieldItem tt)). x .1 .0) (shown room (hd .0 .1) .fields) in
       let el : line ≡ suc i = hd .0 .0 in
       let ep : i + 1 ≡ suc i = omega arith in
       let es : i + suc 0 ≡ i + 1 = omega arith in
@@ -62,7 +64,7 @@ module _ {a b : List ℕ} {n i e : ℕ} {m m₂ : Mem} {rest₁ : List ℕ} {r�
         below = λ N A f. tt;
       }
 
-  pub cons-law : i < 2048 → LowersYields a b (suc n) i e m m₂
+  pub cons-law : i < maxRecords → LowersYields a b (suc n) i e m m₂
   cons-law l =
       let v = q .moved in
       let x = nm .issued in
@@ -73,16 +75,20 @@ module _ {a b : List ℕ} {n i e : ℕ} {m m₂ : Mem} {rest₁ : List ℕ} {r�
         run = cons-run;
       }
 
+-- the number of a variable whose name is known by another name
+pub numbered : {id id′ place : ℕ} {c : LowerCtx} {r r′ : List ℕ} {n : Numbered} → id ≡ id′ → Numbers (mapVar id) place c r r′ n → Numbers (mapVar id′) place c r r′ n
+numbered e x = rw e at x
+
 -- ── the loop ──
 
 -- k are left from record i on, and once they are numbered from here, all is done
 pub record Left (a b : List ℕ) (Done : ℕ → LowerCtx → List ℕ → Type 0) (k i : ℕ) (c : LowerCtx) (rs : List ℕ) : Type 0 where
   pub some : SomeYields a b k i
-  pub fits : i + k ≤ 2048
-  pub met : c .mapped + k ≤ 4352
-  pub low : c .next + k ≤ 5000
-  pub in-rest : 16384 ≤ length rs
-  pub index : Indexed (c .mapped) (drop 4608 rs)
+  pub fits : i + k ≤ maxRecords
+  pub met : c .mapped + k ≤ maxVars
+  pub low : c .next + k ≤ maxVars
+  pub in-rest : workWords ≤ length rs
+  pub index : Indexed (c .mapped) (drop varsAt rs)
   pub rest : (e : ℕ) (c′ : LowerCtx) (rest′ : List ℕ) → ((os : List ℕ) → LowersYields a b k i e (mem c os rs) (mem c′ os rest′)) → Done e c′ rest′
 
 behind : {a b : List ℕ} (i : ℕ) (sheet : Bytes) (d : ℕ) {k : ℕ} (ts : Trees yieldItem (suc k)) → HeldOf sheet a b ts d i → SomeYields a b k (i + 1)
@@ -93,7 +99,7 @@ module _ {a b : List ℕ} {Done : ℕ → LowerCtx → List ℕ → Type 0} wher
   less : {k i : ℕ} {c : LowerCtx} {rest : List ℕ} → Left a b Done k i c rest → Left a b Done (suc k - 1) i c rest
   less {k} p = let e : suc k - 1 ≡ k = omega arith in rw e p
 
-  pub again : {k i : ℕ} {c : LowerCtx} {rest rest₁ : List ℕ} {r : Numbered} → Roomy a b → ((k ≡ 0) → ⊥) → Left a b Done k i c rest → Numbers (mapVar (cell a b i 4)) (i + 1) c rest rest₁ r → length rest₁ ≡ length rest → Left a b Done (k - 1) (i + 1) (r .ctx) rest₁
+  pub again : {k i : ℕ} {c : LowerCtx} {rest rest₁ : List ℕ} {r : Numbered} → Roomy a b → ((k ≡ 0) → ⊥) → Left a b Done k i c rest → Numbers (mapVar (cell a b i yieldVarAt)) (i + 1) c rest rest₁ r → length rest₁ ≡ length rest → Left a b Done (k - 1) (i + 1) (r .ctx) rest₁
   again {k = zero} room h p nm lr = absurd (h refl)
   again {k = suc k} {i} room h p nm lr =
       let f = p .fits in

@@ -1,41 +1,61 @@
--- What the functions that lower one clause ask, and what the operator before leaves, by name. Assumes nothing: these are definitions.
+-- What the functions that lower clauses, arms and statements ask, and what the operator before leaves, by name. Assumes nothing: these are definitions.
 use mathlib.Core.Path.{_≡_}
 use Prim.Native.Nat.{ℕ, _+_, _≤_, _<_}
 use mathlib.Core.List.{List}
+use lib.ListN.{length, drop}
+use Rattle.model.specs.Call.{workWords, maxDepth}
 use Rattle.model.specs.Text.{Bytes}
-use Rattle.model.specs.Kind.{clause}
+use Rattle.model.specs.Kind.{Sort, clause}
 use Rattle.model.specs.Lower.{orSourceAll}
-use Rattle.words.specs.Words.{Roomy, cell}
-use Rattle.words.specs.Held.{HeldSome}
+use Rattle.words.specs.Words.{Roomy, cell, maxRecords}
+use Rattle.words.specs.Places.{writeKind, kindAt}
+use Rattle.words.specs.Held.{HeldSome, HeldMany}
+use Rattle.context.specs.Tables.{varsAt, maxVars, Indexed}
+use Rattle.context.specs.Ops.{beforeOf, Under}
+use Rattle.context.specs.declared.At.{At}
+use Rattle.context.specs.declared.Before.{Before}
 use Rattle.context.specs.declared.LowerCtx.{LowerCtx}
 use Rattle.lower.specs.Rep.{Mem, mem}
-use Rattle.lower.specs.Pieces.{SomeTree}
-use Rattle.lower.specs.Chains.{givenIf}
 use Rattle.lower.specs.Clauses.{Ready}
-use Rattle.clauses.specs.Steps.{Input}
+use Rattle.clauses.specs.Steps.{Input, SomeYields}
 
--- the clause at record i, of kind k and at most d deep, behind the operator `last` if `has` is not 0
-pub record ClauseAsked (k : ℕ) (a b : List ℕ) (d i has last : ℕ) (m : Mem) : Type 0 where
+-- the clause at a place, which reads, of any kind
+pub record ReadingAsked (sheet : Bytes) (a b : List ℕ) (at : At) (current : Before) (m : Mem) : Type 0 where
   pub room : Roomy a b
-  pub tree : SomeTree a b clause d i
-  pub kind : cell a b i 0 ≡ k
-  pub ready : Ready i m
-  pub shallow : d ≤ 64
-  pub input : last ≤ m .ctx .ops
-  pub stands : ((has ≡ 0) → ⊥) → last < m .ctx .ops
+  pub held : HeldSome sheet a b clause (at .left) (at .i)
+  pub reads : (cell a b (at .i) kindAt ≡ writeKind) → ⊥
+  pub ready : Ready (at .i) m
+  pub shallow : at .left ≤ maxDepth
+  pub stands : Under current (m .ctx .ops)
 
--- the clause at record i, which reads, of any kind
-pub record ReadingAsked (sheet : Bytes) (a b : List ℕ) (d i has last : ℕ) (m : Mem) : Type 0 where
+-- the tree of a sort at record i, behind an operator or none
+pub record TurnAsked (s : Sort) (sheet : Bytes) (a b : List ℕ) (d i : ℕ) (current : Before) (m : Mem) : Type 0 where
   pub room : Roomy a b
-  pub held : HeldSome sheet a b clause d i
-  pub reads : (cell a b i 0 ≡ 8) → ⊥
+  pub held : HeldSome sheet a b s d i
   pub ready : Ready i m
-  pub shallow : d ≤ 64
-  pub input : last ≤ m .ctx .ops
-  pub stands : ((has ≡ 0) → ⊥) → last < m .ctx .ops
+  pub shallow : d ≤ maxDepth
+  pub stands : Under current (m .ctx .ops)
+
+-- so n trees from record i on
+pub record TurnsAsked (s : Sort) (sheet : Bytes) (a b : List ℕ) (n d i : ℕ) (current : Before) (m : Mem) : Type 0 where
+  pub room : Roomy a b
+  pub held : HeldMany sheet a b s n d i
+  pub ready : Ready i m
+  pub shallow : d ≤ maxDepth
+  pub stands : Under current (m .ctx .ops)
+
+-- n yields from record i on
+pub record YieldsAsked (a b : List ℕ) (n i : ℕ) (c : LowerCtx) (rest : List ℕ) : Type 0 where
+  pub room : Roomy a b
+  pub some : SomeYields a b n i
+  pub fits : i + n ≤ maxRecords
+  pub met : c .mapped + n ≤ maxVars
+  pub low : c .next + n ≤ maxVars
+  pub in-rest : workWords ≤ length rest
+  pub index : Indexed (c .mapped) (drop varsAt rest)
 
 -- the operator before, or a new source of everything, at op; the next record is as it was passed
-pub record InputLeft (has last next next′ op : ℕ) (c c′ : LowerCtx) (os os′ : List ℕ) : Type 0 where
+pub record InputLeft (current : Before) (next next′ op : ℕ) (c c′ : LowerCtx) (os os′ : List ℕ) : Type 0 where
   pub same : next′ ≡ next
-  pub near : op ≤ last + c′ .ops
-  pub input : (rest : List ℕ) → Input (orSourceAll (givenIf has last)) op (mem c os rest) (mem c′ os′ rest)
+  pub near : (n : ℕ) → Under current n → op < n + c′ .ops
+  pub input : (rest : List ℕ) → Input (orSourceAll (beforeOf current)) op (mem c os rest) (mem c′ os′ rest)

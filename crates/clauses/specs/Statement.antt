@@ -1,13 +1,37 @@
--- What the lowering of a whole statement promises. Assumes nothing: these are definitions.
-use Prim.Native.Nat.{ℕ, _≤_}
+-- What the lowering of a whole statement asks and promises, from any state on and from the empty one. Assumes nothing: these are definitions.
+use mathlib.Core.Path.{_≡_}
+use Prim.Native.Nat.{ℕ, suc, _*_, _≤_}
 use mathlib.Core.List.{List}
+use mathlib.Core.Option.{Option}
 use lib.ListN.{length}
+use Rattle.model.specs.Call.{workWords, maxDepth}
 use Rattle.model.specs.Text.{Bytes}
 use Rattle.model.specs.Kind.{statement}
 use Rattle.model.specs.Tree.{Tree}
-use Rattle.model.specs.Lower.{lowerStatement}
-use Rattle.words.specs.Held.{Held}
-use Rattle.lower.specs.Rep.{Mem, Written, Rep}
+use Rattle.model.specs.Lower.{lower, lowerStatement}
+use Rattle.words.specs.Words.{Roomy, maxRecords}
+use Rattle.words.specs.Held.{Held, HeldSome, size}
+use Rattle.context.specs.Tables.{maxVars}
+use Rattle.lower.specs.Rep.{State, Mem, Written, Rep}
+use Rattle.lower.specs.Clauses.{Ready, MovedTwice, BothBlank, Stands, Leaves}
+
+-- ── from any state on ──
+
+-- a statement is held, at most d deep, and there is room
+pub record StatementAsked (sheet : Bytes) (a b : List ℕ) (d : ℕ) (m : Mem) : Type 0 where
+  pub room : Roomy a b
+  pub held : HeldSome sheet a b statement d 0
+  pub ready : Ready 1 m
+  pub shallow : d ≤ maxDepth
+
+-- the statement that is held is lowered from whatever state the tables stand for, and leaves an operator or none
+pub record LowersFrom (sheet : Bytes) (a b : List ℕ) (d e : ℕ) (after : Option ℕ) (m m′ : Mem) : Type 0 where
+  pub moved : MovedTwice 1 e m m′
+  pub stands : Stands after m′
+  pub next : (t : Tree statement) → Held sheet a b t d 0 → e ≡ size t
+  pub run : (t : Tree statement) → Held sheet a b t d 0 → (W : Written) (s : State) → Rep sheet a b W s m → BothBlank W (suc 1) (suc e) → Leaves sheet a b W (λ s. lower t s) after (suc 1) (suc e) s m m′
+
+-- ── from the empty state ──
 
 -- the tables stand for what the definition makes of a tree
 pub record Represented (sheet : Bytes) (a b : List ℕ) (t : Tree statement) (m : Mem) : Type 0 where
@@ -16,8 +40,8 @@ pub record Represented (sheet : Bytes) (a b : List ℕ) (t : Tree statement) (m 
 
 -- the statement that is held is lowered, from nothing, and the counts stay within the tables' bounds
 pub record LowersStatement (sheet : Bytes) (a b : List ℕ) (m : Mem) : Type 0 where
-  pub met : m .ctx .mapped ≤ 4352
-  pub few : m .ctx .ops ≤ 8192
-  pub in-ops : 16384 ≤ length (m .ops)
-  pub in-rest : 16384 ≤ length (m .rest)
-  pub run : (t : Tree statement) → Held sheet a b t 64 0 → Represented sheet a b t m
+  pub met : m .ctx .mapped ≤ maxVars
+  pub few : m .ctx .ops ≤ 4 * maxRecords
+  pub in-ops : workWords ≤ length (m .ops)
+  pub in-rest : workWords ≤ length (m .rest)
+  pub run : (t : Tree statement) → Held sheet a b t maxDepth 0 → Represented sheet a b t m

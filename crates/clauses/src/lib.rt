@@ -1,29 +1,34 @@
 // The lowering of a whole statement: its clauses one after another, then its union arms, over the tables of crate context.
-ghost use mathlib.Core.Path.{_≡_};
-ghost use Prim.Native.Nat.{_≤_, _<_};
 ghost use mathlib.Core.Option.{none};
+ghost use Prim.Native.Nat.{_-_, _≤_};
 ghost use lib.ListN.{length};
+ghost use Rattle.model.specs.Call.{workWords, maxDepth};
 ghost use Rattle.model.specs.Kind.{statement, unionArm, clause};
 ghost use Rattle.words.specs.Words.{Roomy};
-ghost use Rattle.words.specs.Held.{HeldSome, HeldMany};
+ghost use Rattle.words.specs.Held.{HeldSome};
+ghost use Rattle.context.specs.Ops.{beforeOf};
 ghost use Rattle.lower.specs.Rep.{mem};
-ghost use Rattle.lower.specs.Chains.{givenIf};
-ghost use Rattle.lower.specs.Clauses.{Ready, LowersClause};
+ghost use Rattle.lower.specs.Clauses.{LowersClause};
+ghost use Rattle.clauses.specs.Asked.{TurnAsked, TurnsAsked};
 ghost use Rattle.clauses.specs.Steps.{LowersClauses, LowersArm, LowersArms};
-ghost use Rattle.clauses.specs.Statement.{LowersStatement};
+ghost use Rattle.clauses.specs.Statement.{StatementAsked, LowersFrom, LowersStatement};
+use context::At;
+use context::Before;
 use context::LowerCtx;
+use context::op;
+use words::field;
+use words::kind;
 
 pub mod reading;
 
-// The record behind what is lowered; whether it leaves an operator (has is 0 if not) and which; the state.
+// The record behind what is lowered, the operator that it leaves, if it leaves one, and the state.
 pub struct Current {
     pub next: usize,
-    pub has: u32,
-    pub last: usize,
+    pub op: Before,
     pub ctx: LowerCtx,
 }
 
-// The next clause, behind the operator that cur has, if it has one; a clause that writes leaves that one.
+// The next clause, behind the operator that cur has; a clause that writes leaves that one.
 fn lower_clause(
     sheet: &[u8],
     a: &[u32],
@@ -33,34 +38,31 @@ fn lower_clause(
     cur: Current,
     left: usize,
 ) -> Current
-    requires { ⌜ Roomy (now a) (now b) ⌝ }
-    requires { ⌜ HeldSome (now sheet) (now a) (now b) clause left (cur .next) ⌝ }
-    requires { ⌜ Ready (cur .next) (mem (cur .ctx) (now ops) (now rest)) × (left ≤ 64) ⌝ }
-    requires { ⌜ (cur .last ≤ cur .ctx .ops) × ((cur .has ≡ 0 → ⊥) → cur .last < cur .ctx .ops) ⌝ }
-    ensures { λ r. ⌜ (r .last ≤ r .ctx .ops) × LowersClause (now (sheet .entry)) (now (a .entry)) (now (b .entry)) left (cur .next) (r .next) (givenIf (cur .has) (cur .last)) (givenIf (r .has) (r .last)) (mem (cur .ctx) (now (ops .entry)) (now (rest .entry))) (mem (r .ctx) (now (ops .exit)) (now (rest .exit))) ⌝ }
+    requires { ⌜ TurnAsked clause (now sheet) (now a) (now b) left (cur .next) (cur .op) (mem (cur .ctx) (now ops) (now rest)) ⌝ }
+    ensures { λ r. ⌜ LowersClause (now (sheet .entry)) (now (a .entry)) (now (b .entry)) left (cur .next) (r .next) (beforeOf (cur .op)) (beforeOf (r .op)) (mem (cur .ctx) (now (ops .entry)) (now (rest .entry))) (mem (r .ctx) (now (ops .exit)) (now (rest .exit))) ⌝ }
 {
     let i = cur.next;
     let c = cur.ctx;
-    let kind = words::word(a, b, i, 0);
-    if kind == 8 {
+    let current = cur.op;
+    let kind = words::word(a, b, i, field::KIND);
+    if kind == kind::WRITE {
         return Current {
             next: i + 1,
-            has: cur.has,
-            last: cur.last,
+            op: current,
             ctx: c,
         };
     }
-    let r = reading::lower_reading_clause(sheet, a, b, ops, rest, c, cur.has, cur.last, i, left);
+    let at = At { base: 0, i, left };
+    let r = reading::lower_reading_clause(sheet, a, b, ops, rest, c, current, at);
     let d = r.ctx;
     Current {
         next: r.next,
-        has: 1,
-        last: r.op,
+        op: Before::Op(r.op),
         ctx: d,
     }
 }
 
-// The n clauses from record i on, from nothing.
+// The n clauses from a place on, from no operator.
 fn lower_clauses(
     sheet: &[u8],
     a: &[u32],
@@ -68,24 +70,20 @@ fn lower_clauses(
     ops: &mut [u32],
     rest: &mut [u32],
     ctx: LowerCtx,
-    i: usize,
+    at: At,
     n: usize,
-    left: usize,
 ) -> Current
-    requires { ⌜ Roomy (now a) (now b) ⌝ }
-    requires { ⌜ HeldMany (now sheet) (now a) (now b) clause n left i ⌝ }
-    requires { ⌜ Ready i (mem ctx (now ops) (now rest)) × (left ≤ 64) ⌝ }
-    ensures { λ r. ⌜ (r .last ≤ r .ctx .ops) × LowersClauses (now (sheet .entry)) (now (a .entry)) (now (b .entry)) n left i (r .next) none (givenIf (r .has) (r .last)) (mem ctx (now (ops .entry)) (now (rest .entry))) (mem (r .ctx) (now (ops .exit)) (now (rest .exit))) ⌝ }
+    requires { ⌜ TurnsAsked clause (now sheet) (now a) (now b) n (at .left) (at .i) Before.Nothing (mem ctx (now ops) (now rest)) ⌝ }
+    ensures { λ r. ⌜ LowersClauses (now (sheet .entry)) (now (a .entry)) (now (b .entry)) n (at .left) (at .i) (r .next) none (beforeOf (r .op)) (mem ctx (now (ops .entry)) (now (rest .entry))) (mem (r .ctx) (now (ops .exit)) (now (rest .exit))) ⌝ }
 {
     let mut cur = Current {
-        next: i,
-        has: 0,
-        last: 0,
+        next: at.i,
+        op: Before::Nothing,
         ctx,
     };
     let mut m = n;
     while m != 0 {
-        let s = lower_clause(sheet, a, b, ops, rest, cur, left);
+        let s = lower_clause(sheet, a, b, ops, rest, cur, at.left);
         cur = s;
         m -= 1;
     }
@@ -102,30 +100,33 @@ fn lower_arm(
     root: Current,
     left: usize,
 ) -> Current
-    requires { ⌜ Roomy (now a) (now b) ⌝ }
-    requires { ⌜ HeldSome (now sheet) (now a) (now b) unionArm left (root .next) ⌝ }
-    requires { ⌜ Ready (root .next) (mem (root .ctx) (now ops) (now rest)) × (left ≤ 64) ⌝ }
-    requires { ⌜ root .last ≤ root .ctx .ops ⌝ }
-    ensures { λ r. ⌜ (r .last ≤ r .ctx .ops) × LowersArm (now (sheet .entry)) (now (a .entry)) (now (b .entry)) left (root .next) (r .next) (givenIf (root .has) (root .last)) (givenIf (r .has) (r .last)) (mem (root .ctx) (now (ops .entry)) (now (rest .entry))) (mem (r .ctx) (now (ops .exit)) (now (rest .exit))) ⌝ }
+    requires { ⌜ TurnAsked unionArm (now sheet) (now a) (now b) left (root .next) (root .op) (mem (root .ctx) (now ops) (now rest)) ⌝ }
+    ensures { λ r. ⌜ LowersArm (now (sheet .entry)) (now (a .entry)) (now (b .entry)) left (root .next) (r .next) (beforeOf (root .op)) (beforeOf (r .op)) (mem (root .ctx) (now (ops .entry)) (now (rest .entry))) (mem (r .ctx) (now (ops .exit)) (now (rest .exit))) ⌝ }
 {
     let i = root.next;
-    let all = words::word(a, b, i, 2);
-    let n = lower::records::count(a, b, i, 4);
+    let all = words::word(a, b, i, field::ARM_ALL);
+    let n = words::records::count(a, b, i, field::ARM_CLAUSES);
     let c = root.ctx;
-    let below = lower_clauses(sheet, a, b, ops, rest, c, i + 1, n, left - 1);
+    let left_op = root.op;
+    let first = i + 1;
+    let less = left - 1;
+    let at = At {
+        base: 0,
+        i: first,
+        left: less,
+    };
+    let below = lower_clauses(sheet, a, b, ops, rest, c, at, n);
     let d = below.ctx;
-    let q = reading::input_or_source(ops, d, root.has, root.last, below.next);
+    let q = reading::input_or_source(ops, d, left_op, below.next);
     let e = q.ctx;
-    let r = reading::input_or_source(ops, e, below.has, below.last, below.next);
+    let right_op = below.op;
+    let r = reading::input_or_source(ops, e, right_op, below.next);
     let f = r.ctx;
     let k = f.ops;
-    let first = q.op as u32;
-    let second = r.op as u32;
-    let z = f.push(ops, 15, i as u32, first, second, all, 0, 0);
+    let z = f.push(ops, op::union(i, q.op, r.op, all));
     Current {
         next: below.next,
-        has: 1,
-        last: k,
+        op: Before::Op(k),
         ctx: z,
     }
 }
@@ -141,11 +142,8 @@ fn lower_arms(
     n: usize,
     left: usize,
 ) -> Current
-    requires { ⌜ Roomy (now a) (now b) ⌝ }
-    requires { ⌜ HeldMany (now sheet) (now a) (now b) unionArm n left (head .next) ⌝ }
-    requires { ⌜ Ready (head .next) (mem (head .ctx) (now ops) (now rest)) × (left ≤ 64) ⌝ }
-    requires { ⌜ (head .last ≤ head .ctx .ops) × ((head .has ≡ 0 → ⊥) → head .last < head .ctx .ops) ⌝ }
-    ensures { λ r. ⌜ LowersArms (now (sheet .entry)) (now (a .entry)) (now (b .entry)) n left (head .next) (r .next) (givenIf (head .has) (head .last)) (givenIf (r .has) (r .last)) (mem (head .ctx) (now (ops .entry)) (now (rest .entry))) (mem (r .ctx) (now (ops .exit)) (now (rest .exit))) ⌝ }
+    requires { ⌜ TurnsAsked unionArm (now sheet) (now a) (now b) n left (head .next) (head .op) (mem (head .ctx) (now ops) (now rest)) ⌝ }
+    ensures { λ r. ⌜ LowersArms (now (sheet .entry)) (now (a .entry)) (now (b .entry)) n left (head .next) (r .next) (beforeOf (head .op)) (beforeOf (r .op)) (mem (head .ctx) (now (ops .entry)) (now (rest .entry))) (mem (r .ctx) (now (ops .exit)) (now (rest .exit))) ⌝ }
 {
     let mut root = head;
     let mut arms = n;
@@ -157,22 +155,44 @@ fn lower_arms(
     root
 }
 
+// The statement that a and b hold, of at most a depth, from any state on.
+pub fn lower_from(
+    sheet: &[u8],
+    a: &[u32],
+    b: &[u32],
+    ops: &mut [u32],
+    rest: &mut [u32],
+    ctx: LowerCtx,
+    depth: usize,
+) -> Current
+    requires { ⌜ StatementAsked (now sheet) (now a) (now b) depth (mem ctx (now ops) (now rest)) ⌝ }
+    ensures { λ r. ⌜ LowersFrom (now (sheet .entry)) (now (a .entry)) (now (b .entry)) depth (r .next) (beforeOf (r .op)) (mem ctx (now (ops .entry)) (now (rest .entry))) (mem (r .ctx) (now (ops .exit)) (now (rest .exit))) ⌝ }
+{
+    let clauses = words::records::count(a, b, 0, field::STMT_CLAUSES);
+    let arms = words::records::count(a, b, 0, field::STMT_ARMS);
+    let less = depth - 1;
+    let at = At {
+        base: 0,
+        i: 1,
+        left: less,
+    };
+    let head = lower_clauses(sheet, a, b, ops, rest, ctx, at, clauses);
+    lower_arms(sheet, a, b, ops, rest, head, arms, less)
+}
+
 // The statement that a and b hold, into empty tables.
 pub fn lower(sheet: &[u8], a: &[u32], b: &[u32], ops: &mut [u32], rest: &mut [u32]) -> LowerCtx
     requires { ⌜ Roomy (now a) (now b) ⌝ }
-    requires { ⌜ HeldSome (now sheet) (now a) (now b) statement 64 0 ⌝ }
-    requires { ⌜ (16384 ≤ length (now ops)) × (16384 ≤ length (now rest)) ⌝ }
+    requires { ⌜ HeldSome (now sheet) (now a) (now b) statement maxDepth 0 ⌝ }
+    requires { ⌜ (workWords ≤ length (now ops)) × (workWords ≤ length (now rest)) ⌝ }
     ensures { λ r. ⌜ LowersStatement (now (sheet .entry)) (now (a .entry)) (now (b .entry)) (mem r (now (ops .exit)) (now (rest .exit))) ⌝ }
 {
-    let clauses = lower::records::count(a, b, 0, 2);
-    let arms = lower::records::count(a, b, 0, 4);
     let start = LowerCtx {
         ops: 0,
         next: 0,
         mapped: 0,
     };
-    let head = lower_clauses(sheet, a, b, ops, rest, start, 1, clauses, 63);
-    let r = lower_arms(sheet, a, b, ops, rest, head, arms, 63);
+    let r = lower_from(sheet, a, b, ops, rest, start, words::MAX_DEPTH);
     let c = r.ctx;
     c
 }

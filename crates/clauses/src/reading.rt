@@ -1,33 +1,41 @@
-// The clauses that read, each behind the operator before: has and last are that operator, if has is not 0. left is how deep a tree may be; notes stand at the records' own lines.
-ghost use Prim.Native.Nat.{ℕ, _+_, _≤_, _<_};
+// The clauses that read, each behind the operator before it. Notes stand at the records' own lines.
+ghost use Prim.Native.Nat.{ℕ, _≤_, _<_};
+ghost use mathlib.Core.Path.{_≡_};
 ghost use mathlib.Core.List.{List};
 ghost use mathlib.Core.Option.{some};
-ghost use lib.ListN.{length, drop};
+ghost use lib.Dec.{eqb};
+ghost use lib.ListN.{length};
+ghost use Rattle.model.specs.Call.{workWords};
 ghost use Rattle.model.specs.Text.{Bytes};
-ghost use Rattle.words.specs.Words.{Roomy};
-ghost use Rattle.context.specs.Tables.{Indexed};
+ghost use Rattle.model.specs.Lower.{optionalJoin};
+ghost use Rattle.words.specs.Words.{maxRecords, two32};
+ghost use Rattle.words.specs.Places.{matchKind, whereKind, unwindKind, callKind};
+ghost use Rattle.context.specs.Tables.{maxCount};
+ghost use Rattle.context.specs.Ops.{beforeOf, Under};
 ghost use Rattle.lower.specs.Rep.{mem};
-ghost use Rattle.lower.specs.Chains.{givenIf};
+ghost use Rattle.lower.specs.Chains.{OrSource};
 ghost use Rattle.lower.specs.Clauses.{LowersClause};
-ghost use Rattle.clauses.specs.Asked.{ClauseAsked, ReadingAsked, InputLeft};
-ghost use Rattle.clauses.specs.Steps.{SomeYields, LowersYields};
+ghost use Rattle.projections.specs.Asked.{ClauseAsked};
+ghost use Rattle.clauses.specs.Asked.{ReadingAsked, YieldsAsked, InputLeft};
+ghost use Rattle.clauses.specs.Steps.{LowersYields};
+use context::At;
+use context::Before;
 use context::LowerCtx;
+use context::op;
+use lower::Reached;
 use lower::Root;
-use lower::Step;
+use words::field;
+use words::kind;
 
 // As lower::or_source_all, for an operator before that is not known to be below the count here.
-pub fn input_or_source(ops: &mut [u32], ctx: LowerCtx, has: u32, last: usize, next: usize) -> Root
-    requires { ⌜ (ctx .ops < 65535) × (16384 ≤ length (now ops)) ⌝ }
-    ensures { λ r. ⌜ InputLeft has last next (r .next) (r .op) ctx (r .ctx) (now (ops .entry)) (now (ops .exit)) ⌝ }
+pub fn input_or_source(ops: &mut [u32], ctx: LowerCtx, current: Before, next: usize) -> Root
+    requires { ⌜ (ctx .ops < maxCount) × (workWords ≤ length (now ops)) ⌝ }
+    ensures { λ r. ⌜ InputLeft current next (r .next) (r .op) ctx (r .ctx) (now (ops .entry)) (now (ops .exit)) ⌝ }
 {
-    if has != 0 {
-        return Root {
-            next,
-            op: last,
-            ctx,
-        };
+    match current {
+        Before::Op(k) => Root { next, op: k, ctx },
+        Before::Nothing => lower::or_source_all(ops, ctx, Before::Nothing, next),
     }
-    lower::or_source_all(ops, ctx, 0, 0, next)
 }
 
 // The numbers of the n yields from record i on.
@@ -38,85 +46,99 @@ pub fn lower_yields(
     ctx: LowerCtx,
     i: usize,
     n: usize,
-) -> Step
-    requires { ⌜ Roomy (now a) (now b) ⌝ }
-    requires { ⌜ SomeYields (now a) (now b) n i ⌝ }
-    requires { ⌜ (i + n ≤ 2048) × (ctx .mapped + n ≤ 4352) × (ctx .next + n ≤ 5000) × (16384 ≤ length (now rest)) × Indexed (ctx .mapped) (drop 4608 (now rest)) ⌝ }
+) -> Reached
+    requires { ⌜ YieldsAsked (now a) (now b) n i ctx (now rest) ⌝ }
     ensures { λ r. ⌜ ((os : List ℕ) → LowersYields (now (a .entry)) (now (b .entry)) n i (r .next) (mem ctx os (now (rest .entry))) (mem (r .ctx) os (now (rest .exit)))) ⌝ }
 {
     let mut at = i;
     let mut m = n;
     let mut cur = ctx;
     while m != 0 {
-        let id = words::word(a, b, at, 4);
+        let id = words::word(a, b, at, field::YIELD_VAR);
         let r = cur.number(rest, id, at + 1);
         at += 1;
         let c = r.ctx;
         cur = c;
         m -= 1;
     }
-    Step { next: at, ctx: cur }
+    Reached { next: at, ctx: cur }
 }
 
-// The `match` at record i: the root of its parts, or an optional join of the operator before with a copy of that root.
+// How the `match` at record i goes with the operator before it, once its parts have their root: an optional one joins that operator with a copy of the root, and any other leaves the root.
+fn join_before(ops: &mut [u32], root: Root, current: Before, optional: u32, i: usize) -> Root
+    requires { ⌜ (root .ctx .ops < maxCount) × (workWords ≤ length (now ops)) × (root .op < root .ctx .ops) × Under current two32 × (i < maxRecords) × (optional ≤ 1) ⌝ }
+    ensures { λ r. ⌜ (r .next ≡ root .next) × ((rest : List ℕ) → OrSource (λ s. optionalJoin (eqb optional 1) (beforeOf current) (root .op) s) (r .op) (mem (root .ctx) (now (ops .entry)) rest) (mem (r .ctx) (now (ops .exit)) rest)) ⌝ }
+{
+    if optional == 0 {
+        return root;
+    }
+    match current {
+        Before::Nothing => root,
+        Before::Op(outer) => {
+            let c = root.ctx;
+            let k = c.ops;
+            let z = c.push(ops, op::optional_join(i, outer, root.op));
+            Root {
+                next: root.next,
+                op: k,
+                ctx: z,
+            }
+        }
+    }
+}
+
+// The `match` at a place: the root of its parts, as it goes with the operator before it.
 pub fn lower_match(
     a: &[u32],
     b: &[u32],
     ops: &mut [u32],
     rest: &mut [u32],
     ctx: LowerCtx,
-    has: u32,
-    last: usize,
-    i: usize,
-    left: usize,
+    current: Before,
+    at: At,
 ) -> Root
-    requires { ⌜ ClauseAsked 2 (now a) (now b) left i has last (mem ctx (now ops) (now rest)) ⌝ }
-    ensures { λ r. ⌜ ((sheet : Bytes) → LowersClause sheet (now (a .entry)) (now (b .entry)) left i (r .next) (givenIf has last) (some (r .op)) (mem ctx (now (ops .entry)) (now (rest .entry))) (mem (r .ctx) (now (ops .exit)) (now (rest .exit)))) ⌝ }
+    requires { ⌜ ClauseAsked matchKind (now a) (now b) at current (mem ctx (now ops) (now rest)) ⌝ }
+    ensures { λ r. ⌜ ((sheet : Bytes) → LowersClause sheet (now (a .entry)) (now (b .entry)) (at .left) (at .i) (r .next) (beforeOf current) (some (r .op)) (mem ctx (now (ops .entry)) (now (rest .entry))) (mem (r .ctx) (now (ops .exit)) (now (rest .exit)))) ⌝ }
 {
-    let optional = words::word(a, b, i, 2);
-    let n = lower::records::count(a, b, i, 4);
-    let r = lower::lower_parts(a, b, ops, rest, ctx, 0, i, n, left - 1);
-    if optional == 0 {
-        return r;
-    }
-    if has == 0 {
-        return r;
-    }
-    let c = r.ctx;
-    let k = c.ops;
-    let outer = last as u32;
-    let inner = r.op as u32;
-    let z = c.push(ops, 6, i as u32, outer, inner, 0, 0, 0);
-    Root {
-        next: r.next,
-        op: k,
-        ctx: z,
-    }
+    let i = at.i;
+    let optional = words::word(a, b, i, field::MATCH_OPTIONAL);
+    let n = words::records::count(a, b, i, field::MATCH_PARTS);
+    let less = at.left - 1;
+    let parts = At {
+        base: 0,
+        i,
+        left: less,
+    };
+    let r = lower::lower_parts(a, b, ops, rest, ctx, parts, n);
+    join_before(ops, r, current, optional, i)
 }
 
-// The `where` at record i.
+// The `where` at a place.
 pub fn lower_where(
     a: &[u32],
     b: &[u32],
     ops: &mut [u32],
     rest: &mut [u32],
     ctx: LowerCtx,
-    has: u32,
-    last: usize,
-    i: usize,
-    left: usize,
+    current: Before,
+    at: At,
 ) -> Root
-    requires { ⌜ ClauseAsked 3 (now a) (now b) left i has last (mem ctx (now ops) (now rest)) ⌝ }
-    ensures { λ r. ⌜ ((sheet : Bytes) → LowersClause sheet (now (a .entry)) (now (b .entry)) left i (r .next) (givenIf has last) (some (r .op)) (mem ctx (now (ops .entry)) (now (rest .entry))) (mem (r .ctx) (now (ops .exit)) (now (rest .exit)))) ⌝ }
+    requires { ⌜ ClauseAsked whereKind (now a) (now b) at current (mem ctx (now ops) (now rest)) ⌝ }
+    ensures { λ r. ⌜ ((sheet : Bytes) → LowersClause sheet (now (a .entry)) (now (b .entry)) (at .left) (at .i) (r .next) (beforeOf current) (some (r .op)) (mem ctx (now (ops .entry)) (now (rest .entry))) (mem (r .ctx) (now (ops .exit)) (now (rest .exit)))) ⌝ }
 {
-    let first = i + 1;
-    let less = left - 1;
-    let s = lower::lower_expr(a, b, ops, rest, ctx, 0, first, less);
+    let first = at.i + 1;
+    let less = at.left - 1;
+    let below = At {
+        base: 0,
+        i: first,
+        left: less,
+    };
+    let s = lower::lower_expr(a, b, ops, rest, ctx, below);
     let c = s.ctx;
-    let q = input_or_source(ops, c, has, last, s.next);
+    let q = input_or_source(ops, c, current, s.next);
     let d = q.ctx;
     let k = d.ops;
-    let z = d.push(ops, 2, first as u32, q.op as u32, 0, 0, less as u32, 0);
+    let z = d.push(ops, op::filter(below, q.op));
     Root {
         next: q.next,
         op: k,
@@ -124,41 +146,35 @@ pub fn lower_where(
     }
 }
 
-// The `unwind` at record i.
+// The `unwind` at a place.
 pub fn lower_unwind(
     a: &[u32],
     b: &[u32],
     ops: &mut [u32],
     rest: &mut [u32],
     ctx: LowerCtx,
-    has: u32,
-    last: usize,
-    i: usize,
-    left: usize,
+    current: Before,
+    at: At,
 ) -> Root
-    requires { ⌜ ClauseAsked 6 (now a) (now b) left i has last (mem ctx (now ops) (now rest)) ⌝ }
-    ensures { λ r. ⌜ ((sheet : Bytes) → LowersClause sheet (now (a .entry)) (now (b .entry)) left i (r .next) (givenIf has last) (some (r .op)) (mem ctx (now (ops .entry)) (now (rest .entry))) (mem (r .ctx) (now (ops .exit)) (now (rest .exit)))) ⌝ }
+    requires { ⌜ ClauseAsked unwindKind (now a) (now b) at current (mem ctx (now ops) (now rest)) ⌝ }
+    ensures { λ r. ⌜ ((sheet : Bytes) → LowersClause sheet (now (a .entry)) (now (b .entry)) (at .left) (at .i) (r .next) (beforeOf current) (some (r .op)) (mem ctx (now (ops .entry)) (now (rest .entry))) (mem (r .ctx) (now (ops .exit)) (now (rest .exit)))) ⌝ }
 {
-    let id = words::word(a, b, i, 2);
-    let first = i + 1;
-    let less = left - 1;
-    let q = lower::or_source_all(ops, ctx, has, last, first);
+    let id = words::word(a, b, at.i, field::UNWIND_VAR);
+    let first = at.i + 1;
+    let less = at.left - 1;
+    let q = lower::or_source_all(ops, ctx, current, first);
     let c = q.ctx;
-    let s = lower::lower_expr(a, b, ops, rest, c, 0, first, less);
+    let below = At {
+        base: 0,
+        i: first,
+        left: less,
+    };
+    let s = lower::lower_expr(a, b, ops, rest, c, below);
     let d = s.ctx;
     let m = d.number(rest, id, first);
     let e = m.ctx;
     let k = e.ops;
-    let z = e.push(
-        ops,
-        14,
-        first as u32,
-        q.op as u32,
-        m.number,
-        0,
-        less as u32,
-        0,
-    );
+    let z = e.push(ops, op::unwind(below, q.op, m.number));
     Root {
         next: s.next,
         op: k,
@@ -166,30 +182,40 @@ pub fn lower_unwind(
     }
 }
 
-// The `call` at record i.
+// The `call` at a place.
 pub fn lower_call(
     a: &[u32],
     b: &[u32],
     ops: &mut [u32],
     rest: &mut [u32],
     ctx: LowerCtx,
-    has: u32,
-    last: usize,
-    i: usize,
-    left: usize,
+    current: Before,
+    at: At,
 ) -> Root
-    requires { ⌜ ClauseAsked 7 (now a) (now b) left i has last (mem ctx (now ops) (now rest)) ⌝ }
-    ensures { λ r. ⌜ ((sheet : Bytes) → LowersClause sheet (now (a .entry)) (now (b .entry)) left i (r .next) (givenIf has last) (some (r .op)) (mem ctx (now (ops .entry)) (now (rest .entry))) (mem (r .ctx) (now (ops .exit)) (now (rest .exit)))) ⌝ }
+    requires { ⌜ ClauseAsked callKind (now a) (now b) at current (mem ctx (now ops) (now rest)) ⌝ }
+    ensures { λ r. ⌜ ((sheet : Bytes) → LowersClause sheet (now (a .entry)) (now (b .entry)) (at .left) (at .i) (r .next) (beforeOf current) (some (r .op)) (mem ctx (now (ops .entry)) (now (rest .entry))) (mem (r .ctx) (now (ops .exit)) (now (rest .exit)))) ⌝ }
 {
-    let args = lower::records::count(a, b, i, 4);
-    let yields = lower::records::count(a, b, i, 6);
-    let less = left - 1;
-    let s = lower::lower_exprs(a, b, ops, rest, ctx, 0, i + 1, args, 0, less);
+    let i = at.i;
+    let args = words::records::count(a, b, i, field::CALL_ARGS);
+    let yields = words::records::count(a, b, i, field::CALL_YIELDS);
+    let first = i + 1;
+    let less = at.left - 1;
+    let below = At {
+        base: 0,
+        i: first,
+        left: less,
+    };
+    let s = lower::lower_exprs(a, b, ops, rest, ctx, below, args, 0);
     let c = s.ctx;
     let t = lower_yields(a, b, rest, c, s.next, yields);
     let d = t.ctx;
     let k = d.ops;
-    let z = d.push(ops, 16, i as u32, last as u32, has, 0, less as u32, 0);
+    let clause = At {
+        base: 0,
+        i,
+        left: less,
+    };
+    let z = d.push(ops, op::procedure_call(clause, current));
     Root {
         next: t.next,
         op: k,
@@ -197,7 +223,7 @@ pub fn lower_call(
     }
 }
 
-// The clause at record i, which does not write.
+// The clause at a place, which does not write.
 pub fn lower_reading_clause(
     sheet: &[u8],
     a: &[u32],
@@ -205,21 +231,19 @@ pub fn lower_reading_clause(
     ops: &mut [u32],
     rest: &mut [u32],
     ctx: LowerCtx,
-    has: u32,
-    last: usize,
-    i: usize,
-    left: usize,
+    current: Before,
+    at: At,
 ) -> Root
-    requires { ⌜ ReadingAsked (now sheet) (now a) (now b) left i has last (mem ctx (now ops) (now rest)) ⌝ }
-    ensures { λ r. ⌜ LowersClause (now (sheet .entry)) (now (a .entry)) (now (b .entry)) left i (r .next) (givenIf has last) (some (r .op)) (mem ctx (now (ops .entry)) (now (rest .entry))) (mem (r .ctx) (now (ops .exit)) (now (rest .exit))) ⌝ }
+    requires { ⌜ ReadingAsked (now sheet) (now a) (now b) at current (mem ctx (now ops) (now rest)) ⌝ }
+    ensures { λ r. ⌜ LowersClause (now (sheet .entry)) (now (a .entry)) (now (b .entry)) (at .left) (at .i) (r .next) (beforeOf current) (some (r .op)) (mem ctx (now (ops .entry)) (now (rest .entry))) (mem (r .ctx) (now (ops .exit)) (now (rest .exit))) ⌝ }
 {
-    let kind = words::word(a, b, i, 0);
+    let kind = words::word(a, b, at.i, field::KIND);
     match kind {
-        2 => lower_match(a, b, ops, rest, ctx, has, last, i, left),
-        3 => lower_where(a, b, ops, rest, ctx, has, last, i, left),
-        4 => projections::lower_with(a, b, ops, rest, ctx, has, last, i, left),
-        5 => projections::lower_return(sheet, a, b, ops, rest, ctx, has, last, i, left),
-        6 => lower_unwind(a, b, ops, rest, ctx, has, last, i, left),
-        _ => lower_call(a, b, ops, rest, ctx, has, last, i, left),
+        kind::MATCH => lower_match(a, b, ops, rest, ctx, current, at),
+        kind::WHERE => lower_where(a, b, ops, rest, ctx, current, at),
+        kind::WITH => projections::lower_with(a, b, ops, rest, ctx, current, at),
+        kind::RETURN => projections::lower_return(sheet, a, b, ops, rest, ctx, current, at),
+        kind::UNWIND => lower_unwind(a, b, ops, rest, ctx, current, at),
+        _ => lower_call(a, b, ops, rest, ctx, current, at),
     }
 }

@@ -8,12 +8,12 @@ use native.Mathlib.Omega.{arith}
 use lib.ListN.{length, getD, set, length-set}
 use lib.Seq.{getD-set-same, getD-set-other}
 use Rattle.model.specs.Lower.{lookup, issue, mapVar, numbered}
-use Rattle.context.specs.Tables.{varsOf, foundOf, Linked, Issued}
+use Rattle.context.specs.Tables.{varsOf, foundOf, Entered, Issued, varWords, maxVars}
 use Rattle.context.specs.declared.LowerCtx.{LowerCtx}
 use Rattle.context.specs.declared.index.Found.the-variants.{Nothing}
 use Rattle.context.proofs.Laws.{vars-same, found-none}
 
-module _ (c : LowerCtx) (vs vs₁ : List ℕ) (id : ℕ) (h : c .mapped < 4352) (l : 11776 ≤ length vs) (d : Linked (c .mapped) id vs vs₁) where
+module _ (c : LowerCtx) (vs vs₁ : List ℕ) (id : ℕ) (h : c .mapped < maxVars) (l : varWords ≤ length vs) (d : Entered (c .mapped) id vs vs₁) where
   abbrev vs′ : List ℕ
   vs′ = set (set vs₁ (c .mapped * 2) id) (c .mapped * 2 + 1) (c .next)
 

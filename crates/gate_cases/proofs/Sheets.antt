@@ -1,22 +1,18 @@
 -- What the writes of a sheet's head, parts and tail join to. Assumes nothing.
 use mathlib.Core.Path.{_≡_}
-use mathlib.Core.Bool.{cond}
 use mathlib.Core.List.{[], _∷_}
 use Prim.Native.Nat.{ℕ, _+_, _≤_, _<_}
 use native.Mathlib.Omega.{arith}
 use native.Mathlib.Numerals.{add-one}
 use borrow.Author.Tests.{lt-ltb, le-ltb}
-use lib.Dec.{ltb}
-use lib.ListN.{length, take, drop}
-use lib.Seq.{take-append-seam}
+use lib.ListN.{length}
 use Rattle.model.specs.Field.{Form, read}
 use Rattle.record.specs.Answer.{decimalOf}
 use Rattle.record.specs.AnswerLaws.{decimal-read}
 use Rattle.record.specs.declared.Decimal.{Decimal}
 use Rattle.model.specs.Text.{Bytes}
-use Rattle.output.specs.Page.{Page, on, most, Puts}
+use Rattle.output.specs.Page.{Page, Puts}
 use Rattle.output.specs.Writes.{_⨾_, stay}
-use Rattle.output.specs.Whole.{wrote}
 use Rattle.gate_cases.specs.Text.{again, place, star, between, repeated, parted, sheetOf}
 
 module _ (t : Bytes) where
@@ -49,15 +45,3 @@ module _ (t : Bytes) (head number part : ℕ) (h : head ≡ place star 0 t) (n :
     pub filled : (times : ℕ) {g g′ g″ g‴ : Page} → r ≡ Decimal.Is times → Puts (between 0 head t) g g′ → Puts (again times (between (number + 1) part t)) g′ g″ → Puts (between (part + 1) (length t) t) g″ g‴ → Puts (sheetOf t) g g‴
     unfolding parted repeated
     filled times e a b c = rw (sheet-parted, lt-ltb part (length t) k, decimal-read (read (Form.num 32768) (between (head + 1) number t ∷ [])) r d, e) ((a ⨾ b) ⨾ c)
-
--- a page from its start
-module _ (t p q : Bytes) (o : ℕ) (e : Puts t (on p 0) (on q o)) (small : length p < most) where
-  pub too-long : length p < o → take 0 q ≡ cond (ltb (length p) (length t)) [] t
-  too-long h = let next = e .next in rw (lt-ltb (length p) (length t) (omega arith))
-
-  pub long-enough : o ≤ length p → take o q ≡ cond (ltb (length p) (length t)) [] t
-  long-enough h =
-      let next = e .next in
-      let fits : length t ≤ length p = omega arith in
-      let w = wrote e small fits in
-      rw (le-ltb (length p) (length t) fits, w .slice, w .at) (take-append-seam t (drop (length t) p))

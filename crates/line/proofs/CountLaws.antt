@@ -6,7 +6,7 @@ use native.Mathlib.Omega.{arith}
 use borrow.Author.Tests.{lt-ltb, le-ltb}
 use Rattle.words.specs.Words.{part, cell}
 use Rattle.words.specs.Table.{countOf}
-use Rattle.line.specs.GroupLaws.{part-cell}
+use Rattle.words.specs.GroupLaws.{part-cell}
 
 module _ (a b : List ℕ) (i c s : ℕ) (e : c ≡ s) where
   pub count-fixed : c < 3 → c ≡ countOf (part a b i) s

@@ -16,7 +16,7 @@ use Rattle.words.specs.Table.{codes, codeAt, formOf, formsIn, formsFrom, formsA
 use Rattle.words.specs.TableLaws.{code-row}
 use Rattle.line.specs.Place.{piecesAt}
 use Rattle.line.specs.FieldRead.{FieldAt}
-use Rattle.line.specs.LineRead.{FieldsRead}
+use Rattle.line.specs.LineRead.{FieldsRead, Kept}
 use Rattle.line.specs.declared.form.FieldRead.{FieldRead}
 use Rattle.line.proofs.PlaceLaws.{none-left, some-left}
 
@@ -50,6 +50,9 @@ module _ (ws : List ℕ) (g x y : ℕ) (h : g + g + 3 < length ws) where
 
   put-second : getD (put ws g x y) (g + g + 3) 0 ≡ y
   put-second = getD-set-same (set ws (g + g + 2) x) (g + g + 3) y 0 (rw length-set h)
+
+  put-other : (c : ℕ) → (c ≡ g + g + 2 → ⊥) → (c ≡ g + g + 3 → ⊥) → getD (put ws g x y) c 0 ≡ getD ws c 0
+  put-other c p q = getD-set-other (set ws (g + g + 2) x) (g + g + 3) c y 0 (λ e. q e) ∙ getD-set-other ws (g + g + 2) c x 0 (λ e. p e)
 
   put-below : Agree (g + g + 2) (put ws g x y) ws
   put-below i k = getD-set-other (set ws (g + g + 2) x) (g + g + 3) i y 0 (omega arith) ∙ getD-set-other ws (g + g + 2) i x 0 (omega arith)
@@ -88,7 +91,7 @@ pub record Filling (n : ℕ) (sheet : Bytes) (p e : ℕ) (ws₀ ws : List ℕ) (
   pub code : form ≡ codeAt n g
   pub long : length ws ≡ 16
   pub room : g + length (formsFrom n g) ≤ 6
-  pub kept : getD ws 0 0 ≡ getD ws₀ 0 0
+  pub kept : Kept ws₀ ws
   pub going : Going sheet (formsAt n) (piecesAt sheet p e) (formsFrom n g) (piecesAt sheet at e) ws g
 
 pub fill-start : (n : ℕ) (sheet : Bytes) (p e : ℕ) (ws : List ℕ) → n < 39 → length ws ≡ 16 → (form : ℕ) → form ≡ codeAt n 0 → Filling n sheet p e ws ws p 0 form
@@ -99,7 +102,7 @@ fill-start n sheet p e ws h l form c =
       code = c;
       long = l;
       room = omega (arith, code-row n h .few);
-      kept = refl;
+      kept = λ c h. refl;
       going = go-first sheet (formsAt n) (piecesAt sheet p e) ws;
     }
 
@@ -142,7 +145,7 @@ module _ (n : ℕ) (sheet : Bytes) (p e : ℕ) (ws₀ ws : List ℕ) (at g form 
             code = c;
             long = rw (length-set, length-set) (f .long);
             room = rw (add-one g) (omega (arith, f .room, ap length rest-is));
-            kept = put-below ws g x y fits 0 (omega arith) ∙ f .kept;
+            kept = λ c z. put-other ws g x y fits c (λ q. (let high : 14 ≤ c = z (omega arith) in omega (arith, fill-room))) (λ q. (let high : 14 ≤ c = z (omega arith) in omega (arith, fill-room))) ∙ f .kept c z;
             going = rw (add-one g, behind .1) (go-more sheet _ _ _ _ _ ws g next-going x y fits (is .is) (is .fit .0) (is .fit .1));
           }
 

@@ -6,8 +6,8 @@ use mathlib.Core.List.{List, _∷_}
 use mathlib.Core.Option.{some}
 use native.Mathlib.Omega.{arith}
 use borrow.Author.Tests.{ltb-true}
-use lib.ListN.{length, take, drop, getD, set}
-use lib.Seq.{slice, getD-set-same}
+use lib.ListN.{length, take, drop, getD, set, length-set}
+use lib.Seq.{slice, getD-set-same, getD-set-other}
 use Rattle.model.specs.Text.{Bytes, split, tab}
 use Rattle.model.specs.Kind.{Sort, Kind}
 use Rattle.model.specs.Record.{kinds, forms, kindNamed, withFields, readAs, readRec}
@@ -57,7 +57,7 @@ module _ (sheet : Bytes) (p e m r : ℕ) (h : e ≤ length sheet) (l : p ≤ e) 
     fields-is : readRec (sortOf m) (slice p e sheet) ≡ readAs (sortOf m) (piecesAt sheet (r + 1) e) (some kind)
     fields-is = line-is ∙ ap (λ x. readAs (sortOf m) (piecesAt sheet (r + 1) e) (kindFound (sortOf m) x)) q ∙ ap (readAs (sortOf m) (piecesAt sheet (r + 1) e)) known
 
-    module _ (ws ws₁ : List ℕ) (long : length ws ≡ 16) (t : Bool) (z : FieldsRead n sheet (r + 1) e (set ws 0 n) ws₁ t) where
+    module _ (ws ws₁ : List ℕ) (long : length ws ≡ 16) (t : Bool) (z : FieldsRead n sheet (r + 1) e (set (set (set ws 1 p) 15 (e + 1)) 0 n) ws₁ t) where
       pub line-not : t ≡ false → LineRead (sortOf m) sheet p e ws₁ Line.Not
       unfolding readAs withFields
       line-not o =
@@ -65,7 +65,15 @@ module _ (sheet : Bytes) (p e m r : ℕ) (h : e ≤ length sheet) (l : p ≤ e) 
           record { answer = fields-is ∙ ap (withFields (sortOf m) kind) no; long = z .long }
 
       first-word : getD ws₁ 0 0 ≡ n
-      first-word = z .kept ∙ getD-set-same ws 0 n 0 (omega arith)
+      first-word = z .kept 0 (λ h. absurd (omega arith)) ∙ getD-set-same (set (set ws 1 p) 15 (e + 1)) 0 n 0 (omega (arith, length-set (set ws 1 p) 15 (e + 1), length-set ws 1 p))
+
+      start-word : getD ws₁ 1 0 ≡ p
+      start-word =
+          z .kept 1 (λ h. absurd (omega arith)) ∙ getD-set-other (set (set ws 1 p) 15 (e + 1)) 0 1 n 0 (omega arith) ∙ getD-set-other (set ws 1 p) 15 1 (e + 1) 0 (omega arith)
+          ∙ getD-set-same ws 1 p 0 (omega arith)
+
+      end-word : getD ws₁ 15 0 ≡ e + 1
+      end-word = z .kept 15 (λ h. omega arith) ∙ getD-set-other (set (set ws 1 p) 15 (e + 1)) 0 15 n 0 (omega arith) ∙ getD-set-same (set ws 1 p) 15 (e + 1) 0 (omega (arith, length-set ws 1 p))
 
       pub line-got : t ≡ true → LineRead (sortOf m) sheet p e ws₁ (Line.Kind n)
       unfolding readAs withFields decode recOf
@@ -80,6 +88,8 @@ module _ (sheet : Bytes) (p e m r : ℕ) (h : e ≤ length sheet) (l : p ≤ e) 
               flags = yes .1;
               texts = yes .2;
               number = first-word;
+              start = start-word;
+              end = end-word;
               named = known;
               low = line-low;
             };

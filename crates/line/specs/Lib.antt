@@ -1,4 +1,3 @@
-pub mod GroupLaws
 pub mod Kinds
 pub mod Place
 pub mod FieldRead

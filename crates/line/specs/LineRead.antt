@@ -1,6 +1,6 @@
 -- What reading a line gives: the words of its record. Assumes nothing: these are definitions.
 use mathlib.Core.Path.{_≡_}
-use Prim.Native.Nat.{ℕ, _<_}
+use Prim.Native.Nat.{ℕ, _+_, _<_, _≤_}
 use mathlib.Core.Bool.{Bool, true, false}
 use mathlib.Core.List.{List}
 use mathlib.Core.Option.{none, some}
@@ -11,7 +11,7 @@ use Rattle.model.specs.Field.{Fields, readFields}
 use Rattle.model.specs.Kind.{Sort, Kind}
 use Rattle.model.specs.Record.{forms, readRec}
 use Rattle.words.specs.Words.{fieldsOf, kindOf, decode, part, maxRecords, recordWords}
-use Rattle.words.specs.Places.{kindAt, kindCount}
+use Rattle.words.specs.Places.{lineStartAt, lineEndAt, kindAt, kindCount}
 use Rattle.words.specs.Held.{Flags, Texts}
 use Rattle.words.specs.Table.{formsAt}
 use Rattle.line.specs.Place.{piecesAt}
@@ -22,10 +22,14 @@ abbrev pub FieldsAnswer : Bool → (n : ℕ) (sheet : Bytes) (p e : ℕ) (ws : L
 FieldsAnswer true n sheet p e ws = (readFields (formsAt n) (piecesAt sheet p e) ≡ some (fieldsOf (formsAt n) sheet ws 0)) × Flags (formsAt n) ws 0 × Texts (formsAt n) sheet ws 0
 FieldsAnswer false n sheet p e ws = readFields (formsAt n) (piecesAt sheet p e) ≡ none
 
+-- the words that no field has are as they were: those before the first field's and those behind the sixth one's
+abbrev pub Kept : List ℕ → List ℕ → Type 0
+Kept before after = (c : ℕ) → (2 ≤ c → 14 ≤ c) → getD after c 0 ≡ getD before c 0
+
 -- from place p on
 pub record FieldsRead (n : ℕ) (sheet : Bytes) (p e : ℕ) (before after : List ℕ) (r : Bool) : Type 0 where
   pub answer : FieldsAnswer r n sheet p e after
-  pub kept : getD after kindAt 0 ≡ getD before kindAt 0
+  pub kept : Kept before after
   pub long : length after ≡ recordWords
 
 -- ── a record ──
@@ -39,6 +43,8 @@ pub record Got (s : Sort) (sheet : Bytes) (p e : ℕ) (ws : List ℕ) (n : ℕ) 
   pub flags : Flags (forms s kind) ws 0
   pub texts : Texts (forms s kind) sheet ws 0
   pub number : getD ws kindAt 0 ≡ n
+  pub start : getD ws lineStartAt 0 ≡ p
+  pub end : getD ws lineEndAt 0 ≡ e + 1
   pub named : kindOf s n ≡ some kind
   pub low : n < kindCount
 

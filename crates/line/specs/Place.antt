@@ -4,11 +4,23 @@ use Prim.Native.Nat.{ℕ, _≤_, _<_}
 use mathlib.Core.Bool.{cond}
 use mathlib.Core.List.{List, []}
 use lib.Dec.{ltb}
-use lib.ListN.{getD}
+use lib.ListN.{length, getD}
+use Rattle.model.specs.Call.{maxBytes}
 use lib.Seq.{slice}
 use Rattle.model.specs.Text.{Bytes, tab}
 use Rattle.laws.specs.TextLaws.{Free}
 use Rattle.words.specs.Words.{piecesOf}
+
+-- a line of a sheet that ends before place e; the sheet is so short that its places are words
+pub record LineTo (sheet : Bytes) (e : ℕ) : Type 0 where
+  pub to : e ≤ length sheet
+  pub short : length sheet ≤ maxBytes
+
+-- a part of such a sheet, from place p up to place r
+pub record Within (sheet : Bytes) (p r : ℕ) : Type 0 where
+  pub from : p ≤ r
+  pub to : r ≤ length sheet
+  pub short : length sheet ≤ maxBytes
 
 -- the pieces from place p on of a line that ends before place e; none if p is behind e
 unfoldable pub piecesAt : Bytes → ℕ → ℕ → List Bytes

@@ -3,12 +3,11 @@ ghost use mathlib.Core.Path.{_≡_};
 ghost use mathlib.Core.List.{[], _∷_};
 ghost use mathlib.Core.Option.{some};
 ghost use Prim.Native.Nat.{_+_, _/_, _%_, _<_, _≤_};
-ghost use lib.ListN.{length};
 ghost use lib.Seq.{slice};
 ghost use Rattle.model.specs.Text.{Bytes};
 ghost use Rattle.model.specs.Field.{Form, u32};
-ghost use Rattle.model.specs.Call.{maxBytes};
 ghost use Rattle.words.specs.Words.{two32};
+ghost use Rattle.line.specs.Place.{Within};
 ghost use Rattle.line.specs.FieldRead.{WordsOf, wordsValue};
 use record::Alias;
 use record::Decimal;
@@ -96,8 +95,7 @@ pub fn int(s: &[u8]) -> Words
 
 // A name, from p up to r.
 pub fn text(sheet: &[u8], p: usize, r: usize) -> Words
-    requires { ⌜ (p ≤ r) × (r ≤ length (now sheet)) ⌝ }
-    requires { ⌜ length (now sheet) ≤ maxBytes ⌝ }
+    requires { ⌜ Within (now sheet) p r ⌝ }
     ensures { λ w. ⌜ WordsOf Form.text (now (sheet .entry)) (slice p r (now (sheet .entry)) ∷ []) w ⌝ }
 {
     if record::name::text(&sheet[p..r]) {
@@ -109,8 +107,7 @@ pub fn text(sheet: &[u8], p: usize, r: usize) -> Words
 
 // A dash, or an equals sign and a name, from p up to r.
 pub fn alias(sheet: &[u8], p: usize, r: usize) -> Words
-    requires { ⌜ (p ≤ r) × (r ≤ length (now sheet)) ⌝ }
-    requires { ⌜ length (now sheet) ≤ maxBytes ⌝ }
+    requires { ⌜ Within (now sheet) p r ⌝ }
     ensures { λ w. ⌜ WordsOf Form.alias (now (sheet .entry)) (slice p r (now (sheet .entry)) ∷ []) w ⌝ }
 {
     match record::name::alias(&sheet[p..r]) {

@@ -1,13 +1,11 @@
 // The field at a place of a line, by its form.
 ghost use mathlib.Core.Path.{_≡_};
-ghost use Prim.Native.Nat.{_+_, _<_, _≤_};
+ghost use Prim.Native.Nat.{_+_, _<_};
 ghost use mathlib.Core.List.{[], _∷_};
-ghost use lib.ListN.{length};
 ghost use lib.Seq.{slice};
 ghost use Rattle.model.specs.Field.{Form};
-ghost use Rattle.model.specs.Call.{maxBytes};
 ghost use Rattle.words.specs.Places.{spanForm, lengthForm, formCount};
-ghost use Rattle.line.specs.Place.{PieceAt};
+ghost use Rattle.line.specs.Place.{LineTo, Within, PieceAt};
 ghost use Rattle.line.specs.FieldRead.{FieldAt, WordsOf};
 ghost use Rattle.words.specs.Table.{formOf};
 use crate::field::Words;
@@ -30,7 +28,7 @@ pub enum FieldRead {
 
 // A span: two numbers, the start at most the end. Its first piece is that from p up to r.
 fn span(sheet: &[u8], p: usize, r: usize, e: usize) -> FieldRead
-    requires { ⌜ e ≤ length (now sheet) ⌝ }
+    requires { ⌜ LineTo (now sheet) e ⌝ }
     requires { ⌜ PieceAt (now sheet) p e r ⌝ }
     ensures { λ w. ⌜ FieldAt Form.span (now (sheet .entry)) p e w ⌝ }
 {
@@ -53,7 +51,7 @@ fn span(sheet: &[u8], p: usize, r: usize, e: usize) -> FieldRead
 
 // The length of a pattern's relationship: three pieces, held as their place. The first is that from p up to r.
 fn hops(sheet: &[u8], p: usize, r: usize, e: usize) -> FieldRead
-    requires { ⌜ (e ≤ length (now sheet)) × (length (now sheet) ≤ maxBytes) ⌝ }
+    requires { ⌜ LineTo (now sheet) e ⌝ }
     requires { ⌜ PieceAt (now sheet) p e r ⌝ }
     ensures { λ w. ⌜ FieldAt Form.length (now (sheet .entry)) p e w ⌝ }
 {
@@ -75,8 +73,7 @@ fn hops(sheet: &[u8], p: usize, r: usize, e: usize) -> FieldRead
 
 // A field of one piece, that from p up to r, by a code below that of a span.
 fn plain(sheet: &[u8], p: usize, r: usize, form: u32) -> Words
-    requires { ⌜ (p ≤ r) × (r ≤ length (now sheet)) ⌝ }
-    requires { ⌜ length (now sheet) ≤ maxBytes ⌝ }
+    requires { ⌜ Within (now sheet) p r ⌝ }
     requires { ⌜ (0 < form) × (form < spanForm) ⌝ }
     ensures { λ w. ⌜ WordsOf (formOf form) (now (sheet .entry)) (slice p r (now (sheet .entry)) ∷ []) w ⌝ }
 {
@@ -94,8 +91,7 @@ fn plain(sheet: &[u8], p: usize, r: usize, form: u32) -> Words
 
 // A field of one piece, by its code: a number with the table's limit from that of a number on.
 fn single(sheet: &[u8], p: usize, r: usize, form: u32) -> Words
-    requires { ⌜ (p ≤ r) × (r ≤ length (now sheet)) ⌝ }
-    requires { ⌜ length (now sheet) ≤ maxBytes ⌝ }
+    requires { ⌜ Within (now sheet) p r ⌝ }
     requires { ⌜ (0 < form) × (form < formCount) ⌝ }
     requires { ⌜ ((form ≡ spanForm → ⊥) × (form ≡ lengthForm → ⊥)) ⌝ }
     ensures { λ w. ⌜ WordsOf (formOf form) (now (sheet .entry)) (slice p r (now (sheet .entry)) ∷ []) w ⌝ }
@@ -109,7 +105,7 @@ fn single(sheet: &[u8], p: usize, r: usize, form: u32) -> Words
 
 // The field that begins at p, of the line that ends before e. If p is behind e, no piece is left.
 pub fn read_form(sheet: &[u8], p: usize, e: usize, form: u32) -> FieldRead
-    requires { ⌜ (e ≤ length (now sheet)) × (length (now sheet) ≤ maxBytes) ⌝ }
+    requires { ⌜ LineTo (now sheet) e ⌝ }
     requires { ⌜ (0 < form) × (form < formCount) ⌝ }
     ensures { λ w. ⌜ FieldAt (formOf form) (now (sheet .entry)) p e w ⌝ }
 {

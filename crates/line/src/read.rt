@@ -1,11 +1,11 @@
 // A line read into the sixteen words of a record.
 ghost use mathlib.Core.Path.{_≡_};
-ghost use Prim.Native.Nat.{_<_, _≤_};
+ghost use Prim.Native.Nat.{_<_};
 ghost use lib.ListN.{length};
+ghost use Rattle.line.specs.Place.{LineTo, Within};
 ghost use Rattle.line.specs.LineRead.{FieldsRead, LineRead, IntoRead};
 ghost use Rattle.words.specs.Words.{Roomy, maxRecords, recordWords};
 ghost use Rattle.words.specs.Places.{kindCount, sortCount};
-ghost use Rattle.model.specs.Call.{maxBytes};
 ghost use Rattle.words.specs.Table.{sortOf};
 use crate::form::FieldRead;
 use crate::form::read_form;
@@ -24,7 +24,7 @@ pub enum Line {
 
 // The fields of a kind, from p on: field g goes to the words 2g + 2 and 2g + 3.
 fn read_fields(sheet: &[u8], p: usize, e: usize, kind: u32, part: &mut [u32]) -> bool
-    requires { ⌜ (e ≤ length (now sheet)) × (length (now sheet) ≤ maxBytes) ⌝ }
+    requires { ⌜ LineTo (now sheet) e ⌝ }
     requires { ⌜ (kind < kindCount) × (length (now part) ≡ recordWords) ⌝ }
     ensures { λ r. ⌜ FieldsRead kind (now (sheet .entry)) p e (now (part .entry)) (now (part .exit)) r ⌝ }
 {
@@ -50,11 +50,13 @@ fn read_fields(sheet: &[u8], p: usize, e: usize, kind: u32, part: &mut [u32]) ->
 
 // The line from p up to e as a record of a sort, in the sixteen words of `part`. If there is none, what stands in `part` is not promised.
 pub fn read_line(sheet: &[u8], p: usize, e: usize, sort: u32, part: &mut [u32]) -> Line
-    requires { ⌜ (p ≤ e) × (e ≤ length (now sheet)) ⌝ }
-    requires { ⌜ length (now sheet) ≤ maxBytes ⌝ }
+    requires { ⌜ Within (now sheet) p e ⌝ }
     requires { ⌜ (sort < sortCount) × (length (now part) ≡ recordWords) ⌝ }
     ensures { λ r. ⌜ LineRead (sortOf sort) (now (sheet .entry)) p e (now (part .exit)) r ⌝ }
 {
+    let behind = e + 1;
+    part[field::LINE_START] = p as u32;
+    part[field::LINE_END] = behind as u32;
     let r = piece_to(sheet, p, e);
     let KindFound::Is(k) = kind_named(&sheet[p..r], sort) else {
         return Line::Not;
@@ -76,8 +78,7 @@ pub fn read_into(
     b: &mut [u32],
     i: usize,
 ) -> Line
-    requires { ⌜ (p ≤ e) × (e ≤ length (now sheet)) ⌝ }
-    requires { ⌜ length (now sheet) ≤ maxBytes ⌝ }
+    requires { ⌜ Within (now sheet) p e ⌝ }
     requires { ⌜ (sort < sortCount) × (i < maxRecords) ⌝ }
     requires { ⌜ Roomy (now a) (now b) ⌝ }
     ensures { λ r. ⌜ IntoRead (sortOf sort) (now (sheet .entry)) p e i (now (a .entry)) (now (b .entry)) (now (a .exit)) (now (b .exit)) r ⌝ }

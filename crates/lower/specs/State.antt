@@ -13,7 +13,7 @@ use borrow.Author.Tests.{eq-eqb, ne-eqb, ltb-true, ltb-false}
 use Rattle.model.specs.Text.{Bytes}
 use Rattle.model.specs.Lower.{Recs, Lowering, at, push}
 use Rattle.model.specs.Lower
-use Rattle.context.specs.Tables.{stateOf, Noted, Notes, Numbers, Pushed, varsAt}
+use Rattle.context.specs.Tables.{stateOf, Noted, NoteWritten, Numbers, Pushed, varsAt}
 use Rattle.context.specs.declared.op.Op.{Op}
 use Rattle.context.specs.declared.LowerCtx.{LowerCtx}
 use Rattle.context.specs.declared.Numbered.{Numbered}
@@ -21,6 +21,7 @@ use Rattle.lower.specs.Render.{Ops}
 use Rattle.lower.specs.Render
 use Rattle.lower.specs.Shows.{Stored}
 use Rattle.lower.specs.Rep.{State, Mem, mem, notes, Written, In, Sub, Blank, Future, Rep, To}
+use Rattle.words.specs.Words.{maxRecords}
 
 -- ── ranges ──
 
@@ -118,7 +119,7 @@ module _ {sheet : Bytes} {a b : List ℕ} {W : Written} {s : State} where
           shows = λ k h l N A f.
               ⊎-elim
               (λ (g : k < m .ctx .ops). rw (p .other k g l, same k g) (r .shows k g l N A (early N A f)))
-              (λ (g : k ≡ m .ctx .ops). (let l′ : m .ctx .ops < 2048 = omega arith in rw (g, p .here l′, new-at recs (s .ops) (m .ctx .ops) (r .count)) (sx N A (early N A f))))
+              (λ (g : k ≡ m .ctx .ops). (let l′ : m .ctx .ops < maxRecords = omega arith in rw (g, p .here l′, new-at recs (s .ops) (m .ctx .ops) (r .count)) (sx N A (early N A f))))
               (split-by k (m .ctx .ops) (ltb k (m .ctx .ops)) refl (rw (p .count) at h));
         };
         sub = sub-refl W;
@@ -151,7 +152,7 @@ module _ {sheet : Bytes} {a b : List ℕ} {W : Written} {s : State} where
       }
 
   -- a note
-  pub note-to : (place v : ℕ) (m : Mem) (rest′ : List ℕ) → Rep sheet a b W s m → Notes place v (m .rest) rest′ → Blank W place (place + 1) → To sheet a b W ((place, place + 1) ∷ W) s s m (mem (m .ctx) (m .ops) rest′)
+  pub note-to : (place v : ℕ) (m : Mem) (rest′ : List ℕ) → Rep sheet a b W s m → NoteWritten place v (m .rest) rest′ → Blank W place (place + 1) → To sheet a b W ((place, place + 1) ∷ W) s s m (mem (m .ctx) (m .ops) rest′)
   note-to place v m rest′ p n bl =
       let ag = same-written m place v rest′ (n .noted) bl in
       record {

@@ -1,11 +1,13 @@
 -- What a whole text does from the start: from `Puts` to plain lists, and to the call's definition of a written plan. Assumes nothing: every law is proved.
 use mathlib.Core.Path.{_≡_, refl, ap, _∙_}
+use mathlib.Core.Bool.{cond}
 use mathlib.Core.List.{[], _∷_, _++_}
 use Prim.Native.Nat.{ℕ, suc, _+_, _<_, _≤_, min}
 use native.Mathlib.Omega.{arith}
 use native.Mathlib.Nat.{zero-add}
-use lib.ListN.{length, drop}
-use lib.Seq.{sets, sets-eq}
+use lib.Dec.{ltb}
+use lib.ListN.{length, take, drop}
+use lib.Seq.{sets, sets-eq, take-append-seam}
 use borrow.Author.Tests.{lt-ltb, le-ltb}
 use Rattle.model.specs.Text.{Bytes}
 use Rattle.model.specs.Call.{plainRefusal, accepted, written}
@@ -25,6 +27,18 @@ module _ {t p q : Bytes} {o : ℕ} (e : Puts t (on p 0) (on q o)) (small : lengt
         slice = e .stored (record { inside = omega arith; small = omega arith }) ∙ sets-eq t p 0 (omega arith) ∙ rw zero-add;
         at = omega arith;
       }
+
+-- a text that is written from the start of a page, and nothing where it does not fit
+module _ (t p q : Bytes) (o : ℕ) (e : Puts t (on p 0) (on q o)) (small : length p < most) where
+  pub too-long : length p < o → take 0 q ≡ cond (ltb (length p) (length t)) [] t
+  too-long h = let next = e .next in rw (lt-ltb (length p) (length t) (omega arith))
+
+  pub long-enough : o ≤ length p → take o q ≡ cond (ltb (length p) (length t)) [] t
+  long-enough h =
+      let next = e .next in
+      let fits : length t ≤ length p = omega arith in
+      let w = wrote e small fits in
+      rw (le-ltb (length p) (length t) fits, w .slice, w .at) (take-append-seam t (drop (length t) p))
 
 -- ── the call: measure on an empty part at the slice's start, which is q behind the measuring; then refuse with 10 or write ──
 

@@ -5,16 +5,19 @@ ghost use Prim.Native.Nat.{_+_, _<_, _≤_, min};
 ghost use lib.IntN.{natAbs};
 ghost use lib.ListN.{length};
 ghost use lib.Seq.{sets};
-ghost use Rattle.model.specs.Text.{decimal, signed, hexDigit, hexDigits};
+ghost use Rattle.model.specs.Text.{tab, decimal, signed, hexDigit, hexDigits};
 ghost use Rattle.output.specs.Page.{most, on, Puts};
 ghost use Rattle.output.specs.Wide.{Counted, tens, sixteens};
+
+// The largest cursor.
+const MOST: usize = 18446744073709551615;
 
 // The cursor behind n bytes more. It stays at the largest number, so that no count overflows.
 pub fn more(at: usize, n: usize) -> usize
     ensures { λ r. ⌜ r ≡ min (at + n) most ⌝ }
 {
-    if 18446744073709551615 - at < n {
-        return 18446744073709551615;
+    if MOST - at < n {
+        return MOST;
     }
     at + n
 }
@@ -129,7 +132,7 @@ fn store_digits(plan: &mut [u8], at: usize, n: u64, d: usize)
     while k != 0 {
         k -= 1;
         let last = (v % 10) as u8;
-        plan[at + k] = 48 + last;
+        plan[at + k] = b'0' + last;
         v = v / 10;
     }
 }
@@ -149,14 +152,14 @@ pub fn put_decimal(plan: &mut [u8], out: usize, n: u64) -> usize
 
 // A number behind a tab.
 pub fn put_tabbed(plan: &mut [u8], out: usize, n: u64) -> usize
-    ensures { λ r. ⌜ Puts (9 ∷ decimal n) (on (now (plan .entry)) out) (on (now (plan .exit)) r) ⌝ }
+    ensures { λ r. ⌜ Puts (tab ∷ decimal n) (on (now (plan .entry)) out) (on (now (plan .exit)) r) ⌝ }
 {
     let d = count(n);
     let end = more(out, d + 1);
     if plan.len() < end {
         return end;
     }
-    plan[out] = 9;
+    plan[out] = b'\t';
     store_digits(plan, out + 1, n, d);
     end
 }
@@ -179,7 +182,7 @@ pub fn put_signed(plan: &mut [u8], out: usize, n: i64) -> usize
 {
     let m = magnitude(n);
     if n < 0 {
-        let o = put_byte(plan, out, 45);
+        let o = put_byte(plan, out, b'-');
         return put_decimal(plan, o, m);
     }
     put_decimal(plan, out, m)
@@ -190,7 +193,7 @@ fn hex_digit(d: u8) -> u8
     requires { ⌜ d < 16 ⌝ }
     ensures { λ r. ⌜ r ≡ hexDigit d ⌝ }
 {
-    if d < 10 { 48 + d } else { 87 + d }
+    if d < 10 { b'0' + d } else { b'a' + (d - 10) }
 }
 
 // The last 16 hexadecimal digits of n, inside the slice.

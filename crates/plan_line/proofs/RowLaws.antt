@@ -1,17 +1,13 @@
 -- Records as lines of numbers and names. Assumes nothing: every law is proved.
 use mathlib.Core.Path.{_≡_, refl, sym, ap, _∙_}
-use Prim.Native.Nat.{ℕ, zero, suc, _≤_}
-use native.Mathlib.Omega.{arith}
-use mathlib.Core.Bool.{Bool, true, false, cond}
-use mathlib.Core.List.{List, [], _∷_, _++_, map, tail, append-nil, append-assoc}
-use lib.Dec.{ltb}
-use lib.ListN.{take}
+use Prim.Native.Nat.{ℕ, zero, suc}
+use mathlib.Core.List.{List, [], _∷_, _++_, map, tail, append-assoc}
 use lib.Seq.{slice}
 use Rattle.model.specs.Text.{Bytes, tab, lineFeed, behind, join, decimal, escape, unescape}
 use Rattle.model.specs.Field.{text, spell, spellOption, spellFields}
 use Rattle.model.specs.Record.{Rec, forms, keyword, spellRec}
 use Rattle.output.specs.Page.{Page, Puts}
-use Rattle.output.specs.Writes.{_⨾_, stay}
+use Rattle.output.specs.Writes.{_⨾_}
 use Rattle.words.specs.Words.{optionOf, fieldOf}
 use Rattle.words.specs.Held.{PlaceAt}
 use Rattle.plan_line.specs.Keywords.{word}
@@ -19,47 +15,35 @@ use Rattle.plan_line.specs.Row.{numbersText, rowText, namedText}
 use Rattle.plan_line.proofs.FieldLaws.{one-piece, place-text}
 use Rattle.plan_line.specs.Field.{fieldText}
 
--- a number that is there, or not
-pub put-there : (there : Bool) (n : ℕ) {g g′ : Page} → there ≡ true → Puts (9 ∷ decimal n) g g′ → Puts (cond there (9 ∷ decimal n) []) g g′
-put-there there n e h = rw e h
+-- ── a line piece by piece ──
 
-pub put-absent : (there : Bool) (n : ℕ) {g : Page} → there ≡ false → Puts (cond there (9 ∷ decimal n) []) g g
-put-absent there n e = rw e stay
+-- numbers and the line feed, as they are written one behind another
+abbrev pieces : List ℕ → Bytes
+pieces [] = lineFeed ∷ []
+pieces (n ∷ ns) = (tab ∷ decimal n) ++ pieces ns
 
-opt : Bool → ℕ → Bytes
-opt t n = cond t (9 ∷ decimal n) []
+pieces-are : (ns : List ℕ) → pieces ns ≡ numbersText ns ++ (lineFeed ∷ [])
+unfolding numbersText behind
+pieces-are [] = refl
+pieces-are (n ∷ ns) = ap (λ (t : Bytes). (tab ∷ decimal n) ++ t) (pieces-are ns) ∙ sym (append-assoc (tab ∷ decimal n) (numbersText ns) (lineFeed ∷ []))
 
-five : (many x y z u v : ℕ) → many ≤ 5 → opt (ltb 0 many) x ++ (opt (ltb 1 many) y ++ (opt (ltb 2 many) z ++ (opt (ltb 3 many) u ++ opt (ltb 4 many) v))) ≡ numbersText (take many (x ∷ y ∷ z ∷ u ∷ v ∷ []))
-unfolding opt numbersText behind
-five zero x y z u v h = refl
-five (suc zero) x y z u v h = refl
-five (suc (suc zero)) x y z u v h = refl
-five (suc (suc (suc zero))) x y z u v h = refl
-five (suc (suc (suc (suc zero)))) x y z u v h = refl
-five (suc (suc (suc (suc (suc zero))))) x y z u v h = ap (λ (s : Bytes). (9 ∷ decimal x) ++ ((9 ∷ decimal y) ++ ((9 ∷ decimal z) ++ ((9 ∷ decimal u) ++ s)))) (sym (append-nil (9 ∷ decimal v)))
-five (suc (suc (suc (suc (suc (suc n)))))) x y z u v h = absurd (omega arith)
+pub ended : (ns : List ℕ) {g g′ : Page} → Puts (pieces ns) g g′ → Puts (numbersText ns ++ (lineFeed ∷ [])) g g′
+ended ns p = rw (← pieces-are ns) p
 
-two : (many x y : ℕ) (t : Bytes) → many ≤ 2 → opt (ltb 0 many) x ++ (opt (ltb 1 many) y ++ t) ≡ numbersText (take many (x ∷ y ∷ [])) ++ t
-unfolding opt numbersText behind
-two zero x y t h = refl
-two (suc zero) x y t h = rw (append-nil (decimal x))
-two (suc (suc zero)) x y t h = ap (λ (s : Bytes). (9 ∷ decimal x) ++ (s ++ t)) (sym (append-nil (9 ∷ decimal y))) ∙ sym (append-assoc (9 ∷ decimal x) ((9 ∷ decimal y) ++ []) t)
-two (suc (suc (suc n))) x y t h = absurd (omega arith)
+pub row : (k : ℕ) (ns : List ℕ) {g g′ : Page} → Puts (word k ++ pieces ns) g g′ → Puts (rowText k ns) g g′
+unfolding rowText
+row k ns p = rw (← pieces-are ns) p
 
-pub put-five : (many x y z u v : ℕ) {g g′ : Page} → many ≤ 5 → Puts (cond (ltb 0 many) (9 ∷ decimal x) [] ++ (cond (ltb 1 many) (9 ∷ decimal y) [] ++ (cond (ltb 2 many) (9 ∷ decimal z) [] ++ (cond (ltb 3 many) (9 ∷ decimal u) [] ++ cond (ltb 4 many) (9 ∷ decimal v) [])))) g g′ → Puts (numbersText (take many (x ∷ y ∷ z ∷ u ∷ v ∷ []))) g g′
-unfolding opt
-put-five many x y z u v h p = rw (← five many x y z u v h) p
-
-pub put-name : (k : ℕ) (name : Bytes) (many x y : ℕ) {g g′ : Page} → many ≤ 2 → Puts (word k ++ ((9 ∷ name) ++ (cond (ltb 0 many) (9 ∷ decimal x) [] ++ (cond (ltb 1 many) (9 ∷ decimal y) [] ++ (10 ∷ []))))) g g′ → Puts (namedText k name (take many (x ∷ y ∷ []))) g g′
-unfolding opt namedText
-put-name k name many x y h p = rw (← two many x y (10 ∷ []) h) p
+pub named : (k : ℕ) (name : Bytes) (ns : List ℕ) {g g′ : Page} → Puts (word k ++ ((tab ∷ name) ++ pieces ns)) g g′ → Puts (namedText k name ns) g g′
+unfolding namedText
+named k name ns p = rw (← pieces-are ns) p
 
 -- an input that is there, or not
-pub input-none : (there input : ℕ) {g g′ g″ : Page} → there ≡ 0 → Puts (9 ∷ []) g g′ → Puts (45 ∷ []) g′ g″ → Puts (9 ∷ spellOption (optionOf there input)) g g″
+pub input-none : (there input : ℕ) {g g′ g″ : Page} → there ≡ 0 → Puts (tab ∷ []) g g′ → Puts (45 ∷ []) g′ g″ → Puts (tab ∷ spellOption (optionOf there input)) g g″
 unfolding spellOption optionOf
 input-none there input e p q = rw e (p ⨾ q)
 
-pub input-there : (there input : ℕ) {g g′ : Page} → (there ≡ 0 → ⊥) → Puts (9 ∷ decimal input) g g′ → Puts (9 ∷ spellOption (optionOf there input)) g g′
+pub input-there : (there input : ℕ) {g g′ : Page} → (there ≡ 0 → ⊥) → Puts (tab ∷ decimal input) g g′ → Puts (tab ∷ spellOption (optionOf there input)) g g′
 unfolding spellOption optionOf
 input-there zero input z p = absurd (z refl)
 input-there (suc n) input z p = p

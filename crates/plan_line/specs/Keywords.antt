@@ -19,7 +19,159 @@ unfoldable pub word : ℕ → Bytes
 unfolding letters
 word k = slice (getD starts k 0) (getD starts (suc k) 0) letters
 
--- ── as numbers ──
+-- ── by number ──
+
+-- there are so many
+abbrev pub wordCount : ℕ
+wordCount = 46
+
+-- of the expressions that are the same in both sheets, in the order of their kinds of records
+abbrev pub nullWord : ℕ
+nullWord = 0
+
+abbrev pub boolWord : ℕ
+boolWord = 1
+
+abbrev pub intWord : ℕ
+intWord = 2
+
+abbrev pub floatWord : ℕ
+floatWord = 3
+
+abbrev pub strWord : ℕ
+strWord = 4
+
+abbrev pub paramWord : ℕ
+paramWord = 5
+
+abbrev pub propWord : ℕ
+propWord = 6
+
+abbrev pub indexWord : ℕ
+indexWord = 7
+
+abbrev pub sliceWord : ℕ
+sliceWord = 8
+
+abbrev pub listWord : ℕ
+listWord = 9
+
+abbrev pub binWord : ℕ
+binWord = 10
+
+abbrev pub unWord : ℕ
+unWord = 11
+
+abbrev pub caseWord : ℕ
+caseWord = 12
+
+abbrev pub isNullWord : ℕ
+isNullWord = 13
+
+abbrev pub inWord : ℕ
+inWord = 14
+
+-- of the other expressions
+abbrev pub varWord : ℕ
+varWord = 15
+
+abbrev pub mapWord : ℕ
+mapWord = 16
+
+abbrev pub fnWord : ℕ
+fnWord = 17
+
+abbrev pub existsWord : ℕ
+existsWord = 18
+
+abbrev pub listPredicateWord : ℕ
+listPredicateWord = 19
+
+-- of operators
+abbrev pub sourceWord : ℕ
+sourceWord = 20
+
+abbrev pub expandWord : ℕ
+expandWord = 21
+
+abbrev pub filterWord : ℕ
+filterWord = 22
+
+abbrev pub projectWord : ℕ
+projectWord = 23
+
+abbrev pub aggWord : ℕ
+aggWord = 24
+
+abbrev pub orderWord : ℕ
+orderWord = 25
+
+abbrev pub skipWord : ℕ
+skipWord = 26
+
+abbrev pub limitWord : ℕ
+limitWord = 27
+
+abbrev pub distinctWord : ℕ
+distinctWord = 28
+
+abbrev pub unwindWord : ℕ
+unwindWord = 29
+
+abbrev pub unionWord : ℕ
+unionWord = 30
+
+abbrev pub withWord : ℕ
+withWord = 31
+
+abbrev pub optionalWord : ℕ
+optionalWord = 32
+
+abbrev pub shortWord : ℕ
+shortWord = 33
+
+abbrev pub pathWord : ℕ
+pathWord = 34
+
+abbrev pub callWord : ℕ
+callWord = 35
+
+-- of the first line, and of what stands below operators
+abbrev pub planWord : ℕ
+planWord = 36
+
+abbrev pub relWord : ℕ
+relWord = 37
+
+abbrev pub toWord : ℕ
+toWord = 38
+
+abbrev pub itemWord : ℕ
+itemWord = 39
+
+abbrev pub aggFnWord : ℕ
+aggFnWord = 40
+
+abbrev pub keyWord : ℕ
+keyWord = 41
+
+abbrev pub elementWord : ℕ
+elementWord = 42
+
+abbrev pub variableWord : ℕ
+variableWord = 43
+
+abbrev pub nameWord : ℕ
+nameWord = 44
+
+abbrev pub yieldWord : ℕ
+yieldWord = 45
+
+-- the kind of the record whose keyword is the first
+abbrev pub sameFrom : ℕ
+sameFrom = 17
+
+-- ── as packed numbers ──
 
 -- the keywords as numbers, the first byte the lowest
 abbrev pub numbers : List ℕ

@@ -4,7 +4,7 @@ use mathlib.Core.List.{List, [], _∷_, _++_, map}
 use Rattle.model.specs.Text.{Bytes, tab, lineFeed, behind, decimal}
 use mathlib.Core.Option.{Option}
 use Rattle.model.specs.Field.{spellOption}
-use Rattle.plan_line.specs.Keywords.{word}
+use Rattle.plan_line.specs.Keywords.{word, relWord, callWord}
 
 unfoldable pub numbersText : List ℕ → Bytes
 numbersText ns = behind tab (map (λ n. decimal n) ns)
@@ -18,8 +18,8 @@ namedText k name ns = word k ++ ((tab ∷ name) ++ (numbersText ns ++ (lineFeed 
 
 -- a rel's types, direction, length (as a sheet spells it) and props
 unfoldable pub relText : ℕ → ℕ → Bytes → ℕ → Bytes
-relText types direction length props = word 37 ++ ((tab ∷ decimal types) ++ ((tab ∷ decimal direction) ++ ((tab ∷ length) ++ ((tab ∷ decimal props) ++ (lineFeed ∷ [])))))
+relText types direction length props = word relWord ++ ((tab ∷ decimal types) ++ ((tab ∷ decimal direction) ++ ((tab ∷ length) ++ ((tab ∷ decimal props) ++ (lineFeed ∷ [])))))
 
 -- a procedure's input or none, its name (as a sheet spells it), arguments, yields and whether it is optional
 unfoldable pub callText : Option ℕ → Bytes → ℕ → ℕ → ℕ → Bytes
-callText input name args yields optional = word 35 ++ ((tab ∷ spellOption input) ++ ((tab ∷ name) ++ (numbersText (args ∷ yields ∷ optional ∷ []) ++ (lineFeed ∷ []))))
+callText input name args yields optional = word callWord ++ ((tab ∷ spellOption input) ++ ((tab ∷ name) ++ (numbersText (args ∷ yields ∷ optional ∷ []) ++ (lineFeed ∷ []))))

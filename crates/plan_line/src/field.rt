@@ -5,12 +5,12 @@ ghost use mathlib.Core.List.{_∷_};
 ghost use Prim.Native.Nat.{_+_, _*_, _<_, _≤_};
 ghost use lib.ListN.{length};
 ghost use lib.Seq.{slice};
-ghost use Rattle.model.specs.Text.{decimal, signed, hexDigits};
+ghost use Rattle.model.specs.Text.{tab, decimal, signed, hexDigits};
 ghost use Rattle.output.specs.Page.{on, Puts};
 ghost use Rattle.words.specs.Words.{Roomy, part, intOf};
 ghost use Rattle.words.specs.Held.{Flag, Text};
 ghost use Rattle.words.specs.Table.{formOf, formsAt};
-ghost use Rattle.plan_line.specs.Keywords.{word};
+ghost use Rattle.plan_line.specs.Keywords.{word, wordCount};
 ghost use Rattle.plan_line.specs.Field.{plain, fieldText, fieldsText, Fielded, lineText};
 use words::table::form_code;
 
@@ -36,35 +36,35 @@ fn signed_of(low: u32, high: u32) -> i64
 
 // A number.
 pub fn put_number(plan: &mut [u8], out: usize, n: u32) -> usize
-    ensures { λ r. ⌜ Puts (9 ∷ decimal n) (on (now (plan .entry)) out) (on (now (plan .exit)) r) ⌝ }
+    ensures { λ r. ⌜ Puts (tab ∷ decimal n) (on (now (plan .entry)) out) (on (now (plan .exit)) r) ⌝ }
 {
     output::put_tabbed(plan, out, n as u64)
 }
 
 // A signed number.
 fn put_int(plan: &mut [u8], out: usize, low: u32, high: u32) -> usize
-    ensures { λ r. ⌜ Puts (9 ∷ signed (intOf low high)) (on (now (plan .entry)) out) (on (now (plan .exit)) r) ⌝ }
+    ensures { λ r. ⌜ Puts (tab ∷ signed (intOf low high)) (on (now (plan .entry)) out) (on (now (plan .exit)) r) ⌝ }
 {
     let n = signed_of(low, high);
-    let o = output::put_byte(plan, out, 9);
+    let o = output::put_byte(plan, out, b'\t');
     output::put_signed(plan, o, n)
 }
 
 // The bits of a float.
 fn put_float(plan: &mut [u8], out: usize, low: u32, high: u32) -> usize
-    ensures { λ r. ⌜ Puts (9 ∷ hexDigits 16 (high * 4294967296 + low)) (on (now (plan .entry)) out) (on (now (plan .exit)) r) ⌝ }
+    ensures { λ r. ⌜ Puts (tab ∷ hexDigits 16 (high * 4294967296 + low)) (on (now (plan .entry)) out) (on (now (plan .exit)) r) ⌝ }
 {
     let n = bits(low, high);
-    let o = output::put_byte(plan, out, 9);
+    let o = output::put_byte(plan, out, b'\t');
     output::put_hex(plan, o, n)
 }
 
 // A part of the sheet, which is spelled there as it is here.
 pub fn put_text(plan: &mut [u8], out: usize, sheet: &[u8], x: u32, y: u32) -> usize
     requires { ⌜ (x ≤ y) × (y ≤ length (now sheet)) ⌝ }
-    ensures { λ r. ⌜ Puts (9 ∷ slice x y (now (sheet .entry))) (on (now (plan .entry)) out) (on (now (plan .exit)) r) ⌝ }
+    ensures { λ r. ⌜ Puts (tab ∷ slice x y (now (sheet .entry))) (on (now (plan .entry)) out) (on (now (plan .exit)) r) ⌝ }
 {
-    let o = output::put_byte(plan, out, 9);
+    let o = output::put_byte(plan, out, b'\t');
     crate::keyword::put_within(plan, o, sheet, x as usize, y as usize)
 }
 
@@ -124,10 +124,10 @@ pub fn put_line(
 ) -> usize
     requires { ⌜ Roomy (now a) (now b) ⌝ }
     requires { ⌜ (i < 2048) × Fielded (now sheet) (now a) (now b) i kind ⌝ }
-    requires { ⌜ k < 46 ⌝ }
+    requires { ⌜ k < wordCount ⌝ }
     ensures { λ r. ⌜ Puts (lineText (word k) (now (sheet .entry)) (now (a .entry)) (now (b .entry)) i kind) (on (now (plan .entry)) out) (on (now (plan .exit)) r) ⌝ }
 {
     let o = crate::keyword::put_keyword(plan, out, k);
     let p = put_fields(plan, o, sheet, a, b, i, kind);
-    output::put_byte(plan, p, 10)
+    output::put_byte(plan, p, b'\n')
 }

@@ -4,59 +4,59 @@ ghost use Prim.Native.Nat.{_+_, _<_, _≤_};
 ghost use lib.ListN.{length, getD};
 ghost use lib.Seq.{slice, sets};
 ghost use Rattle.output.specs.Page.{on, Puts};
-ghost use Rattle.plan_line.specs.Keywords.{word, numbers, unpacked};
+ghost use Rattle.plan_line.specs.Keywords.{word, wordCount, numbers, unpacked};
 
 // Keyword k as one number, its first byte the lowest. A number and no byte string, since the compiler writes a byte string anew at each use and reads the arms of a match from constant data.
 fn keyword_number(k: usize) -> u64
-    requires { ⌜ k < 46 ⌝ }
+    requires { ⌜ k < wordCount ⌝ }
     ensures { λ r. ⌜ r ≡ getD numbers k 0 ⌝ }
 {
     match k {
-        0 => 0x6c6c756e, // null
-        1 => 0x6c6f6f62, // bool
-        2 => 0x746e69, // int
-        3 => 0x74616f6c66, // float
-        4 => 0x727473, // str
-        5 => 0x6d61726170, // param
-        6 => 0x706f7270, // prop
-        7 => 0x7865646e69, // index
-        8 => 0x6563696c73, // slice
-        9 => 0x7473696c, // list
-        10 => 0x6e6962, // bin
-        11 => 0x6e75, // un
-        12 => 0x65736163, // case
-        13 => 0x6c6c756e7369, // isnull
-        14 => 0x6e69, // in
-        15 => 0x726176, // var
-        16 => 0x70616d, // map
-        17 => 0x6e66, // fn
-        18 => 0x737473697865, // exists
-        19 => 0x707473696c, // listp
-        20 => 0x656372756f73, // source
-        21 => 0x646e61707865, // expand
-        22 => 0x7265746c6966, // filter
-        23 => 0x7463656a6f7270, // project
-        24 => 0x676761, // agg
-        25 => 0x726564726f, // order
-        26 => 0x70696b73, // skip
-        27 => 0x74696d696c, // limit
-        28 => 0x74636e6974736964, // distinct
-        29 => 0x646e69776e75, // unwind
-        30 => 0x6e6f696e75, // union
-        31 => 0x68746977, // with
-        32 => 0x6c616e6f6974706f, // optional
-        33 => 0x74726f6873, // short
-        34 => 0x68746170, // path
-        35 => 0x6c6c6163, // call
-        36 => 0x6e616c70, // plan
-        37 => 0x6c6572, // rel
-        38 => 0x6f74, // to
-        39 => 0x6d657469, // item
-        40 => 0x66676761, // aggf
-        41 => 0x79656b, // key
-        42 => 0x65, // e
-        43 => 0x76, // v
-        44 => 0x656d616e, // name
+        crate::word::NULL => 0x6c6c756e,
+        crate::word::BOOL => 0x6c6f6f62,
+        crate::word::INT => 0x746e69,
+        crate::word::FLOAT => 0x74616f6c66,
+        crate::word::STR => 0x727473,
+        crate::word::PARAM => 0x6d61726170,
+        crate::word::PROP => 0x706f7270,
+        crate::word::INDEX => 0x7865646e69,
+        crate::word::SLICE => 0x6563696c73,
+        crate::word::LIST => 0x7473696c,
+        crate::word::BIN => 0x6e6962,
+        crate::word::UN => 0x6e75,
+        crate::word::CASE => 0x65736163,
+        crate::word::IS_NULL => 0x6c6c756e7369,
+        crate::word::IN => 0x6e69,
+        crate::word::VAR => 0x726176,
+        crate::word::MAP => 0x70616d,
+        crate::word::FN => 0x6e66,
+        crate::word::EXISTS => 0x737473697865,
+        crate::word::LIST_PREDICATE => 0x707473696c,
+        crate::word::SOURCE => 0x656372756f73,
+        crate::word::EXPAND => 0x646e61707865,
+        crate::word::FILTER => 0x7265746c6966,
+        crate::word::PROJECT => 0x7463656a6f7270,
+        crate::word::AGG => 0x676761,
+        crate::word::ORDER => 0x726564726f,
+        crate::word::SKIP => 0x70696b73,
+        crate::word::LIMIT => 0x74696d696c,
+        crate::word::DISTINCT => 0x74636e6974736964,
+        crate::word::UNWIND => 0x646e69776e75,
+        crate::word::UNION => 0x6e6f696e75,
+        crate::word::WITH => 0x68746977,
+        crate::word::OPTIONAL => 0x6c616e6f6974706f,
+        crate::word::SHORT => 0x74726f6873,
+        crate::word::PATH => 0x68746170,
+        crate::word::CALL => 0x6c6c6163,
+        crate::word::PLAN => 0x6e616c70,
+        crate::word::REL => 0x6c6572,
+        crate::word::TO => 0x6f74,
+        crate::word::ITEM => 0x6d657469,
+        crate::word::AGG_FN => 0x66676761,
+        crate::word::KEY => 0x79656b,
+        crate::word::ELEMENT => 0x65,
+        crate::word::VARIABLE => 0x76,
+        crate::word::NAME => 0x656d616e,
         _ => 0x646c656979, // yield
     }
 }
@@ -128,7 +128,7 @@ pub fn put_within(plan: &mut [u8], out: usize, s: &[u8], from: usize, to: usize)
 
 // Keyword k.
 pub fn put_keyword(plan: &mut [u8], out: usize, k: usize) -> usize
-    requires { ⌜ k < 46 ⌝ }
+    requires { ⌜ k < wordCount ⌝ }
     ensures { λ r. ⌜ Puts (word k) (on (now (plan .entry)) out) (on (now (plan .exit)) r) ⌝ }
 {
     let w = keyword_number(k);

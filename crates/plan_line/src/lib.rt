@@ -2,3 +2,4 @@
 pub mod field;
 pub mod keyword;
 pub mod row;
+pub mod word;

@@ -1,83 +1,154 @@
 // Lines of numbers, and lines of a name and numbers.
-ghost use mathlib.Core.Bool.{cond};
-ghost use mathlib.Core.List.{[], _∷_};
+ghost use mathlib.Core.List.{[], _∷_, _++_};
 ghost use Prim.Native.Nat.{_<_, _≤_};
-ghost use lib.ListN.{length, take};
+ghost use lib.ListN.{length};
 ghost use lib.Seq.{slice};
-ghost use Rattle.model.specs.Text.{decimal};
+ghost use Rattle.model.specs.Text.{lineFeed};
 ghost use Rattle.output.specs.Page.{on, Puts};
+ghost use Rattle.plan_line.specs.Keywords.{wordCount};
 ghost use Rattle.plan_line.specs.Row.{numbersText, rowText, namedText};
+use crate::field::put_number;
+use crate::field::put_text;
+use crate::keyword::put_keyword;
+use output::put_byte;
 
-// A number, if there is one.
-fn put_if(plan: &mut [u8], out: usize, there: bool, n: u32) -> usize
-    ensures { λ r. ⌜ Puts (cond there (9 ∷ decimal n) []) (on (now (plan .entry)) out) (on (now (plan .exit)) r) ⌝ }
+// Keyword k alone.
+pub fn put_row0(plan: &mut [u8], out: usize, k: usize) -> usize
+    requires { ⌜ k < wordCount ⌝ }
+    ensures { λ r. ⌜ Puts (rowText k []) (on (now (plan .entry)) out) (on (now (plan .exit)) r) ⌝ }
 {
-    if there {
-        return crate::field::put_number(plan, out, n);
-    }
-    out
+    let o = put_keyword(plan, out, k);
+    put_byte(plan, o, b'\n')
 }
 
-// The first of five numbers, as many as there are.
-pub fn put_numbers(
-    plan: &mut [u8],
-    out: usize,
-    many: usize,
-    x: u32,
-    y: u32,
-    z: u32,
-    u: u32,
-    v: u32,
-) -> usize
-    requires { ⌜ many ≤ 5 ⌝ }
-    ensures { λ r. ⌜ Puts (numbersText (take many (x ∷ y ∷ z ∷ u ∷ v ∷ []))) (on (now (plan .entry)) out) (on (now (plan .exit)) r) ⌝ }
+// Keyword k and a number.
+pub fn put_row1(plan: &mut [u8], out: usize, k: usize, x: u32) -> usize
+    requires { ⌜ k < wordCount ⌝ }
+    ensures { λ r. ⌜ Puts (rowText k (x ∷ [])) (on (now (plan .entry)) out) (on (now (plan .exit)) r) ⌝ }
 {
-    let o = put_if(plan, out, 0 < many, x);
-    let p = put_if(plan, o, 1 < many, y);
-    let q = put_if(plan, p, 2 < many, z);
-    let r = put_if(plan, q, 3 < many, u);
-    put_if(plan, r, 4 < many, v)
+    let o = put_keyword(plan, out, k);
+    let p = put_number(plan, o, x);
+    put_byte(plan, p, b'\n')
 }
 
-// Keyword k and numbers.
-pub fn put_row(
+// Keyword k and two numbers.
+pub fn put_row2(plan: &mut [u8], out: usize, k: usize, x: u32, y: u32) -> usize
+    requires { ⌜ k < wordCount ⌝ }
+    ensures { λ r. ⌜ Puts (rowText k (x ∷ y ∷ [])) (on (now (plan .entry)) out) (on (now (plan .exit)) r) ⌝ }
+{
+    let o = put_keyword(plan, out, k);
+    let p = put_number(plan, o, x);
+    let q = put_number(plan, p, y);
+    put_byte(plan, q, b'\n')
+}
+
+// Three numbers, and the end of the line.
+pub fn put_end3(plan: &mut [u8], out: usize, x: u32, y: u32, z: u32) -> usize
+    ensures { λ r. ⌜ Puts (numbersText (x ∷ y ∷ z ∷ []) ++ (lineFeed ∷ [])) (on (now (plan .entry)) out) (on (now (plan .exit)) r) ⌝ }
+{
+    let o = put_number(plan, out, x);
+    let p = put_number(plan, o, y);
+    let q = put_number(plan, p, z);
+    put_byte(plan, q, b'\n')
+}
+
+// Keyword k and three numbers.
+pub fn put_row3(plan: &mut [u8], out: usize, k: usize, x: u32, y: u32, z: u32) -> usize
+    requires { ⌜ k < wordCount ⌝ }
+    ensures { λ r. ⌜ Puts (rowText k (x ∷ y ∷ z ∷ [])) (on (now (plan .entry)) out) (on (now (plan .exit)) r) ⌝ }
+{
+    let o = put_keyword(plan, out, k);
+    let p = put_number(plan, o, x);
+    let q = put_number(plan, p, y);
+    let r = put_number(plan, q, z);
+    put_byte(plan, r, b'\n')
+}
+
+// Keyword k and four numbers.
+pub fn put_row4(plan: &mut [u8], out: usize, k: usize, x: u32, y: u32, z: u32, u: u32) -> usize
+    requires { ⌜ k < wordCount ⌝ }
+    ensures { λ r. ⌜ Puts (rowText k (x ∷ y ∷ z ∷ u ∷ [])) (on (now (plan .entry)) out) (on (now (plan .exit)) r) ⌝ }
+{
+    let o = put_keyword(plan, out, k);
+    let p = put_number(plan, o, x);
+    let q = put_number(plan, p, y);
+    let r = put_number(plan, q, z);
+    let s = put_number(plan, r, u);
+    put_byte(plan, s, b'\n')
+}
+
+// Keyword k and five numbers.
+pub fn put_row5(
     plan: &mut [u8],
     out: usize,
     k: usize,
-    many: usize,
     x: u32,
     y: u32,
     z: u32,
     u: u32,
     v: u32,
 ) -> usize
-    requires { ⌜ (k < 46) × (many ≤ 5) ⌝ }
-    ensures { λ r. ⌜ Puts (rowText k (take many (x ∷ y ∷ z ∷ u ∷ v ∷ []))) (on (now (plan .entry)) out) (on (now (plan .exit)) r) ⌝ }
+    requires { ⌜ k < wordCount ⌝ }
+    ensures { λ r. ⌜ Puts (rowText k (x ∷ y ∷ z ∷ u ∷ v ∷ [])) (on (now (plan .entry)) out) (on (now (plan .exit)) r) ⌝ }
 {
-    let o = crate::keyword::put_keyword(plan, out, k);
-    let p = put_numbers(plan, o, many, x, y, z, u, v);
-    output::put_byte(plan, p, 10)
+    let o = put_keyword(plan, out, k);
+    let p = put_number(plan, o, x);
+    let q = put_number(plan, p, y);
+    let r = put_number(plan, q, z);
+    let s = put_number(plan, r, u);
+    let t = put_number(plan, s, v);
+    put_byte(plan, t, b'\n')
 }
 
-// Keyword k, a part of the sheet, and numbers.
-pub fn put_named(
+// Keyword k and a part of the sheet.
+pub fn put_named0(plan: &mut [u8], out: usize, k: usize, sheet: &[u8], s: u32, e: u32) -> usize
+    requires { ⌜ k < wordCount ⌝ }
+    requires { ⌜ (s ≤ e) × (e ≤ length (now sheet)) ⌝ }
+    ensures { λ r. ⌜ Puts (namedText k (slice s e (now (sheet .entry))) []) (on (now (plan .entry)) out) (on (now (plan .exit)) r) ⌝ }
+{
+    let o = put_keyword(plan, out, k);
+    let p = put_text(plan, o, sheet, s, e);
+    put_byte(plan, p, b'\n')
+}
+
+// Keyword k, a part of the sheet and a number.
+pub fn put_named1(
     plan: &mut [u8],
     out: usize,
     k: usize,
     sheet: &[u8],
     s: u32,
     e: u32,
-    many: usize,
+    x: u32,
+) -> usize
+    requires { ⌜ k < wordCount ⌝ }
+    requires { ⌜ (s ≤ e) × (e ≤ length (now sheet)) ⌝ }
+    ensures { λ r. ⌜ Puts (namedText k (slice s e (now (sheet .entry))) (x ∷ [])) (on (now (plan .entry)) out) (on (now (plan .exit)) r) ⌝ }
+{
+    let o = put_keyword(plan, out, k);
+    let p = put_text(plan, o, sheet, s, e);
+    let q = put_number(plan, p, x);
+    put_byte(plan, q, b'\n')
+}
+
+// Keyword k, a part of the sheet and two numbers.
+pub fn put_named2(
+    plan: &mut [u8],
+    out: usize,
+    k: usize,
+    sheet: &[u8],
+    s: u32,
+    e: u32,
     x: u32,
     y: u32,
 ) -> usize
-    requires { ⌜ (k < 46) × (many ≤ 2) ⌝ }
+    requires { ⌜ k < wordCount ⌝ }
     requires { ⌜ (s ≤ e) × (e ≤ length (now sheet)) ⌝ }
-    ensures { λ r. ⌜ Puts (namedText k (slice s e (now (sheet .entry))) (take many (x ∷ y ∷ []))) (on (now (plan .entry)) out) (on (now (plan .exit)) r) ⌝ }
+    ensures { λ r. ⌜ Puts (namedText k (slice s e (now (sheet .entry))) (x ∷ y ∷ [])) (on (now (plan .entry)) out) (on (now (plan .exit)) r) ⌝ }
 {
-    let o = crate::keyword::put_keyword(plan, out, k);
-    let p = crate::field::put_text(plan, o, sheet, s, e);
-    let q = put_if(plan, p, 0 < many, x);
-    let r = put_if(plan, q, 1 < many, y);
-    output::put_byte(plan, r, 10)
+    let o = put_keyword(plan, out, k);
+    let p = put_text(plan, o, sheet, s, e);
+    let q = put_number(plan, p, x);
+    let r = put_number(plan, q, y);
+    put_byte(plan, r, b'\n')
 }

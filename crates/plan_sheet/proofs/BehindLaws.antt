@@ -1,14 +1,13 @@
 -- What stands behind an operator's first line: its expressions by their number and place, then its labels, path or yields. Assumes nothing: every law is proved.
 use mathlib.Core.Path.{_≡_, refl, sym, ap, subst, _∙_}
 use Prim.Native.Nat.{ℕ, suc, _+_, _-_, _≤_, _<_}
-use native.Mathlib.Numerals.{add-one}
 use native.Mathlib.Omega.{arith}
 use mathlib.Core.Bool.{false}
 use mathlib.Core.List.{List, [], _∷_, _++_, append-nil}
 use mathlib.Core.Option.{none, some}
 use borrow.Author.Tests.{ne-eqb, eqb-false}
 use lib.Dec.{eqb}
-use lib.ListN.{length, getD}
+use lib.ListN.{length}
 use lib.Seq.{slice}
 use Rattle.model.specs.Text.{Bytes, bytes, bytesFrom}
 use Rattle.model.specs.Field.{Fields, text, spell, spellFields}
@@ -22,10 +21,11 @@ use Rattle.words.specs.Words.{Roomy, cell, fieldOf, fieldsOf}
 use Rattle.words.specs.Held.{Held, HeldOf, RecordAt, PlaceAt, size}
 use Rattle.words.specs.Cells.{shown}
 use Rattle.context.specs.Tables.{opAt}
+use Rattle.context.specs.Read.{noteOf}
 use Rattle.context.specs.declared.op.Op.{Op}
 use Rattle.lower.specs.Render.{Notes, Ops, render, renderOf, recsOver, Below, keptFrom}
 use Rattle.lower.specs.Shows.{shift, Shows, OverExpr, ByLabels, ByPath, ByWith, ByCall, shows-all, shows-source, shows-filter, shows-expand, shows-short, shows-path, shows-optional, shows-with, shows-project, shows-aggregate, shows-order, shows-skip, shows-limit, shows-distinct, shows-unwind, shows-union, shows-call}
-use Rattle.plan_line.specs.Keywords.{word, letters}
+use Rattle.plan_line.specs.Keywords.{word, letters, yieldWord}
 use Rattle.plan_line.specs.Row.{namedText}
 use Rattle.plan_sheet.specs.Due.{noted, Planned, Names, namesRecs, Carried, carriedRecs, carriedEnd, Many, WroteMany, WroteFirst}
 use Rattle.plan_sheet.specs.Path.{Elements, WrotePath}
@@ -54,13 +54,13 @@ next-at kind x c d e f g = rw (ne-eqb kind 2 c, ne-eqb kind 10 d, ne-eqb kind 11
 yield-place : {sheet : Bytes} {a b : List ℕ} {i : ℕ} {f : Fields (forms yieldItem tt)} → Roomy a b → RecordAt sheet a b i yieldItem tt f → PlaceAt text sheet (cell a b i 2) (cell a b i 3)
 yield-place room h = texts-at room h .0
 
-yield-line : {sheet : Bytes} {a b : List ℕ} {i : ℕ} (n : ℕ) {f : Fields (forms yieldItem tt)} → Roomy a b → RecordAt sheet a b i yieldItem tt f → spellRec (rec yieldItem tt (f .0, (n, tt))) ≡ namedText 45 (slice (cell a b i 2) (cell a b i 3) sheet) (n ∷ [])
+yield-line : {sheet : Bytes} {a b : List ℕ} {i : ℕ} (n : ℕ) {f : Fields (forms yieldItem tt)} → Roomy a b → RecordAt sheet a b i yieldItem tt f → spellRec (rec yieldItem tt (f .0, (n, tt))) ≡ namedText yieldWord (slice (cell a b i 2) (cell a b i 3) sheet) (n ∷ [])
 unfolding keyword word letters bytes bytesFrom spellFields spell fieldsOf fieldOf
-yield-line {sheet} {a} {b} {i} n room h = named-rec _ 45 (slice (cell a b i 2) (cell a b i 3) sheet) (n ∷ []) refl (rw (shown room h .fields) (rw (place-escape (yield-place room h))))
+yield-line {sheet} {a} {b} {i} n room h = named-rec _ yieldWord (slice (cell a b i 2) (cell a b i 3) sheet) (n ∷ []) refl (rw (shown room h .fields) (rw (place-escape (yield-place room h))))
 
-pub yield-in : {sheet : Bytes} {a b : List ℕ} {n i : ℕ} → Roomy a b → (n ≡ 0 → ⊥) → Yields sheet a b n i → (cell a b i 2 ≤ cell a b i 3) × (cell a b i 3 ≤ length sheet)
-yield-in room z no-yields = absurd (z refl)
-yield-in room z (yield-more f h c) = let p = yield-place room h in (p .from, p .to)
+pub yield-in : {sheet : Bytes} {a b : List ℕ} {n i s e : ℕ} → Roomy a b → s ≡ cell a b i 2 → e ≡ cell a b i 3 → (n ≡ 0 → ⊥) → Yields sheet a b n i → (s ≤ e) × (e ≤ length sheet)
+yield-in room p q z no-yields = absurd (z refl)
+yield-in room p q z (yield-more f h c) = let y = yield-place room h in rw (p, q) (y .from, y .to)
 
 pub yield-low : {sheet : Bytes} {a b : List ℕ} {n i : ℕ} → (n ≡ 0 → ⊥) → Yields sheet a b n i → i < 2048
 yield-low z no-yields = absurd (z refl)
@@ -83,23 +83,23 @@ no-more rest base z no-yields = refl
 no-more rest base {m = suc m} z (yield-more f h c) = let e : suc m ≡ 0 = z in absurd (omega arith)
 
 module _ {sheet : Bytes} {a b rest : List ℕ} {base : ℕ} where
-  yields-step : {n i m at number : ℕ} {start p q : Page} (h : Yields sheet a b n i) → Roomy a b → (m ≡ 0 → ⊥) → (others : Yields sheet a b m at) → ((q : Page) → Puts (spellRecs (yieldsRecs (shift (noted rest) base) others)) p q → Puts (spellRecs (yieldsRecs (shift (noted rest) base) h)) start q) → number ≡ getD rest (base + (at + 1)) 0 → Puts (namedText 45 (slice (cell a b at 2) (cell a b at 3) sheet) (number ∷ [])) p q → YieldsStill rest base h start (m - 1) (at + 1) q
+  yields-step : {n i m at number : ℕ} {start p q : Page} (h : Yields sheet a b n i) → Roomy a b → (m ≡ 0 → ⊥) → (others : Yields sheet a b m at) → ((q : Page) → Puts (spellRecs (yieldsRecs (shift (noted rest) base) others)) p q → Puts (spellRecs (yieldsRecs (shift (noted rest) base) h)) start q) → number ≡ noteOf rest base at → Puts (namedText yieldWord (slice (cell a b at 2) (cell a b at 3) sheet) (number ∷ [])) p q → YieldsStill rest base h start (m - 1) (at + 1) q
   unfolding yieldsRecs spellRecs
   yields-step h room z no-yields far e w = absurd (z refl)
   yields-step {m = suc m} {at} {number} h room z (yield-more f r c) far e w =
       let d : suc m - 1 ≡ m = omega arith in
-      let noted-is : shift (noted rest) base (suc at) ≡ number = rw (← add-one at) (sym e) in
       let put = rw (← yield-line number room r) at w in
-      rw d (record { others = c; text = λ q v. far q (rw noted-is (put ⨾ v)) })
+      rw d (record { others = c; text = λ q v. far q (rw (← e) (put ⨾ v)) })
 
   pub yields-going : {n i : ℕ} {p : Page} → Yields sheet a b n i → YieldsGoing sheet a b rest base n i p n i p
   yields-going h = record { some = h; each = λ h. record { others = h; text = λ q r. r }; long = refl }
 
-  pub yields-again : {n i m at number : ℕ} {start p q : Page} → Roomy a b → (m ≡ 0 → ⊥) → YieldsGoing sheet a b rest base n i start m at p → number ≡ getD rest (base + (at + 1)) 0 → Puts (namedText 45 (slice (cell a b at 2) (cell a b at 3) sheet) (number ∷ [])) p q → length (q .bytes) ≡ length (p .bytes) → YieldsGoing sheet a b rest base n i start (m - 1) (at + 1) q
-  yields-again room z g e w l =
+  pub yields-again : {n i m at s e number : ℕ} {start p q : Page} → Roomy a b → (m ≡ 0 → ⊥) → YieldsGoing sheet a b rest base n i start m at p → s ≡ cell a b at 2 → e ≡ cell a b at 3 → number ≡ noteOf rest base at → Puts (namedText yieldWord (slice s e sheet) (number ∷ [])) p q → length (q .bytes) ≡ length (p .bytes) → YieldsGoing sheet a b rest base n i start (m - 1) (at + 1) q
+  yields-again {at = at} {number = number} {p = p} {q = q} room z g x y e w l =
+      let line : Puts (namedText yieldWord (slice (cell a b at 2) (cell a b at 3) sheet) (number ∷ [])) p q = rw (x, y) at w in
       record {
-        some = yields-step (g .some) room z (g .some) (λ q r. r) e w .others;
-        each = λ h. let s = g .each h in yields-step h room z (s .others) (s .text) e w;
+        some = yields-step (g .some) room z (g .some) (λ q r. r) e line .others;
+        each = λ h. let s = g .each h in yields-step h room z (s .others) (s .text) e line;
         long = l ∙ g .long;
       }
 
@@ -146,11 +146,11 @@ module _ {sheet : Bytes} {a b rest : List ℕ} {o : Op} {i : ℕ} where
   pub labels-there : {n : ℕ} → o .kind ≡ 1 → n ≡ cell a b (o .idx) 4 → SomeTail sheet a b rest o i → Names sheet a b n i
   labels-there e q s = rw q (tail-labels e (s .tail))
 
-  pub path-there : {n : ℕ} → o .kind ≡ 5 → n ≡ cell a b (o .idx) 6 → SomeTail sheet a b rest o i → Elements sheet a b n i
-  path-there e q s = rw q (tail-path e (s .tail))
+  pub path-there : o .kind ≡ 5 → SomeTail sheet a b rest o i → Elements sheet a b (cell a b (o .idx) 6) i
+  path-there e s = tail-path e (s .tail)
 
-  pub yields-there : {n : ℕ} → o .kind ≡ 16 → n ≡ cell a b (o .idx) 6 → SomeTail sheet a b rest o i → Yields sheet a b n i
-  yields-there e q s = rw q (tail-yields e (s .tail))
+  pub yields-there : o .kind ≡ 16 → SomeTail sheet a b rest o i → Yields sheet a b (cell a b (o .idx) 6) i
+  yields-there e s = tail-yields e (s .tail)
 
   module _ {g g′ : Page} where
     labels-put : {recs : Recs} → o .kind ≡ 1 → Tail sheet a b rest o i recs → ((h : Names sheet a b (cell a b (o .idx) 4) i) → Puts (spellRecs (namesRecs h)) g g′) → Puts (spellRecs recs) g g′
@@ -176,11 +176,11 @@ module _ {sheet : Bytes} {a b rest : List ℕ} {o : Op} {i : ℕ} where
         let v : (h : Names sheet a b (cell a b (o .idx) 4) i) → (next ≡ i + cell a b (o .idx) 4) × Puts (spellRecs (namesRecs h)) g g′ = rw q at w in
         labels-put e t (λ h. v h .1)
 
-    pub path-wrote : {n : ℕ} → o .kind ≡ 5 → n ≡ cell a b (o .idx) 6 → WrotePath sheet a b rest (o .base) n i g g′ → WroteTail sheet a b rest o i g g′
-    path-wrote e q w recs t = let v : WrotePath sheet a b rest (o .base) (cell a b (o .idx) 6) i g g′ = rw q at w in path-put e t v
+    pub path-wrote : o .kind ≡ 5 → WrotePath sheet a b rest (o .base) (cell a b (o .idx) 6) i g g′ → WroteTail sheet a b rest o i g g′
+    path-wrote e w recs t = path-put e t w
 
-    pub yields-wrote : {n : ℕ} → o .kind ≡ 16 → n ≡ cell a b (o .idx) 6 → WroteYields sheet a b rest (o .base) n i g g′ → WroteTail sheet a b rest o i g g′
-    yields-wrote e q w recs t = let v : WroteYields sheet a b rest (o .base) (cell a b (o .idx) 6) i g g′ = rw q at w in yields-put e t v
+    pub yields-wrote : o .kind ≡ 16 → WroteYields sheet a b rest (o .base) (cell a b (o .idx) 6) i g g′ → WroteTail sheet a b rest o i g g′
+    yields-wrote e w recs t = yields-put e t w
 
   pub nothing-wrote : {g : Page} → (o .kind ≡ 1 → ⊥) → (o .kind ≡ 5 → ⊥) → (o .kind ≡ 16 → ⊥) → WroteTail sheet a b rest o i g g
   unfolding spellRecs

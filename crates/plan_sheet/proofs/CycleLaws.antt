@@ -1,12 +1,10 @@
 -- How the writers of expressions and elements call each other. Assumes nothing: every law is proved.
-use mathlib.Core.Path.{_≡_, sym, _∙_}
+use mathlib.Core.Path.{_≡_, _∙_}
 use Prim.Native.Nat.{ℕ, suc, _+_, _-_, _<_}
-use native.Mathlib.Numerals.{add-one}
 use native.Mathlib.Omega.{arith}
 use mathlib.Core.Bool.{cond}
 use mathlib.Core.List.{List, _∷_}
 use lib.Dec.{eqb}
-use lib.ListN.{getD}
 use Rattle.model.specs.Text.{Bytes}
 use Rattle.model.specs.Kind.{expr}
 use Rattle.model.specs.Record.{spellRec, spellRecs}
@@ -14,16 +12,17 @@ use Rattle.output.specs.Page.{Page, Puts}
 use Rattle.output.specs.Writes.{_⨾_}
 use Rattle.words.specs.Words.{Roomy, cell}
 use Rattle.words.specs.Held.{size}
+use Rattle.context.specs.Read.{noteOf}
 use Rattle.lower.specs.Render.{render, specRec}
 use Rattle.lower.specs.Shows.{shift}
-use Rattle.lower.specs.Count.{countAt, Starts, Ends}
-use Rattle.plan_sheet.specs.Due.{noted, Planned, SomePlan, exprHead, ExprAt, ElementAt, One, oneText, Many, Element, elementText, Names, namesRecs, carriedRecs, WroteMany, WroteOp}
+use Rattle.words.specs.Count.{countAt, Starts, Ends}
+use Rattle.plan_sheet.specs.Due.{noted, Near, Planned, SomePlan, exprHead, ExprAt, ElementAt, One, oneText, Many, Element, elementText, Names, namesRecs, carriedRecs, WroteMany, WroteOp}
 use Rattle.plan_sheet.proofs.DueLaws.{expr-of, planned-less, spell-append}
 use Rattle.plan_sheet.proofs.PartLaws.{Parts, parts, Copy, copied, deep, propsAt, ElementParts, element-parts}
 
--- a note at a record, as the code finds its place
-note-at : (rest : List ℕ) (base i n : ℕ) → n ≡ getD rest (base + (i + 1)) 0 → shift (noted rest) base (suc i) ≡ n
-note-at rest base i n e = rw (← add-one i) (sym e)
+-- one level down
+pub nearer : {base left : ℕ} → Near base left → Near base (left - 1)
+nearer h = record { near = h .near; shallow = omega (arith, h .shallow) }
 
 -- ── expressions ──
 
@@ -41,13 +40,13 @@ module _ {sheet : Bytes} {a b os rest : List ℕ} {below base left i : ℕ} wher
   starts h = record { sheet = sheet; sort = expr; depth = left; tree = h .tree; inner = tt; held = h .held }
 
   -- a pattern: the operator that it copies
-  module _ (room : Roomy a b) {n : ℕ} (e : cell a b i 0 ≡ 35) (noted-is : n ≡ getD rest (base + (i + 1)) 0) (h : One sheet a b os rest below base left i) where
+  module _ (room : Roomy a b) {n : ℕ} (e : cell a b i 0 ≡ 35) (noted-is : n ≡ noteOf rest base i) (h : One sheet a b os rest below base left i) where
     copy-of : Copy (shift (noted rest) base) below i (h .tree) (one-at h)
     unfolding one-at
     copy-of = copied (shift (noted rest) base) below left i room (h .tree) (h .held) (h .under) e
 
     pub copy-low : n < below
-    copy-low = rw (note-at rest base i n noted-is) at (copy-of .low)
+    copy-low = rw (← noted-is) at (copy-of .low)
 
     copy-planned : Planned sheet a b os rest (n + 1) (h .ops)
     copy-planned = planned-less (omega (arith, copy-low)) (h .planned)
@@ -58,7 +57,7 @@ module _ {sheet : Bytes} {a b os rest : List ℕ} {below base left i : ℕ} wher
     pub copy-wrote : {p q r : Page} {next : ℕ} → ((x : ExprAt sheet a b i) → Puts (spellRec (exprHead n (x .kind) (x .fields))) p q) → WroteOp sheet a b os rest n q r → Ends a b i next → (next ≡ i + size (h .tree)) × Puts (oneText h) p r
     unfolding spellRecs
     copy-wrote {p} {q} {r} {next} head op ends =
-        let recs : render (shift (noted rest) base) (h .ops) (h .tree) ≡ exprHead n (one-at h .kind) (one-at h .fields) ∷ h .ops n = rw (note-at rest base i n noted-is) at (copy-of .recs (h .ops)) in
+        let recs : render (shift (noted rest) base) (h .ops) (h .tree) ≡ exprHead n (one-at h .kind) (one-at h .fields) ∷ h .ops n = rw (← noted-is) at (copy-of .recs (h .ops)) in
         (ends .each sheet expr left (h .tree) tt (h .held), rw recs (head (one-at h) ⨾ op (h .ops) copy-planned))
 
   -- any other: what is below it
@@ -70,11 +69,11 @@ module _ {sheet : Bytes} {a b os rest : List ℕ} {below base left i : ℕ} wher
     pub kids : Many sheet a b os rest below base (left - 1) m (i + 1)
     kids = record { ops = h .ops; planned = h .planned; list = kid-parts .list }
 
-    pub kids-wrote : {n : ℕ} {p q r : Page} {next : ℕ} → n ≡ getD rest (base + (i + 1)) 0 → ((x : ExprAt sheet a b i) → Puts (spellRec (exprHead n (x .kind) (x .fields))) p q) → WroteMany sheet a b os rest below base (left - 1) m (i + 1) q next r → (next ≡ i + size (h .tree)) × Puts (oneText h) p r
+    pub kids-wrote : {n : ℕ} {p q r : Page} {next : ℕ} → n ≡ noteOf rest base i → ((x : ExprAt sheet a b i) → Puts (spellRec (exprHead n (x .kind) (x .fields))) p q) → WroteMany sheet a b os rest below base (left - 1) m (i + 1) q next r → (next ≡ i + size (h .tree)) × Puts (oneText h) p r
     unfolding kids spellRecs
     kids-wrote {n} {p} {q} {r} {next} noted-is head many =
         let k = kid-parts in
-        let recs : render (shift (noted rest) base) (h .ops) (h .tree) ≡ exprHead n (one-at h .kind) (one-at h .fields) ∷ carriedRecs (h .ops) (k .list) = rw (note-at rest base i n noted-is) at (k .recs (h .ops)) in
+        let recs : render (shift (noted rest) base) (h .ops) (h .tree) ≡ exprHead n (one-at h .kind) (one-at h .fields) ∷ carriedRecs (h .ops) (k .list) = rw (← noted-is) at (k .recs (h .ops)) in
         let w = many kids in
         (w .0 ∙ k .stop, rw recs (head (one-at h) ⨾ w .1))
 

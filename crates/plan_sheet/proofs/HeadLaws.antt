@@ -21,9 +21,9 @@ use Rattle.words.specs.Held.{RecordAt, Texts, PlaceAt}
 use Rattle.words.specs.Table.{sorts, sortOf}
 use Rattle.words.specs.TableLaws.{Row, tabled, kind-row, code-row}
 use Rattle.words.specs.Cells.{cells, part-cells, shown, numbered, number-of}
-use Rattle.lower.proofs.Counting.{inner-number, innerNumber}
+use Rattle.words.proofs.Counting.{inner-number, innerNumber}
 use Rattle.words.specs.Numbers.{sameNumber, exprNumber}
-use Rattle.plan_line.specs.Keywords.{word, letters}
+use Rattle.plan_line.specs.Keywords.{word, letters, varWord, existsWord, nullWord, listPredicateWord, fnWord, mapWord, nameWord, keyWord, sameFrom, wordCount}
 use Rattle.plan_line.specs.Field.{plain, allPlain, fieldsText, Fielded, lineText}
 use Rattle.plan_line.specs.Row.{rowText, namedText}
 use Rattle.plan_sheet.specs.Due.{exprHead, ExprAt, ItemAt, namedRec, itemName, Line}
@@ -62,7 +62,7 @@ pub record SameRow (h : Same) : Type 0 where
   pub from : 17 ≤ sameNumber h
   pub to : sameNumber h ≤ 31
   pub plain : allPlain (sameForms h) ≡ true
-  pub keyword : word (sameNumber h - 17) ≡ sameKeyword h
+  pub keyword : word (sameNumber h - sameFrom) ≡ sameKeyword h
 
 pub same-row : (h : Same) → SameRow h
 unfolding sameNumber allPlain plain word letters bytes bytesFrom sameKeyword
@@ -96,7 +96,7 @@ expr-from Expr.Undesugared = omega arith
 -- a line by its row, behind keyword k
 pub record Lined (sheet : Bytes) (a b : List ℕ) (i kind k : ℕ) (r : Rec) : Type 0 where
   pub fields : Fielded sheet a b i kind
-  pub low : k < 46
+  pub low : k < wordCount
   pub is : lineText (word k) sheet a b i kind ≡ spellRec r
 
 -- ── expressions ──
@@ -117,31 +117,31 @@ module _ {sheet : Bytes} {a b : List ℕ} {i : ℕ} (room : Roomy a b) where
   kind-is h n k e q = Option·some-injective _ _ (sym q ∙ rw e at (shown room (h .at) .kind))
 
   module _ (n : ℕ) (h : ExprAt sheet a b i) where
-    pub var-head : cell a b i 0 ≡ 32 → spellRec (exprHead n (h .kind) (h .fields)) ≡ rowText 15 (n ∷ [])
+    pub var-head : cell a b i 0 ≡ 32 → spellRec (exprHead n (h .kind) (h .fields)) ≡ rowText varWord (n ∷ [])
     unfolding kindOf firstKind nth kinds sames exprHead keyword planKeyword planExprKeyword word letters bytes bytesFrom spellFields spell
-    var-head e = at-kind Expr.Var (h .kind) (λ k f. spellRec (exprHead n k f) ≡ rowText 15 (n ∷ [])) (kind-is h 32 Expr.Var e refl) (λ f. row-rec _ 15 (n ∷ []) refl refl) (h .fields)
+    var-head e = at-kind Expr.Var (h .kind) (λ k f. spellRec (exprHead n k f) ≡ rowText varWord (n ∷ [])) (kind-is h 32 Expr.Var e refl) (λ f. row-rec _ varWord (n ∷ []) refl refl) (h .fields)
 
-    pub exists-head : cell a b i 0 ≡ 35 → spellRec (exprHead n (h .kind) (h .fields)) ≡ rowText 18 []
+    pub exists-head : cell a b i 0 ≡ 35 → spellRec (exprHead n (h .kind) (h .fields)) ≡ rowText existsWord []
     unfolding kindOf firstKind nth kinds sames exprHead keyword planKeyword planExprKeyword word letters bytes bytesFrom spellFields spell
-    exists-head e = at-kind Expr.PatternPredicate (h .kind) (λ k f. spellRec (exprHead n k f) ≡ rowText 18 []) (kind-is h 35 Expr.PatternPredicate e refl) (λ f. row-rec _ 18 [] refl refl) (h .fields)
+    exists-head e = at-kind Expr.PatternPredicate (h .kind) (λ k f. spellRec (exprHead n k f) ≡ rowText existsWord []) (kind-is h 35 Expr.PatternPredicate e refl) (λ f. row-rec _ existsWord [] refl refl) (h .fields)
 
-    pub unresolved-head : cell a b i 0 ≡ 37 → spellRec (exprHead n (h .kind) (h .fields)) ≡ rowText 0 []
+    pub unresolved-head : cell a b i 0 ≡ 37 → spellRec (exprHead n (h .kind) (h .fields)) ≡ rowText nullWord []
     unfolding kindOf firstKind nth kinds sames exprHead keyword planKeyword planExprKeyword sameKeyword word letters bytes bytesFrom spellFields spell
-    unresolved-head e = at-kind Expr.Unresolved (h .kind) (λ k f. spellRec (exprHead n k f) ≡ rowText 0 []) (kind-is h 37 Expr.Unresolved e refl) (λ f. row-rec _ 0 [] refl refl) (h .fields)
+    unresolved-head e = at-kind Expr.Unresolved (h .kind) (λ k f. spellRec (exprHead n k f) ≡ rowText nullWord []) (kind-is h 37 Expr.Unresolved e refl) (λ f. row-rec _ nullWord [] refl refl) (h .fields)
 
-    pub undesugared-head : cell a b i 0 ≡ 38 → spellRec (exprHead n (h .kind) (h .fields)) ≡ rowText 0 []
+    pub undesugared-head : cell a b i 0 ≡ 38 → spellRec (exprHead n (h .kind) (h .fields)) ≡ rowText nullWord []
     unfolding kindOf firstKind nth kinds sames exprHead keyword planKeyword planExprKeyword sameKeyword word letters bytes bytesFrom spellFields spell
-    undesugared-head e = at-kind Expr.Undesugared (h .kind) (λ k f. spellRec (exprHead n k f) ≡ rowText 0 []) (kind-is h 38 Expr.Undesugared e refl) (λ f. row-rec _ 0 [] refl refl) (h .fields)
+    undesugared-head e = at-kind Expr.Undesugared (h .kind) (λ k f. spellRec (exprHead n k f) ≡ rowText nullWord []) (kind-is h 38 Expr.Undesugared e refl) (λ f. row-rec _ nullWord [] refl refl) (h .fields)
 
-    any-fields : (f : Fields (exprForms Expr.ListPredicate)) → RecordAt sheet a b i expr Expr.ListPredicate f → spellRec (exprHead n Expr.ListPredicate f) ≡ rowText 19 (cell a b i 2 ∷ n ∷ cell a b i 6 ∷ [])
+    any-fields : (f : Fields (exprForms Expr.ListPredicate)) → RecordAt sheet a b i expr Expr.ListPredicate f → spellRec (exprHead n Expr.ListPredicate f) ≡ rowText listPredicateWord (cell a b i 2 ∷ n ∷ cell a b i 6 ∷ [])
     unfolding exprHead keyword planKeyword planExprKeyword word letters bytes bytesFrom spellFields spell fieldsOf fieldOf
     any-fields f at =
         let s = shown room at in
-        row-rec _ 19 (cell a b i 2 ∷ n ∷ cell a b i 6 ∷ []) refl (rw (s .fields) (rw (flag-decimal (cell a b i 6) (s .flags .1 .1 .0))))
+        row-rec _ listPredicateWord (cell a b i 2 ∷ n ∷ cell a b i 6 ∷ []) refl (rw (s .fields) (rw (flag-decimal (cell a b i 6) (s .flags .1 .1 .0))))
 
-    pub any-head : cell a b i 0 ≡ 36 → spellRec (exprHead n (h .kind) (h .fields)) ≡ rowText 19 (cell a b i 2 ∷ n ∷ cell a b i 6 ∷ [])
+    pub any-head : cell a b i 0 ≡ 36 → spellRec (exprHead n (h .kind) (h .fields)) ≡ rowText listPredicateWord (cell a b i 2 ∷ n ∷ cell a b i 6 ∷ [])
     unfolding kindOf firstKind nth kinds sames
-    any-head e = at-kind Expr.ListPredicate (h .kind) (λ k f. RecordAt sheet a b i expr k f → spellRec (exprHead n k f) ≡ rowText 19 (cell a b i 2 ∷ n ∷ cell a b i 6 ∷ [])) (kind-is h 36 Expr.ListPredicate e refl) any-fields (h .fields) (h .at)
+    any-head e = at-kind Expr.ListPredicate (h .kind) (λ k f. RecordAt sheet a b i expr k f → spellRec (exprHead n k f) ≡ rowText listPredicateWord (cell a b i 2 ∷ n ∷ cell a b i 6 ∷ [])) (kind-is h 36 Expr.ListPredicate e refl) any-fields (h .fields) (h .at)
 
     pub call-place : cell a b i 0 ≡ 34 → PlaceAt text sheet (cell a b i 2) (cell a b i 3)
     unfolding kindOf firstKind nth kinds sames
@@ -150,40 +150,40 @@ module _ {sheet : Bytes} {a b : List ℕ} {i : ℕ} (room : Roomy a b) where
     pub call-in : cell a b i 0 ≡ 34 → (cell a b i 2 ≤ cell a b i 3) × (cell a b i 3 ≤ length sheet)
     call-in e = let p = call-place e in (p .from, p .to)
 
-    call-fields : PlaceAt text sheet (cell a b i 2) (cell a b i 3) → (f : Fields (exprForms Expr.Call)) → RecordAt sheet a b i expr Expr.Call f → spellRec (exprHead n Expr.Call f) ≡ namedText 17 (slice (cell a b i 2) (cell a b i 3) sheet) (cell a b i 4 ∷ [])
+    call-fields : PlaceAt text sheet (cell a b i 2) (cell a b i 3) → (f : Fields (exprForms Expr.Call)) → RecordAt sheet a b i expr Expr.Call f → spellRec (exprHead n Expr.Call f) ≡ namedText fnWord (slice (cell a b i 2) (cell a b i 3) sheet) (cell a b i 4 ∷ [])
     unfolding exprHead keyword planKeyword planExprKeyword word letters bytes bytesFrom spellFields spell fieldsOf fieldOf
-    call-fields p f at = named-rec _ 17 (slice (cell a b i 2) (cell a b i 3) sheet) (cell a b i 4 ∷ []) refl (rw (shown room at .fields) (rw (place-escape p)))
+    call-fields p f at = named-rec _ fnWord (slice (cell a b i 2) (cell a b i 3) sheet) (cell a b i 4 ∷ []) refl (rw (shown room at .fields) (rw (place-escape p)))
 
-    pub call-head : cell a b i 0 ≡ 34 → spellRec (exprHead n (h .kind) (h .fields)) ≡ namedText 17 (slice (cell a b i 2) (cell a b i 3) sheet) (cell a b i 4 ∷ [])
+    pub call-head : cell a b i 0 ≡ 34 → spellRec (exprHead n (h .kind) (h .fields)) ≡ namedText fnWord (slice (cell a b i 2) (cell a b i 3) sheet) (cell a b i 4 ∷ [])
     unfolding kindOf firstKind nth kinds sames
-    call-head e = at-kind Expr.Call (h .kind) (λ k f. RecordAt sheet a b i expr k f → spellRec (exprHead n k f) ≡ namedText 17 (slice (cell a b i 2) (cell a b i 3) sheet) (cell a b i 4 ∷ [])) (kind-is h 34 Expr.Call e refl) (call-fields (call-place e)) (h .fields) (h .at)
+    call-head e = at-kind Expr.Call (h .kind) (λ k f. RecordAt sheet a b i expr k f → spellRec (exprHead n k f) ≡ namedText fnWord (slice (cell a b i 2) (cell a b i 3) sheet) (cell a b i 4 ∷ [])) (kind-is h 34 Expr.Call e refl) (call-fields (call-place e)) (h .fields) (h .at)
 
   module _ (n : ℕ) where
-    map-fields : cell a b i 0 ≡ 33 → (f : Fields (exprForms Expr.Map)) → RecordAt sheet a b i expr Expr.Map f → Lined sheet a b i 33 16 (exprHead n Expr.Map f)
+    map-fields : cell a b i 0 ≡ 33 → (f : Fields (exprForms Expr.Map)) → RecordAt sheet a b i expr Expr.Map f → Lined sheet a b i 33 mapWord (exprHead n Expr.Map f)
     unfolding sorts sortOf exprHead allPlain plain spellRec keyword planKeyword planExprKeyword word letters bytes bytesFrom
     map-fields e f at =
         record {
           fields = rw e at (fielded 10 (omega arith) room at refl);
           low = omega arith;
-          is = rw e at (line-is 10 (omega arith) room at (word 16)) ∙ sym (record-line (word 16) (spellFields (exprForms Expr.Map) f));
+          is = rw e at (line-is 10 (omega arith) room at (word mapWord)) ∙ sym (record-line (word mapWord) (spellFields (exprForms Expr.Map) f));
         }
 
-    pub map-head : cell a b i 0 ≡ 33 → (h : ExprAt sheet a b i) → Lined sheet a b i 33 16 (exprHead n (h .kind) (h .fields))
+    pub map-head : cell a b i 0 ≡ 33 → (h : ExprAt sheet a b i) → Lined sheet a b i 33 mapWord (exprHead n (h .kind) (h .fields))
     unfolding kindOf firstKind nth kinds sames
-    map-head e h = at-kind Expr.Map (h .kind) (λ k f. RecordAt sheet a b i expr k f → Lined sheet a b i 33 16 (exprHead n k f)) (kind-is h 33 Expr.Map e refl) (map-fields e) (h .fields) (h .at)
+    map-head e h = at-kind Expr.Map (h .kind) (λ k f. RecordAt sheet a b i expr k f → Lined sheet a b i 33 mapWord (exprHead n k f)) (kind-is h 33 Expr.Map e refl) (map-fields e) (h .fields) (h .at)
 
-    over-fields : (o : Same) → cell a b i 0 ≡ sameNumber o → (f : Fields (sameForms o)) → RecordAt sheet a b i expr (Expr.Over o) f → Lined sheet a b i (cell a b i 0) (cell a b i 0 - 17) (exprHead n (Expr.Over o) f)
+    over-fields : (o : Same) → cell a b i 0 ≡ sameNumber o → (f : Fields (sameForms o)) → RecordAt sheet a b i expr (Expr.Over o) f → Lined sheet a b i (cell a b i 0) (cell a b i 0 - sameFrom) (exprHead n (Expr.Over o) f)
     unfolding sorts sortOf exprHead spellRec keyword planKeyword planExprKeyword
     over-fields o e f at =
         let s = same-row o in
-        let w : word (cell a b i 0 - 17) ≡ sameKeyword o = rw e (s .keyword) in
+        let w : word (cell a b i 0 - sameFrom) ≡ sameKeyword o = rw e (s .keyword) in
         record {
           fields = fielded 10 (omega arith) room at (s .plain);
           low = omega (arith, s .to);
-          is = line-is 10 (omega arith) room at (word (cell a b i 0 - 17)) ∙ rw w (sym (record-line (sameKeyword o) (spellFields (sameForms o) f)));
+          is = line-is 10 (omega arith) room at (word (cell a b i 0 - sameFrom)) ∙ rw w (sym (record-line (sameKeyword o) (spellFields (sameForms o) f)));
         }
 
-    over-kind : (k : Expr) (f : Fields (exprForms k)) → RecordAt sheet a b i expr k f → cell a b i 0 ≡ exprNumber k → (cell a b i 0 ≡ 32 → ⊥) → (cell a b i 0 ≡ 33 → ⊥) → (cell a b i 0 ≡ 34 → ⊥) → (cell a b i 0 ≡ 35 → ⊥) → (cell a b i 0 ≡ 36 → ⊥) → (cell a b i 0 ≡ 37 → ⊥) → (cell a b i 0 ≡ 38 → ⊥) → Lined sheet a b i (cell a b i 0) (cell a b i 0 - 17) (exprHead n k f)
+    over-kind : (k : Expr) (f : Fields (exprForms k)) → RecordAt sheet a b i expr k f → cell a b i 0 ≡ exprNumber k → (cell a b i 0 ≡ 32 → ⊥) → (cell a b i 0 ≡ 33 → ⊥) → (cell a b i 0 ≡ 34 → ⊥) → (cell a b i 0 ≡ 35 → ⊥) → (cell a b i 0 ≡ 36 → ⊥) → (cell a b i 0 ≡ 37 → ⊥) → (cell a b i 0 ≡ 38 → ⊥) → Lined sheet a b i (cell a b i 0) (cell a b i 0 - sameFrom) (exprHead n k f)
     unfolding exprNumber
     over-kind (Expr.Over o) f at e p q r s t u v = over-fields o e f at
     over-kind Expr.Var f at e p q r s t u v = absurd (p e)
@@ -194,7 +194,7 @@ module _ {sheet : Bytes} {a b : List ℕ} {i : ℕ} (room : Roomy a b) where
     over-kind Expr.Unresolved f at e p q r s t u v = absurd (u e)
     over-kind Expr.Undesugared f at e p q r s t u v = absurd (v e)
 
-    pub over-head : (cell a b i 0 ≡ 32 → ⊥) → (cell a b i 0 ≡ 33 → ⊥) → (cell a b i 0 ≡ 34 → ⊥) → (cell a b i 0 ≡ 35 → ⊥) → (cell a b i 0 ≡ 36 → ⊥) → (cell a b i 0 ≡ 37 → ⊥) → (cell a b i 0 ≡ 38 → ⊥) → (h : ExprAt sheet a b i) → Lined sheet a b i (cell a b i 0) (cell a b i 0 - 17) (exprHead n (h .kind) (h .fields))
+    pub over-head : (cell a b i 0 ≡ 32 → ⊥) → (cell a b i 0 ≡ 33 → ⊥) → (cell a b i 0 ≡ 34 → ⊥) → (cell a b i 0 ≡ 35 → ⊥) → (cell a b i 0 ≡ 36 → ⊥) → (cell a b i 0 ≡ 37 → ⊥) → (cell a b i 0 ≡ 38 → ⊥) → (h : ExprAt sheet a b i) → Lined sheet a b i (cell a b i 0) (cell a b i 0 - sameFrom) (exprHead n (h .kind) (h .fields))
     over-head p q r s t u v h = over-kind (h .kind) (h .fields) (h .at) (number-is h) p q r s t u v
 
   pub expr-high : (h : ExprAt sheet a b i) → 17 ≤ cell a b i 0
@@ -214,22 +214,22 @@ module _ {sheet : Bytes} {a b : List ℕ} {i : ℕ} (room : Roomy a b) where
   unfolding numbered firstKind kinds
   item-number h = number-of projection (λ x. 9) refl (cell a b i 0) tt (shown room h .kind)
 
-  entry-lined : {f : Fields (forms entry tt)} → RecordAt sheet a b i entry tt f → Lined sheet a b i 16 44 (rec (inPlan planEntry) tt f)
+  entry-lined : {f : Fields (forms entry tt)} → RecordAt sheet a b i entry tt f → Lined sheet a b i 16 nameWord (rec (inPlan planEntry) tt f)
   unfolding sorts sortOf allPlain plain spellRec keyword planKeyword word letters bytes bytesFrom
   entry-lined {f} h =
       record {
         fields = rw (entry-number h) at (fielded 9 (omega arith) room h refl);
         low = omega arith;
-        is = rw (entry-number h) at (line-is 9 (omega arith) room h (word 44)) ∙ sym (record-line (word 44) (spellFields (forms entry tt) f));
+        is = rw (entry-number h) at (line-is 9 (omega arith) room h (word nameWord)) ∙ sym (record-line (word nameWord) (spellFields (forms entry tt) f));
       }
 
-  key-lined : {f : Fields (forms orderItem tt)} → RecordAt sheet a b i orderItem tt f → Lined sheet a b i 10 41 (rec (inPlan orderKey) tt f)
+  key-lined : {f : Fields (forms orderItem tt)} → RecordAt sheet a b i orderItem tt f → Lined sheet a b i 10 keyWord (rec (inPlan orderKey) tt f)
   unfolding sorts sortOf allPlain plain spellRec keyword planKeyword word letters bytes bytesFrom
   key-lined {f} h =
       record {
         fields = rw (key-number h) at (fielded 4 (omega arith) room h refl);
         low = omega arith;
-        is = rw (key-number h) at (line-is 4 (omega arith) room h (word 41)) ∙ sym (record-line (word 41) (spellFields (forms orderItem tt) f));
+        is = rw (key-number h) at (line-is 4 (omega arith) room h (word keyWord)) ∙ sym (record-line (word keyWord) (spellFields (forms orderItem tt) f));
       }
 
   pub line-low : {recs : Recs} {j : ℕ} → Line sheet a b i recs j → i < 2048
@@ -258,14 +258,14 @@ module _ {sheet : Bytes} {a b : List ℕ} {i : ℕ} (room : Roomy a b) where
   item-there e (Line.aliased h) = h
 
   module _ {g g′ : Page} where
-    pub named-put : {recs : Recs} {j : ℕ} → cell a b i 0 ≡ 16 → Line sheet a b i recs j → Puts (lineText (word 44) sheet a b i 16) g g′ → (i + 1 ≡ j) × Puts (spellRecs recs) g g′
+    pub named-put : {recs : Recs} {j : ℕ} → cell a b i 0 ≡ 16 → Line sheet a b i recs j → Puts (lineText (word nameWord) sheet a b i 16) g g′ → (i + 1 ≡ j) × Puts (spellRecs recs) g g′
     unfolding spellRecs
     named-put e (Line.bare h) p = absurd (omega (arith, expr-high h))
     named-put e (Line.named h) p = (refl, rw append-nil (rw (entry-lined h .is) at p))
     named-put e (Line.keyed h) p = absurd (omega (arith, key-number h))
     named-put e (Line.aliased h) p = absurd (omega (arith, item-number (h .at)))
 
-    pub keyed-put : {recs : Recs} {j : ℕ} → cell a b i 0 ≡ 10 → Line sheet a b i recs j → Puts (lineText (word 41) sheet a b i 10) g g′ → (i + 1 ≡ j) × Puts (spellRecs recs) g g′
+    pub keyed-put : {recs : Recs} {j : ℕ} → cell a b i 0 ≡ 10 → Line sheet a b i recs j → Puts (lineText (word keyWord) sheet a b i 10) g g′ → (i + 1 ≡ j) × Puts (spellRecs recs) g g′
     unfolding spellRecs
     keyed-put e (Line.bare h) p = absurd (omega (arith, expr-high h))
     keyed-put e (Line.named h) p = absurd (omega (arith, entry-number h))

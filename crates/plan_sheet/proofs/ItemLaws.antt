@@ -9,7 +9,7 @@ use borrow.Author.Tests.{ne-eqb, ltb-true}
 use lib.Dec.{ltb}
 use lib.ListN.{length}
 use lib.Seq.{slice}
-use Rattle.model.specs.Text.{Bytes, behind, decimal, digits, bytes, bytesFrom, escapeByte, escape, unescape}
+use Rattle.model.specs.Text.{Bytes, behind, decimal, digits, bytes, bytesFrom, escapeByte, escape, unescape, tab, lineFeed}
 use Rattle.model.specs.Field.{Fields, text, spell, spellFields}
 use Rattle.model.specs.Kind.{Same, Expr, projection, expr}
 use Rattle.model.specs.Record.{forms, sameForms, exprForms, kinds, sames, keyword, planKeyword, spellRec}
@@ -20,7 +20,7 @@ use Rattle.words.specs.Words.{Roomy, cell, kindOf, firstKind, nth, aliasOf, fie
 use Rattle.words.specs.Held.{RecordAt, PlaceAt}
 use Rattle.words.specs.Cells.{shown}
 use Rattle.words.specs.Numbers.{sameNumber, exprNumber}
-use Rattle.plan_line.specs.Keywords.{word, letters}
+use Rattle.plan_line.specs.Keywords.{word, letters, itemWord}
 use Rattle.plan_line.specs.Row.{numbersText, namedText}
 use Rattle.plan_sheet.specs.Due.{ExprAt, nameBy, ItemAt, namedRec, itemName}
 use Rattle.plan_line.proofs.RowLaws.{named-rec, place-escape}
@@ -52,24 +52,24 @@ digits-escape (suc k) n = more-escape (digits k (n / 10)) n (digits-escape k (n 
 
 -- ── names ──
 
-named-is : (t name : Bytes) → escape t ≡ name → spellRec (namedRec t) ≡ namedText 39 name []
+named-is : (t name : Bytes) → escape t ≡ name → spellRec (namedRec t) ≡ namedText itemWord name []
 unfolding keyword planKeyword word letters bytes bytesFrom spellFields spell
-named-is t name e = named-rec (namedRec t) 39 name [] refl (rw e)
+named-is t name e = named-rec (namedRec t) itemWord name [] refl (rw e)
 
-id-escape : (id : ℕ) → escape (bytes "_v" ++ decimal id) ≡ 95 ∷ 118 ∷ decimal id
+id-escape : (id : ℕ) → escape (bytes "_v" ++ decimal id) ≡ bytes "_v" ++ decimal id
 unfolding escape escapeByte bytes bytesFrom decimal
 id-escape id = rw (digits-escape 20 id)
 
-no-escape : escape (bytes "_") ≡ 95 ∷ []
+no-escape : escape (bytes "_") ≡ bytes "_"
 unfolding escape escapeByte bytes bytesFrom
 no-escape = refl
 
-pub id-put : (id : ℕ) {p q r s t u v : Page} → Puts (word 39) p q → Puts (9 ∷ []) q r → Puts (95 ∷ []) r s → Puts (118 ∷ []) s t → Puts (decimal id) t u → Puts (10 ∷ []) u v → Puts (namedText 39 (95 ∷ 118 ∷ decimal id) []) p v
-unfolding namedText numbersText behind
+pub id-put : (id : ℕ) {p q r s t u v : Page} → Puts (word itemWord) p q → Puts (tab ∷ []) q r → Puts (95 ∷ []) r s → Puts (118 ∷ []) s t → Puts (decimal id) t u → Puts (lineFeed ∷ []) u v → Puts (namedText itemWord (bytes "_v" ++ decimal id) []) p v
+unfolding namedText numbersText behind bytes bytesFrom
 id-put id a b c d e f = a ⨾ b ⨾ c ⨾ d ⨾ e ⨾ f
 
-pub no-put : {p q r s t : Page} → Puts (word 39) p q → Puts (9 ∷ []) q r → Puts (95 ∷ []) r s → Puts (10 ∷ []) s t → Puts (namedText 39 (95 ∷ []) []) p t
-unfolding namedText numbersText behind
+pub no-put : {p q r s t : Page} → Puts (word itemWord) p q → Puts (tab ∷ []) q r → Puts (95 ∷ []) r s → Puts (lineFeed ∷ []) s t → Puts (namedText itemWord (bytes "_") []) p t
+unfolding namedText numbersText behind bytes bytesFrom
 no-put a b c d = a ⨾ b ⨾ c ⨾ d
 
 same-none : (h : Same) → (sameNumber h ≡ 23 → ⊥) → (f : Fields (sameForms h)) → sameAlias h f ≡ bytes "_"
@@ -111,19 +111,19 @@ module _ {sheet : Bytes} {a b : List ℕ} {i : ℕ} (room : Roomy a b) (h : Expr
   pub prop-in : cell a b i 0 ≡ 23 → (cell a b i 2 ≤ cell a b i 3) × (cell a b i 3 ≤ length sheet)
   prop-in e = let p = prop-place e in (p .from, p .to)
 
-  pub prop-named : cell a b i 0 ≡ 23 → spellRec (namedRec (nameBy (h .kind) (h .fields))) ≡ namedText 39 (slice (cell a b i 2) (cell a b i 3) sheet) []
+  pub prop-named : cell a b i 0 ≡ 23 → spellRec (namedRec (nameBy (h .kind) (h .fields))) ≡ namedText itemWord (slice (cell a b i 2) (cell a b i 3) sheet) []
   unfolding kindOf firstKind nth kinds sames nameBy sameAlias fieldsOf fieldOf
   prop-named e = named-is _ _ (at-kind (Expr.Over Same.Prop) (h .kind) (λ k f. RecordAt sheet a b i expr k f → escape (nameBy k f) ≡ slice (cell a b i 2) (cell a b i 3) sheet) (kind-is room h 23 (Expr.Over Same.Prop) e refl) (λ f at. rw (shown room at .fields) (place-escape (prop-place e))) (h .fields) (h .at))
 
-  pub call-named : cell a b i 0 ≡ 34 → spellRec (namedRec (nameBy (h .kind) (h .fields))) ≡ namedText 39 (slice (cell a b i 2) (cell a b i 3) sheet) []
+  pub call-named : cell a b i 0 ≡ 34 → spellRec (namedRec (nameBy (h .kind) (h .fields))) ≡ namedText itemWord (slice (cell a b i 2) (cell a b i 3) sheet) []
   unfolding kindOf firstKind nth kinds sames nameBy fieldsOf fieldOf
   call-named e = named-is _ _ (at-kind Expr.Call (h .kind) (λ k f. RecordAt sheet a b i expr k f → escape (nameBy k f) ≡ slice (cell a b i 2) (cell a b i 3) sheet) (kind-is room h 34 Expr.Call e refl) (λ f at. rw (shown room at .fields) (place-escape (call-place room 0 h e))) (h .fields) (h .at))
 
-  pub id-named : cell a b i 0 ≡ 32 → spellRec (namedRec (nameBy (h .kind) (h .fields))) ≡ namedText 39 (95 ∷ 118 ∷ decimal (cell a b i 2)) []
+  pub id-named : cell a b i 0 ≡ 32 → spellRec (namedRec (nameBy (h .kind) (h .fields))) ≡ namedText itemWord (bytes "_v" ++ decimal (cell a b i 2)) []
   unfolding kindOf firstKind nth kinds sames nameBy fieldsOf fieldOf
-  id-named e = named-is _ _ (at-kind Expr.Var (h .kind) (λ k f. RecordAt sheet a b i expr k f → escape (nameBy k f) ≡ 95 ∷ 118 ∷ decimal (cell a b i 2)) (kind-is room h 32 Expr.Var e refl) (λ f at. rw (shown room at .fields) (id-escape (cell a b i 2))) (h .fields) (h .at))
+  id-named e = named-is _ _ (at-kind Expr.Var (h .kind) (λ k f. RecordAt sheet a b i expr k f → escape (nameBy k f) ≡ bytes "_v" ++ decimal (cell a b i 2)) (kind-is room h 32 Expr.Var e refl) (λ f at. rw (shown room at .fields) (id-escape (cell a b i 2))) (h .fields) (h .at))
 
-  pub none-named : (cell a b i 0 ≡ 23 → ⊥) → (cell a b i 0 ≡ 32 → ⊥) → (cell a b i 0 ≡ 34 → ⊥) → spellRec (namedRec (nameBy (h .kind) (h .fields))) ≡ namedText 39 (95 ∷ []) []
+  pub none-named : (cell a b i 0 ≡ 23 → ⊥) → (cell a b i 0 ≡ 32 → ⊥) → (cell a b i 0 ≡ 34 → ⊥) → spellRec (namedRec (nameBy (h .kind) (h .fields))) ≡ namedText itemWord (bytes "_") []
   none-named x y z = let n = number-is room h in named-is _ _ (rw (kind-none (h .kind) (λ e. x (n ∙ e)) (λ e. y (n ∙ e)) (λ e. z (n ∙ e)) (h .fields)) no-escape)
 
 -- ── an item ──
@@ -148,7 +148,7 @@ module _ {sheet : Bytes} {a b : List ℕ} {i : ℕ} (room : Roomy a b) (h : Item
   pub alias-in : (cell a b i 2 ≡ 0 → ⊥) → (cell a b i 2 ≤ cell a b i 3) × (cell a b i 3 ≤ length sheet)
   alias-in z = let p = alias-place z in (p .from, p .to)
 
-  pub alias-named : (cell a b i 2 ≡ 0 → ⊥) → spellRec (namedRec (itemName h)) ≡ namedText 39 (slice (cell a b i 2) (cell a b i 3) sheet) []
+  pub alias-named : (cell a b i 2 ≡ 0 → ⊥) → spellRec (namedRec (itemName h)) ≡ namedText itemWord (slice (cell a b i 2) (cell a b i 3) sheet) []
   unfolding aliasOr
   alias-named z = named-is _ _ (rw (alias-is, alias-some sheet (cell a b i 2) (cell a b i 3) z) (place-escape (alias-place z)))
 

@@ -19,9 +19,9 @@ use Rattle.words.specs.Held.{Held, HeldOf, RecordAt, PlaceAt, size, sizeOf}
 use Rattle.words.specs.Table.{sorts, sortOf}
 use Rattle.words.specs.Cells.{shown}
 use Rattle.lower.specs.Render.{Notes, Ops, recsOver, render, renderOf, specRec}
-use Rattle.lower.proofs.Counting.{innerNumber, inner-number}
+use Rattle.words.proofs.Counting.{innerNumber, inner-number}
 use Rattle.words.specs.Numbers.{elementNumber}
-use Rattle.plan_line.specs.Keywords.{word, letters}
+use Rattle.plan_line.specs.Keywords.{word, letters, toWord, nameWord, relWord}
 use Rattle.plan_line.specs.Field.{plain, allPlain, fieldText, lineText}
 use Rattle.plan_line.specs.Row.{rowText, relText}
 use Rattle.plan_sheet.specs.Due.{Names, no-names, name-more, namesRecs, ElementAt}
@@ -36,16 +36,16 @@ module _ {sheet : Bytes} {a b : List ℕ} (room : Roomy a b) where
   unfolding innerNumber
   name-number {i} h = inner-number name tt (cell a b i 0) tt (shown room h .kind)
 
-  name-lined : {i : ℕ} {f : Fields (forms name tt)} → RecordAt sheet a b i name tt f → Lined sheet a b i 14 44 (rec name tt f)
+  name-lined : {i : ℕ} {f : Fields (forms name tt)} → RecordAt sheet a b i name tt f → Lined sheet a b i 14 nameWord (rec name tt f)
   unfolding sorts sortOf allPlain plain spellRec keyword word letters bytes bytesFrom
   name-lined {i} {f} h =
       record {
         fields = rw (name-number h) at (fielded 7 (omega arith) room h refl);
         low = omega arith;
-        is = rw (name-number h) at (line-is 7 (omega arith) room h (word 44)) ∙ sym (record-line (word 44) (spellFields (forms name tt) f));
+        is = rw (name-number h) at (line-is 7 (omega arith) room h (word nameWord)) ∙ sym (record-line (word nameWord) (spellFields (forms name tt) f));
       }
 
-  pub first-lined : {n i : ℕ} → (n ≡ 0 → ⊥) → Names sheet a b n i → (f : Fields (forms name tt)) × Lined sheet a b i 14 44 (rec name tt f)
+  pub first-lined : {n i : ℕ} → (n ≡ 0 → ⊥) → Names sheet a b n i → (f : Fields (forms name tt)) × Lined sheet a b i 14 nameWord (rec name tt f)
   first-lined z no-names = absurd (z refl)
   first-lined z (name-more f h c) = (f, name-lined h)
 
@@ -58,7 +58,7 @@ module _ {sheet : Bytes} {a b : List ℕ} (room : Roomy a b) where
     pub others : Names sheet a b m at
     pub text : (q : Page) → Puts (spellRecs (namesRecs others)) p q → Puts (spellRecs (namesRecs h)) start q
 
-  names-step : {n i m at : ℕ} {start p q : Page} (h : Names sheet a b n i) → (m ≡ 0 → ⊥) → (others : Names sheet a b m at) → ((q : Page) → Puts (spellRecs (namesRecs others)) p q → Puts (spellRecs (namesRecs h)) start q) → Puts (lineText (word 44) sheet a b at 14) p q → NamesStill h start (m - 1) (at + 1) q
+  names-step : {n i m at : ℕ} {start p q : Page} (h : Names sheet a b n i) → (m ≡ 0 → ⊥) → (others : Names sheet a b m at) → ((q : Page) → Puts (spellRecs (namesRecs others)) p q → Puts (spellRecs (namesRecs h)) start q) → Puts (lineText (word nameWord) sheet a b at 14) p q → NamesStill h start (m - 1) (at + 1) q
   unfolding namesRecs spellRecs
   names-step h z no-names text w = absurd (z refl)
   names-step {m = suc m} h z (name-more f r c) text w =
@@ -76,7 +76,7 @@ pub record NamesGoing (sheet : Bytes) (a b : List ℕ) (n i : ℕ) (start : Page
 pub names-going : {sheet : Bytes} {a b : List ℕ} {n i : ℕ} {p : Page} → Names sheet a b n i → NamesGoing sheet a b n i p n i p
 names-going h = record { some = h; each = λ h. (h, λ q r. r); sum = refl; long = refl }
 
-pub names-again : {sheet : Bytes} {a b : List ℕ} {n i m at : ℕ} {start p q : Page} → Roomy a b → (m ≡ 0 → ⊥) → NamesGoing sheet a b n i start m at p → Puts (lineText (word 44) sheet a b at 14) p q → length (q .bytes) ≡ length (p .bytes) → NamesGoing sheet a b n i start (m - 1) (at + 1) q
+pub names-again : {sheet : Bytes} {a b : List ℕ} {n i m at : ℕ} {start p q : Page} → Roomy a b → (m ≡ 0 → ⊥) → NamesGoing sheet a b n i start m at p → Puts (lineText (word nameWord) sheet a b at 14) p q → length (q .bytes) ≡ length (p .bytes) → NamesGoing sheet a b n i start (m - 1) (at + 1) q
 names-again room z g w l =
     record {
       some = names-step room (g .some) z (g .some) (λ q r. r) w .others;
@@ -129,11 +129,11 @@ module _ {sheet : Bytes} {a b : List ℕ} {i : ℕ} (room : Roomy a b) where
   unfolding innerNumber
   element-number h = inner-number patternElement tt (cell a b i 0) (h .kind) (shown room (h .at) .kind)
 
-  node-fields : (k : PatternElement) (f : Fields (elementForms k)) → RecordAt sheet a b i patternElement k f → elementNumber k ≡ 12 → spellRec (specRec k f) ≡ rowText 38 (cell a b i 4 ∷ cell a b i 6 ∷ [])
+  node-fields : (k : PatternElement) (f : Fields (elementForms k)) → RecordAt sheet a b i patternElement k f → elementNumber k ≡ 12 → spellRec (specRec k f) ≡ rowText toWord (cell a b i 4 ∷ cell a b i 6 ∷ [])
   unfolding elementNumber specRec keyword planKeyword word letters bytes bytesFrom spellFields spell fieldsOf fieldOf
   node-fields PatternElement.Node f at e =
       let s = shown room at in
-      row-rec _ 38 (cell a b i 4 ∷ cell a b i 6 ∷ []) refl (rw (s .fields) (rw (flag-decimal (cell a b i 6) (s .flags .1 .1 .0))))
+      row-rec _ toWord (cell a b i 4 ∷ cell a b i 6 ∷ []) refl (rw (s .fields) (rw (flag-decimal (cell a b i 6) (s .flags .1 .1 .0))))
   node-fields PatternElement.Rel f at e = let z : _≡_ {A = ℕ} 13 12 = e in absurd (omega arith)
 
   rel-place : (k : PatternElement) (f : Fields (elementForms k)) → RecordAt sheet a b i patternElement k f → (elementNumber k ≡ 12 → ⊥) → PlaceAt Field.length sheet (cell a b i 8) (cell a b i 9)
@@ -154,11 +154,11 @@ module _ {sheet : Bytes} {a b : List ℕ} {i : ℕ} (room : Roomy a b) where
       ∙ rw (props, append-nil (decimal (cell a b i 10))) (ap (λ (x : Bytes). x ++ (tab ∷ decimal (cell a b i 10))) body) in
       let types : f .1 .0 ≡ cell a b i 4 = ap (λ (x : Fields (elementForms PatternElement.Rel)). x .1 .0) (s .fields) in
       let direction : f .1 .1 .0 ≡ cell a b i 6 = ap (λ (x : Fields (elementForms PatternElement.Rel)). x .1 .1 .0) (s .fields) in
-      record-line (word 37) _
-      ∙ ap (λ (x : Bytes). word 37 ++ x) (rw (tail, types, direction) (four (tab ∷ decimal (cell a b i 4)) (tab ∷ decimal (cell a b i 6)) (tab ∷ len) (tab ∷ decimal (cell a b i 10)) (lineFeed ∷ [])))
+      record-line (word relWord) _
+      ∙ ap (λ (x : Bytes). word relWord ++ x) (rw (tail, types, direction) (four (tab ∷ decimal (cell a b i 4)) (tab ∷ decimal (cell a b i 6)) (tab ∷ len) (tab ∷ decimal (cell a b i 10)) (lineFeed ∷ [])))
 
   module _ (h : ElementAt sheet a b i) where
-    pub node-line : cell a b i 0 ≡ 12 → spellRec (specRec (h .kind) (h .fields)) ≡ rowText 38 (cell a b i 4 ∷ cell a b i 6 ∷ [])
+    pub node-line : cell a b i 0 ≡ 12 → spellRec (specRec (h .kind) (h .fields)) ≡ rowText toWord (cell a b i 4 ∷ cell a b i 6 ∷ [])
     node-line e = node-fields (h .kind) (h .fields) (h .at) (sym (element-number h) ∙ e)
 
     pub rel-in : (cell a b i 0 ≡ 12 → ⊥) → (cell a b i 8 ≤ cell a b i 9) × (cell a b i 9 ≤ length sheet)

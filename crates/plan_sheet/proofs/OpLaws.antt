@@ -1,11 +1,9 @@
 -- Operators by their words: what each kind comes to, and its first line. Assumes nothing: every law is proved.
 use mathlib.Core.Path.{_≡_, refl, sym, ap, subst, _∙_}
 use Prim.Native.Nat.{ℕ, zero, suc, _+_, _≤_, _<_}
-use native.Mathlib.Nat.{add-suc}
-use native.Mathlib.Numerals.{add-one}
 use native.Mathlib.Omega.{arith}
 use mathlib.Core.List.{List, [], _∷_, _++_, append-nil, append-assoc}
-use lib.ListN.{length, getD, take}
+use lib.ListN.{length, take}
 use mathlib.Core.Bool.{Bool, true, false}
 use lib.Dec.{eqb}
 use lib.Seq.{slice}
@@ -21,10 +19,11 @@ use Rattle.words.specs.Words.{Roomy, cell, optionOf, fieldOf, fieldsOf}
 use Rattle.words.specs.Held.{Held, PlaceAt}
 use Rattle.words.specs.Cells.{shown}
 use Rattle.context.specs.Tables.{opAt}
+use Rattle.context.specs.Read.{noteOf}
 use Rattle.context.specs.declared.op.Op.{Op}
 use Rattle.lower.specs.Render.{Notes, Ops, specRecs}
-use Rattle.lower.specs.Shows.{shift, Sane, Shows, OverExpr, ByLabels, ByRel, ByShortest, ByPath, ByWith, ByItems, ByParted, ByKeys, ByCall, shows-all, shows-source, shows-filter, shows-expand, shows-short, shows-path, shows-optional, shows-with, shows-project, shows-aggregate, shows-order, shows-skip, shows-limit, shows-distinct, shows-unwind, shows-union, shows-call}
-use Rattle.plan_line.specs.Keywords.{word, letters}
+use Rattle.lower.specs.Shows.{shift, InBounds, Shows, OverExpr, ByLabels, ByRel, ByShortest, ByPath, ByWith, ByItems, ByParted, ByKeys, ByCall, shows-all, shows-source, shows-filter, shows-expand, shows-short, shows-path, shows-optional, shows-with, shows-project, shows-aggregate, shows-order, shows-skip, shows-limit, shows-distinct, shows-unwind, shows-union, shows-call}
+use Rattle.plan_line.specs.Keywords.{word, letters, sourceWord, filterWord, expandWord, shortWord, pathWord, optionalWord, withWord, projectWord, aggWord, orderWord, skipWord, limitWord, distinctWord, unwindWord, unionWord, callWord}
 use Rattle.plan_line.specs.Row.{numbersText, rowText, callText}
 use Rattle.plan_sheet.specs.Due.{noted, Planned, SomePlan, OpShown, WroteFirst, Element, WroteElement, WroteOp}
 use Rattle.plan_line.proofs.FieldLaws.{flag-decimal}
@@ -140,89 +139,86 @@ bool-decimal false = refl
 bool-decimal true = refl
 
 module _ {sheet : Bytes} {a b rest : List ℕ} {o : Op} (h : OpShown sheet a b rest o) where
-  pub all-line : o .kind ≡ 0 → spellRecs (take 1 (h .recs)) ≡ rowText 20 (o .x ∷ 0 ∷ [])
+  pub all-line : o .kind ≡ 0 → spellRecs (take 1 (h .recs)) ≡ rowText sourceWord (o .x ∷ 0 ∷ [])
   unfolding source keyword planKeyword opKeyword word letters bytes bytesFrom spellFields spell
-  all-line e = first-rec (of-kind 0 e (h .stored .shows)) ∙ row-rec _ 20 (o .x ∷ 0 ∷ []) refl refl
+  all-line e = first-rec (of-kind 0 e (h .stored .shows)) ∙ row-rec _ sourceWord (o .x ∷ 0 ∷ []) refl refl
 
-  pub source-line : o .kind ≡ 1 → spellRecs (take 1 (h .recs)) ≡ rowText 20 (o .x ∷ cell a b (o .idx) 4 ∷ [])
+  pub source-line : o .kind ≡ 1 → spellRecs (take 1 (h .recs)) ≡ rowText sourceWord (o .x ∷ cell a b (o .idx) 4 ∷ [])
   unfolding source keyword planKeyword opKeyword word letters bytes bytesFrom spellFields spell
   source-line e =
       let s = of-kind 1 e (h .stored .shows) in
       let m = names-made (shift (noted rest) (o .base)) (h .ops) (o .left) (s .labels) (o .idx + 1) (s .held) in
-      first-rec (s .is) ∙ row-rec _ 20 (o .x ∷ cell a b (o .idx) 4 ∷ []) refl (rw (m .count, s .counted))
+      first-rec (s .is) ∙ row-rec _ sourceWord (o .x ∷ cell a b (o .idx) 4 ∷ []) refl (rw (m .count, s .counted))
 
-  pub filter-line : o .kind ≡ 2 → spellRecs (take 1 (h .recs)) ≡ rowText 22 (o .input ∷ [])
+  pub filter-line : o .kind ≡ 2 → spellRecs (take 1 (h .recs)) ≡ rowText filterWord (o .input ∷ [])
   unfolding keyword planKeyword opKeyword word letters bytes bytesFrom spellFields spell
-  filter-line e = first-rec (of-kind 2 e (h .stored .shows) .is) ∙ row-rec _ 22 (o .input ∷ []) refl refl
+  filter-line e = first-rec (of-kind 2 e (h .stored .shows) .is) ∙ row-rec _ filterWord (o .input ∷ []) refl refl
 
   module _ (c : o .kind ≡ 3) where
     pub expand-low : (o .idx < 2048) × (o .y < 2048)
     expand-low = let s = of-kind 3 c (h .stored .shows) in (element-low sheet a b (o .left) (o .idx) (s .rel) (s .held-rel), element-low sheet a b (o .left) (o .y) (s .far) (s .held-far))
 
-    pub expand-line : spellRecs (take 1 (h .recs)) ≡ rowText 21 (o .input ∷ o .x ∷ getD rest (o .base + o .idx + 1) 0 ∷ getD rest (o .base + o .y + 1) 0 ∷ [])
+    pub expand-line : spellRecs (take 1 (h .recs)) ≡ rowText expandWord (o .input ∷ o .x ∷ noteOf rest (o .base) (o .idx) ∷ noteOf rest (o .base) (o .y) ∷ [])
     unfolding keyword planKeyword opKeyword word letters bytes bytesFrom spellFields spell
     expand-line =
         let s = of-kind 3 c (h .stored .shows) in
-        first-rec (s .is) ∙ rw (add-one, add-one, ← add-suc, ← add-suc) (row-rec _ 21 (o .input ∷ o .x ∷ getD rest (o .base + suc (o .idx)) 0 ∷ getD rest (o .base + suc (o .y)) 0 ∷ []) refl refl)
+        first-rec (s .is) ∙ row-rec _ expandWord (o .input ∷ o .x ∷ noteOf rest (o .base) (o .idx) ∷ noteOf rest (o .base) (o .y) ∷ []) refl refl
 
-  pub short-line : o .kind ≡ 4 → spellRecs (take 1 (h .recs)) ≡ rowText 33 (o .input ∷ getD rest (o .base + o .idx + 2) 0 ∷ getD rest (o .base + o .y + 1) 0 ∷ getD rest (o .base + o .idx + 1) 0 ∷ one (eqb (cell a b (o .idx) 4) 2) ∷ [])
+  pub short-line : o .kind ≡ 4 → spellRecs (take 1 (h .recs)) ≡ rowText shortWord (o .input ∷ noteOf rest (o .base) (o .idx + 1) ∷ noteOf rest (o .base) (o .y) ∷ noteOf rest (o .base) (o .idx) ∷ one (eqb (cell a b (o .idx) 4) 2) ∷ [])
   unfolding keyword planKeyword opKeyword word letters bytes bytesFrom spellFields spell
   short-line c =
       let s = of-kind 4 c (h .stored .shows) in
-      let p : o .base + o .idx + 2 ≡ o .base + suc (o .idx + 1) = omega arith in
-      let q : o .base + o .y + 1 ≡ o .base + suc (o .y) = omega arith in
-      let r : o .base + o .idx + 1 ≡ o .base + suc (o .idx) = omega arith in
-      first-rec (s .is) ∙ rw (p, q, r) (row-rec _ 33 (o .input ∷ getD rest (o .base + suc (o .idx + 1)) 0 ∷ getD rest (o .base + suc (o .y)) 0 ∷ getD rest (o .base + suc (o .idx)) 0 ∷ one (eqb (cell a b (o .idx) 4) 2) ∷ []) refl (rw (s .is-all) (rw (bool-decimal (eqb (cell a b (o .idx) 4) 2)))))
+      first-rec (s .is) ∙ row-rec _ shortWord (o .input ∷ noteOf rest (o .base) (o .idx + 1) ∷ noteOf rest (o .base) (o .y) ∷ noteOf rest (o .base) (o .idx) ∷ one (eqb (cell a b (o .idx) 4) 2) ∷ []) refl (rw (s .is-all) (rw (bool-decimal (eqb (cell a b (o .idx) 4) 2))))
 
-  pub path-line : o .kind ≡ 5 → spellRecs (take 1 (h .recs)) ≡ rowText 34 (o .input ∷ o .y ∷ o .x ∷ [])
+  pub path-line : o .kind ≡ 5 → spellRecs (take 1 (h .recs)) ≡ rowText pathWord (o .input ∷ o .y ∷ o .x ∷ [])
   unfolding keyword planKeyword opKeyword word letters bytes bytesFrom spellFields spell
-  path-line e = first-rec (of-kind 5 e (h .stored .shows) .is) ∙ row-rec _ 34 (o .input ∷ o .y ∷ o .x ∷ []) refl refl
+  path-line e = first-rec (of-kind 5 e (h .stored .shows) .is) ∙ row-rec _ pathWord (o .input ∷ o .y ∷ o .x ∷ []) refl refl
 
   -- ── of a clause ──
 
-  pub optional-line : o .kind ≡ 6 → spellRecs (take 1 (h .recs)) ≡ rowText 32 (o .input ∷ [])
+  pub optional-line : o .kind ≡ 6 → spellRecs (take 1 (h .recs)) ≡ rowText optionalWord (o .input ∷ [])
   unfolding keyword planKeyword opKeyword word letters bytes bytesFrom spellFields spell
-  optional-line e = first-rec (of-kind 6 e (h .stored .shows) .1) ∙ row-rec _ 32 (o .input ∷ []) refl refl
+  optional-line e = first-rec (of-kind 6 e (h .stored .shows) .1) ∙ row-rec _ optionalWord (o .input ∷ []) refl refl
 
-  pub with-line : o .kind ≡ 7 → spellRecs (take 1 (h .recs)) ≡ rowText 31 (o .input ∷ cell a b (o .idx) 2 ∷ cell a b (o .idx) 4 ∷ [])
+  pub with-line : o .kind ≡ 7 → spellRecs (take 1 (h .recs)) ≡ rowText withWord (o .input ∷ cell a b (o .idx) 2 ∷ cell a b (o .idx) 4 ∷ [])
   unfolding keyword planKeyword opKeyword word letters bytes bytesFrom spellFields spell
   with-line e =
       let s = of-kind 7 e (h .stored .shows) in
-      first-rec (s .is) ∙ row-rec _ 31 (o .input ∷ cell a b (o .idx) 2 ∷ cell a b (o .idx) 4 ∷ []) refl (rw (s .counted, bool-decimal (s .filtered), s .flagged))
+      first-rec (s .is) ∙ row-rec _ withWord (o .input ∷ cell a b (o .idx) 2 ∷ cell a b (o .idx) 4 ∷ []) refl (rw (s .counted, bool-decimal (s .filtered), s .flagged))
 
-  pub project-line : o .kind ≡ 8 → spellRecs (take 1 (h .recs)) ≡ rowText 23 (o .input ∷ cell a b (o .idx) 2 ∷ [])
+  pub project-line : o .kind ≡ 8 → spellRecs (take 1 (h .recs)) ≡ rowText projectWord (o .input ∷ cell a b (o .idx) 2 ∷ [])
   unfolding keyword planKeyword opKeyword word letters bytes bytesFrom spellFields spell
   project-line e =
       let s = of-kind 8 e (h .stored .shows) in
-      first-rec (s .is) ∙ row-rec _ 23 (o .input ∷ cell a b (o .idx) 2 ∷ []) refl (rw (s .counted))
+      first-rec (s .is) ∙ row-rec _ projectWord (o .input ∷ cell a b (o .idx) 2 ∷ []) refl (rw (s .counted))
 
-  pub aggregate-line : o .kind ≡ 9 → spellRecs (take 1 (h .recs)) ≡ rowText 24 (o .input ∷ o .x ∷ o .y ∷ [])
+  pub aggregate-line : o .kind ≡ 9 → spellRecs (take 1 (h .recs)) ≡ rowText aggWord (o .input ∷ o .x ∷ o .y ∷ [])
   unfolding keyword planKeyword opKeyword word letters bytes bytesFrom spellFields spell
-  aggregate-line e = first-rec (of-kind 9 e (h .stored .shows) .is) ∙ row-rec _ 24 (o .input ∷ o .x ∷ o .y ∷ []) refl refl
+  aggregate-line e = first-rec (of-kind 9 e (h .stored .shows) .is) ∙ row-rec _ aggWord (o .input ∷ o .x ∷ o .y ∷ []) refl refl
 
-  pub order-line : o .kind ≡ 10 → spellRecs (take 1 (h .recs)) ≡ rowText 25 (o .input ∷ o .x ∷ [])
+  pub order-line : o .kind ≡ 10 → spellRecs (take 1 (h .recs)) ≡ rowText orderWord (o .input ∷ o .x ∷ [])
   unfolding keyword planKeyword opKeyword word letters bytes bytesFrom spellFields spell
-  order-line e = first-rec (of-kind 10 e (h .stored .shows) .is) ∙ row-rec _ 25 (o .input ∷ o .x ∷ []) refl refl
+  order-line e = first-rec (of-kind 10 e (h .stored .shows) .is) ∙ row-rec _ orderWord (o .input ∷ o .x ∷ []) refl refl
 
-  pub skip-line : o .kind ≡ 11 → spellRecs (take 1 (h .recs)) ≡ rowText 26 (o .input ∷ [])
+  pub skip-line : o .kind ≡ 11 → spellRecs (take 1 (h .recs)) ≡ rowText skipWord (o .input ∷ [])
   unfolding keyword planKeyword opKeyword word letters bytes bytesFrom spellFields spell
-  skip-line e = first-rec (of-kind 11 e (h .stored .shows) .is) ∙ row-rec _ 26 (o .input ∷ []) refl refl
+  skip-line e = first-rec (of-kind 11 e (h .stored .shows) .is) ∙ row-rec _ skipWord (o .input ∷ []) refl refl
 
-  pub limit-line : o .kind ≡ 12 → spellRecs (take 1 (h .recs)) ≡ rowText 27 (o .input ∷ [])
+  pub limit-line : o .kind ≡ 12 → spellRecs (take 1 (h .recs)) ≡ rowText limitWord (o .input ∷ [])
   unfolding keyword planKeyword opKeyword word letters bytes bytesFrom spellFields spell
-  limit-line e = first-rec (of-kind 12 e (h .stored .shows) .is) ∙ row-rec _ 27 (o .input ∷ []) refl refl
+  limit-line e = first-rec (of-kind 12 e (h .stored .shows) .is) ∙ row-rec _ limitWord (o .input ∷ []) refl refl
 
-  pub distinct-line : o .kind ≡ 13 → spellRecs (take 1 (h .recs)) ≡ rowText 28 (o .input ∷ [])
+  pub distinct-line : o .kind ≡ 13 → spellRecs (take 1 (h .recs)) ≡ rowText distinctWord (o .input ∷ [])
   unfolding keyword planKeyword opKeyword word letters bytes bytesFrom spellFields spell
-  distinct-line e = first-rec (of-kind 13 e (h .stored .shows)) ∙ row-rec _ 28 (o .input ∷ []) refl refl
+  distinct-line e = first-rec (of-kind 13 e (h .stored .shows)) ∙ row-rec _ distinctWord (o .input ∷ []) refl refl
 
-  pub unwind-line : o .kind ≡ 14 → spellRecs (take 1 (h .recs)) ≡ rowText 29 (o .input ∷ o .x ∷ [])
+  pub unwind-line : o .kind ≡ 14 → spellRecs (take 1 (h .recs)) ≡ rowText unwindWord (o .input ∷ o .x ∷ [])
   unfolding keyword planKeyword opKeyword word letters bytes bytesFrom spellFields spell
-  unwind-line e = first-rec (of-kind 14 e (h .stored .shows) .is) ∙ row-rec _ 29 (o .input ∷ o .x ∷ []) refl refl
+  unwind-line e = first-rec (of-kind 14 e (h .stored .shows) .is) ∙ row-rec _ unwindWord (o .input ∷ o .x ∷ []) refl refl
 
-  pub union-line : o .kind ≡ 15 → spellRecs (take 1 (h .recs)) ≡ rowText 30 (o .input ∷ o .x ∷ o .y ∷ [])
+  pub union-line : o .kind ≡ 15 → spellRecs (take 1 (h .recs)) ≡ rowText unionWord (o .input ∷ o .x ∷ o .y ∷ [])
   unfolding keyword planKeyword opKeyword word letters bytes bytesFrom spellFields spell
-  union-line e = first-rec (of-kind 15 e (h .stored .shows)) ∙ row-rec _ 30 (o .input ∷ o .x ∷ o .y ∷ []) refl (rw (flag-decimal (o .y) (h .stored .sane .flagged e)))
+  union-line e = first-rec (of-kind 15 e (h .stored .shows)) ∙ row-rec _ unionWord (o .input ∷ o .x ∷ o .y ∷ []) refl (rw (flag-decimal (o .y) (h .stored .bounded .flagged e)))
 
   -- the last kind
   pub is-call : 15 < o .kind → o .kind ≡ 16
@@ -251,8 +247,8 @@ module _ {sheet : Bytes} {a b rest : List ℕ} {o : Op} (room : Roomy a b) (h : 
       let yields : s .fields .1 .1 .0 ≡ cell a b (o .idx) 6 = ap (λ (f : Fields (forms clause Clause.Call)). f .1 .1 .0) (r .fields) in
       let optional : spellFlag (s .fields .1 .1 .1 .0) ≡ decimal (cell a b (o .idx) 8) = rw (r .fields) (flag-decimal (cell a b (o .idx) 8) (r .flags .1 .1 .1 .0)) in
       first-rec (s .is)
-      ∙ record-line (word 35) _
-      ∙ ap (λ (t : Bytes). word 35 ++ t) (rw (name, args, yields, optional) (two-behind (spellOption (optionOf (o .x) (o .input))) (slice (cell a b (o .idx) 2) (cell a b (o .idx) 3) sheet) (decimal (cell a b (o .idx) 4) ∷ decimal (cell a b (o .idx) 6) ∷ decimal (cell a b (o .idx) 8) ∷ []) (lineFeed ∷ [])))
+      ∙ record-line (word callWord) _
+      ∙ ap (λ (t : Bytes). word callWord ++ t) (rw (name, args, yields, optional) (two-behind (spellOption (optionOf (o .x) (o .input))) (slice (cell a b (o .idx) 2) (cell a b (o .idx) 3) sheet) (decimal (cell a b (o .idx) 4) ∷ decimal (cell a b (o .idx) 6) ∷ decimal (cell a b (o .idx) 8) ∷ []) (lineFeed ∷ [])))
 
 -- ── a whole operator ──
 
@@ -260,8 +256,8 @@ module _ (k : ℕ) {sheet : Bytes} {a b os rest : List ℕ} {A : Ops} {o : Op} (
   unfoldable pub shown-at : OpShown sheet a b rest o
   shown-at = record { ops = A; number = k; recs = A k; stored = rw e (p .stored k (omega arith)) }
 
-  pub sane-at : Sane o
-  sane-at = rw e (p .stored k (omega arith) .sane)
+  pub sane-at : InBounds o
+  sane-at = rw e (p .stored k (omega arith) .bounded)
 
   pub here : Shows sheet a b (noted rest) A k o (A k)
   here = rw e (p .stored k (omega arith) .shows)

@@ -17,8 +17,8 @@ use Rattle.words.specs.Words.{Roomy, cell, fieldOf, fieldsOf}
 use Rattle.words.specs.Held.{Held, HeldOf, RecordAt, size, sizeOf}
 use Rattle.words.specs.Cells.{shown}
 use Rattle.lower.specs.Render.{Notes, Ops, exprRecs, recsOver, render, renderOf, renderIn, Below, BelowOf, BelowIn, belowIn, copiesBelow, specRec, specRecs, KidsBelow}
-use Rattle.lower.specs.Count.{countAt}
-use Rattle.lower.proofs.Counting.{counted, flag-one}
+use Rattle.words.specs.Count.{countAt}
+use Rattle.words.proofs.Counting.{counted, flag-one}
 use Rattle.words.specs.Numbers.{sameNumber, exprNumber, elementNumber}
 use Rattle.plan_sheet.specs.Due.{exprHead, ExprAt, ElementAt, Carried, carriedRecs, carriedEnd, Names, namesRecs}
 use Rattle.plan_sheet.specs.Due

@@ -21,12 +21,12 @@ use Rattle.context.specs.Tables.{opAt}
 use Rattle.context.specs.declared.op.Op.{Op}
 use Rattle.lower.specs.Render.{Notes, Ops, Below, BelowOf, belowIn, copiesBelow, itemExpr, isAggregate, aggOf, keyRecs, aggRecs}
 use Rattle.lower.specs.Shows.{shift}
-use Rattle.lower.specs.Count.{Ends}
+use Rattle.words.specs.Count.{Ends}
 use Rattle.aggregate.specs.Names.{SomeExpr}
-use Rattle.plan_line.specs.Keywords.{word, letters}
+use Rattle.plan_line.specs.Keywords.{word, letters, aggFnWord}
 use Rattle.plan_line.specs.Row.{namedText}
 use Rattle.plan_sheet.specs.Due.{noted, Planned, One, Carried, carriedRecs, carriedEnd, Many, WroteOne, WroteMany, WroteFirst}
-use Rattle.plan_sheet.specs.Parted.{partRecs, partsRecs, Items, WrotePart, WroteParts}
+use Rattle.plan_sheet.specs.Parted.{keys, aggregates, partRecs, partsRecs, Items, WrotePart, WroteParts}
 use Rattle.plan_line.proofs.FieldLaws.{flag-decimal}
 use Rattle.plan_line.proofs.RowLaws.{named-rec, place-escape}
 use Rattle.plan_sheet.proofs.HeadLaws.{texts-at}
@@ -42,29 +42,16 @@ pub record Agg (sheet : Bytes) (a b : List ℕ) (N : Notes) (below left i : ℕ)
   pub place : PlaceAt text sheet (cell a b i 2) (cell a b i 3)
   pub list : Carried sheet a b N below (left - 1) (cell a b i 4) (i + 1)
   pub stop : carriedEnd list ≡ i + size t
-  pub text : (A : Ops) → spellRecs (aggOf N A t) ≡ namedText 40 (slice (cell a b i 2) (cell a b i 3) sheet) (cell a b i 4 ∷ cell a b i 6 ∷ []) ++ spellRecs (carriedRecs A list)
+  pub text : (A : Ops) → spellRecs (aggOf N A t) ≡ namedText aggFnWord (slice (cell a b i 2) (cell a b i 3) sheet) (cell a b i 4 ∷ cell a b i 6 ∷ []) ++ spellRecs (carriedRecs A list)
 
-call-agg : (sheet : Bytes) (a b : List ℕ) (i : ℕ) → Roomy a b → (f : Fields (exprForms Expr.Call)) → RecordAt sheet a b i expr Expr.Call f → spellRec (rec (inPlan aggExpr) tt (f .0, (f .1 .0, (f .1 .1 .0, tt)))) ≡ namedText 40 (slice (cell a b i 2) (cell a b i 3) sheet) (cell a b i 4 ∷ cell a b i 6 ∷ [])
+call-agg : (sheet : Bytes) (a b : List ℕ) (i : ℕ) → Roomy a b → (f : Fields (exprForms Expr.Call)) → RecordAt sheet a b i expr Expr.Call f → spellRec (rec (inPlan aggExpr) tt (f .0, (f .1 .0, (f .1 .1 .0, tt)))) ≡ namedText aggFnWord (slice (cell a b i 2) (cell a b i 3) sheet) (cell a b i 4 ∷ cell a b i 6 ∷ [])
 unfolding keyword planKeyword word letters bytes bytesFrom spellFields spell fieldsOf fieldOf
 call-agg sheet a b i room f at =
     let s = shown room at in
-    named-rec _ 40 (slice (cell a b i 2) (cell a b i 3) sheet) (cell a b i 4 ∷ cell a b i 6 ∷ []) refl (rw (s .fields) (rw (place-escape (texts-at room at .0), flag-decimal (cell a b i 6) (s .flags .1 .1 .0))))
+    named-rec _ aggFnWord (slice (cell a b i 2) (cell a b i 3) sheet) (cell a b i 4 ∷ cell a b i 6 ∷ []) refl (rw (s .fields) (rw (place-escape (texts-at room at .0), flag-decimal (cell a b i 6) (s .flags .1 .1 .0))))
 
 not-true : {X : Type 0} → false ≡ true → X
 not-true e = let z : _≡_ {A = ℕ} 0 1 = cc in absurd (omega arith)
-
--- as the code compares them
-pub differ : (x y : Bool) → not (Bool·beq x y) ≡ true → x ≡ y → ⊥
-differ true true e q = not-true e
-differ false false e q = not-true e
-differ true false e q = not-true (sym q)
-differ false true e q = not-true q
-
-pub agree : (x y : Bool) → not (Bool·beq x y) ≡ false → x ≡ y
-agree true true e = refl
-agree false false e = refl
-agree true false e = not-true (sym e)
-agree false true e = not-true (sym e)
 
 module _ (sheet : Bytes) (a b : List ℕ) (N : Notes) (below left i : ℕ) (room : Roomy a b) where
   counted-as : {n : ℕ} {stop : ℕ} {R : Ops → Recs} → n ≡ cell a b i 4 → Made sheet a b N below (left - 1) n (i + 1) R stop → Made sheet a b N below (left - 1) (cell a b i 4) (i + 1) R stop
@@ -109,22 +96,28 @@ module _ {sheet : Bytes} {a b os rest : List ℕ} {below base left i : ℕ} wher
   pub some-expr : One sheet a b os rest below base left i → SomeExpr sheet a b i
   some-expr h = record { depth = left; held = record { tree = h .tree; is = h .held } }
 
-  pub other-wrote : {is aggs : Bool} {next : ℕ} {p : Page} → Told sheet a b i is → (is ≡ aggs → ⊥) → Ends a b i next → WrotePart sheet a b os rest below base left i aggs p next p
+  other-wrote : {is aggs : Bool} {next : ℕ} {p : Page} → Told sheet a b i is → (is ≡ aggs → ⊥) → Ends a b i next → WrotePart sheet a b os rest below base left i aggs p next p
   unfolding spellRecs
   other-wrote {is} {aggs} told z ends h = (ends .each sheet expr left (h .tree) tt (h .held), rw (other-recs (shift (noted rest) base) (h .ops) is aggs (h .tree) (told left (h .tree) (h .held)) z) stay)
 
+  pub no-key : {is : Bool} {next : ℕ} {p : Page} → Told sheet a b i is → is ≡ true → Ends a b i next → WrotePart sheet a b os rest below base left i keys p next p
+  no-key told e ends = other-wrote told (λ f. not-true (sym f ∙ e)) ends
+
+  pub no-aggregate : {is : Bool} {next : ℕ} {p : Page} → Told sheet a b i is → is ≡ false → Ends a b i next → WrotePart sheet a b os rest below base left i aggregates p next p
+  no-aggregate told e ends = other-wrote told (λ f. not-true (sym e ∙ f)) ends
+
   -- it is a key
-  pub key-wrote : {is aggs : Bool} {next : ℕ} {p q : Page} → Told sheet a b i is → is ≡ aggs → aggs ≡ false → WroteOne sheet a b os rest below base left i p next q → WrotePart sheet a b os rest below base left i aggs p next q
+  pub key-wrote : {is : Bool} {next : ℕ} {p q : Page} → Told sheet a b i is → is ≡ false → WroteOne sheet a b os rest below base left i p next q → WrotePart sheet a b os rest below base left i keys p next q
   unfolding partRecs
-  key-wrote told e f w h =
+  key-wrote told e w h =
       let v = w h in
-      let n : isAggregate (h .tree) ≡ false = sym (told left (h .tree) (h .held)) ∙ e ∙ f in
-      (v .0, rw (f, n) (v .1))
+      let n : isAggregate (h .tree) ≡ false = sym (told left (h .tree) (h .held)) ∙ e in
+      (v .0, rw n (v .1))
 
   -- it is an aggregate
-  module _ (room : Roomy a b) {is aggs : Bool} (told : Told sheet a b i is) (e : is ≡ aggs) (f : aggs ≡ true) (h : One sheet a b os rest below base left i) where
+  module _ (room : Roomy a b) {is : Bool} (told : Told sheet a b i is) (e : is ≡ true) (h : One sheet a b os rest below base left i) where
     pub agg-is : Agg sheet a b (shift (noted rest) base) below left i (h .tree)
-    agg-is = agg sheet a b (shift (noted rest) base) below left i room (h .tree) (h .held) (h .under) (sym (told left (h .tree) (h .held)) ∙ e ∙ f)
+    agg-is = agg sheet a b (shift (noted rest) base) below left i room (h .tree) (h .held) (h .under) (sym (told left (h .tree) (h .held)) ∙ e)
 
     pub agg-in : (cell a b i 2 ≤ cell a b i 3) × (cell a b i 3 ≤ length sheet)
     agg-in = (agg-is .place .from, agg-is .place .to)
@@ -132,13 +125,13 @@ module _ {sheet : Bytes} {a b os rest : List ℕ} {below base left i : ℕ} wher
     pub args : {n : ℕ} → n ≡ cell a b i 4 → Many sheet a b os rest below base (left - 1) n (i + 1)
     args q = rw q (record { ops = h .ops; planned = h .planned; list = agg-is .list })
 
-    pub agg-wrote : {n next : ℕ} {p q r : Page} → n ≡ cell a b i 4 → Puts (namedText 40 (slice (cell a b i 2) (cell a b i 3) sheet) (cell a b i 4 ∷ cell a b i 6 ∷ [])) p q → WroteMany sheet a b os rest below base (left - 1) n (i + 1) q next r → (next ≡ i + size (h .tree)) × Puts (spellRecs (partRecs (shift (noted rest) base) (h .ops) aggs (h .tree))) p r
+    pub agg-wrote : {n next : ℕ} {p q r : Page} → n ≡ cell a b i 4 → Puts (namedText aggFnWord (slice (cell a b i 2) (cell a b i 3) sheet) (cell a b i 4 ∷ cell a b i 6 ∷ [])) p q → WroteMany sheet a b os rest below base (left - 1) n (i + 1) q next r → (next ≡ i + size (h .tree)) × Puts (spellRecs (partRecs (shift (noted rest) base) (h .ops) aggregates (h .tree))) p r
     unfolding partRecs
     agg-wrote {n} {next} {p} {q} {r} c line many =
         let m : WroteMany sheet a b os rest below base (left - 1) (cell a b i 4) (i + 1) q next r = rw c at many in
         let w = m (record { ops = h .ops; planned = h .planned; list = agg-is .list }) in
-        let y : isAggregate (h .tree) ≡ true = sym (told left (h .tree) (h .held)) ∙ e ∙ f in
-        (w .0 ∙ agg-is .stop, rw (f, y, agg-is .text (h .ops)) (line ⨾ w .1))
+        let y : isAggregate (h .tree) ≡ true = sym (told left (h .tree) (h .held)) ∙ e in
+        (w .0 ∙ agg-is .stop, rw (y, agg-is .text (h .ops)) (line ⨾ w .1))
 
 -- ── the loop ──
 
@@ -229,11 +222,11 @@ module _ (k : ℕ) {sheet : Bytes} {a b os rest : List ℕ} {A : Ops} {o : Op} (
   pub items-of : Items sheet a b os rest k (o .base) (o .left) n (o .idx + 1)
   items-of = let s = of-kind 9 c (here k p e) in rw (count ∙ sym (s .counted)) (record { ops = A; planned = planned-below k p e; items = s .items; held = s .held; under = s .below })
 
-  pub parted-wrote : {g g′ g″ g‴ : Page} → WroteFirst sheet a b rest o g g′ → WroteParts sheet a b os rest k (o .base) (o .left) n (o .idx + 1) false g′ g″ → WroteParts sheet a b os rest k (o .base) (o .left) n (o .idx + 1) true g″ g‴ → Puts (spellRecs (A k)) g g‴
+  pub parted-wrote : {g g′ g″ g‴ : Page} → WroteFirst sheet a b rest o g g′ → WroteParts sheet a b os rest k (o .base) (o .left) n (o .idx + 1) keys g′ g″ → WroteParts sheet a b os rest k (o .base) (o .left) n (o .idx + 1) aggregates g″ g‴ → Puts (spellRecs (A k)) g g‴
   unfolding shown-at partsRecs
-  parted-wrote {g} {g′} {g″} {g‴} first keys aggs =
+  parted-wrote {g} {g′} {g″} {g‴} first ks gs =
       let s = of-kind 9 c (here k p e) in
       let h : Items sheet a b os rest k (o .base) (o .left) (s .count) (o .idx + 1) = record { ops = A; planned = planned-below k p e; items = s .items; held = s .held; under = s .below } in
-      let v : WroteParts sheet a b os rest k (o .base) (o .left) (s .count) (o .idx + 1) false g′ g″ = rw (count ∙ sym (s .counted)) at keys in
-      let u : WroteParts sheet a b os rest k (o .base) (o .left) (s .count) (o .idx + 1) true g″ g‴ = rw (count ∙ sym (s .counted)) at aggs in
+      let v : WroteParts sheet a b os rest k (o .base) (o .left) (s .count) (o .idx + 1) keys g′ g″ = rw (count ∙ sym (s .counted)) at ks in
+      let u : WroteParts sheet a b os rest k (o .base) (o .left) (s .count) (o .idx + 1) aggregates g″ g‴ = rw (count ∙ sym (s .counted)) at gs in
       rw (first-more (s .is)) (first (shown-at k p e) ⨾ rw (spell-append (keyRecs (shift (noted rest) (o .base)) A (s .items)) (aggRecs (shift (noted rest) (o .base)) A (s .items))) (v h ⨾ u h))

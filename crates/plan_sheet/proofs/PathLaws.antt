@@ -17,11 +17,12 @@ use Rattle.output.specs.Page.{Page, Puts}
 use Rattle.output.specs.Writes.{_⨾_, stay}
 use Rattle.words.specs.Words.{Roomy, cell}
 use Rattle.words.specs.Held.{Held, HeldOf, size}
+use Rattle.context.specs.Read.{noteOf}
 use Rattle.lower.specs.Render.{Notes, keptRel, keptFrom}
 use Rattle.lower.specs.Shows.{shift}
-use Rattle.lower.specs.Count.{Starts, Ends}
+use Rattle.words.specs.Count.{Starts, Ends}
 use Rattle.words.specs.Numbers.{elementNumber}
-use Rattle.plan_line.specs.Keywords.{word, letters}
+use Rattle.plan_line.specs.Keywords.{word, letters, elementWord}
 use Rattle.plan_line.specs.Row.{rowText}
 use Rattle.plan_sheet.specs.Due.{noted, ElementAt}
 use Rattle.plan_sheet.specs.Path.{waitsOf, Stepped, Elements, WrotePath}
@@ -30,7 +31,7 @@ use Rattle.plan_sheet.proofs.NameLaws.{element-number}
 
 -- ── a number ──
 
-number-line : (n : ℕ) → spellRecs (pathElements (n ∷ [])) ≡ rowText 42 (n ∷ [])
+number-line : (n : ℕ) → spellRecs (pathElements (n ∷ [])) ≡ rowText elementWord (n ∷ [])
 unfolding pathElements spellRecs keyword planKeyword word letters bytes bytesFrom spellFields spell
 number-line n = append-nil (spellRec (rec (inPlan pathElement) tt (n, tt))) ∙ row-rec (rec (inPlan pathElement) tt (n, tt)) 42 (n ∷ []) refl refl
 
@@ -54,18 +55,20 @@ module _ (rest : List ℕ) (base : ℕ) (seen : Bool) (waits : ℕ) where
   kept-none zero e = refl
   kept-none (suc w) e = rw e
 
-  pub kept : {n : ℕ} {g g′ : Page} → (waits ≡ 0 → ⊥) → seen ≡ true → n ≡ getD rest (base + waits) 0 → Puts (rowText 42 (n ∷ [])) g g′ → Puts (spellRecs (pathElements (keptRel (shift (noted rest) base) seen (waitsOf waits)))) g g′
-  kept {n} z e q w = rw (kept-one waits z e, ← q, number-line n) w
+  pub kept : {n : ℕ} {g g′ : Page} → (waits ≡ 0 → ⊥) → seen ≡ true → n ≡ noteOf rest base (waits - 1) → Puts (rowText elementWord (n ∷ [])) g g′ → Puts (spellRecs (pathElements (keptRel (shift (noted rest) base) seen (waitsOf waits)))) g g′
+  kept {n} z e q w =
+      let line : suc (waits - 1) ≡ waits = omega (arith, z) in
+      rw (kept-one waits z e, ← (rw line at q), number-line n) w
 
   pub not-kept : {g : Page} → seen ≡ false → Puts (spellRecs (pathElements (keptRel (shift (noted rest) base) seen (waitsOf waits)))) g g
   unfolding pathElements spellRecs
   not-kept e = rw (kept-none waits e) stay
 
-  pub node-step : {i kind n : ℕ} {g g′ g″ : Page} → kind ≡ 12 → i < 2048 → Puts (spellRecs (pathElements (keptRel (shift (noted rest) base) seen (waitsOf waits)))) g g′ → n ≡ getD rest (base + (i + 1)) 0 → Puts (rowText 42 (n ∷ [])) g′ g″ → Stepped rest base i kind seen waits g g″ true 0
+  pub node-step : {i kind n : ℕ} {g g′ g″ : Page} → kind ≡ 12 → i < 2048 → Puts (spellRecs (pathElements (keptRel (shift (noted rest) base) seen (waitsOf waits)))) g g′ → n ≡ noteOf rest base i → Puts (rowText elementWord (n ∷ [])) g′ g″ → Stepped rest base i kind seen waits g g″ true 0
   node-step {i} {kind} {n} {g} {g′} {g″} e l w q v =
       record {
         low = omega arith;
-        of-node = λ x. (refl, refl, rw (path-append (keptRel (shift (noted rest) base) seen (waitsOf waits)) (getD rest (base + (i + 1)) 0 ∷ []), ← q, number-line n) (w ⨾ v));
+        of-node = λ x. (refl, refl, rw (path-append (keptRel (shift (noted rest) base) seen (waitsOf waits)) (noteOf rest base i ∷ []), ← q, number-line n) (w ⨾ v));
         of-rel = λ x. absurd (x e);
       }
 
@@ -88,7 +91,7 @@ module _ {sheet : Bytes} {a b rest : List ℕ} {base at kind next waits waits′
       let w = s .of-node (k ∙ element-number room x) in
       let e : suc m - 1 ≡ m = omega arith in
       let n : next ≡ at + size (node patternElement line PatternElement.Node f kids) = ends .each sheet patternElement d (node patternElement line PatternElement.Node f kids) tt (h .0) in
-      let l : at + 1 ≡ line = add-one at ∙ sym (h .0 .0) in
+      let l : suc at ≡ line = sym (h .0 .0) in
       let before : List ℕ = keptRel (shift (noted rest) base) seen (waitsOf waits) ++ (getD rest (base + line) 0 ∷ []) in
       rw (e, n, w .0, w .1) (record {
         others = record { depth = d; trees = ts; held = h .1 };

@@ -16,7 +16,6 @@ use Rattle.context.specs.Tables.{opAt}
 use Rattle.context.specs.declared.op.Op.{Op}
 use Rattle.lower.specs.Render.{Notes, Ops, render, Below, specRecs, KidsBelow}
 use Rattle.lower.specs.Shows.{Stored, shift}
-use Rattle.plan_sheet.specs.declared.op.OpWords.{OpWords}
 
 -- what is noted
 abbrev pub noted : List ℕ → Notes
@@ -27,6 +26,11 @@ pub record Room (a b os rest : List ℕ) : Type 0 where
   pub records : Roomy a b
   pub in-ops : 16384 ≤ length os
   pub in-rest : 16384 ≤ length rest
+
+-- where the notes of a pass begin, and how deep trees may be
+pub record Near (base left : ℕ) : Type 0 where
+  pub near : base ≤ 2048
+  pub shallow : left ≤ 64
 
 -- A has the operators below n, as the tables show them
 pub record Planned (sheet : Bytes) (a b os rest : List ℕ) (n : ℕ) (A : Ops) : Type 0 where
@@ -147,11 +151,7 @@ pub record SomePlan (sheet : Bytes) (a b os rest : List ℕ) (n : ℕ) : Type 0 
   pub ops : Ops
   pub planned : Planned sheet a b os rest n ops
 
--- an operator's words
-abbrev pub wordsOf : OpWords → Op
-wordsOf w = record { kind = w .kind; idx = w .idx; input = w .input; x = w .x; y = w .y; left = w .left; base = w .base }
-
--- what an operator of such words comes to
+-- what a stored operator comes to
 pub record OpShown (sheet : Bytes) (a b rest : List ℕ) (o : Op) : Type 0 where
   pub ops : Ops
   pub number : ℕ

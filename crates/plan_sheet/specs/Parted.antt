@@ -14,6 +14,13 @@ use Rattle.lower.specs.Render.{Notes, Ops, render, BelowOf, isAggregate, aggOf,
 use Rattle.lower.specs.Shows.{shift}
 use Rattle.plan_sheet.specs.Due.{noted, Planned, One}
 
+-- which part: the keys, or the aggregates
+abbrev pub keys : Bool
+keys = false
+
+abbrev pub aggregates : Bool
+aggregates = true
+
 -- what an item's expression adds to the aggregates, or to the keys
 unfoldable pub partRecs : Notes → Ops → (aggs : Bool) → Tree expr → Recs
 partRecs N A true e = cond (isAggregate e) (aggOf N A e) []

@@ -3,52 +3,58 @@ ghost use mathlib.Core.Path.{_≡_};
 ghost use Prim.Native.Nat.{_+_, _<_, _≤_};
 ghost use lib.ListN.{length};
 ghost use Rattle.output.specs.Page.{on};
-ghost use Rattle.words.specs.Words.{Roomy};
-ghost use Rattle.plan_sheet.specs.Due.{wordsOf};
+ghost use Rattle.words.specs.Words.{Roomy, cell};
+ghost use Rattle.words.specs.Places.{callYieldsAt};
 ghost use Rattle.plan_sheet.specs.Behind.{manyOf, firstOf, Yields, WroteYields, SomeTail, WroteTail};
-use crate::op::OpWords;
+use context::op;
+use context::op::Op;
+use context::read::note_of;
+use words::records::count;
+use words::field;
 
 // How many expressions an operator has.
-pub fn many_of(a: &[u32], b: &[u32], w: OpWords) -> usize
+pub fn many_of(a: &[u32], b: &[u32], w: Op) -> usize
     requires { ⌜ Roomy (now a) (now b) ⌝ }
     requires { ⌜ w .idx < 2048 ⌝ }
-    ensures { λ r. ⌜ r ≡ manyOf (now (a .entry)) (now (b .entry)) (wordsOf w) ⌝ }
+    ensures { λ r. ⌜ r ≡ manyOf (now (a .entry)) (now (b .entry)) w ⌝ }
 {
     let kind = w.kind;
-    let items = lower::records::count(a, b, w.idx, 2);
-    let more = lower::records::count(a, b, w.idx, 4);
+    let idx = w.idx as usize;
+    let items = count(a, b, idx, field::ITEMS);
+    let filter = count(a, b, idx, field::WITH_FILTER);
+    let args = count(a, b, idx, field::CALL_ARGS);
     let x = w.x as usize;
     match kind {
-        2 => 1,
-        7 => items + more,
-        8 => items,
-        10 => x,
-        11 => 1,
-        12 => 1,
-        14 => 1,
-        16 => more,
+        op::FILTER => 1,
+        op::WITH => items + filter,
+        op::PROJECT => items,
+        op::ORDER_BY => x,
+        op::SKIP => 1,
+        op::LIMIT => 1,
+        op::UNWIND => 1,
+        op::PROCEDURE_CALL => args,
         _ => 0,
     }
 }
 
 // The record that they begin at.
-pub fn first_of(w: OpWords) -> usize
+pub fn first_of(w: Op) -> usize
     requires { ⌜ w .idx < 2048 ⌝ }
-    ensures { λ r. ⌜ r ≡ firstOf (wordsOf w) ⌝ }
+    ensures { λ r. ⌜ r ≡ firstOf w ⌝ }
 {
     let kind = w.kind;
-    let idx = w.idx;
+    let idx = w.idx as usize;
     match kind {
-        2 => idx,
-        10 => idx,
-        11 => idx,
-        12 => idx,
-        14 => idx,
+        op::FILTER => idx,
+        op::ORDER_BY => idx,
+        op::SKIP => idx,
+        op::LIMIT => idx,
+        op::UNWIND => idx,
         _ => idx + 1,
     }
 }
 
-// The n yields from record i on, with the numbers that are noted at them.
+// The yields of a `call`, from record i on, with the numbers that are noted at them.
 fn put_yields(
     plan: &mut [u8],
     out: usize,
@@ -56,25 +62,25 @@ fn put_yields(
     a: &[u32],
     b: &[u32],
     rest: &[u32],
-    base: usize,
+    w: Op,
     i: usize,
-    n: usize,
 ) -> usize
     requires { ⌜ Roomy (now a) (now b) ⌝ }
-    requires { ⌜ (16384 ≤ length (now rest)) × (base ≤ 2048) ⌝ }
-    requires { ⌜ Yields (now sheet) (now a) (now b) n i ⌝ }
-    ensures { λ r. ⌜ WroteYields (now (sheet .entry)) (now (a .entry)) (now (b .entry)) (now (rest .entry)) base n i (on (now (plan .entry)) out) (on (now (plan .exit)) r) ⌝ }
+    requires { ⌜ (16384 ≤ length (now rest)) × (w .base ≤ 2048) × (w .idx < 2048) ⌝ }
+    requires { ⌜ Yields (now sheet) (now a) (now b) (cell (now a) (now b) (w .idx) callYieldsAt) i ⌝ }
+    ensures { λ r. ⌜ WroteYields (now (sheet .entry)) (now (a .entry)) (now (b .entry)) (now (rest .entry)) (w .base) (cell (now (a .entry)) (now (b .entry)) (w .idx) callYieldsAt) i (on (now (plan .entry)) out) (on (now (plan .exit)) r) ⌝ }
 {
+    let base = w.base as usize;
     let mut at = i;
-    let mut left = n;
+    let mut due = words::word(a, b, w.idx as usize, field::CALL_YIELDS);
     let mut o = out;
-    while left != 0 {
-        let s = words::word(a, b, at, 2);
-        let e = words::word(a, b, at, 3);
+    while due != 0 {
+        let s = words::word(a, b, at, field::YIELD_NAME);
+        let e = words::word(a, b, at, field::YIELD_NAME + 1);
+        let number = note_of(rest, base, at);
+        o = plan_line::row::put_named1(plan, o, plan_line::word::YIELD, sheet, s, e, number);
         at += 1;
-        let number = crate::head::note(rest, base + at);
-        o = plan_line::row::put_named(plan, o, 45, sheet, s, e, 1, number, 0);
-        left -= 1;
+        due -= 1;
     }
     o
 }
@@ -87,25 +93,23 @@ pub fn put_tail(
     a: &[u32],
     b: &[u32],
     rest: &[u32],
-    w: OpWords,
+    w: Op,
     i: usize,
 ) -> usize
     requires { ⌜ Roomy (now a) (now b) ⌝ }
     requires { ⌜ (16384 ≤ length (now rest)) × (w .base ≤ 2048) × (w .idx < 2048) ⌝ }
-    requires { ⌜ SomeTail (now sheet) (now a) (now b) (now rest) (wordsOf w) i ⌝ }
-    ensures { λ r. ⌜ WroteTail (now (sheet .entry)) (now (a .entry)) (now (b .entry)) (now (rest .entry)) (wordsOf w) i (on (now (plan .entry)) out) (on (now (plan .exit)) r) ⌝ }
+    requires { ⌜ SomeTail (now sheet) (now a) (now b) (now rest) w i ⌝ }
+    ensures { λ r. ⌜ WroteTail (now (sheet .entry)) (now (a .entry)) (now (b .entry)) (now (rest .entry)) w i (on (now (plan .entry)) out) (on (now (plan .exit)) r) ⌝ }
 {
     let kind = w.kind;
-    let base = w.base;
-    let labels = lower::records::count(a, b, w.idx, 4);
-    let more = lower::records::count(a, b, w.idx, 6);
     match kind {
-        1 => {
+        op::SOURCE => {
+            let labels = count(a, b, w.idx as usize, field::NODE_LABELS);
             let v = crate::names::put_names(plan, out, sheet, a, b, i, labels);
             v.out
         }
-        5 => crate::path::put_path(plan, out, sheet, a, b, rest, base, i, more),
-        16 => put_yields(plan, out, sheet, a, b, rest, base, i, more),
+        op::BIND_PATH => crate::path::put_path(plan, out, sheet, a, b, rest, w, i),
+        op::PROCEDURE_CALL => put_yields(plan, out, sheet, a, b, rest, w, i),
         _ => out,
     }
 }

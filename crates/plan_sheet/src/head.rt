@@ -2,13 +2,20 @@
 ghost use mathlib.Core.Path.{_≡_};
 ghost use mathlib.Core.List.{[], _∷_};
 ghost use Prim.Native.Nat.{_<_, _≤_};
-ghost use lib.ListN.{length, getD};
+ghost use lib.ListN.{length};
 ghost use lib.Seq.{slice};
 ghost use Rattle.model.specs.Record.{spellRec};
 ghost use Rattle.output.specs.Page.{on, Puts};
 ghost use Rattle.words.specs.Words.{Roomy, cell};
+ghost use Rattle.words.specs.Places.{kindAt, fnArgsAt, listPredicateKindAt, listPredicatePredAt};
+ghost use Rattle.plan_line.specs.Keywords.{fnWord, listPredicateWord};
 ghost use Rattle.plan_line.specs.Row.{rowText, namedText};
 ghost use Rattle.plan_sheet.specs.Due.{exprHead, ExprAt, SomeLine, WroteLine};
+use plan_line::field::put_line;
+use plan_line::row;
+use plan_line::word;
+use words::field;
+use words::kind;
 
 // Where the text ended, and the record behind what was written.
 pub struct Wrote {
@@ -16,36 +23,28 @@ pub struct Wrote {
     pub out: usize,
 }
 
-// What is noted at a place.
-pub fn note(rest: &[u32], at: usize) -> u32
-    requires { ⌜ at < length (now rest) ⌝ }
-    ensures { λ r. ⌜ r ≡ getD (now (rest .entry)) at 0 ⌝ }
-{
-    rest[at]
-}
-
 // A function's name and how many arguments it has.
 fn put_call(plan: &mut [u8], out: usize, sheet: &[u8], a: &[u32], b: &[u32], i: usize) -> usize
     requires { ⌜ Roomy (now a) (now b) ⌝ }
     requires { ⌜ i < 2048 ⌝ }
     requires { ⌜ (cell (now a) (now b) i 2 ≤ cell (now a) (now b) i 3) × (cell (now a) (now b) i 3 ≤ length (now sheet)) ⌝ }
-    ensures { λ r. ⌜ Puts (namedText 17 (slice (cell (now (a .entry)) (now (b .entry)) i 2) (cell (now (a .entry)) (now (b .entry)) i 3) (now (sheet .entry))) (cell (now (a .entry)) (now (b .entry)) i 4 ∷ [])) (on (now (plan .entry)) out) (on (now (plan .exit)) r) ⌝ }
+    ensures { λ r. ⌜ Puts (namedText fnWord (slice (cell (now (a .entry)) (now (b .entry)) i 2) (cell (now (a .entry)) (now (b .entry)) i 3) (now (sheet .entry))) (cell (now (a .entry)) (now (b .entry)) i fnArgsAt ∷ [])) (on (now (plan .entry)) out) (on (now (plan .exit)) r) ⌝ }
 {
-    let s = words::word(a, b, i, 2);
-    let e = words::word(a, b, i, 3);
-    let n = words::word(a, b, i, 4);
-    plan_line::row::put_named(plan, out, 17, sheet, s, e, 1, n, 0)
+    let s = words::word(a, b, i, field::NAME);
+    let e = words::word(a, b, i, field::NAME + 1);
+    let n = words::word(a, b, i, field::FN_ARGS);
+    row::put_named1(plan, out, word::FN, sheet, s, e, n)
 }
 
 // A list predicate, whose variable has the number n.
 fn put_any(plan: &mut [u8], out: usize, a: &[u32], b: &[u32], i: usize, n: u32) -> usize
     requires { ⌜ Roomy (now a) (now b) ⌝ }
     requires { ⌜ i < 2048 ⌝ }
-    ensures { λ r. ⌜ Puts (rowText 19 (cell (now (a .entry)) (now (b .entry)) i 2 ∷ n ∷ cell (now (a .entry)) (now (b .entry)) i 6 ∷ [])) (on (now (plan .entry)) out) (on (now (plan .exit)) r) ⌝ }
+    ensures { λ r. ⌜ Puts (rowText listPredicateWord (cell (now (a .entry)) (now (b .entry)) i listPredicateKindAt ∷ n ∷ cell (now (a .entry)) (now (b .entry)) i listPredicatePredAt ∷ [])) (on (now (plan .entry)) out) (on (now (plan .exit)) r) ⌝ }
 {
-    let x = words::word(a, b, i, 2);
-    let z = words::word(a, b, i, 6);
-    plan_line::row::put_row(plan, out, 19, 3, x, n, z, 0, 0)
+    let x = words::word(a, b, i, field::LIST_PREDICATE_KIND);
+    let z = words::word(a, b, i, field::LIST_PREDICATE_PRED);
+    row::put_row3(plan, out, word::LIST_PREDICATE, x, n, z)
 }
 
 // The first line of the expression at record i, at which the number n is noted.
@@ -61,20 +60,20 @@ pub fn put_expr(
 ) -> usize
     requires { ⌜ Roomy (now a) (now b) ⌝ }
     requires { ⌜ ExprAt (now sheet) (now a) (now b) i ⌝ }
-    requires { ⌜ kind ≡ cell (now a) (now b) i 0 ⌝ }
+    requires { ⌜ kind ≡ cell (now a) (now b) i kindAt ⌝ }
     ensures { λ r. ⌜ ((h : ExprAt (now (sheet .entry)) (now (a .entry)) (now (b .entry)) i) → Puts (spellRec (exprHead n (h .kind) (h .fields))) (on (now (plan .entry)) out) (on (now (plan .exit)) r)) ⌝ }
 {
     match kind {
-        32 => plan_line::row::put_row(plan, out, 15, 1, n, 0, 0, 0, 0),
-        33 => plan_line::field::put_line(plan, out, sheet, a, b, i, 33, 16),
-        34 => put_call(plan, out, sheet, a, b, i),
-        35 => plan_line::row::put_row(plan, out, 18, 0, 0, 0, 0, 0, 0),
-        36 => put_any(plan, out, a, b, i, n),
-        37 => plan_line::row::put_row(plan, out, 0, 0, 0, 0, 0, 0, 0),
-        38 => plan_line::row::put_row(plan, out, 0, 0, 0, 0, 0, 0, 0),
+        kind::VAR => row::put_row1(plan, out, word::VAR, n),
+        kind::MAP => put_line(plan, out, sheet, a, b, i, kind::MAP as usize, word::MAP),
+        kind::FN => put_call(plan, out, sheet, a, b, i),
+        kind::PAT => row::put_row0(plan, out, word::EXISTS),
+        kind::LIST_PREDICATE => put_any(plan, out, a, b, i, n),
+        kind::UNRES => row::put_row0(plan, out, word::NULL),
+        kind::UNDES => row::put_row0(plan, out, word::NULL),
         _ => {
             let k = kind as usize;
-            plan_line::field::put_line(plan, out, sheet, a, b, i, k, k - 17)
+            put_line(plan, out, sheet, a, b, i, k, k - word::SAME_FROM)
         }
     }
 }
@@ -92,19 +91,19 @@ pub fn put_before(
     requires { ⌜ SomeLine (now sheet) (now a) (now b) i ⌝ }
     ensures { λ r. ⌜ WroteLine (now (sheet .entry)) (now (a .entry)) (now (b .entry)) i (on (now (plan .entry)) out) (r .next) (on (now (plan .exit)) (r .out)) ⌝ }
 {
-    let kind = words::word(a, b, i, 0);
+    let kind = words::word(a, b, i, field::KIND);
     match kind {
-        16 => {
+        kind::ENTRY => {
             let next = i + 1;
-            let o = plan_line::field::put_line(plan, out, sheet, a, b, i, 16, 44);
+            let o = put_line(plan, out, sheet, a, b, i, kind::ENTRY as usize, word::NAME);
             Wrote { next, out: o }
         }
-        10 => {
+        kind::KEY => {
             let next = i + 1;
-            let o = plan_line::field::put_line(plan, out, sheet, a, b, i, 10, 41);
+            let o = put_line(plan, out, sheet, a, b, i, kind::KEY as usize, word::KEY);
             Wrote { next, out: o }
         }
-        9 => {
+        kind::ITEM => {
             let next = i + 1;
             let o = crate::item::put_item(plan, out, sheet, a, b, i);
             Wrote { next, out: o }

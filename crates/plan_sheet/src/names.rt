@@ -9,8 +9,17 @@ ghost use Rattle.output.specs.Page.{on, Puts};
 ghost use Rattle.words.specs.Words.{Roomy, cell};
 ghost use Rattle.lower.specs.Render.{specRec};
 ghost use Rattle.plan_sheet.specs.Due.{Names, namesRecs, ElementAt};
+ghost use Rattle.words.specs.Places.{kindAt, nodeLabelsAt, nodePropsAt, relTypesAt, relDirectionAt, relLengthAt, relPropsAt};
+ghost use Rattle.plan_line.specs.Keywords.{toWord};
 ghost use Rattle.plan_line.specs.Row.{rowText, relText};
 use crate::head::Wrote;
+use plan_line::field::put_line;
+use plan_line::field::put_number;
+use plan_line::field::put_text;
+use plan_line::keyword::put_keyword;
+use plan_line::word;
+use words::field;
+use words::kind;
 
 // The n names from record i on.
 pub fn put_names(
@@ -30,7 +39,7 @@ pub fn put_names(
     let mut left = n;
     let mut o = out;
     while left != 0 {
-        o = plan_line::field::put_line(plan, o, sheet, a, b, at, 14, 44);
+        o = put_line(plan, o, sheet, a, b, at, kind::NAME as usize, word::NAME);
         at += 1;
         left -= 1;
     }
@@ -41,34 +50,34 @@ pub fn put_names(
 fn put_rel(plan: &mut [u8], out: usize, sheet: &[u8], a: &[u32], b: &[u32], i: usize) -> usize
     requires { ⌜ Roomy (now a) (now b) ⌝ }
     requires { ⌜ i < 2048 ⌝ }
-    requires { ⌜ (cell (now a) (now b) i 8 ≤ cell (now a) (now b) i 9) × (cell (now a) (now b) i 9 ≤ length (now sheet)) ⌝ }
-    ensures { λ r. ⌜ Puts (relText (cell (now (a .entry)) (now (b .entry)) i 4) (cell (now (a .entry)) (now (b .entry)) i 6) (slice (cell (now (a .entry)) (now (b .entry)) i 8) (cell (now (a .entry)) (now (b .entry)) i 9) (now (sheet .entry))) (cell (now (a .entry)) (now (b .entry)) i 10)) (on (now (plan .entry)) out) (on (now (plan .exit)) r) ⌝ }
+    requires { ⌜ (cell (now a) (now b) i relLengthAt ≤ cell (now a) (now b) i 9) × (cell (now a) (now b) i 9 ≤ length (now sheet)) ⌝ }
+    ensures { λ r. ⌜ Puts (relText (cell (now (a .entry)) (now (b .entry)) i relTypesAt) (cell (now (a .entry)) (now (b .entry)) i relDirectionAt) (slice (cell (now (a .entry)) (now (b .entry)) i relLengthAt) (cell (now (a .entry)) (now (b .entry)) i 9) (now (sheet .entry))) (cell (now (a .entry)) (now (b .entry)) i relPropsAt)) (on (now (plan .entry)) out) (on (now (plan .exit)) r) ⌝ }
 {
-    let types = words::word(a, b, i, 4);
-    let direction = words::word(a, b, i, 6);
-    let s = words::word(a, b, i, 8);
-    let e = words::word(a, b, i, 9);
-    let props = words::word(a, b, i, 10);
-    let o = plan_line::keyword::put_keyword(plan, out, 37);
-    let p = plan_line::field::put_number(plan, o, types);
-    let q = plan_line::field::put_number(plan, p, direction);
-    let r = plan_line::field::put_text(plan, q, sheet, s, e);
-    let t = plan_line::field::put_number(plan, r, props);
-    output::put_byte(plan, t, 10)
+    let types = words::word(a, b, i, field::REL_TYPES);
+    let direction = words::word(a, b, i, field::REL_DIRECTION);
+    let s = words::word(a, b, i, field::REL_LENGTH);
+    let e = words::word(a, b, i, field::REL_LENGTH + 1);
+    let props = words::word(a, b, i, field::REL_PROPS);
+    let o = put_keyword(plan, out, word::REL);
+    let p = put_number(plan, o, types);
+    let q = put_number(plan, p, direction);
+    let r = put_text(plan, q, sheet, s, e);
+    let t = put_number(plan, r, props);
+    output::put_byte(plan, t, b'\n')
 }
 
 // A node without its variable and its span.
 fn put_node(plan: &mut [u8], out: usize, a: &[u32], b: &[u32], i: usize) -> usize
     requires { ⌜ Roomy (now a) (now b) ⌝ }
     requires { ⌜ i < 2048 ⌝ }
-    ensures { λ r. ⌜ Puts (rowText 38 (cell (now (a .entry)) (now (b .entry)) i 4 ∷ cell (now (a .entry)) (now (b .entry)) i 6 ∷ [])) (on (now (plan .entry)) out) (on (now (plan .exit)) r) ⌝ }
+    ensures { λ r. ⌜ Puts (rowText toWord (cell (now (a .entry)) (now (b .entry)) i nodeLabelsAt ∷ cell (now (a .entry)) (now (b .entry)) i nodePropsAt ∷ [])) (on (now (plan .entry)) out) (on (now (plan .exit)) r) ⌝ }
 {
-    let labels = words::word(a, b, i, 4);
-    let props = words::word(a, b, i, 6);
-    plan_line::row::put_row(plan, out, 38, 2, labels, props, 0, 0, 0)
+    let labels = words::word(a, b, i, field::NODE_LABELS);
+    let props = words::word(a, b, i, field::NODE_PROPS);
+    plan_line::row::put_row2(plan, out, word::TO, labels, props)
 }
 
-// The element at record i, a node if it is of kind 12.
+// The element at record i: a node, or else a rel.
 pub fn put_element(
     plan: &mut [u8],
     out: usize,
@@ -80,10 +89,10 @@ pub fn put_element(
 ) -> usize
     requires { ⌜ Roomy (now a) (now b) ⌝ }
     requires { ⌜ ElementAt (now sheet) (now a) (now b) i ⌝ }
-    requires { ⌜ kind ≡ cell (now a) (now b) i 0 ⌝ }
+    requires { ⌜ kind ≡ cell (now a) (now b) i kindAt ⌝ }
     ensures { λ r. ⌜ ((h : ElementAt (now (sheet .entry)) (now (a .entry)) (now (b .entry)) i) → Puts (spellRec (specRec (h .kind) (h .fields))) (on (now (plan .entry)) out) (on (now (plan .exit)) r)) ⌝ }
 {
-    if kind == 12 {
+    if kind == kind::NODE {
         return put_node(plan, out, a, b, i);
     }
     put_rel(plan, out, sheet, a, b, i)

@@ -4,11 +4,18 @@ ghost use lib.ListN.{length};
 ghost use Rattle.model.specs.Record.{spellRecs};
 ghost use Rattle.model.specs.Lower.{pathElements};
 ghost use Rattle.output.specs.Page.{on, Puts};
-ghost use Rattle.words.specs.Words.{Roomy};
+ghost use Rattle.words.specs.Words.{Roomy, cell};
+ghost use Rattle.words.specs.Places.{partElementsAt};
 ghost use Rattle.lower.specs.Render.{keptRel};
 ghost use Rattle.lower.specs.Shows.{shift};
 ghost use Rattle.plan_sheet.specs.Due.{noted};
 ghost use Rattle.plan_sheet.specs.Path.{waitsOf, Stepped, Elements, WrotePath};
+use context::op::Op;
+use context::read::note_of;
+use plan_line::row::put_row1;
+use plan_line::word;
+use words::field;
+use words::kind;
 
 // So far: whether there was a node, the line of the rel that waits for its far node (0 for none), and the cursor.
 pub struct Path {
@@ -33,13 +40,13 @@ fn put_kept(
         return out;
     }
     if seen {
-        let n = crate::head::note(rest, base + waits);
-        return plan_line::row::put_row(plan, out, 42, 1, n, 0, 0, 0, 0);
+        let n = note_of(rest, base, waits - 1);
+        return put_row1(plan, out, word::ELEMENT, n);
     }
     out
 }
 
-// The element at record i, a node if it is of kind 12.
+// The element at record i: a node, or else a rel.
 fn put_step(
     plan: &mut [u8],
     out: usize,
@@ -53,11 +60,10 @@ fn put_step(
     requires { ⌜ (16384 ≤ length (now rest)) × (base ≤ 2048) × (waits ≤ 2048) × (i < 2048) ⌝ }
     ensures { λ r. ⌜ Stepped (now (rest .entry)) base i kind seen waits (on (now (plan .entry)) out) (on (now (plan .exit)) (r .out)) (r .seen) (r .waits) ⌝ }
 {
-    let line = i + 1;
-    if kind == 12 {
+    if kind == kind::NODE {
         let o = put_kept(plan, out, rest, base, seen, waits);
-        let n = crate::head::note(rest, base + line);
-        let p = plan_line::row::put_row(plan, o, 42, 1, n, 0, 0, 0, 0);
+        let n = note_of(rest, base, i);
+        let p = put_row1(plan, o, word::ELEMENT, n);
         return Path {
             seen: true,
             waits: 0,
@@ -66,12 +72,12 @@ fn put_step(
     }
     Path {
         seen,
-        waits: line,
+        waits: i + 1,
         out,
     }
 }
 
-// The n elements from record i on.
+// The elements of a part, from record i on.
 pub fn put_path(
     plan: &mut [u8],
     out: usize,
@@ -79,24 +85,24 @@ pub fn put_path(
     a: &[u32],
     b: &[u32],
     rest: &[u32],
-    base: usize,
+    w: Op,
     i: usize,
-    n: usize,
 ) -> usize
     requires { ⌜ Roomy (now a) (now b) ⌝ }
-    requires { ⌜ (16384 ≤ length (now rest)) × (base ≤ 2048) ⌝ }
-    requires { ⌜ Elements (now sheet) (now a) (now b) n i ⌝ }
-    ensures { λ r. ⌜ WrotePath (now (sheet .entry)) (now (a .entry)) (now (b .entry)) (now (rest .entry)) base n i (on (now (plan .entry)) out) (on (now (plan .exit)) r) ⌝ }
+    requires { ⌜ (16384 ≤ length (now rest)) × (w .base ≤ 2048) × (w .idx < 2048) ⌝ }
+    requires { ⌜ Elements (now sheet) (now a) (now b) (cell (now a) (now b) (w .idx) partElementsAt) i ⌝ }
+    ensures { λ r. ⌜ WrotePath (now (sheet .entry)) (now (a .entry)) (now (b .entry)) (now (rest .entry)) (w .base) (cell (now (a .entry)) (now (b .entry)) (w .idx) partElementsAt) i (on (now (plan .entry)) out) (on (now (plan .exit)) r) ⌝ }
 {
+    let base = w.base as usize;
     let mut at = i;
-    let mut due = n;
+    let mut due = words::word(a, b, w.idx as usize, field::PART_ELEMENTS);
     let mut seen = false;
     let mut waits = 0;
     let mut o = out;
     while due != 0 {
-        let kind = words::word(a, b, at, 0);
+        let kind = words::word(a, b, at, field::KIND);
         let p = put_step(plan, o, rest, base, at, kind, seen, waits);
-        at = lower::records::skip(a, b, at);
+        at = words::records::skip(a, b, at);
         o = p.out;
         seen = p.seen;
         waits = p.waits;

@@ -1,11 +1,10 @@
 -- The whole plan sheet: the operators by number, the named variables, and the first line. Assumes nothing: every law is proved.
 use mathlib.Core.Path.{_≡_, refl, sym, ap, _∙_}
-use Prim.Native.Nat.{ℕ, zero, suc, _+_, _*_, _≤_, _<_}
+use Prim.Native.Nat.{ℕ, zero, suc, _+_, _≤_, _<_}
 use native.Mathlib.Numerals.{add-one}
 use native.Mathlib.Omega.{arith}
 use mathlib.Core.List.{List, [], _∷_, _++_, append-nil}
-use lib.ListN.{length, getD, drop}
-use lib.Seq.{getD-drop}
+use lib.ListN.{length, drop}
 use borrow.Author.Tests.{eq-eqb, ne-eqb}
 use Rattle.model.specs.Text.{Bytes, bytes, bytesFrom}
 use Rattle.model.specs.Field.{spell, spellFields}
@@ -17,7 +16,7 @@ use Rattle.output.specs.Page.{Page, Puts}
 use Rattle.output.specs.Writes.{_⨾_, stay}
 use Rattle.context.specs.Tables.{varsOf, varsAt}
 use Rattle.lower.specs.Render.{Ops}
-use Rattle.plan_line.specs.Keywords.{word, letters}
+use Rattle.plan_line.specs.Keywords.{word, letters, variableWord, planWord}
 use Rattle.plan_line.specs.Row.{rowText}
 use Rattle.plan_sheet.specs.Due.{WroteOp}
 use Rattle.plan_writer.specs.Whole.{upTo, WroteOps, WroteVars, WroteSheet}
@@ -64,9 +63,9 @@ module _ {sheet : Bytes} {a b os rest : List ℕ} {n : ℕ} {start : Page} where
 
 -- ── named variables ──
 
-variable-line : (number id : ℕ) → spellRec (rec (inPlan mapped) tt (number, (id, tt))) ≡ rowText 43 (number ∷ id ∷ [])
+variable-line : (number id : ℕ) → spellRec (rec (inPlan mapped) tt (number, (id, tt))) ≡ rowText variableWord (number ∷ id ∷ [])
 unfolding keyword planKeyword word letters bytes bytesFrom spellFields spell
-variable-line number id = row-rec _ 43 (number ∷ id ∷ []) refl refl
+variable-line number id = row-rec _ variableWord (number ∷ id ∷ []) refl refl
 
 pub record Listing (rest : List ℕ) (n : ℕ) (start : Page) (k : ℕ) (p : Page) : Type 0 where
   pub low : k ≤ n
@@ -78,15 +77,13 @@ module _ {rest : List ℕ} {n : ℕ} {start : Page} where
   unfolding varsOf mappedRecs spellRecs
   no-vars = record { low = omega arith; wrote = stay; long = refl }
 
-  pub next-var : {k id number : ℕ} {p q : Page} → k < n → Listing rest n start k p → id ≡ getD rest (4608 + k * 2) 0 → number ≡ getD rest (4608 + k * 2 + 1) 0 → Puts (rowText 43 (number ∷ id ∷ [])) p q → length (q .bytes) ≡ length (p .bytes) → Listing rest n start (k + 1) q
-  unfolding varsOf mappedRecs spellRecs
-  next-var {k} {id} {number} {p} {q} l w e f v g =
-      let i : getD (drop 4608 rest) (k * 2) 0 ≡ id = getD-drop 4608 rest (k * 2) 0 ∙ sym e in
-      let j : getD (drop 4608 rest) (k * 2 + 1) 0 ≡ number = getD-drop 4608 rest (k * 2 + 1) 0 ∙ ap (λ (x : ℕ). getD rest x 0) (omega arith) ∙ sym f in
+  pub next-var : {k id number : ℕ} {p q : Page} → k < n → Listing rest n start k p → varsOf (suc k) (drop varsAt rest) ≡ (id, number) ∷ varsOf k (drop varsAt rest) → Puts (rowText variableWord (number ∷ id ∷ [])) p q → length (q .bytes) ≡ length (p .bytes) → Listing rest n start (k + 1) q
+  unfolding mappedRecs spellRecs
+  next-var {k} {id} {number} {p} {q} l w e v g =
       let line : Puts (spellRecs (rec (inPlan mapped) tt (number, (id, tt)) ∷ [])) p q = rw (append-nil (spellRec (rec (inPlan mapped) tt (number, (id, tt)))), variable-line number id) v in
       rw (add-one k) (record {
         low = l;
-        wrote = rw (i, j, spell-append (mappedRecs (varsOf k (drop varsAt rest))) (rec (inPlan mapped) tt (number, (id, tt)) ∷ [])) (w .wrote ⨾ line);
+        wrote = rw (e, spell-append (mappedRecs (varsOf k (drop varsAt rest))) (rec (inPlan mapped) tt (number, (id, tt)) ∷ [])) (w .wrote ⨾ line);
         long = g ∙ w .long;
       })
 
@@ -95,16 +92,16 @@ module _ {rest : List ℕ} {n : ℕ} {start : Page} where
 
 -- ── the whole ──
 
-first-line : (n m : ℕ) → spellRec (rec (inPlan plan) tt (n, (m, tt))) ≡ rowText 36 (n ∷ m ∷ [])
+first-line : (n m : ℕ) → spellRec (rec (inPlan plan) tt (n, (m, tt))) ≡ rowText planWord (n ∷ m ∷ [])
 unfolding keyword planKeyword word letters bytes bytesFrom spellFields spell
-first-line n m = row-rec _ 36 (n ∷ m ∷ []) refl refl
+first-line n m = row-rec _ planWord (n ∷ m ∷ []) refl refl
 
 vars-count : (n : ℕ) (vs : List ℕ) → length (varsOf n vs) ≡ n
 unfolding varsOf
 vars-count zero vs = refl
 vars-count (suc n) vs = ap suc (vars-count n vs)
 
-pub sheet-wrote : {sheet : Bytes} {a b os rest : List ℕ} {n m : ℕ} {p q r t : Page} → Puts (rowText 36 (n ∷ m ∷ [])) p q → WroteOps sheet a b os rest n n q r → WroteVars rest m r t → WroteSheet sheet a b os rest n m p t
+pub sheet-wrote : {sheet : Bytes} {a b os rest : List ℕ} {n m : ℕ} {p q r t : Page} → Puts (rowText planWord (n ∷ m ∷ [])) p q → WroteOps sheet a b os rest n n q r → WroteVars rest m r t → WroteSheet sheet a b os rest n m p t
 unfolding planSheet planRecs firstRec spellRecs
 sheet-wrote {rest = rest} {n = n} {m = m} first ops vars s h =
     let mapped-are : length (s .scope .vars) ≡ m = ap length (sym (h .vars)) ∙ vars-count m (drop varsAt rest) in

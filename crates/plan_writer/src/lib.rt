@@ -2,8 +2,11 @@
 ghost use Prim.Native.Nat.{_≤_};
 ghost use lib.ListN.{length};
 ghost use Rattle.output.specs.Page.{on};
+ghost use Rattle.context.specs.Tables.{maxVars};
 ghost use Rattle.plan_sheet.specs.Due.{Room, SomePlan};
 ghost use Rattle.plan_writer.specs.Whole.{SomeTables, WroteOps, WroteVars, WroteSheet, WrotePlan};
+use plan_line::row::put_row2;
+use plan_line::word;
 
 // What became of the plan: it did not fit, or it has so many bytes.
 pub enum Plan {
@@ -37,16 +40,14 @@ fn write_ops(
 
 // The first n named variables.
 fn write_vars(plan: &mut [u8], out: usize, rest: &[u32], n: usize) -> usize
-    requires { ⌜ (16384 ≤ length (now rest)) × (n ≤ 4352) ⌝ }
+    requires { ⌜ (16384 ≤ length (now rest)) × (n ≤ maxVars) ⌝ }
     ensures { λ r. ⌜ WroteVars (now (rest .entry)) n (on (now (plan .entry)) out) (on (now (plan .exit)) r) ⌝ }
 {
     let mut k = 0;
     let mut o = out;
     while k < n {
-        let at = 4608 + k * 2;
-        let id = plan_sheet::head::note(rest, at);
-        let number = plan_sheet::head::note(rest, at + 1);
-        o = plan_line::row::put_row(plan, o, 43, 2, number, id, 0, 0, 0);
+        let v = context::read::variable(rest, k);
+        o = put_row2(plan, o, word::VARIABLE, v.number, v.id);
         k += 1;
     }
     o
@@ -55,7 +56,6 @@ fn write_vars(plan: &mut [u8], out: usize, rest: &[u32], n: usize) -> usize
 // The first line, n operators and the named variables.
 fn write_sheet(
     plan: &mut [u8],
-    out: usize,
     sheet: &[u8],
     a: &[u32],
     b: &[u32],
@@ -66,9 +66,9 @@ fn write_sheet(
 ) -> usize
     requires { ⌜ Room (now a) (now b) (now ops) (now rest) ⌝ }
     requires { ⌜ SomeTables (now sheet) (now a) (now b) (now ops) (now rest) n mapped ⌝ }
-    ensures { λ r. ⌜ WroteSheet (now (sheet .entry)) (now (a .entry)) (now (b .entry)) (now (ops .entry)) (now (rest .entry)) n mapped (on (now (plan .entry)) out) (on (now (plan .exit)) r) ⌝ }
+    ensures { λ r. ⌜ WroteSheet (now (sheet .entry)) (now (a .entry)) (now (b .entry)) (now (ops .entry)) (now (rest .entry)) n mapped (on (now (plan .entry)) 0) (on (now (plan .exit)) r) ⌝ }
 {
-    let o = plan_line::row::put_row(plan, out, 36, 2, n as u32, mapped as u32, 0, 0, 0);
+    let o = put_row2(plan, 0, word::PLAN, n as u32, mapped as u32);
     let p = write_ops(plan, o, sheet, a, b, ops, rest, n);
     write_vars(plan, p, rest, mapped)
 }
@@ -88,10 +88,10 @@ pub fn write_plan(
     requires { ⌜ SomeTables (now sheet) (now a) (now b) (now ops) (now rest) n mapped ⌝ }
     ensures { λ r. ⌜ WrotePlan (now (sheet .entry)) (now (a .entry)) (now (b .entry)) (now (ops .entry)) (now (rest .entry)) n mapped (now (plan .entry)) (now (plan .exit)) r ⌝ }
 {
-    let long = write_sheet(&mut plan[0..0], 0, sheet, a, b, ops, rest, n, mapped);
+    let long = write_sheet(&mut plan[0..0], sheet, a, b, ops, rest, n, mapped);
     if plan.len() < long {
         return Plan::NoRoom;
     }
-    let done = write_sheet(plan, 0, sheet, a, b, ops, rest, n, mapped);
+    let done = write_sheet(plan, sheet, a, b, ops, rest, n, mapped);
     Plan::Written(done)
 }

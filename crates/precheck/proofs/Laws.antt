@@ -54,6 +54,10 @@ module _ {P : Stage} {Q : ℕ → Stage} where
     pub then-stopped : {x : PlanLowerError} → r ≡ Refused x → Walks r (Then P Q)
     then-stopped g = record { each = λ v e h. rw g (stopped g h) }
 
+-- none of a kind are there, wherever that is
+pub some-none : {P : ℕ → Stage} {i : ℕ} → Some (Run P 0 i)
+some-none {i = i} = record { verdict = fine; next = i; is = no-more }
+
 -- other stages in their places
 pub map-then : {P P′ : Stage} {Q Q′ : ℕ → Stage} {v : Verdict} {e : ℕ} → ((w : Verdict) (j : ℕ) → P w j → P′ w j) → ((j : ℕ) (w : Verdict) → Q j w e → Q′ j w e) → Then P Q v e → Then P′ Q′ v e
 map-then f g h = record { verdict = h .verdict; next = h .next; first = f _ _ (h .first); later = h .later; rest = g _ _ (h .rest); both = h .both }

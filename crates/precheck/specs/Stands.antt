@@ -7,16 +7,15 @@ use mathlib.Core.Option.{some}
 use lib.Dec.{eqb}
 use Rattle.model.specs.Text.{Bytes}
 use Rattle.model.specs.Field.{Span}
-use Rattle.model.specs.Kind.{Sort, Expr, expr, patternPart, patternElement}
-use Rattle.model.specs.Record.{Group, exprForms, exprChildren}
+use Rattle.model.specs.Kind.{Sort, expr, patternPart, patternElement}
+use Rattle.model.specs.Record.{Group}
 use Rattle.model.specs.Tree.{Tree}
 use Rattle.model.specs.Check.{Verdict, fine, violated, check}
-use Rattle.words.specs.Words.{cell, kindOf, fieldsOf, maxRecords}
-use Rattle.words.specs.Places.{kindAt, matchKind, matchSpanAt, whereKind, whereSpanAt, unwindKind, unwindSpanAt, callKind, callSpanAt, callArgsAt, callYieldsAt, writeKind, writeSpanAt, projectionSpanAt, itemsAt, keysAt, skipAt, limitAt, partElementsAt}
-use Rattle.words.specs.Held.{Held, Flags, size}
+use Rattle.words.specs.Words.{cell, maxRecords}
+use Rattle.words.specs.Places.{matchKind, matchSpanAt, whereKind, whereSpanAt, unwindKind, unwindSpanAt, callKind, callSpanAt, callArgsAt, callYieldsAt, writeKind, writeSpanAt, projectionSpanAt, itemsAt, keysAt, skipAt, limitAt, partElementsAt}
+use Rattle.words.specs.Held.{Held, size}
 use Rattle.precheck.specs.Answer.{spanOf}
 use Rattle.precheck.specs.Steps.{Stage, Some, firstOf, Then, Run}
-use Rattle.words.specs.Cells.{cells}
 use Rattle.precheck.specs.declared.HirSpan.{HirSpan}
 use Rattle.precheck.specs.declared.Props.{Props}
 
@@ -42,10 +41,6 @@ Exprs a b skip d span n i v e = Run (λ j. At a b expr d span (j + skip)) n i v 
 abbrev pub countOf : List Group → ℕ
 countOf [] = 0
 countOf (g ∷ gs) = g .1
-
--- n is the number of children of the expression at record i
-pub record Counts (a b : List ℕ) (i n : ℕ) : Type 0 where
-  pub each : (sheet : Bytes) (k : Expr) → kindOf expr (cell a b i kindAt) ≡ some k → Flags (exprForms k) (cells a b i) 0 → n ≡ countOf (exprChildren k (fieldsOf (exprForms k) sheet (cells a b i) 0))
 
 -- the span in words c and c + 1 of record i
 abbrev pub spanIn : (a b : List ℕ) (i c : ℕ) → Span

@@ -6,13 +6,15 @@ ghost use Rattle.model.specs.Check.{Verdict, noSpan, precheckStatement};
 ghost use Rattle.model.specs.Text.{Bytes};
 ghost use Rattle.model.specs.Tree.{Tree};
 ghost use Rattle.words.specs.Held.{Held, HeldSome};
-ghost use Rattle.words.specs.Words.{Roomy, cell, maxRecords, recordWords, two32};
+ghost use Rattle.words.specs.Words.{Roomy, maxRecords};
 ghost use Rattle.model.specs.Call.{maxDepth};
 ghost use Rattle.precheck.specs.Answer.{spanOf, verdictOf};
 ghost use Rattle.precheck.specs.Steps.{Some, Ends, Walks, Run};
-ghost use Rattle.precheck.specs.Stands.{At, Standing, Exprs, Spans, Counts, SomeAt, Inside, Begins, spanWord, Trailers, Projected, Called};
+ghost use Rattle.precheck.specs.Stands.{At, Standing, Exprs, Spans, SomeAt, Inside, Begins, spanWord, Trailers, Projected, Called};
 use words::field;
 use words::kind;
+use words::records::children_of;
+use words::records::count;
 
 // How deep a clause and an arm may be: they stand below the statement.
 const BELOW_STATEMENT: usize = words::MAX_DEPTH - 1;
@@ -44,16 +46,6 @@ enum Walk {
 
 // ── what a record has ──
 
-// Word c of record i, as a count.
-fn count(a: &[u32], b: &[u32], i: usize, c: usize) -> usize
-    requires { ⌜ i < maxRecords ⌝ }
-    requires { ⌜ c < recordWords ⌝ }
-    requires { ⌜ Roomy (now a) (now b) ⌝ }
-    ensures { λ r. ⌜ (r ≡ cell (now (a .entry)) (now (b .entry)) i c) × (r < two32) ⌝ }
-{
-    words::word(a, b, i, c) as usize
-}
-
 // The span in words c and c + 1 of record i.
 fn span_at(a: &[u32], b: &[u32], i: usize, c: usize) -> HirSpan
     requires { ⌜ i < maxRecords ⌝ }
@@ -64,38 +56,6 @@ fn span_at(a: &[u32], b: &[u32], i: usize, c: usize) -> HirSpan
     let start = words::word(a, b, i, c);
     let end = words::word(a, b, i, c + 1);
     HirSpan { start, end }
-}
-
-// How many children the expression at record i has, by its kind and its words 2, 4 and 6.
-fn children_of(a: &[u32], b: &[u32], i: usize, kind: u32) -> usize
-    requires { ⌜ i < maxRecords ⌝ }
-    requires { ⌜ Roomy (now a) (now b) ⌝ }
-    requires { ⌜ kind ≡ cell (now a) (now b) i 0 ⌝ }
-    ensures { λ r. ⌜ Counts (now (a .entry)) (now (b .entry)) i r ⌝ }
-{
-    let x = count(a, b, i, 2);
-    let y = count(a, b, i, 4);
-    let z = count(a, b, i, 6);
-    match kind {
-        // prop, index, slice, list
-        23 => 1,
-        24 => 2,
-        25 => 1 + x + y,
-        26 => x,
-        // bin, un, case, isnull, in
-        27 => 2,
-        28 => 1,
-        29 => x + y * 2 + z,
-        30 => 1,
-        31 => 2,
-        // map, fn, pat, listp
-        33 => x,
-        34 => y,
-        35 => x,
-        36 => 1 + z,
-        // null, bool, int, float, str, param, var, unres, undes
-        _ => 0,
-    }
 }
 
 // The expression that a node or a rel may have behind its labels or types, and the span that is reported inside it.

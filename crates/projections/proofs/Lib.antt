@@ -1,4 +1,3 @@
-pub mod Room
 pub mod TrailerLaws
 pub mod Opened
 pub mod WithLaws

@@ -10,28 +10,21 @@ use lib.ListN.{length}
 use Rattle.model.specs.Text.{Bytes}
 use Rattle.model.specs.Field.{Fields}
 use Rattle.model.specs.Kind.{Clause, ReadOp, clause, projection, orderItem, expr}
-use Rattle.model.specs.Record.{one, clauseForms, kinds}
-use Rattle.model.specs.Tree.{Tree, Trees, node, end, _▸_}
+use Rattle.model.specs.Record.{one, forms, clauseForms, children}
+use Rattle.model.specs.Tree.{Tree, Trees, Forest, node, end, _▸_}
 use Rattle.model.specs.Lower.{Recs, _>>=_, ret, push, op, orSourceAll, lowerTrailers, lowerClause}
 use Rattle.model.specs.Lower
-use Rattle.words.specs.Words.{Roomy, cell, kindOf, firstKind, nth, fieldsOf, fieldOf}
+use Rattle.words.specs.Words.{Roomy, cell, fieldsOf, fieldOf}
 use Rattle.words.specs.Held.{Held, HeldOf, size, sizeOf}
 use Rattle.words.specs.Cells.{shown, flag-word}
+use Rattle.words.specs.Numbers.{clauseNumber}
+use Rattle.words.specs.Places.{withKind, returnKind, kindAt, itemsAt, withFilterAt, returnDistinctAt, keysAt, skipAt, limitAt}
 use Rattle.lower.specs.Rep.{State}
 use Rattle.lower.specs.Pieces.{lowerC}
 use Rattle.lower.specs.Carry.{plainC}
+use Rattle.projections.specs.Kinds.{by-clause}
 use Rattle.projections.specs.Items.{exprs-lower, itemsC, items-lower}
 use Rattle.projections.specs.Promises.{Tail, tailSize, firstL, secondL}
-
--- ── the kinds ──
-
-kind-with : (n : ℕ) (k : Clause) → kindOf clause n ≡ some k → n ≡ 4 → Clause.With ≡ k
-unfolding kindOf firstKind nth kinds
-kind-with n k h e = let p : some Clause.With ≡ some k = rw e at h in cc
-
-kind-return : (n : ℕ) (k : Clause) → kindOf clause n ≡ some k → n ≡ 5 → Clause.Return ≡ k
-unfolding kindOf firstKind nth kinds
-kind-return n k h e = let p : some Clause.Return ≡ some k = rw e at h in cc
 
 flag-one : (p : Bool) (x : ℕ) → p ≡ eqb x 1 → x ≤ 1 → one p ≡ x
 flag-one p x e h = rw e (flag-word x h)
@@ -57,14 +50,19 @@ pub record IsWith (sheet : Bytes) (a b : List ℕ) (d i : ℕ) (t : Tree clause)
   pub items : Trees projection n
   pub predicate : Trees expr (one filtered)
   pub tail : Tail sheet a b (d - 1) i (i + 1 + sizeOf items + sizeOf predicate)
-  pub counted : n ≡ cell a b i 2
-  pub flagged : one filtered ≡ cell a b i 4
+  pub counted : n ≡ cell a b i itemsAt
+  pub flagged : one filtered ≡ cell a b i withFilterAt
   pub held-items : HeldOf sheet a b items (d - 1) (i + 1)
   pub held-predicate : HeldOf sheet a b predicate (d - 1) (i + 1 + sizeOf items)
   pub sized : size t ≡ 1 + sizeOf items + sizeOf predicate + tailSize tail
-  pub def : (current : Option ℕ) (s : State) (input k : ℕ) → input ≡ orSourceAll current s .0 → k ≡ length (behindExprs predicate (behindItems items (orSourceAll current s .1)) .ops) → lowerClause t current s ≡ leaving (lowerTrailers k (tail .keys) (tail .skip) (tail .limit) (push (withRecs filtered items predicate input (orSourceAll current s .1)) (behindExprs predicate (behindItems items (orSourceAll current s .1))) .1))
+  pub def : (current : Option ℕ) (s : State) (input k : ℕ) →
+      input ≡ orSourceAll current s .0 →
+      k ≡ length (behindExprs predicate (behindItems items (orSourceAll current s .1)) .ops) →
+      lowerClause t current s ≡ leaving (lowerTrailers k (tail .keys) (tail .skip) (tail .limit) (push (withRecs filtered items predicate input (orSourceAll current s .1)) (behindExprs predicate (behindItems items (orSourceAll current s .1))) .1))
 
-with-def : {n x y z : ℕ} (filtered : Bool) (items : Trees projection n) (predicate : Trees expr (one filtered)) (keys : Trees orderItem x) (skip : Trees expr y) (limit : Trees expr z) (current : Option ℕ) (s : State) (input k : ℕ) → input ≡ orSourceAll current s .0 → k ≡ length (behindExprs predicate (behindItems items (orSourceAll current s .1)) .ops) →
+with-def : {n x y z : ℕ} (filtered : Bool) (items : Trees projection n) (predicate : Trees expr (one filtered)) (keys : Trees orderItem x) (skip : Trees expr y) (limit : Trees expr z) (current : Option ℕ) (s : State) (input k : ℕ) →
+    input ≡ orSourceAll current s .0 →
+    k ≡ length (behindExprs predicate (behindItems items (orSourceAll current s .1)) .ops) →
     (do
       input ← orSourceAll current
       rs ← Lower.lowerProjections items
@@ -77,17 +75,17 @@ unfolding _>>=_ ret push
 with-def filtered items predicate keys skip limit current s input k e₁ e₂ = rw (items-lower items (orSourceAll current s .1), exprs-lower predicate (behindItems items (orSourceAll current s .1)), e₂, e₁)
 
 module _ {sheet : Bytes} {a b : List ℕ} {d i : ℕ} (room : Roomy a b) where
-  pub a-with : (t : Tree clause) → Held sheet a b t d i → cell a b i 0 ≡ 4 → IsWith sheet a b d i t
+  with-of : (line : ℕ) (f : Fields (forms clause Clause.With)) (kids : Forest (children clause Clause.With f)) → Held sheet a b (node clause line Clause.With f kids) d i → IsWith sheet a b d i (node clause line Clause.With f kids)
   unfolding Held size lowerClause fieldsOf fieldOf
-  a-with (node clause line Clause.With (n, (filtered, (x, (y, (z, u))))) (items ▸ predicate ▸ keys ▸ skip ▸ limit ▸ end)) hd e =
+  with-of line (n, (filtered, (x, (y, (z, u))))) (items ▸ predicate ▸ keys ▸ skip ▸ limit ▸ end) hd =
       let w = shown room (hd .1) in
-      let en : n ≡ cell a b i 2 = ap (λ (f : Fields (clauseForms Clause.With)). f .0) (w .fields) in
-      let ef : filtered ≡ eqb (cell a b i 4) 1 = ap (λ (f : Fields (clauseForms Clause.With)). f .1 .0) (w .fields) in
-      let ex : x ≡ cell a b i 6 = ap (λ (f : Fields (clauseForms Clause.With)). f .1 .1 .0) (w .fields) in
-      let ey : y ≡ eqb (cell a b i 8) 1 = ap (λ (f : Fields (clauseForms Clause.With)). f .1 .1 .1 .0) (w .fields) in
-      let ez : z ≡ eqb (cell a b i 10) 1 = ap (λ (f : Fields (clauseForms Clause.With)). f .1 .1 .1 .1 .0) (w .fields) in
-      let sy : one y ≡ cell a b i 8 = flag-one y (cell a b i 8) ey (w .flags .1 .1 .1 .0) in
-      let sz : one z ≡ cell a b i 10 = flag-one z (cell a b i 10) ez (w .flags .1 .1 .1 .1 .0) in
+      let en : n ≡ cell a b i itemsAt = ap (λ (f : Fields (clauseForms Clause.With)). f .0) (w .fields) in
+      let ef : filtered ≡ eqb (cell a b i withFilterAt) 1 = ap (λ (f : Fields (clauseForms Clause.With)). f .1 .0) (w .fields) in
+      let ex : x ≡ cell a b i keysAt = ap (λ (f : Fields (clauseForms Clause.With)). f .1 .1 .0) (w .fields) in
+      let ey : y ≡ eqb (cell a b i skipAt) 1 = ap (λ (f : Fields (clauseForms Clause.With)). f .1 .1 .1 .0) (w .fields) in
+      let ez : z ≡ eqb (cell a b i limitAt) 1 = ap (λ (f : Fields (clauseForms Clause.With)). f .1 .1 .1 .1 .0) (w .fields) in
+      let sy : one y ≡ cell a b i skipAt = flag-one y (cell a b i skipAt) ey (w .flags .1 .1 .1 .0) in
+      let sz : one z ≡ cell a b i limitAt = flag-one z (cell a b i limitAt) ez (w .flags .1 .1 .1 .1 .0) in
       record {
         n = n;
         filtered = filtered;
@@ -110,18 +108,16 @@ module _ {sheet : Bytes} {a b : List ℕ} {d i : ℕ} (room : Roomy a b) where
           held-limit = hd .3 .1 .1 .1 .1 .0;
         };
         counted = en;
-        flagged = flag-one filtered (cell a b i 4) ef (w .flags .1 .0);
+        flagged = flag-one filtered (cell a b i withFilterAt) ef (w .flags .1 .0);
         held-items = hd .3 .0;
         held-predicate = hd .3 .1 .0;
         sized = omega arith;
         def = λ current s input k e₁ e₂. with-def filtered items predicate keys skip limit current s input k e₁ e₂;
       }
-  a-with (node clause line Clause.Match f kids) hd e = let z = kind-with _ _ (shown room (hd .1) .kind) e in let y : _≡_ {A = ℕ} 0 1 = cc in absurd (omega arith)
-  a-with (node clause line Clause.Where f kids) hd e = let z = kind-with _ _ (shown room (hd .1) .kind) e in let y : _≡_ {A = ℕ} 0 1 = cc in absurd (omega arith)
-  a-with (node clause line Clause.Return f kids) hd e = let z = kind-with _ _ (shown room (hd .1) .kind) e in let y : _≡_ {A = ℕ} 0 1 = cc in absurd (omega arith)
-  a-with (node clause line Clause.Unwind f kids) hd e = let z = kind-with _ _ (shown room (hd .1) .kind) e in let y : _≡_ {A = ℕ} 0 1 = cc in absurd (omega arith)
-  a-with (node clause line Clause.Call f kids) hd e = let z = kind-with _ _ (shown room (hd .1) .kind) e in let y : _≡_ {A = ℕ} 0 1 = cc in absurd (omega arith)
-  a-with (node clause line Clause.Write f kids) hd e = let z = kind-with _ _ (shown room (hd .1) .kind) e in let y : _≡_ {A = ℕ} 0 1 = cc in absurd (omega arith)
+
+  pub a-with : (t : Tree clause) → Held sheet a b t d i → cell a b i kindAt ≡ withKind → IsWith sheet a b d i t
+  unfolding clauseNumber
+  a-with t hd e = by-clause sheet d i room (λ t. IsWith sheet a b d i t) Clause.With (λ line f kids hd. with-of line f kids hd) t hd e
 
 -- ── return ──
 
@@ -129,24 +125,27 @@ pub record IsReturn (sheet : Bytes) (a b : List ℕ) (d i : ℕ) (t : Tree claus
   pub n : ℕ
   pub items : Trees projection n
   pub tail : Tail sheet a b (d - 1) i (i + 1 + sizeOf items)
-  pub counted : n ≡ cell a b i 2
-  pub flag : cell a b i 4 ≤ 1
+  pub counted : n ≡ cell a b i itemsAt
+  pub flag : cell a b i returnDistinctAt ≤ 1
   pub held-items : HeldOf sheet a b items (d - 1) (i + 1)
   pub sized : size t ≡ 1 + sizeOf items + tailSize tail
-  pub def : (current : Option ℕ) (s : State) (k₁ k₂ : ℕ) → k₁ ≡ firstL n current items s .0 → k₂ ≡ secondL n (eqb (cell a b i 4) 1) k₁ items (firstL n current items s .1) .0 → lowerClause t current s ≡ leaving (lowerTrailers k₂ (tail .keys) (tail .skip) (tail .limit) (secondL n (eqb (cell a b i 4) 1) k₁ items (firstL n current items s .1) .1))
+  pub def : (current : Option ℕ) (s : State) (k₁ k₂ : ℕ) →
+      k₁ ≡ firstL n current items s .0 →
+      k₂ ≡ secondL n (eqb (cell a b i returnDistinctAt) 1) k₁ items (firstL n current items s .1) .0 →
+      lowerClause t current s ≡ leaving (lowerTrailers k₂ (tail .keys) (tail .skip) (tail .limit) (secondL n (eqb (cell a b i returnDistinctAt) 1) k₁ items (firstL n current items s .1) .1))
 
 module _ {sheet : Bytes} {a b : List ℕ} {d i : ℕ} (room : Roomy a b) where
-  pub a-return : (t : Tree clause) → Held sheet a b t d i → cell a b i 0 ≡ 5 → IsReturn sheet a b d i t
+  return-of : (line : ℕ) (f : Fields (forms clause Clause.Return)) (kids : Forest (children clause Clause.Return f)) → Held sheet a b (node clause line Clause.Return f kids) d i → IsReturn sheet a b d i (node clause line Clause.Return f kids)
   unfolding Held size lowerClause fieldsOf fieldOf _>>=_ ret
-  a-return (node clause line Clause.Return (n, (distinct, (x, (y, (z, u))))) (items ▸ keys ▸ skip ▸ limit ▸ end)) hd e =
+  return-of line (n, (distinct, (x, (y, (z, u))))) (items ▸ keys ▸ skip ▸ limit ▸ end) hd =
       let w = shown room (hd .1) in
-      let en : n ≡ cell a b i 2 = ap (λ (f : Fields (clauseForms Clause.Return)). f .0) (w .fields) in
-      let ef : distinct ≡ eqb (cell a b i 4) 1 = ap (λ (f : Fields (clauseForms Clause.Return)). f .1 .0) (w .fields) in
-      let ex : x ≡ cell a b i 6 = ap (λ (f : Fields (clauseForms Clause.Return)). f .1 .1 .0) (w .fields) in
-      let ey : y ≡ eqb (cell a b i 8) 1 = ap (λ (f : Fields (clauseForms Clause.Return)). f .1 .1 .1 .0) (w .fields) in
-      let ez : z ≡ eqb (cell a b i 10) 1 = ap (λ (f : Fields (clauseForms Clause.Return)). f .1 .1 .1 .1 .0) (w .fields) in
-      let sy : one y ≡ cell a b i 8 = flag-one y (cell a b i 8) ey (w .flags .1 .1 .1 .0) in
-      let sz : one z ≡ cell a b i 10 = flag-one z (cell a b i 10) ez (w .flags .1 .1 .1 .1 .0) in
+      let en : n ≡ cell a b i itemsAt = ap (λ (f : Fields (clauseForms Clause.Return)). f .0) (w .fields) in
+      let ef : distinct ≡ eqb (cell a b i returnDistinctAt) 1 = ap (λ (f : Fields (clauseForms Clause.Return)). f .1 .0) (w .fields) in
+      let ex : x ≡ cell a b i keysAt = ap (λ (f : Fields (clauseForms Clause.Return)). f .1 .1 .0) (w .fields) in
+      let ey : y ≡ eqb (cell a b i skipAt) 1 = ap (λ (f : Fields (clauseForms Clause.Return)). f .1 .1 .1 .0) (w .fields) in
+      let ez : z ≡ eqb (cell a b i limitAt) 1 = ap (λ (f : Fields (clauseForms Clause.Return)). f .1 .1 .1 .1 .0) (w .fields) in
+      let sy : one y ≡ cell a b i skipAt = flag-one y (cell a b i skipAt) ey (w .flags .1 .1 .1 .0) in
+      let sz : one z ≡ cell a b i limitAt = flag-one z (cell a b i limitAt) ez (w .flags .1 .1 .1 .1 .0) in
       record {
         n = n;
         items = items;
@@ -172,9 +171,7 @@ module _ {sheet : Bytes} {a b : List ℕ} {d i : ℕ} (room : Roomy a b) where
         sized = omega arith;
         def = λ current s k₁ k₂ e₁ e₂. rw (e₂, e₁, ef);
       }
-  a-return (node clause line Clause.Match f kids) hd e = let z = kind-return _ _ (shown room (hd .1) .kind) e in let y : _≡_ {A = ℕ} 0 1 = cc in absurd (omega arith)
-  a-return (node clause line Clause.Where f kids) hd e = let z = kind-return _ _ (shown room (hd .1) .kind) e in let y : _≡_ {A = ℕ} 0 1 = cc in absurd (omega arith)
-  a-return (node clause line Clause.With f kids) hd e = let z = kind-return _ _ (shown room (hd .1) .kind) e in let y : _≡_ {A = ℕ} 0 1 = cc in absurd (omega arith)
-  a-return (node clause line Clause.Unwind f kids) hd e = let z = kind-return _ _ (shown room (hd .1) .kind) e in let y : _≡_ {A = ℕ} 0 1 = cc in absurd (omega arith)
-  a-return (node clause line Clause.Call f kids) hd e = let z = kind-return _ _ (shown room (hd .1) .kind) e in let y : _≡_ {A = ℕ} 0 1 = cc in absurd (omega arith)
-  a-return (node clause line Clause.Write f kids) hd e = let z = kind-return _ _ (shown room (hd .1) .kind) e in let y : _≡_ {A = ℕ} 0 1 = cc in absurd (omega arith)
+
+  pub a-return : (t : Tree clause) → Held sheet a b t d i → cell a b i kindAt ≡ returnKind → IsReturn sheet a b d i t
+  unfolding clauseNumber
+  a-return t hd e = by-clause sheet d i room (λ t. IsReturn sheet a b d i t) Clause.Return (λ line f kids hd. return-of line f kids hd) t hd e

@@ -12,11 +12,12 @@ use Rattle.model.specs.Record.{rec, forms}
 use Rattle.model.specs.Tree.{Tree, Trees, node, []ᵗ, _∷ᵗ_, end, _▸_, fold}
 use Rattle.model.specs.Lower.{Recs, made, _>>=_, ret, over, exprStep, planned, lowerExpr, lowerExprs, Split, noSplit, withKey, withAgg, lowerKey, lowerCallItem, lowerItem, isAggregateFunc, splitProjectionsAgg}
 use Rattle.words.specs.Held.{Held, HeldOf, HeldSome, HeldMany, size, sizeOf}
+use Rattle.words.specs.Words.{maxRecords}
 use Rattle.lower.specs.Render.{Notes, Ops, render, renderOf, recsOver, exprRecs, Below, belowIn, isAggregate, aggOf, keyRecs, aggRecs}
 use Rattle.lower.specs.Shows.{shift}
-use Rattle.lower.specs.Rep.{State, Mem, Written, Sub, Blank, Rep, Ran, Good}
+use Rattle.lower.specs.Rep.{State, Mem, Written, Sub, Blank, Rep, Ran, RoomFor}
 use Rattle.lower.specs.Pieces.{exprPiece, SomeTree, LowersExpr}
-use Rattle.lower.specs.Fits.{trees-fits, tree-low}
+use Rattle.words.specs.Fits.{trees-fits, tree-low}
 use Rattle.lower.specs.Carry.{plain-lower}
 use Rattle.lower.specs.State.{sub-more, sub-within, blank-within, blank-behind, back, to-refl, to-then, to-wider}
 use Rattle.lower.specs.Exprs.{moved-refl, moved-then, moved-within, good-after, good-from, narrow}
@@ -103,11 +104,16 @@ nil-run : {sheet : Bytes} {a b : List ℕ} (i : ℕ) (m : Mem) (ts : Trees proje
 unfolding splitProjectionsAgg noSplit ret keyRecs aggRecs Below
 nil-run i m []ᵗ W s r = record { to = to-wider (sub-more (0 + suc i, 0 + suc i) W) (to-refl r); counted = refl; keys = λ N A f. refl; aggregates = λ N A f. refl; below = λ N A f. tt }
 
-nil-law : (sheet : Bytes) (a b : List ℕ) (d i : ℕ) (m : Mem) → i ≤ 2048 → LowersSplit sheet a b 0 d i i 0 m m
+nil-law : (sheet : Bytes) (a b : List ℕ) (d i : ℕ) (m : Mem) → i ≤ maxRecords → LowersSplit sheet a b 0 d i i 0 m m
 nil-law sheet a b d i m h = record { moved = moved-refl h; next = λ ts hd. nil-next i ts; run = λ ts hd W s r bl. nil-run i m ts W s r }
 
 -- an item and those behind it
-both-run : {sheet : Bytes} {a b : List ℕ} {g : ℕ} (i j e : ℕ) (m m₁ m₂ : Mem) {n : ℕ} (line : ℕ) (u : Unit {0}) (f : Fields (forms projection u)) (t : Tree expr) (ts : Trees projection n) (W : Written) (s : State) → i + 1 ≤ j → j ≤ e → Ran sheet a b W (exprPiece t) 0 (suc (i + 1)) (suc j) s m m₁ → Splits sheet a b ((0 + suc (i + 1), 0 + suc j) ∷ W) ts g (suc j) (suc e) (lowerExpr t s .1) m₁ m₂ → Splits sheet a b W (node projection line u f ((t ∷ᵗ []ᵗ) ▸ end) ∷ᵗ ts) (cond (isAggregate t) (suc g) g) (suc i) (suc e) s m m₂
+both-run : {sheet : Bytes} {a b : List ℕ} {g : ℕ} (i j e : ℕ) (m m₁ m₂ : Mem) {n : ℕ} (line : ℕ) (u : Unit {0}) (f : Fields (forms projection u)) (t : Tree expr) (ts : Trees projection n) (W : Written) (s : State) →
+    i + 1 ≤ j →
+    j ≤ e →
+    Ran sheet a b W (exprPiece t) 0 (suc (i + 1)) (suc j) s m m₁ →
+    Splits sheet a b ((0 + suc (i + 1), 0 + suc j) ∷ W) ts g (suc j) (suc e) (lowerExpr t s .1) m₁ m₂ →
+    Splits sheet a b W (node projection line u f ((t ∷ᵗ []ᵗ) ▸ end) ∷ᵗ ts) (cond (isAggregate t) (suc g) g) (suc i) (suc e) s m m₂
 unfolding keyRecs aggRecs Below belowIn
 both-run i j e m m₁ m₂ line u f t ts W s l l′ p q =
     let w : Sub ((0 + suc j, 0 + suc e) ∷ (0 + suc (i + 1), 0 + suc j) ∷ W) ((0 + suc i, 0 + suc e) ∷ W) = sub-within (omega arith) (le-refl _) (sub-within (omega arith) (omega arith) (sub-more (0 + suc i, 0 + suc e) W)) in
@@ -150,7 +156,7 @@ module _ {sheet : Bytes} {a b : List ℕ} {n d j e g : ℕ} {m m₁ m₂ : Mem} 
 -- k are left from record i on behind g aggregates, and once they are lowered from here, all is done
 pub record Left (sheet : Bytes) (a b : List ℕ) (n d : ℕ) (Done : ℕ → ℕ → Mem → Type 0) (k i g : ℕ) (m : Mem) : Type 0 where
   pub some : HeldMany sheet a b projection k d i
-  pub good : Good d i m
+  pub good : RoomFor d i m
   pub few : g + k ≤ n
   pub rest : (e h : ℕ) (m′ : Mem) → LowersSplit sheet a b k d i e h m m′ → Done e (g + h) m′
 
@@ -189,7 +195,7 @@ module _ {sheet : Bytes} {a b : List ℕ} {n d : ℕ} {Done : ℕ → ℕ → Me
   some-child h p = let x = child h p in record { sheet = sheet; tree = x .tree; held = x .is }
 
   -- there is room at its expression
-  pub child-good : {k i g : ℕ} {m : Mem} → ((k ≡ 0) → ⊥) → Left sheet a b n d Done k i g m → Good (d - 1) (i + 1) m
+  pub child-good : {k i g : ℕ} {m : Mem} → ((k ≡ 0) → ⊥) → Left sheet a b n d Done k i g m → RoomFor (d - 1) (i + 1) m
   child-good {i = i} h p = let x = child h p in let l = tree-low sheet a b (x .tree) (d - 1) (i + 1) (x .is) in good-from (omega arith) (omega arith) (omega arith) (p .good)
 
   less : {k i g : ℕ} {m : Mem} → Left sheet a b n d Done k i g m → Left sheet a b n d Done (suc k - 1) i g m
@@ -210,8 +216,8 @@ module _ {sheet : Bytes} {a b : List ℕ} {n d : ℕ} {Done : ℕ → ℕ → Me
   pub done-few : {k i g : ℕ} {m : Mem} → k ≡ 0 → Left sheet a b n d Done k i g m → g ≤ n
   done-few h p = omega (arith, p .few)
 
-pub few-items : {sheet : Bytes} {a b : List ℕ} {n d i : ℕ} → HeldMany sheet a b projection n d i → i ≤ 2048 → n ≤ 2048
+pub few-items : {sheet : Bytes} {a b : List ℕ} {n d i : ℕ} → HeldMany sheet a b projection n d i → i ≤ maxRecords → n ≤ maxRecords
 few-items {sheet} {a} {b} {d = d} {i = i} x l = let f = trees-fits sheet a b (x .trees) d i l (x .are) in omega (arith, f .0, f .1)
 
-pub start : {sheet : Bytes} {a b : List ℕ} {n d i : ℕ} {m : Mem} → HeldMany sheet a b projection n d i → Good d i m → Left sheet a b n d (λ e g m′. LowersSplit sheet a b n d i e g m m′) n i 0 m
+pub start : {sheet : Bytes} {a b : List ℕ} {n d i : ℕ} {m : Mem} → HeldMany sheet a b projection n d i → RoomFor d i m → Left sheet a b n d (λ e g m′. LowersSplit sheet a b n d i e g m m′) n i 0 m
 start x g = record { some = x; good = g; few = omega arith; rest = λ e h m′ r. (let z : 0 + h ≡ h = omega arith in rw z r) }

@@ -12,19 +12,23 @@ use Rattle.model.specs.Text.{Bytes}
 use Rattle.model.specs.Kind.{ReadOp, projection}
 use Rattle.model.specs.Tree.{Trees}
 use Rattle.model.specs.Lower.{Recs, Lowering, _>>=_, ret, push, op, orSourceAll, Split, splitProjectionsAgg, aggregateIf, distinctIf}
-use Rattle.words.specs.Words.{cell}
+use Rattle.words.specs.Words.{two32}
 use Rattle.words.specs.Held.{HeldOf, sizeOf}
-use Rattle.context.specs.Tables.{Pushed}
+use Rattle.context.specs.Tables.{Pushed, secondPass}
+use Rattle.context.specs.Ops.{beforeOf, aggregateOp, projectOp, distinctOp}
+use Rattle.context.specs.declared.Before.{Before}
 use Rattle.context.specs.declared.op.Op.{Op}
 use Rattle.context.specs.declared.LowerCtx.{LowerCtx}
 use Rattle.lower.specs.Render.{Notes, Ops, keyRecs, aggRecs}
 use Rattle.lower.specs.Shows.{shift, Stored, shows-project, shows-aggregate, shows-distinct}
-use Rattle.lower.specs.Rep.{State, Mem, mem, Written, Blank, Future, Rep, Rooted}
+use Rattle.lower.specs.Rep.{State, Mem, mem, atPlace, Written, Blank, Future, Rep, Rooted}
 use Rattle.lower.specs.Pieces.{lowerC, SomeCarried, LowersExprs}
 use Rattle.lower.specs.Patterns.{SomeTrees}
 use Rattle.lower.specs.Chains.{Sourced, OrSource}
 use Rattle.lower.specs.State.{to-refl, to-then, push-to}
 use Rattle.projections.specs.Items.{itemsC, items-lower, items-size, items-held, items-render, items-below}
+use Rattle.projections.specs.declared.passes.ReturnItems.{ReturnItems}
+use Rattle.projections.specs.Asked.{FirstAsked, SecondAsked}
 use Rattle.projections.specs.Promises.{LowersSplit, PushedIf, none-pushed, one-pushed, LowersPass, firstL, secondL}
 use Rattle.projections.proofs.PartLaws.{split-total}
 
@@ -45,19 +49,26 @@ pub left-low : {n input k : ℕ} {x : Op} {c c′ : LowerCtx} {o o′ : List ℕ
 left-low (none-pushed e ek ec eo) l = rw (ek, ec) l
 left-low (one-pushed e ek p lo) l = omega (arith, p .count)
 
-pub left-word : {n input k : ℕ} {x : Op} {c c′ : LowerCtx} {o o′ : List ℕ} → PushedIf n x input k c c′ o o′ → input < 65536 → c .ops < 65536 → k < 65536
+pub left-word : {n input k : ℕ} {x : Op} {c c′ : LowerCtx} {o o′ : List ℕ} → PushedIf n x input k c c′ o o′ → input < two32 → c .ops < two32 → k < two32
 left-word (none-pushed e ek ec eo) l l′ = omega arith
 left-word (one-pushed e ek p lo) l l′ = omega arith
 
-pushed-if : {sheet : Bytes} {a b : List ℕ} {W : Written} {s : State} {n input k : ℕ} {x : Op} {c′ : LowerCtx} {o′ : List ℕ} (m : Mem) (L : Lowering ℕ) (recs : Recs) → Rep sheet a b W s m → PushedIf n x input k (m .ctx) c′ (m .ops) o′ → (n ≡ 0 → L s ≡ (input, s)) → (((n ≡ 0) → ⊥) → L s ≡ push recs s) → ((N : Notes) (A : Ops) → Future W s m N A → Stored sheet a b N A (m .ctx .ops) x recs) → Sourced sheet a b L k W s m (mem c′ o′ (m .rest))
+pushed-if : {sheet : Bytes} {a b : List ℕ} {W : Written} {s : State} {n input k : ℕ} {x : Op} {c′ : LowerCtx} {o′ : List ℕ} (m : Mem) (L : Lowering ℕ) (recs : Recs) →
+    Rep sheet a b W s m →
+    PushedIf n x input k (m .ctx) c′ (m .ops) o′ →
+    (n ≡ 0 → L s ≡ (input, s)) →
+    (((n ≡ 0) → ⊥) → L s ≡ push recs s) →
+    ((N : Notes) (A : Ops) → Future W s m N A → Stored sheet a b N A (m .ctx .ops) x recs) →
+    Sourced sheet a b L k W s m (mem c′ o′ (m .rest))
 unfolding push
 pushed-if m L recs r (none-pushed e ek ec eo) h h′ st = rw (ek, ec, eo) (record { to = rw (h e) (to-refl r); root = rw (h e) })
 pushed-if {x = x} {c′ = c′} {o′ = o′} m L recs r (one-pushed e ek p lo) h h′ st = record { to = rw (h′ e) (push-to m c′ o′ x recs r p st); root = rw (h′ e) (ek ∙ r .count) }
 
--- ── the first ──
+-- the record behind a pass, by another name
+pub ends-at : {sheet : Bytes} {a b : List ℕ} {n d base i e e′ k : ℕ} {L : Trees projection n → Lowering ℕ} {m m′ : Mem} → e′ ≡ e → LowersPass sheet a b n d base i e k L m m′ → LowersPass sheet a b n d base i e′ k L m m′
+ends-at q p = rw q p
 
-abbrev pub aggregateOp : (i input keys aggs d : ℕ) → Op
-aggregateOp i input keys aggs d = record { kind = 9; idx = i; input = input; x = keys; y = aggs; left = d; base = 0 }
+-- ── the first ──
 
 abbrev parted : {n : ℕ} → Trees projection n → State → Split
 parted items s = splitProjectionsAgg items s .0
@@ -84,30 +95,36 @@ first-def current items s input e = rw e
 keys-left : (x y n g : ℕ) → x + y ≡ n → y ≡ g → x ≡ n - g
 keys-left x y n g e f = omega arith
 
-module _ {sheet : Bytes} {a b : List ℕ} {n j aggs k₀ k : ℕ} {c′ : LowerCtx} {o′ : List ℕ} {m m₁ m₂ : Mem} (d i : ℕ) (current : Option ℕ) (sh : d ≤ 64) (low : i < 2048) (en : n ≡ cell a b i 2) (sr : OrSource (orSourceAll current) k₀ m m₁) (pt : LowersSplit sheet a b n d (i + 1) j aggs m₁ m₂) (pi : PushedIf aggs (aggregateOp i k₀ (n - aggs) aggs d) k₀ k (m₂ .ctx) c′ (m₂ .ops) o′) where
-  first-run : (items : Trees projection n) → HeldOf sheet a b items d (i + 1) → (W : Written) (s : State) → Rep sheet a b W s m → Blank W (0 + suc (i + 1)) (0 + suc j) → Rooted sheet a b W (firstL n current items) k 0 (suc (i + 1)) (suc j) s m (mem c′ o′ (m₂ .rest))
+module _ {sheet : Bytes} {a b : List ℕ} {of : ReturnItems} {current : Before} {j aggs k₀ k : ℕ} {c′ : LowerCtx} {o′ : List ℕ} {m m₁ m₂ : Mem}
+    (g : FirstAsked sheet a b of current m)
+    (sr : OrSource (orSourceAll (beforeOf current)) k₀ m m₁)
+    (pt : LowersSplit sheet a b (of .n) (of .left) (of .i + 1) j aggs m₁ m₂)
+    (pi : PushedIf aggs (aggregateOp (atPlace 0 (of .i) (of .left)) k₀ (of .n - aggs) aggs) k₀ k (m₂ .ctx) c′ (m₂ .ops) o′) where
+  first-run : (items : Trees projection (of .n)) → HeldOf sheet a b items (of .left) (of .i + 1) → (W : Written) (s : State) → Rep sheet a b W s m → Blank W (0 + suc (of .i + 1)) (0 + suc j) → Rooted sheet a b W (firstL (of .n) (beforeOf current) items) k 0 (suc (of .i + 1)) (suc j) s m (mem c′ o′ (m₂ .rest))
   first-run items hd W s r bl =
-      let s₁ : State = orSourceAll current s .1 in
+      let s₁ : State = orSourceAll (beforeOf current) s .1 in
       let S : Split = parted items s₁ in
       let x₀ = sr .run sheet a b W s r in
       let x₁ = pt .run items hd W s₁ (x₀ .to .rep) bl in
-      let ek : S .keys ≡ n - aggs = keys-left (S .keys) (S .aggs) n aggs (split-total items s₁) (x₁ .counted) in
-      let x₂ = pushed-if m₂ (λ z. aggregateIf (S .aggs) k₀ S z) (aggregated k₀ S) (x₁ .to .rep) pi (λ e. no-aggregate (S .aggs) k₀ S (splitProjectionsAgg items s₁ .1) (x₁ .counted ∙ e)) (λ h. an-aggregate (S .aggs) k₀ S (splitProjectionsAgg items s₁ .1) (λ e. h (sym (x₁ .counted) ∙ e)))
+      let ek : S .keys ≡ of .n - aggs = keys-left (S .keys) (S .aggs) (of .n) aggs (split-total items s₁) (x₁ .counted) in
+      let x₂ = pushed-if m₂ (λ z. aggregateIf (S .aggs) k₀ S z) (aggregated k₀ S) (x₁ .to .rep) pi
+      (λ e. no-aggregate (S .aggs) k₀ S (splitProjectionsAgg items s₁ .1) (x₁ .counted ∙ e))
+      (λ h. an-aggregate (S .aggs) k₀ S (splitProjectionsAgg items s₁ .1) (λ e. h (sym (x₁ .counted) ∙ e)))
       (λ N A f. record {
-        sane = record { shallow = sh; near = omega arith; low = low; far = λ e. absurd (omega arith); flagged = λ e. absurd (omega arith) };
+        bounded = record { shallow = g .shallow; near = omega arith; low = g .low; far = λ e. absurd (omega arith); flagged = λ e. absurd (omega arith) };
         shows = shows-aggregate refl (record {
-          count = n;
+          count = of .n;
           items = items;
-          counted = en;
+          counted = g .counted;
           held = hd;
           below = x₁ .below N A f;
-          is = aggregate-is k₀ (S .keys) (n - aggs) (S .aggs) aggs (keyRecs (shift N 0) A items) (S .keyRecs) (aggRecs (shift N 0) A items) (S .aggRecs) ek (x₁ .counted) (x₁ .keys N A f) (x₁ .aggregates N A f);
+          is = aggregate-is k₀ (S .keys) (of .n - aggs) (S .aggs) aggs (keyRecs (shift N 0) A items) (S .keyRecs) (aggRecs (shift N 0) A items) (S .aggRecs) ek (x₁ .counted) (x₁ .keys N A f) (x₁ .aggregates N A f);
         });
       }) in
-      let D = first-def current items s k₀ (x₀ .root) in
+      let D = first-def (beforeOf current) items s k₀ (x₀ .root) in
       record { to = rw D (to-then (x₀ .to) (to-then (x₁ .to) (x₂ .to))); root = rw D (x₂ .root); low = left-low pi (let g = x₁ .to .grow in let l = sr .low in omega arith) }
 
-  pub first-law : LowersPass sheet a b n d 0 (i + 1) j k (firstL n current) m (mem c′ o′ (m₂ .rest))
+  pub first-law : LowersPass sheet a b (of .n) (of .left) 0 (of .i + 1) j k (firstL (of .n) (beforeOf current)) m (mem c′ o′ (m₂ .rest))
   first-law =
       let x = pt .moved in
       let y = counted pi in
@@ -129,12 +146,6 @@ module _ {sheet : Bytes} {a b : List ℕ} {n j aggs k₀ k : ℕ} {c′ : LowerC
 pub items-some : {a b : List ℕ} {n d i : ℕ} → SomeTrees a b projection n d i → SomeCarried a b n 1 (d - 1) i
 items-some {a} {b} {d = d} {i = i} x = record { sheet = x .sheet; list = itemsC (x .trees); held = items-held (x .sheet) a b (x .trees) d i (x .held) }
 
-abbrev pub projectOp : (i input d : ℕ) → Op
-projectOp i input d = record { kind = 8; idx = i; input = input; x = 0; y = 0; left = d; base = 2048 }
-
-abbrev pub distinctOp : ℕ → Op
-distinctOp input = record { kind = 13; idx = 0; input = input; x = 0; y = 0; left = 0; base = 0 }
-
 no-distinct : (x input : ℕ) (s : State) → x ≡ 0 → distinctIf (eqb x 1) input s ≡ (input, s)
 unfolding distinctIf ret
 no-distinct x input s e = rw e
@@ -150,39 +161,43 @@ second-def : {n : ℕ} (distinct : Bool) (input : ℕ) (items : Trees projection
 unfolding _>>=_ push
 second-def distinct input items s k e = rw (items-lower items s, e)
 
-module _ {a b : List ℕ} {n j x k : ℕ} {c₁ c₂ : LowerCtx} {o₁ o₂ : List ℕ} {m m₁ : Mem} (d i input : ℕ) (sh : d ≤ 64) (low : i < 2048) (en : n ≡ cell a b i 2) (lx : x ≤ 1) (it : LowersExprs a b n 1 (d - 1) 2048 (i + 1) j m m₁) (ps : Pushed (m₁ .ctx) c₁ (m₁ .ops) o₁ (projectOp i input d)) (lo : length o₁ ≡ length (m₁ .ops)) (pi : PushedIf x (distinctOp (m₁ .ctx .ops)) (m₁ .ctx .ops) k c₁ c₂ o₁ o₂) where
+module _ {a b : List ℕ} {of : ReturnItems} {input j x k : ℕ} {c₁ c₂ : LowerCtx} {o₁ o₂ : List ℕ} {m m₁ : Mem}
+    (g : SecondAsked a b of input x m)
+    (it : LowersExprs a b (of .n) 1 (of .left - 1) secondPass (of .i + 1) j m m₁)
+    (ps : Pushed (m₁ .ctx) c₁ (m₁ .ops) o₁ (projectOp (atPlace secondPass (of .i) (of .left)) input)) (lo : length o₁ ≡ length (m₁ .ops))
+    (pi : PushedIf x (distinctOp (m₁ .ctx .ops)) (m₁ .ctx .ops) k c₁ c₂ o₁ o₂) where
   pub second-low : k < c₂ .ops
   second-low = left-low pi (omega (arith, ps .count))
 
-  second-next : (sheet : Bytes) (items : Trees projection n) → HeldOf sheet a b items d (i + 1) → j ≡ i + 1 + sizeOf items
-  second-next sheet items hd = let y = it .next sheet (itemsC items) (items-held sheet a b items d (i + 1) hd) in let z = items-size items in omega arith
+  second-next : (sheet : Bytes) (items : Trees projection (of .n)) → HeldOf sheet a b items (of .left) (of .i + 1) → j ≡ of .i + 1 + sizeOf items
+  second-next sheet items hd = let y = it .next sheet (itemsC items) (items-held sheet a b items (of .left) (of .i + 1) hd) in let z = items-size items in omega arith
 
-  second-run : (sheet : Bytes) (items : Trees projection n) → HeldOf sheet a b items d (i + 1) → (W : Written) (s : State) → Rep sheet a b W s m → Blank W (2048 + suc (i + 1)) (2048 + suc j) → Rooted sheet a b W (secondL n (eqb x 1) input items) k 2048 (suc (i + 1)) (suc j) s m (mem c₂ o₂ (m₁ .rest))
+  second-run : (sheet : Bytes) (items : Trees projection (of .n)) → HeldOf sheet a b items (of .left) (of .i + 1) → (W : Written) (s : State) → Rep sheet a b W s m → Blank W (secondPass + suc (of .i + 1)) (secondPass + suc j) → Rooted sheet a b W (secondL (of .n) (eqb x 1) input items) k secondPass (suc (of .i + 1)) (suc j) s m (mem c₂ o₂ (m₁ .rest))
   second-run sheet items hd W s r bl =
       let k₁ : ℕ = m₁ .ctx .ops in
-      let x₁ = it .run sheet (itemsC items) (items-held sheet a b items d (i + 1) hd) W s r bl in
-      let x₂ = push-to m₁ c₁ o₁ (projectOp i input d) (projected input items s) (x₁ .to .rep) ps
+      let x₁ = it .run sheet (itemsC items) (items-held sheet a b items (of .left) (of .i + 1) hd) W s r bl in
+      let x₂ = push-to m₁ c₁ o₁ (projectOp (atPlace secondPass (of .i) (of .left)) input) (projected input items s) (x₁ .to .rep) ps
       (λ N A f. record {
-        sane = record { shallow = sh; near = omega arith; low = low; far = λ e. absurd (omega arith); flagged = λ e. absurd (omega arith) };
+        bounded = record { shallow = g .shallow; near = omega arith; low = g .low; far = λ e. absurd (omega arith); flagged = λ e. absurd (omega arith) };
         shows = shows-project refl (record {
-          count = n;
+          count = of .n;
           items = items;
-          counted = en;
+          counted = g .counted;
           held = hd;
-          below = items-below (shift N 2048) k₁ items (x₁ .below N A f);
-          is = ap (λ (z : Recs). op ReadOp.Project (input, (n, tt)) ∷ z) (sym (x₁ .shown N A f) ∙ sym (items-render (shift N 2048) A items));
+          below = items-below (shift N secondPass) k₁ items (x₁ .below N A f);
+          is = ap (λ (z : Recs). op ReadOp.Project (input, ((of .n), tt)) ∷ z) (sym (x₁ .shown N A f) ∙ sym (items-render (shift N secondPass) A items));
         });
       }) in
       let s₂ : State = push (projected input items s) (lowerC (itemsC items) s .1) .1 in
-      let x₃ = pushed-if (mem c₁ o₁ (m₁ .rest)) (λ z. distinctIf (eqb x 1) k₁ z) (op ReadOp.Distinct (k₁, tt) ∷ []) (x₂ .rep) pi (λ e. no-distinct x k₁ s₂ e) (λ h. a-distinct x k₁ s₂ lx h)
+      let x₃ = pushed-if (mem c₁ o₁ (m₁ .rest)) (λ z. distinctIf (eqb x 1) k₁ z) (op ReadOp.Distinct (k₁, tt) ∷ []) (x₂ .rep) pi (λ e. no-distinct x k₁ s₂ e) (λ h. a-distinct x k₁ s₂ (g .flag) h)
       (λ N A f. record {
-        sane = record { shallow = omega arith; near = omega arith; low = omega arith; far = λ e. absurd (omega arith); flagged = λ e. absurd (omega arith) };
+        bounded = record { shallow = omega arith; near = omega arith; low = omega arith; far = λ e. absurd (omega arith); flagged = λ e. absurd (omega arith) };
         shows = shows-distinct refl refl;
       }) in
       let D = second-def (eqb x 1) input items s k₁ (x₁ .to .rep .count) in
       record { to = rw D (to-then (x₁ .to) (to-then x₂ (x₃ .to))); root = rw D (x₃ .root); low = second-low }
 
-  pub second-law : (sheet : Bytes) → LowersPass sheet a b n d 2048 (i + 1) j k (secondL n (eqb x 1) input) m (mem c₂ o₂ (m₁ .rest))
+  pub second-law : (sheet : Bytes) → LowersPass sheet a b (of .n) (of .left) secondPass (of .i + 1) j k (secondL (of .n) (eqb x 1) input) m (mem c₂ o₂ (m₁ .rest))
   second-law sheet =
       let v = it .moved in
       let y = counted pi in

@@ -4,31 +4,33 @@ use Prim.Native.Nat.{ℕ, suc, _+_, _-_, _≤_, _<_}
 use native.Mathlib.Nat.{le-refl}
 use native.Mathlib.Omega.{arith}
 use mathlib.Core.List.{List, _∷_}
-use mathlib.Core.Logic.{_⊎_, inl, inr}
-use mathlib.Core.Bool.{Bool, true, false}
-use lib.Dec.{eqb}
 use lib.ListN.{length}
-use borrow.Author.Tests.{eqb-true, eqb-false}
 use Rattle.model.specs.Text.{Bytes}
 use Rattle.model.specs.Kind.{Sort, ReadOp, expr, orderItem}
 use Rattle.model.specs.Record.{Rec}
 use Rattle.model.specs.Tree.{Tree, Trees, []ᵗ, _∷ᵗ_}
 use Rattle.model.specs.Lower.{Recs, Lowering, _>>=_, ret, push, op, lowerExpr, orderBy, overExpr, lowerTrailers}
-use Rattle.words.specs.Words.{cell}
+use Rattle.model.specs.Call.{maxDepth}
+use Rattle.words.specs.Words.{cell, maxRecords}
 use Rattle.words.specs.Held.{Held, HeldOf, size, sizeOf}
+use Rattle.words.specs.Places.{keysAt, skipAt, limitAt}
 use Rattle.context.specs.Tables.{Pushed}
-use Rattle.context.specs.declared.op.Op.{Op}
+use Rattle.context.specs.Ops.{orderByOp}
+use Rattle.context.specs.declared.At.{At}
 use Rattle.context.specs.declared.LowerCtx.{LowerCtx}
-use Rattle.lower.specs.Render.{Notes, Ops}
-use Rattle.lower.specs.Shows.{shift, OverExpr, Shows, shows-order, shows-skip, shows-limit}
-use Rattle.lower.specs.Rep.{State, Mem, mem, Written, Blank, Rep, Rooted}
+use Rattle.lower.specs.Render.{Notes, Ops, render, Below}
+use Rattle.lower.specs.Shows.{shift, Stored, shows-order, shows-skip, shows-limit}
+use Rattle.lower.specs.Rep.{State, Mem, mem, atPlace, Written, Blank, Rep, Rooted}
 use Rattle.lower.specs.Pieces.{Carried, []ᶜ, _∷ᶜ_, lowerC, HeldC, SomeTree, SomeCarried, LowersExpr, LowersExprs}
 use Rattle.lower.specs.Patterns.{SomeTrees}
 use Rattle.lower.specs.State.{sub-more, sub-within, blank-within, blank-behind, to-refl, to-then, to-wider, push-to}
-use Rattle.lower.specs.Fits.{tree-fits, trees-fits, tree-low}
+use Rattle.words.specs.Fits.{tree-fits, trees-fits, tree-low}
 use Rattle.projections.specs.Items.{keysC, keys-lower, keys-size, keys-held, keys-render, keys-below}
-use Rattle.projections.specs.Promises.{LowersOver, orderL, headOf, overL, Tail, tailSize, SomeTail, LowersTail}
-use Rattle.projections.proofs.Room.{deep-by, twice-refl, twice-then, twice-pushed}
+use Rattle.projections.specs.Asked.{OverAsked}
+use Rattle.projections.specs.Promises.{LowersOver, orderL, inputOf, headOf, trailerOp, overL, Tail, tailSize, SomeTail, LowersTail}
+use Rattle.projections.specs.Room.{tree-deep, twice-refl, twice-then, twice-pushed}
+use Rattle.projections.specs.declared.trailers.Trailer.{Trailer}
+use Rattle.projections.specs.declared.trailers.Trailer.the-variants as trailer
 
 -- ── none ──
 
@@ -38,7 +40,7 @@ none-size []ᵗ e = refl
 none-size (t ∷ᵗ ts) e = absurd (omega arith)
 
 -- nothing to lower leaves the operator that was there
-nothing-law : {s : Sort} {a b : List ℕ} (n d i input : ℕ) (L : Trees s n → Lowering ℕ) (m : Mem) → n ≡ 0 → i ≤ 2048 → input < m .ctx .ops → ((ts : Trees s n) (st : State) → L ts st ≡ (input, st)) → LowersOver a b n d i i input L m m
+nothing-law : {s : Sort} {a b : List ℕ} (n d i input : ℕ) (L : Trees s n → Lowering ℕ) (m : Mem) → n ≡ 0 → i ≤ maxRecords → input < m .ctx .ops → ((ts : Trees s n) (st : State) → L ts st ≡ (input, st)) → LowersOver a b n d i i input L m m
 nothing-law n d i input L m e l low is = record {
   moved = twice-refl l;
   low = low;
@@ -51,7 +53,7 @@ unfolding orderBy ret
 no-keys n input []ᵗ s e = refl
 no-keys n input (t ∷ᵗ ts) s e = absurd (omega arith)
 
-pub no-order : {a b : List ℕ} (n d i input : ℕ) (m : Mem) → n ≡ 0 → i ≤ 2048 → input < m .ctx .ops → LowersOver a b n d i i input (orderL n input) m m
+pub no-order : {a b : List ℕ} (n d i input : ℕ) (m : Mem) → n ≡ 0 → i ≤ maxRecords → input < m .ctx .ops → LowersOver a b n d i i input (orderL n input) m m
 no-order n d i input m e l low = nothing-law n d i input (orderL n input) m e l low (λ ts s. no-keys n input ts s e)
 
 no-expr : (n input : ℕ) (r : Rec) (ts : Trees expr n) (s : State) → n ≡ 0 → overExpr r input ts s ≡ (input, s)
@@ -59,15 +61,15 @@ unfolding overExpr ret
 no-expr n input r []ᵗ s e = refl
 no-expr n input r (t ∷ᵗ ts) s e = absurd (omega arith)
 
-pub no-over : {a b : List ℕ} (n d i kind input : ℕ) (m : Mem) → n ≡ 0 → i ≤ 2048 → input < m .ctx .ops → LowersOver a b n d i i input (overL n kind input) m m
-no-over n d i kind input m e l low = nothing-law n d i input (overL n kind input) m e l low (λ ts s. no-expr n input (headOf kind input) ts s e)
+pub no-over : {a b : List ℕ} {k : ℕ} (n d i : ℕ) (x : Trailer) (m : Mem) → k ≡ inputOf x → n ≡ 0 → i ≤ maxRecords → inputOf x < m .ctx .ops → LowersOver a b n d i i k (overL n x) m m
+no-over n d i x m ek e l low = rw ek (nothing-law n d i (inputOf x) (overL n x) m e l low (λ ts s. no-expr n (inputOf x) (headOf x) ts s e))
 
 -- ── sort keys ──
 
 carried-by : (sheet : Bytes) (a b : List ℕ) {n : ℕ} (cs : Carried n) (d i : ℕ) → ((n ≡ 0) → ⊥) → HeldC sheet a b 1 cs d i → 1 ≤ d
 unfolding HeldC
 carried-by sheet a b []ᶜ d i h hd = absurd (h refl)
-carried-by sheet a b (c ∷ᶜ cs) d i h hd = deep-by sheet a b (c .1) d (i + 1) (hd .0)
+carried-by sheet a b (c ∷ᶜ cs) d i h hd = tree-deep sheet a b (c .1) d (i + 1) (hd .0)
 
 pub carried-deep : {a b : List ℕ} {n d i : ℕ} → SomeCarried a b n 1 d i → ((n ≡ 0) → ⊥) → 1 ≤ d
 carried-deep {a} {b} {d = d} {i = i} x h = carried-by (x .sheet) a b (x .list) d i h (x .held)
@@ -75,34 +77,35 @@ carried-deep {a} {b} {d = d} {i = i} x h = carried-by (x .sheet) a b (x .list) d
 pub keys-some : {a b : List ℕ} {n d i : ℕ} → SomeTrees a b orderItem n d i → SomeCarried a b n 1 (d - 1) i
 keys-some {a} {b} {d = d} {i = i} x = record { sheet = x .sheet; list = keysC (x .trees); held = keys-held (x .sheet) a b (x .trees) d i (x .held) }
 
-abbrev pub orderOp : (i input n d : ℕ) → Op
-orderOp i input n d = record { kind = 10; idx = i; input = input; x = n; y = 0; left = d; base = 0 }
-
 order-def : (n input : ℕ) (ts : Trees orderItem n) (s : State) → ((n ≡ 0) → ⊥) → orderBy input ts s ≡ push (op ReadOp.OrderBy (input, (n, tt)) ∷ lowerC (keysC ts) s .0) (lowerC (keysC ts) s .1)
 unfolding orderBy _>>=_
 order-def n input []ᵗ s h = absurd (h refl)
 order-def n input (t ∷ᵗ ts) s h = rw (keys-lower (t ∷ᵗ ts) s)
 
-module _ {a b : List ℕ} {n e : ℕ} {c : LowerCtx} {os : List ℕ} {m m₁ : Mem} (d input i : ℕ) (some : SomeTrees a b orderItem n d i) (sh : d ≤ 64) (low : i ≤ 2048) (nz : (n ≡ 0) → ⊥) (ex : LowersExprs a b n 1 (d - 1) 0 i e m m₁) (ps : Pushed (m₁ .ctx) c (m₁ .ops) os (orderOp i input n d)) (lo : length os ≡ length (m₁ .ops)) where
-  order-next : (sheet : Bytes) (ts : Trees orderItem n) → HeldOf sheet a b ts d i → e ≡ i + sizeOf ts
-  order-next sheet ts hd = let x = ex .next sheet (keysC ts) (keys-held sheet a b ts d i hd) in let y = keys-size ts in omega arith
+module _ {a b : List ℕ} {n input e : ℕ} {at : At} {c : LowerCtx} {os : List ℕ} {m m₁ : Mem}
+    (g : OverAsked orderItem a b at n input m) (nz : (n ≡ 0) → ⊥)
+    (ex : LowersExprs a b n 1 (at .left - 1) 0 (at .i) e m m₁)
+    (ps : Pushed (m₁ .ctx) c (m₁ .ops) os (orderByOp (atPlace 0 (at .i) (at .left)) input n)) (lo : length os ≡ length (m₁ .ops)) where
+  order-next : (sheet : Bytes) (ts : Trees orderItem n) → HeldOf sheet a b ts (at .left) (at .i) → e ≡ at .i + sizeOf ts
+  order-next sheet ts hd = let x = ex .next sheet (keysC ts) (keys-held sheet a b ts (at .left) (at .i) hd) in let y = keys-size ts in omega arith
 
-  order-up : i + 1 ≤ e
+  order-up : at .i + 1 ≤ e
   order-up =
+      let some = g .trees in
       let x = order-next (some .sheet) (some .trees) (some .held) in
-      let f = trees-fits (some .sheet) a b (some .trees) d i low (some .held) .0 in
+      let f = trees-fits (some .sheet) a b (some .trees) (at .left) (at .i) (g .ready .here) (some .held) .0 in
       omega arith
 
-  order-run : (sheet : Bytes) (ts : Trees orderItem n) → HeldOf sheet a b ts d i → (W : Written) (s : State) → Rep sheet a b W s m → Blank W (0 + suc i) (0 + suc e) → Rooted sheet a b W (orderL n input ts) (m₁ .ctx .ops) 0 (suc i) (suc e) s m (mem c os (m₁ .rest))
+  order-run : (sheet : Bytes) (ts : Trees orderItem n) → HeldOf sheet a b ts (at .left) (at .i) → (W : Written) (s : State) → Rep sheet a b W s m → Blank W (0 + suc (at .i)) (0 + suc e) → Rooted sheet a b W (orderL n input ts) (m₁ .ctx .ops) 0 (suc (at .i)) (suc e) s m (mem c os (m₁ .rest))
   unfolding push
   order-run sheet ts hd W s r bl =
       let up = order-up in
       let here = ex .moved .here in
-      let y = ex .run sheet (keysC ts) (keys-held sheet a b ts d i hd) W s r bl in
+      let y = ex .run sheet (keysC ts) (keys-held sheet a b ts (at .left) (at .i) hd) W s r bl in
       let D = order-def n input ts s nz in
-      let z = push-to m₁ c os (orderOp i input n d) (op ReadOp.OrderBy (input, (n, tt)) ∷ lowerC (keysC ts) s .0) (y .to .rep) ps
+      let z = push-to m₁ c os (orderByOp (atPlace 0 (at .i) (at .left)) input n) (op ReadOp.OrderBy (input, (n, tt)) ∷ lowerC (keysC ts) s .0) (y .to .rep) ps
       (λ N A f. record {
-        sane = record { shallow = sh; near = omega arith; low = omega arith; far = λ e. absurd (omega arith); flagged = λ e. absurd (omega arith) };
+        bounded = record { shallow = g .shallow; near = omega arith; low = omega arith; far = λ e. absurd (omega arith); flagged = λ e. absurd (omega arith) };
         shows = shows-order refl (record {
           keys = ts;
           held = hd;
@@ -112,7 +115,7 @@ module _ {a b : List ℕ} {n e : ℕ} {c : LowerCtx} {os : List ℕ} {m m₁ : M
       }) in
       record { to = rw D (to-then (y .to) z); root = rw D (y .to .rep .count); low = let w : c .ops ≡ m₁ .ctx .ops + 1 = ps .count in omega arith }
 
-  pub order-law : LowersOver a b n d i e (m₁ .ctx .ops) (orderL n input) m (mem c os (m₁ .rest))
+  pub order-law : LowersOver a b n (at .left) (at .i) e (m₁ .ctx .ops) (orderL n input) m (mem c os (m₁ .rest))
   order-law = record { moved = twice-pushed (ex .moved) order-up ps lo; low = omega (arith, ps .count); next = order-next; run = order-run }
 
 -- ── one expression ──
@@ -133,94 +136,99 @@ single (t ∷ᵗ u ∷ᵗ ts) l h = absurd (omega arith)
 pub expr-some : {a b : List ℕ} {n d i : ℕ} → SomeTrees a b expr n d i → n ≤ 1 → ((n ≡ 0) → ⊥) → SomeTree a b expr d i
 expr-some {a} {b} {d = d} {i = i} x l h = let o = single (x .trees) l h in record { sheet = x .sheet; tree = o .tree; held = o .held (x .sheet) a b d i (x .held) }
 
-abbrev pub overOp : (kind i input d : ℕ) → Op
-overOp kind i input d = record { kind = kind; idx = i; input = input; x = 0; y = 0; left = d; base = 0 }
+-- the operator that it stands over
+pub skip-input : {x : Trailer} {k n : ℕ} → x ≡ trailer.Skip k → inputOf x < n → k < n
+skip-input e l = rw e at l
 
-over-shows : {sheet : Bytes} {a b : List ℕ} {N : Notes} {A : Ops} {k : ℕ} (kind i input d : ℕ) (recs : Recs) → (kind ≡ 11) ⊎ (kind ≡ 12) → OverExpr sheet a b N A k (overOp kind i input d) (headOf kind input) recs → Shows sheet a b N A k (overOp kind i input d) recs
-over-shows {sheet} {a} {b} {N} {A} {k} kind i input d recs (inl e) x = shows-skip e (subst (λ (z : ℕ). OverExpr sheet a b N A k (overOp kind i input d) (headOf z input) recs) e x)
-over-shows {sheet} {a} {b} {N} {A} {k} kind i input d recs (inr e) x = shows-limit e (subst (λ (z : ℕ). OverExpr sheet a b N A k (overOp kind i input d) (headOf z input) recs) e x)
+pub limit-input : {x : Trailer} {k n : ℕ} → x ≡ trailer.Limit k → inputOf x < n → k < n
+limit-input e l = rw e at l
 
-either : (t : Bool) (kind : ℕ) → eqb kind 11 ≡ t → 11 ≤ kind → kind ≤ 12 → (kind ≡ 11) ⊎ (kind ≡ 12)
-either true kind e l h = inl (eqb-true kind 11 e)
-either false kind e l h = let n : ((kind ≡ 11) → ⊥) = eqb-false kind 11 e in inr (omega arith)
+-- a skip or a limit, as it is stored
+over-stored : {sheet : Bytes} {a b : List ℕ} {N : Notes} {A : Ops} {k : ℕ} (x : Trailer) (i d : ℕ) (t : Tree expr) (rs : Recs) → d ≤ maxDepth → Held sheet a b t d i → Below (shift N 0) k t → render (shift N 0) A t ≡ rs → Stored sheet a b N A k (trailerOp (atPlace 0 i d) x) (headOf x ∷ rs)
+over-stored {sheet} {a} {b} (trailer.Skip input) i d t rs sh hd bl e = record {
+  bounded = record { shallow = sh; near = omega arith; low = tree-low sheet a b t d i hd; far = λ e. absurd (omega arith); flagged = λ e. absurd (omega arith) };
+  shows = shows-skip refl (record { tree = t; held = hd; below = bl; is = ap (λ (z : Recs). op ReadOp.Skip (input, tt) ∷ z) (sym e) });
+}
+over-stored {sheet} {a} {b} (trailer.Limit input) i d t rs sh hd bl e = record {
+  bounded = record { shallow = sh; near = omega arith; low = tree-low sheet a b t d i hd; far = λ e. absurd (omega arith); flagged = λ e. absurd (omega arith) };
+  shows = shows-limit refl (record { tree = t; held = hd; below = bl; is = ap (λ (z : Recs). op ReadOp.Limit (input, tt) ∷ z) (sym e) });
+}
 
-module _ {a b : List ℕ} {n e : ℕ} {c : LowerCtx} {os : List ℕ} {m m₁ : Mem} (d kind input i : ℕ) (from : 11 ≤ kind) (upto : kind ≤ 12) (some : SomeTrees a b expr n d i) (sh : d ≤ 64) (one : n ≤ 1) (nz : (n ≡ 0) → ⊥) (ex : LowersExpr a b d 0 i e m m₁) (ps : Pushed (m₁ .ctx) c (m₁ .ops) os (overOp kind i input d)) (lo : length os ≡ length (m₁ .ops)) where
-  over-next : (sheet : Bytes) (ts : Trees expr n) → HeldOf sheet a b ts d i → e ≡ i + sizeOf ts
-  over-next sheet ts hd = let o = single ts one nz in let x = ex .next sheet (o .tree) (o .held sheet a b d i hd) in let y = o .sized in omega arith
+module _ {a b : List ℕ} {n input e : ℕ} {at : At} {c : LowerCtx} {os : List ℕ} {m m₁ : Mem} (x : Trailer)
+    (g : OverAsked expr a b at n input m) (one : n ≤ 1) (nz : (n ≡ 0) → ⊥)
+    (ex : LowersExpr a b (at .left) 0 (at .i) e m m₁)
+    (ps : Pushed (m₁ .ctx) c (m₁ .ops) os (trailerOp (atPlace 0 (at .i) (at .left)) x)) (lo : length os ≡ length (m₁ .ops)) where
+  over-next : (sheet : Bytes) (ts : Trees expr n) → HeldOf sheet a b ts (at .left) (at .i) → e ≡ at .i + sizeOf ts
+  over-next sheet ts hd = let o = single ts one nz in let y = ex .next sheet (o .tree) (o .held sheet a b (at .left) (at .i) hd) in let z = o .sized in omega arith
 
-  over-up : i + 1 ≤ e
+  over-up : at .i + 1 ≤ e
   over-up =
+      let some = g .trees in
       let o = single (some .trees) one nz in
-      let hd = o .held (some .sheet) a b d i (some .held) in
-      let x = ex .next (some .sheet) (o .tree) hd in
-      let f = tree-fits (some .sheet) a b (o .tree) d i hd .0 in
+      let hd = o .held (some .sheet) a b (at .left) (at .i) (some .held) in
+      let y = ex .next (some .sheet) (o .tree) hd in
+      let f = tree-fits (some .sheet) a b (o .tree) (at .left) (at .i) hd .0 in
       omega arith
 
-  over-run : (sheet : Bytes) (ts : Trees expr n) → HeldOf sheet a b ts d i → (W : Written) (s : State) → Rep sheet a b W s m → Blank W (0 + suc i) (0 + suc e) → Rooted sheet a b W (overL n kind input ts) (m₁ .ctx .ops) 0 (suc i) (suc e) s m (mem c os (m₁ .rest))
+  over-run : (sheet : Bytes) (ts : Trees expr n) → HeldOf sheet a b ts (at .left) (at .i) → (W : Written) (s : State) → Rep sheet a b W s m → Blank W (0 + suc (at .i)) (0 + suc e) → Rooted sheet a b W (overL n x ts) (m₁ .ctx .ops) 0 (suc (at .i)) (suc e) s m (mem c os (m₁ .rest))
   unfolding push
   over-run sheet ts hd W s r bl =
       let o = single ts one nz in
-      let hd₁ = o .held sheet a b d i hd in
+      let hd₁ = o .held sheet a b (at .left) (at .i) hd in
       let y = ex .run sheet (o .tree) hd₁ W s r bl in
-      let D = o .over (headOf kind input) input s in
-      let z = push-to m₁ c os (overOp kind i input d) (headOf kind input ∷ lowerExpr (o .tree) s .0) (y .to .rep) ps
-      (λ N A f. record {
-        sane = record { shallow = sh; near = omega arith; low = tree-low sheet a b (o .tree) d i hd₁; far = λ e. absurd (omega arith); flagged = λ e. absurd (omega arith) };
-        shows = over-shows kind i input d _ (either (eqb kind 11) kind refl from upto) (record {
-          tree = o .tree;
-          held = hd₁;
-          below = y .below N A f;
-          is = ap (λ (x : Recs). headOf kind input ∷ x) (sym (y .shown N A f));
-        });
-      }) in
+      let D = o .over (headOf x) (inputOf x) s in
+      let z = push-to m₁ c os (trailerOp (atPlace 0 (at .i) (at .left)) x) (headOf x ∷ lowerExpr (o .tree) s .0) (y .to .rep) ps (λ N A f. over-stored x (at .i) (at .left) (o .tree) _ (g .shallow) hd₁ (y .below N A f) (y .shown N A f)) in
       record { to = rw D (to-then (y .to) z); root = rw D (y .to .rep .count); low = let w : c .ops ≡ m₁ .ctx .ops + 1 = ps .count in omega arith }
 
-  pub over-law : LowersOver a b n d i e (m₁ .ctx .ops) (overL n kind input) m (mem c os (m₁ .rest))
+  pub over-law : LowersOver a b n (at .left) (at .i) e (m₁ .ctx .ops) (overL n x) m (mem c os (m₁ .rest))
   over-law = record { moved = twice-pushed (ex .moved) over-up ps lo; low = omega (arith, ps .count); next = over-next; run = over-run }
 
 -- ── the three ──
 
-trailers-def : {x y z : ℕ} (input k₁ k₂ : ℕ) (keys : Trees orderItem x) (skip : Trees expr y) (limit : Trees expr z) (s : State) → k₁ ≡ orderBy input keys s .0 → k₂ ≡ overExpr (op ReadOp.Skip (k₁, tt)) k₁ skip (orderBy input keys s .1) .0 → lowerTrailers input keys skip limit s ≡ overExpr (op ReadOp.Limit (k₂, tt)) k₂ limit (overExpr (op ReadOp.Skip (k₁, tt)) k₁ skip (orderBy input keys s .1) .1)
+trailers-def : {x y z : ℕ} (input k₁ k₂ : ℕ) (keys : Trees orderItem x) (skip : Trees expr y) (limit : Trees expr z) (s : State) →
+    k₁ ≡ orderBy input keys s .0 →
+    k₂ ≡ overExpr (op ReadOp.Skip (k₁, tt)) k₁ skip (orderBy input keys s .1) .0 →
+    lowerTrailers input keys skip limit s ≡ overExpr (op ReadOp.Limit (k₂, tt)) k₂ limit (overExpr (op ReadOp.Skip (k₁, tt)) k₁ skip (orderBy input keys s .1) .1)
 unfolding lowerTrailers _>>=_
 trailers-def input k₁ k₂ keys skip limit s e₁ e₂ = rw (e₂, e₁)
 
 module _ {a b : List ℕ} {n d i j : ℕ} where
-  pub tail-keys : n ≡ cell a b i 6 → SomeTail a b d i j → SomeTrees a b orderItem n d j
+  pub tail-keys : n ≡ cell a b i keysAt → SomeTail a b d i j → SomeTrees a b orderItem n d j
   tail-keys e x = let t = x .tail in rw (e ∙ sym (t .keys-counted)) (record { sheet = x .sheet; trees = t .keys; held = t .held-keys })
 
-  pub skip-one : n ≡ cell a b i 8 → SomeTail a b d i j → n ≤ 1
+  pub skip-one : n ≡ cell a b i skipAt → SomeTail a b d i j → n ≤ 1
   skip-one e x = let t = x .tail in rw (e ∙ sym (t .skip-counted)) (t .skip-one)
 
-  pub limit-one : n ≡ cell a b i 10 → SomeTail a b d i j → n ≤ 1
+  pub limit-one : n ≡ cell a b i limitAt → SomeTail a b d i j → n ≤ 1
   limit-one e x = let t = x .tail in rw (e ∙ sym (t .limit-counted)) (t .limit-one)
 
-module _ {a b : List ℕ} {n₁ e₁ k₁ : ℕ} {m m₁ : Mem} (d input i j : ℕ) (c₁ : n₁ ≡ cell a b i 6) (p : LowersOver a b n₁ d j e₁ k₁ (orderL n₁ input) m m₁) where
-  keys-as : (n : ℕ) → n ≡ cell a b i 6 → LowersOver a b n d j e₁ k₁ (orderL n input) m m₁
+module _ {a b : List ℕ} {n₁ e₁ k₁ : ℕ} {m m₁ : Mem} (d input i j : ℕ) (c₁ : n₁ ≡ cell a b i keysAt) (p : LowersOver a b n₁ d j e₁ k₁ (orderL n₁ input) m m₁) where
+  keys-as : (n : ℕ) → n ≡ cell a b i keysAt → LowersOver a b n d j e₁ k₁ (orderL n input) m m₁
   keys-as n e = subst (λ (x : ℕ). LowersOver a b x d j e₁ k₁ (orderL x input) m m₁) (c₁ ∙ sym e) p
 
   keys-end : (sheet : Bytes) (t : Tail sheet a b d i j) → e₁ ≡ j + sizeOf (t .keys)
   keys-end sheet t = keys-as (t .keys-count) (t .keys-counted) .next sheet (t .keys) (t .held-keys)
 
-  pub skip-some : {n₂ : ℕ} → n₂ ≡ cell a b i 8 → SomeTail a b d i j → SomeTrees a b expr n₂ d e₁
+  pub skip-some : {n₂ : ℕ} → n₂ ≡ cell a b i skipAt → SomeTail a b d i j → SomeTrees a b expr n₂ d e₁
   skip-some c₂ x = let t = x .tail in rw (c₂ ∙ sym (t .skip-counted), keys-end (x .sheet) t) (record { sheet = x .sheet; trees = t .skip; held = t .held-skip })
 
   held-skip : (sheet : Bytes) (t : Tail sheet a b d i j) → HeldOf sheet a b (t .skip) d e₁
   held-skip sheet t = rw (keys-end sheet t) (t .held-skip)
 
-  module _ {n₂ e₂ : ℕ} (c₂ : n₂ ≡ cell a b i 8) (nx : (sheet : Bytes) (ts : Trees expr n₂) → HeldOf sheet a b ts d e₁ → e₂ ≡ e₁ + sizeOf ts) where
+  module _ {n₂ e₂ : ℕ} (c₂ : n₂ ≡ cell a b i skipAt) (nx : (sheet : Bytes) (ts : Trees expr n₂) → HeldOf sheet a b ts d e₁ → e₂ ≡ e₁ + sizeOf ts) where
     skip-end : (sheet : Bytes) (t : Tail sheet a b d i j) → e₂ ≡ j + sizeOf (t .keys) + sizeOf (t .skip)
     skip-end sheet t = subst (λ (x : ℕ). (ts : Trees expr x) → HeldOf sheet a b ts d e₁ → e₂ ≡ e₁ + sizeOf ts) (c₂ ∙ sym (t .skip-counted)) (nx sheet) (t .skip) (held-skip sheet t) ∙ ap (λ (x : ℕ). x + sizeOf (t .skip)) (keys-end sheet t)
 
-    pub limit-some : {n₃ : ℕ} → n₃ ≡ cell a b i 10 → SomeTail a b d i j → SomeTrees a b expr n₃ d e₂
+    pub limit-some : {n₃ : ℕ} → n₃ ≡ cell a b i limitAt → SomeTail a b d i j → SomeTrees a b expr n₃ d e₂
     limit-some c₃ x = let t = x .tail in rw (c₃ ∙ sym (t .limit-counted), skip-end (x .sheet) t) (record { sheet = x .sheet; trees = t .limit; held = t .held-limit })
 
-  module _ {n₂ e₂ k₂ : ℕ} {m₂ : Mem} (c₂ : n₂ ≡ cell a b i 8) (q : LowersOver a b n₂ d e₁ e₂ k₂ (overL n₂ 11 k₁) m₁ m₂) where
-    skip-as : (n : ℕ) → n ≡ cell a b i 8 → LowersOver a b n d e₁ e₂ k₂ (overL n 11 k₁) m₁ m₂
-    skip-as n e = subst (λ (x : ℕ). LowersOver a b x d e₁ e₂ k₂ (overL x 11 k₁) m₁ m₂) (c₂ ∙ sym e) q
+  module _ {n₂ e₂ k₂ : ℕ} {m₂ : Mem} (c₂ : n₂ ≡ cell a b i skipAt) (q : LowersOver a b n₂ d e₁ e₂ k₂ (overL n₂ (trailer.Skip k₁)) m₁ m₂) where
+    skip-as : (n : ℕ) → n ≡ cell a b i skipAt → LowersOver a b n d e₁ e₂ k₂ (overL n (trailer.Skip k₁)) m₁ m₂
+    skip-as n e = subst (λ (x : ℕ). LowersOver a b x d e₁ e₂ k₂ (overL x (trailer.Skip k₁)) m₁ m₂) (c₂ ∙ sym e) q
 
-    module _ {n₃ e₃ k₃ : ℕ} {m₃ : Mem} (c₃ : n₃ ≡ cell a b i 10) (l : LowersOver a b n₃ d e₂ e₃ k₃ (overL n₃ 12 k₂) m₂ m₃) where
-      limit-as : (n : ℕ) → n ≡ cell a b i 10 → LowersOver a b n d e₂ e₃ k₃ (overL n 12 k₂) m₂ m₃
-      limit-as n e = subst (λ (x : ℕ). LowersOver a b x d e₂ e₃ k₃ (overL x 12 k₂) m₂ m₃) (c₃ ∙ sym e) l
+    module _ {n₃ e₃ k₃ : ℕ} {m₃ : Mem} (c₃ : n₃ ≡ cell a b i limitAt) (l : LowersOver a b n₃ d e₂ e₃ k₃ (overL n₃ (trailer.Limit k₂)) m₂ m₃) where
+      limit-as : (n : ℕ) → n ≡ cell a b i limitAt → LowersOver a b n d e₂ e₃ k₃ (overL n (trailer.Limit k₂)) m₂ m₃
+      limit-as n e = subst (λ (x : ℕ). LowersOver a b x d e₂ e₃ k₃ (overL x (trailer.Limit k₂)) m₂ m₃) (c₃ ∙ sym e) l
 
       held-limit : (sheet : Bytes) (t : Tail sheet a b d i j) → HeldOf sheet a b (t .limit) d e₂
       held-limit sheet t = rw (skip-end c₂ (q .next) sheet t) (t .held-limit)

@@ -1,2 +1,6 @@
+pub mod Kinds
 pub mod Items
+pub mod Asked
+pub mod Room
+pub mod Passes
 pub mod Promises

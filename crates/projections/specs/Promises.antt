@@ -1,25 +1,29 @@
 -- What the steps of a `with` or a `return` promise. Assumes nothing: these are definitions.
 use mathlib.Core.Path.{_≡_}
 use Prim.Native.Nat.{ℕ, suc, _+_, _*_, _≤_, _<_}
-use mathlib.Core.Bool.{Bool, cond}
+use mathlib.Core.Bool.{Bool}
 use mathlib.Core.List.{List, _∷_}
 use mathlib.Core.Option.{Option}
-use lib.Dec.{eqb}
 use lib.ListN.{length}
 use Rattle.model.specs.Text.{Bytes}
 use Rattle.model.specs.Kind.{Sort, ReadOp, expr, orderItem, projection}
 use Rattle.model.specs.Record.{Rec}
 use Rattle.model.specs.Tree.{Trees}
 use Rattle.model.specs.Lower.{Lowering, _>>=_, push, op, orSourceAll, orderBy, overExpr, lowerTrailers, lowerProjections, splitProjectionsAgg, aggregateIf, distinctIf}
-use Rattle.words.specs.Words.{cell}
+use Rattle.words.specs.Words.{cell, maxRecords}
 use Rattle.words.specs.Held.{HeldOf, sizeOf}
+use Rattle.words.specs.Places.{keysAt, skipAt, limitAt}
 use Rattle.context.specs.Tables.{Pushed}
+use Rattle.context.specs.Ops.{skipOp, limitOp}
+use Rattle.context.specs.declared.At.{At}
 use Rattle.context.specs.declared.op.Op.{Op}
 use Rattle.context.specs.declared.LowerCtx.{LowerCtx}
 use Rattle.lower.specs.Render.{Notes, Ops, BelowOf, keyRecs, aggRecs}
 use Rattle.lower.specs.Shows.{shift}
 use Rattle.lower.specs.Rep.{State, Mem, Written, Blank, Future, Rep, To, Rooted, Moved, Indexes}
 use Rattle.lower.specs.Clauses.{MovedTwice}
+use Rattle.projections.specs.declared.trailers.Trailer.{Trailer}
+use Rattle.projections.specs.declared.trailers.Trailer.the-variants as trailer
 
 -- ── order, skip, limit ──
 
@@ -30,15 +34,24 @@ pub record LowersOver {sort : Sort} (a b : List ℕ) (n d i e k : ℕ) (L : Tree
   pub next : (sheet : Bytes) (ts : Trees sort n) → HeldOf sheet a b ts d i → e ≡ i + sizeOf ts
   pub run : (sheet : Bytes) (ts : Trees sort n) → HeldOf sheet a b ts d i → (W : Written) (s : State) → Rep sheet a b W s m → Blank W (0 + suc i) (0 + suc e) → Rooted sheet a b W (L ts) k 0 (suc i) (suc e) s m m′
 
--- the record of a skip or a limit, by the number of the stored operator's kind
-abbrev pub headOf : ℕ → ℕ → Rec
-headOf kind input = cond (eqb kind 11) (op ReadOp.Skip (input, tt)) (op ReadOp.Limit (input, tt))
+-- of a skip or a limit: the operator that it stands over, its own record, and what is stored of it
+abbrev pub inputOf : Trailer → ℕ
+inputOf (trailer.Skip k) = k
+inputOf (trailer.Limit k) = k
+
+abbrev pub headOf : Trailer → Rec
+headOf (trailer.Skip k) = op ReadOp.Skip (k, tt)
+headOf (trailer.Limit k) = op ReadOp.Limit (k, tt)
+
+abbrev pub trailerOp : At → Trailer → Op
+trailerOp at (trailer.Skip k) = skipOp at k
+trailerOp at (trailer.Limit k) = limitOp at k
 
 abbrev pub orderL : (n input : ℕ) → Trees orderItem n → Lowering ℕ
 orderL n input ts = λ s. orderBy input ts s
 
-abbrev pub overL : (n kind input : ℕ) → Trees expr n → Lowering ℕ
-overL n kind input ts = λ s. overExpr (headOf kind input) input ts s
+abbrev pub overL : (n : ℕ) → Trailer → Trees expr n → Lowering ℕ
+overL n x ts = λ s. overExpr (headOf x) (inputOf x) ts s
 
 -- the trailers of the clause at record i stand from record j on
 pub record Tail (sheet : Bytes) (a b : List ℕ) (d i j : ℕ) : Type 0 where
@@ -48,9 +61,9 @@ pub record Tail (sheet : Bytes) (a b : List ℕ) (d i j : ℕ) : Type 0 where
   pub keys : Trees orderItem keys-count
   pub skip : Trees expr skip-count
   pub limit : Trees expr limit-count
-  pub keys-counted : keys-count ≡ cell a b i 6
-  pub skip-counted : skip-count ≡ cell a b i 8
-  pub limit-counted : limit-count ≡ cell a b i 10
+  pub keys-counted : keys-count ≡ cell a b i keysAt
+  pub skip-counted : skip-count ≡ cell a b i skipAt
+  pub limit-counted : limit-count ≡ cell a b i limitAt
   pub skip-one : skip-count ≤ 1
   pub limit-one : limit-count ≤ 1
   pub held-keys : HeldOf sheet a b keys d j
@@ -68,7 +81,7 @@ pub record LowersTail (a b : List ℕ) (d input i j e k : ℕ) (m m′ : Mem) : 
   pub moved : MovedTwice j e m m′
   pub low : k < m′ .ctx .ops
   pub next : (sheet : Bytes) (t : Tail sheet a b d i j) → e ≡ j + tailSize t
-  pub run : (sheet : Bytes) (t : Tail sheet a b d i j) → (W : Written) (s : State) → Rep sheet a b W s m → Blank W (0 + suc j) (0 + suc e) → Rooted sheet a b W (λ s. lowerTrailers input (t .keys) (t .skip) (t .limit) s) k 0 (suc j) (suc e) s m m′
+  pub run : (sheet : Bytes) (t : Tail sheet a b d i j) (W : Written) (s : State) → Rep sheet a b W s m → Blank W (0 + suc j) (0 + suc e) → Rooted sheet a b W (λ s. lowerTrailers input (t .keys) (t .skip) (t .limit) s) k 0 (suc j) (suc e) s m m′
 
 -- ── the items of a `return` ──
 
@@ -94,7 +107,7 @@ pub data PushedIf (n : ℕ) (x : Op) (input k : ℕ) (c c′ : LowerCtx) (o o′
 -- one lowering of the items, with up to two operators of its own: the source and the aggregate, or the projection and its distinct
 pub record LowersPass (sheet : Bytes) (a b : List ℕ) (n d base i e k : ℕ) (L : Trees projection n → Lowering ℕ) (m m′ : Mem) : Type 0 where
   pub up : i ≤ e
-  pub here : e ≤ 2048
+  pub here : e ≤ maxRecords
   pub few : m′ .ctx .ops + 2 * i ≤ m .ctx .ops + 2 + 2 * e
   pub fresh : m′ .ctx .next + i ≤ m .ctx .next + e
   pub met : m′ .ctx .mapped + i ≤ m .ctx .mapped + e

@@ -2,14 +2,13 @@
 ghost use mathlib.Core.Path.{_≡_};
 ghost use mathlib.Core.Bool.{cond};
 ghost use Prim.Native.Nat.{_+_, _-_, _≤_, _<_};
-ghost use Rattle.model.specs.Kind.{projection};
-ghost use Rattle.words.specs.Words.{Roomy};
-ghost use Rattle.words.specs.Held.{HeldMany};
-ghost use Rattle.lower.specs.Rep.{mem, Good};
-ghost use Rattle.lower.specs.Pieces.{SomeCarried, LowersExprs};
+ghost use Rattle.lower.specs.Rep.{mem};
+ghost use Rattle.lower.specs.Pieces.{LowersExprs};
+ghost use Rattle.projections.specs.Asked.{ItemsAsked, SplitAsked};
 ghost use Rattle.projections.specs.Promises.{LowersSplit};
+use context::At;
 use context::LowerCtx;
-use lower::Step;
+use lower::Reached;
 
 // The record behind the items, the state, and how many of the items are aggregates.
 pub struct Parted {
@@ -18,27 +17,29 @@ pub struct Parted {
     pub aggs: usize,
 }
 
-// n items or sort keys from record i on; the expression of each stands behind it and is one deeper.
+// n items or sort keys from a place on; the expression of each stands behind it and is one deeper.
 pub fn lower_items(
     a: &[u32],
     b: &[u32],
     ops: &mut [u32],
     rest: &mut [u32],
     ctx: LowerCtx,
-    base: usize,
-    i: usize,
+    at: At,
     n: usize,
-    left: usize,
-) -> Step
-    requires { ⌜ Roomy (now a) (now b) ⌝ }
-    requires { ⌜ SomeCarried (now a) (now b) n 1 (left - 1) i ⌝ }
-    requires { ⌜ Good left i (mem ctx (now ops) (now rest)) × (left ≤ 64) × (base ≤ 2048) ⌝ }
-    ensures { λ r. ⌜ LowersExprs (now (a .entry)) (now (b .entry)) n 1 (left - 1) base i (r .next) (mem ctx (now (ops .entry)) (now (rest .entry))) (mem (r .ctx) (now (ops .exit)) (now (rest .exit))) ⌝ }
+) -> Reached
+    requires { ⌜ ItemsAsked (now a) (now b) at n (mem ctx (now ops) (now rest)) ⌝ }
+    ensures { λ r. ⌜ LowersExprs (now (a .entry)) (now (b .entry)) n 1 (at .left - 1) (at .base) (at .i) (r .next) (mem ctx (now (ops .entry)) (now (rest .entry))) (mem (r .ctx) (now (ops .exit)) (now (rest .exit))) ⌝ }
 {
     if n == 0 {
-        return Step { next: i, ctx };
+        return Reached { next: at.i, ctx };
     }
-    lower::lower_exprs(a, b, ops, rest, ctx, base, i, n, 1, left - 1)
+    let less = at.left - 1;
+    let below = At {
+        base: at.base,
+        i: at.i,
+        left: less,
+    };
+    lower::lower_exprs(a, b, ops, rest, ctx, below, n, 1)
 }
 
 // One more, if there is more.
@@ -52,7 +53,7 @@ fn plus_if(n: usize, more: bool) -> usize
     n
 }
 
-// The first lowering of the n items of a `return`. The state is that of lowering each whole, also of an aggregate, of which the arguments alone are lowered.
+// The first lowering of the n items of a `return` from a place on. The state is that of lowering each whole, also of an aggregate, of which the arguments alone are lowered.
 pub fn split_projections_agg(
     sheet: &[u8],
     a: &[u32],
@@ -60,30 +61,34 @@ pub fn split_projections_agg(
     ops: &mut [u32],
     rest: &mut [u32],
     ctx: LowerCtx,
-    i: usize,
+    at: At,
     n: usize,
-    left: usize,
 ) -> Parted
-    requires { ⌜ Roomy (now a) (now b) ⌝ }
-    requires { ⌜ HeldMany (now sheet) (now a) (now b) projection n left i ⌝ }
-    requires { ⌜ Good left i (mem ctx (now ops) (now rest)) × (left ≤ 64) ⌝ }
-    ensures { λ r. ⌜ LowersSplit (now (sheet .entry)) (now (a .entry)) (now (b .entry)) n left i (r .next) (r .aggs) (mem ctx (now (ops .entry)) (now (rest .entry))) (mem (r .ctx) (now (ops .exit)) (now (rest .exit))) × (r .aggs ≤ n) ⌝ }
+    requires { ⌜ SplitAsked (now sheet) (now a) (now b) at n (mem ctx (now ops) (now rest)) ⌝ }
+    ensures { λ r. ⌜ LowersSplit (now (sheet .entry)) (now (a .entry)) (now (b .entry)) n (at .left) (at .i) (r .next) (r .aggs) (mem ctx (now (ops .entry)) (now (rest .entry))) (mem (r .ctx) (now (ops .exit)) (now (rest .exit))) × (r .aggs ≤ n) ⌝ }
 {
-    let mut at = i;
+    let mut next = at.i;
     let mut m = n;
     let mut aggs = 0;
     let mut cur = ctx;
     while m != 0 {
-        let agg = aggregate::is_aggregate(sheet, a, b, at + 1);
-        let s = lower::lower_expr(a, b, ops, rest, cur, 0, at + 1, left - 1);
-        at = s.next;
+        let i = next + 1;
+        let less = at.left - 1;
+        let agg = aggregate::is_aggregate(sheet, a, b, i);
+        let item = At {
+            base: 0,
+            i,
+            left: less,
+        };
+        let s = lower::lower_expr(a, b, ops, rest, cur, item);
+        next = s.next;
         aggs = plus_if(aggs, agg);
         let c = s.ctx;
         cur = c;
         m -= 1;
     }
     Parted {
-        next: at,
+        next,
         ctx: cur,
         aggs,
     }

@@ -4,58 +4,78 @@ ghost use mathlib.Core.List.{List};
 ghost use Prim.Native.Nat.{ℕ, _+_, _≤_, _<_};
 ghost use lib.Dec.{eqb};
 ghost use lib.ListN.{length};
-ghost use Rattle.model.specs.Kind.{projection};
-ghost use Rattle.words.specs.Words.{Roomy, cell};
-ghost use Rattle.words.specs.Held.{HeldMany};
-ghost use Rattle.lower.specs.Rep.{mem, Good};
-ghost use Rattle.lower.specs.Patterns.{SomeTrees};
-ghost use Rattle.lower.specs.Chains.{givenIf};
-ghost use Rattle.lower.specs.Clauses.{Ready};
+ghost use Rattle.model.specs.Call.{workWords};
+ghost use Rattle.words.specs.Words.{two32};
+ghost use Rattle.context.specs.Tables.{secondPass, maxCount};
+ghost use Rattle.context.specs.Ops.{Fits, beforeOf, aggregateOp, distinctOp};
+ghost use Rattle.lower.specs.Rep.{mem};
+ghost use Rattle.projections.specs.Asked.{FirstAsked, SecondAsked};
 ghost use Rattle.projections.specs.Promises.{PushedIf, LowersPass, firstL, secondL};
+use context::At;
+use context::Before;
 use context::LowerCtx;
+use context::SECOND_PASS;
+use context::op;
 use lower::Root;
 
-// One more operator over another, unless n is 0; then that other is left.
-fn push_if(
+// The items of a `return`: the clause's record, how many they are, and how deep their trees may be.
+pub struct ReturnItems {
+    pub i: usize,
+    pub n: usize,
+    pub left: usize,
+}
+
+// So many keys and so many aggregates of the `return` at a place, over an operator, which is left if there is no aggregate.
+fn aggregate_if(
     ops: &mut [u32],
     ctx: LowerCtx,
-    n: usize,
-    kind: u32,
-    idx: usize,
+    at: At,
     input: usize,
-    x: usize,
-    y: usize,
-    left: usize,
+    keys: usize,
+    aggs: usize,
+    next: usize,
 ) -> Root
-    requires { ⌜ (ctx .ops < 65535) × (16384 ≤ length (now ops)) × (idx < 65536) × (input < 65536) × (x < 65536) × (y < 65536) × (left < 65536) ⌝ }
-    ensures { λ r. ⌜ (r .next ≡ idx) × PushedIf n (record { kind = kind; idx = idx; input = input; x = x; y = y; left = left; base = 0 }) input (r .op) ctx (r .ctx) (now (ops .entry)) (now (ops .exit)) ⌝ }
+    requires { ⌜ (ctx .ops < maxCount) × (workWords ≤ length (now ops)) × Fits at × (input < two32) × (keys < two32) × (aggs < two32) ⌝ }
+    ensures { λ r. ⌜ (r .next ≡ next) × PushedIf aggs (aggregateOp at input keys aggs) input (r .op) ctx (r .ctx) (now (ops .entry)) (now (ops .exit)) ⌝ }
 {
-    if n == 0 {
+    if aggs == 0 {
         return Root {
-            next: idx,
+            next,
             op: input,
             ctx,
         };
     }
     let k = ctx.ops;
-    let z = ctx.push(
-        ops,
-        kind,
-        idx as u32,
-        input as u32,
-        x as u32,
-        y as u32,
-        left as u32,
-        0,
-    );
+    let z = ctx.push(ops, op::aggregate(at, input, keys, aggs));
     Root {
-        next: idx,
+        next,
         op: k,
         ctx: z,
     }
 }
 
-// The first lowering of the n items of the `return` at record i, behind an operator if `has` is not 0: an aggregate, if one of them is one.
+// An operator without its duplicates if `distinct` is not 0, and as it is if it is 0.
+fn distinct_if(ops: &mut [u32], ctx: LowerCtx, distinct: usize, input: usize, next: usize) -> Root
+    requires { ⌜ (ctx .ops < maxCount) × (workWords ≤ length (now ops)) × (input < two32) ⌝ }
+    ensures { λ r. ⌜ (r .next ≡ next) × PushedIf distinct (distinctOp input) input (r .op) ctx (r .ctx) (now (ops .entry)) (now (ops .exit)) ⌝ }
+{
+    if distinct == 0 {
+        return Root {
+            next,
+            op: input,
+            ctx,
+        };
+    }
+    let k = ctx.ops;
+    let z = ctx.push(ops, op::distinct(input));
+    Root {
+        next,
+        op: k,
+        ctx: z,
+    }
+}
+
+// The first lowering of the items of a `return`, behind the operator before it: an aggregate, if one of them is one.
 pub fn first_pass(
     sheet: &[u8],
     a: &[u32],
@@ -63,33 +83,32 @@ pub fn first_pass(
     ops: &mut [u32],
     rest: &mut [u32],
     ctx: LowerCtx,
-    has: u32,
-    last: usize,
-    i: usize,
-    n: usize,
-    left: usize,
+    current: Before,
+    of: ReturnItems,
 ) -> Root
-    requires { ⌜ Roomy (now a) (now b) ⌝ }
-    requires { ⌜ (n ≡ cell (now a) (now b) i 2) × HeldMany (now sheet) (now a) (now b) projection n left (i + 1) ⌝ }
-    requires { ⌜ Ready i (mem ctx (now ops) (now rest)) × (left ≤ 64) × (i < 2048) ⌝ }
-    requires { ⌜ ((has ≡ 0 → ⊥) → last < ctx .ops) ⌝ }
-    ensures { λ r. ⌜ LowersPass (now (sheet .entry)) (now (a .entry)) (now (b .entry)) n left 0 (i + 1) (r .next) (r .op) (firstL n (givenIf has last)) (mem ctx (now (ops .entry)) (now (rest .entry))) (mem (r .ctx) (now (ops .exit)) (now (rest .exit))) × (r .op < 65536) ⌝ }
+    requires { ⌜ FirstAsked (now sheet) (now a) (now b) of current (mem ctx (now ops) (now rest)) ⌝ }
+    ensures { λ r. ⌜ LowersPass (now (sheet .entry)) (now (a .entry)) (now (b .entry)) (of .n) (of .left) 0 (of .i + 1) (r .next) (r .op) (firstL (of .n) (beforeOf current)) (mem ctx (now (ops .entry)) (now (rest .entry))) (mem (r .ctx) (now (ops .exit)) (now (rest .exit))) × (r .op < two32) ⌝ }
 {
-    let q = lower::or_source_all(ops, ctx, has, last, i + 1);
+    let first = of.i + 1;
+    let q = lower::or_source_all(ops, ctx, current, first);
     let c = q.ctx;
-    let p = crate::items::split_projections_agg(sheet, a, b, ops, rest, c, i + 1, n, left);
+    let below = At {
+        base: 0,
+        i: first,
+        left: of.left,
+    };
+    let p = crate::items::split_projections_agg(sheet, a, b, ops, rest, c, below, of.n);
     let d = p.ctx;
-    let keys = n - p.aggs;
-    let r = push_if(ops, d, p.aggs, 9, i, q.op, keys, p.aggs, left);
-    let e = r.ctx;
-    Root {
-        next: p.next,
-        op: r.op,
-        ctx: e,
-    }
+    let keys = of.n - p.aggs;
+    let clause = At {
+        base: 0,
+        i: of.i,
+        left: of.left,
+    };
+    aggregate_if(ops, d, clause, q.op, keys, p.aggs, p.next)
 }
 
-// The second lowering of the n items of the `return` at record i, and the projection over an operator; without its duplicates if `distinct` is not 0.
+// The second lowering of the items of a `return`, and the projection over an operator; without its duplicates if `distinct` is not 0.
 pub fn second_pass(
     a: &[u32],
     b: &[u32],
@@ -97,25 +116,25 @@ pub fn second_pass(
     rest: &mut [u32],
     ctx: LowerCtx,
     input: usize,
-    i: usize,
-    n: usize,
     distinct: usize,
-    left: usize,
+    of: ReturnItems,
 ) -> Root
-    requires { ⌜ Roomy (now a) (now b) ⌝ }
-    requires { ⌜ (n ≡ cell (now a) (now b) i 2) × SomeTrees (now a) (now b) projection n left (i + 1) ⌝ }
-    requires { ⌜ Good left (i + 1) (mem ctx (now ops) (now rest)) × (left ≤ 64) × (i < 2048) × (input < 65536) × (distinct ≤ 1) ⌝ }
-    ensures { λ r. ⌜ ((sheet : List ℕ) → LowersPass sheet (now (a .entry)) (now (b .entry)) n left 2048 (i + 1) (r .next) (r .op) (secondL n (eqb distinct 1) input) (mem ctx (now (ops .entry)) (now (rest .entry))) (mem (r .ctx) (now (ops .exit)) (now (rest .exit)))) × (r .op < r .ctx .ops) ⌝ }
+    requires { ⌜ SecondAsked (now a) (now b) of input distinct (mem ctx (now ops) (now rest)) ⌝ }
+    ensures { λ r. ⌜ ((sheet : List ℕ) → LowersPass sheet (now (a .entry)) (now (b .entry)) (of .n) (of .left) secondPass (of .i + 1) (r .next) (r .op) (secondL (of .n) (eqb distinct 1) input) (mem ctx (now (ops .entry)) (now (rest .entry))) (mem (r .ctx) (now (ops .exit)) (now (rest .exit)))) × (r .op < r .ctx .ops) ⌝ }
 {
-    let s = crate::items::lower_items(a, b, ops, rest, ctx, 2048, i + 1, n, left);
+    let below = At {
+        base: SECOND_PASS,
+        i: of.i + 1,
+        left: of.left,
+    };
+    let s = crate::items::lower_items(a, b, ops, rest, ctx, below, of.n);
     let c = s.ctx;
     let k = c.ops;
-    let z = c.push(ops, 8, i as u32, input as u32, 0, 0, left as u32, 2048);
-    let r = push_if(ops, z, distinct, 13, 0, k, 0, 0, 0);
-    let d = r.ctx;
-    Root {
-        next: s.next,
-        op: r.op,
-        ctx: d,
-    }
+    let clause = At {
+        base: SECOND_PASS,
+        i: of.i,
+        left: of.left,
+    };
+    let z = c.push(ops, op::project(clause, input));
+    distinct_if(ops, z, distinct, k, s.next)
 }

@@ -37,7 +37,7 @@ fn gather(s: &[u8], limit: u64) -> Decimal
             return Decimal::Not;
         }
         if limit - v * 10 < d {
-            return Decimal::Not;
+            return Decimal::Not; // above the limit
         }
         v = v * 10 + d;
         i += 1;

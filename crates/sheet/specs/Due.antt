@@ -89,7 +89,10 @@ module _ (d : ℕ) (r : (s : Sort) → Reader (Tree s)) where
   many-same s (suc n) h p = rw (h p) (next-same (readTree d s p) _ _ (λ t q. rw (many-same s n h q)))
 
   -- a group, then those behind it
-  group-then : {s : Sort} {n : ℕ} (ts : Trees s n) (st : List Due) (gs : List Group) (p : Place) → next (readGroups r gs p) (λ f q. mapped (λ rs. recordsIn f ++ rs) (readDue st q)) ≡ readDue (dueOf d gs ++ st) p → next (next (readGroups r gs p) (λ f q. got (ts ▸ f) q)) (λ f q. mapped (λ rs. recordsIn f ++ rs) (readDue st q)) ≡ mapped (λ rs. recordsOf ts ++ rs) (readDue (dueOf d gs ++ st) p)
+  group-then :
+      {s : Sort} {n : ℕ} (ts : Trees s n) (st : List Due) (gs : List Group) (p : Place)
+      → next (readGroups r gs p) (λ f q. mapped (λ rs. recordsIn f ++ rs) (readDue st q)) ≡ readDue (dueOf d gs ++ st) p
+      → next (next (readGroups r gs p) (λ f q. got (ts ▸ f) q)) (λ f q. mapped (λ rs. recordsIn f ++ rs) (readDue st q)) ≡ mapped (λ rs. recordsOf ts ++ rs) (readDue (dueOf d gs ++ st) p)
   unfolding recordsIn next
   group-then ts st gs p e =
       next-assoc (readGroups r gs p) _ _
@@ -164,7 +167,11 @@ put-before-next (refused n l) g k x ks = refl
 
 -- a record, its groups, and its siblings behind it
 module _ (s : Sort) (n d e : ℕ) (st : List Due) (line : ℕ) (r : (c : Sort) → Reader (Tree c)) where
-  forest-then : (k : Kind s) (f : Fields (forms s k)) → Reads e r (children s k f) → (p : Place) → next (next (readGroups r (children s k f) p) (λ kids q. got (node s line k f kids) q)) (λ t q. next (next (readMany (λ z. readTree d s z) n q) (λ ts z. got (t ∷ᵗ ts) z)) (λ ts z. mapped (λ rs. recordsOf ts ++ rs) (readDue st z))) ≡ mapped (λ rs. rec s k f ∷ rs) (readDue (dueOf e (children s k f) ++ (due s n d ∷ st)) p)
+  forest-then :
+      (k : Kind s) (f : Fields (forms s k))
+      → Reads e r (children s k f)
+      → (p : Place)
+      → next (next (readGroups r (children s k f) p) (λ kids q. got (node s line k f kids) q)) (λ t q. next (next (readMany (λ z. readTree d s z) n q) (λ ts z. got (t ∷ᵗ ts) z)) (λ ts z. mapped (λ rs. recordsOf ts ++ rs) (readDue st z))) ≡ mapped (λ rs. rec s k f ∷ rs) (readDue (dueOf e (children s k f) ++ (due s n d ∷ st)) p)
   unfolding records readDue next
   forest-then k f h p =
       next-assoc (readGroups r (children s k f) p) _ _

@@ -9,9 +9,10 @@ use lib.Dec.{eqb}
 use lib.ListN.{length, getD, set, length-set}
 use lib.Seq.{getD-set-same, getD-set-other}
 use Rattle.model.specs.Call.{workWords, maxDepth}
-use Rattle.words.specs.Places.{sortCount}
+use Rattle.words.specs.Places.{sortCount, kindCount}
 use Rattle.model.specs.Kind.{Sort}
-use Rattle.words.specs.Table.{sortOf, groupSort, groupSource, countOf, groupsFrom, groupCount}
+use Rattle.words.specs.GroupLaws.{none-behind}
+use Rattle.words.specs.Table.{groupNumbers, sortOf, groupSort, groupSource, countOf, groupsFrom, groupCount}
 use Rattle.sheet.specs.Due.{Due, due, dueOf}
 use Rattle.sheet.specs.Stack.{Alike, alike-refl, alike-sym, alike-trans, alike-under, alike-none, slack, Fit, dueWords, dueCountAt, dueRoomAt, allowed}
 
@@ -203,6 +204,20 @@ groups-more w w′ w″ n ws g k m d r r′ s e p q =
       fit = q .fit (p .fit) (s .room) (omega arith);
       sorted = q .sorted (p .sorted);
     }
+
+-- the groups behind a kind's last are passed over
+pub groups-behind : (w : List ℕ) (n : ℕ) (ws : List ℕ) (m d : ℕ) → Space w n m d → n < kindCount → (k : ℕ) → getD groupNumbers n 0 + k ≤ groupCount → Groups w w n ws (groupCount - k) k m d m
+groups-behind w n ws m d s low zero h = groups-none w n ws m d s
+groups-behind w n ws m d s low (suc k) h =
+    let g : ℕ = groupCount - suc k in
+    let next : groupCount - k ≡ suc g = omega arith in
+    let before : Groups w w n ws (groupCount - k) k m d m = groups-behind w n ws m d s low k (omega arith) in
+    let none : countOf ws (groupSource n g) ≡ 0 = rw (none-behind n g low (omega arith) (omega arith)) in
+    groups-more w w w n ws g k m d m m s (omega arith) (rw next at before) (grouped-none w m (groupSort n g) (countOf ws (groupSource n g)) d none)
+
+-- the same, counted from the other end
+pub begun : (w : List ℕ) (n : ℕ) (ws : List ℕ) (m d g : ℕ) → g ≤ groupCount → Groups w w n ws (groupCount - (groupCount - g)) (groupCount - g) m d m → Groups w w n ws g (groupCount - g) m d m
+begun w n ws m d g h p = let e : groupCount - (groupCount - g) ≡ g = omega arith in rw e at p
 
 -- ── the loop over a record's groups, from the last to the first ──
 

@@ -4,6 +4,7 @@ pub mod Writes
 pub mod Progress
 pub mod Stack
 pub mod Dues
+pub mod LineLaws
 pub mod Reader
 pub mod Steps
 pub mod Next

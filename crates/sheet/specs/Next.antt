@@ -11,7 +11,7 @@ use lib.Dec.{eqb}
 use lib.ListN.{length, getD}
 use lib.Seq.{slice}
 use Rattle.sheet.specs.Stack.{dueWords, dueCountAt, dueRoomAt}
-use Rattle.words.specs.Places.{writeKind, kindCount, sortCount}
+use Rattle.words.specs.Places.{writeKind, kindCount, sortCount, lineStartAt, lineEndAt}
 use Rattle.model.specs.Text.{Bytes}
 use Rattle.model.specs.Field.{Fields}
 use Rattle.model.specs.Kind.{Sort, Kind}
@@ -26,6 +26,8 @@ use Rattle.sheet.specs.declared.reader.Read.{Read}
 use Rattle.sheet.specs.declared.reader.Read.the-variants.{BadLine, BigTree}
 use Rattle.sheet.specs.declared.reader.Step.{Step}
 use Rattle.sheet.specs.declared.reader.Step.the-variants.{More, Bad, Big}
+use Rattle.words.specs.Held.{LineAt}
+use Rattle.sheet.specs.LineLaws.{line-stands}
 use Rattle.sheet.specs.Due.{roomBelow, isZero}
 use Rattle.sheet.specs.Writes.{writes, writeAmong}
 use Rattle.sheet.specs.Progress.{placeAt, rest, line-refused, no-feed, too-many, deep, unformed, well-formed}
@@ -107,6 +109,9 @@ module _ (sheet : Bytes) (a b w : List ℕ) (i pos m wr : ℕ) (o : SoFar sheet 
           is-read : readRec (group w m .sort) (slice pos e sheet) ≡ some (got-it .kind, fields)
           is-read = got-it .read ∙ sym (got-it .held) ∙ decoded
 
+          stands : LineAt (group w m .sort) (got-it .kind) fields sheet (getD (part a′ b′ i) lineStartAt 0) (getD (part a′ b′ i) lineEndAt 0)
+          stands = rw (got-it .start, got-it .end) (line-stands sheet pos e piece within (group w m .sort) (got-it .kind) fields is-read)
+
           pub next-low : n < kindCount
           next-low = got-it .low
 
@@ -129,7 +134,7 @@ module _ (sheet : Bytes) (a b w : List ℕ) (i pos m wr : ℕ) (o : SoFar sheet 
                 (well-formed sheet pos (suc i) (group w m .sort) (group w m .room) (e + 1) (piece .more within) low deep-enough (got-it .kind, fields) (ap (readRec (group w m .sort)) (sym (piece .first)) ∙ is-read))
                 low
                 (omega (arith, within))
-                (record { low = low; is = decoded; flags = got-it .flags; texts = got-it .texts })
+                (record { low = low; is = decoded; flags = got-it .flags; texts = got-it .texts; line = stands })
                 (λ j h. into .others j (omega arith) (λ q. omega arith))
                 (roomy-still (group w m .sort) e a′ b′ l into)
                 (omega (arith, state .long, pop .same, groups .same))

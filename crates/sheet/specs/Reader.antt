@@ -140,7 +140,7 @@ module _ (sheet : Bytes) (a b w : List ℕ) (i pos wr : ℕ) (s : SoFar sheet a 
 -- ── a line ──
 
 record-same : (sheet : Bytes) (a b a′ b′ : List ℕ) (i : ℕ) (s : Sort) (k : Kind s) (f : Fields (forms s k)) → part a′ b′ i ≡ part a b i → RecordAt sheet a b i s k f → RecordAt sheet a′ b′ i s k f
-record-same sheet a b a′ b′ i s k f e r = record { low = r .low; is = rw e (r .is); flags = rw e (r .flags); texts = rw e (r .texts) }
+record-same sheet a b a′ b′ i s k f e r = record { low = r .low; is = rw e (r .is); flags = rw e (r .flags); texts = rw e (r .texts); line = rw e (r .line) }
 
 -- words of other records may change
 standing-same : (sheet : Bytes) (a b a′ b′ : List ℕ) (rs : List Rec) (i n : ℕ) → i + length rs ≤ n → ((j : ℕ) → j < n → part a′ b′ j ≡ part a b j) → Standing sheet a b i rs → Standing sheet a′ b′ i rs
@@ -168,7 +168,10 @@ module _ (sheet : Bytes) (a b w a′ b′ w′ : List ℕ) (i pos m wr : ℕ) (o
   unfolding writeAmong
   seen-write q new old ss = ap (writeAmong 1) (append-assoc (o .done) (rec (group w m .sort) (x .0) (x .1) ∷ []) ss) ∙ o .wrote (rec (group w m .sort) (x .0) (x .1) ∷ ss) ∙ rw q (first-of wr wr′ i (writeAmong (suc (suc i)) ss) new old)
 
-  left-is : readLine (group w m .sort) (isZero (group w m .room)) (placeAt sheet pos (suc i)) ≡ got x (placeAt sheet to (suc (suc i))) → Alike (dues w′ m′) (dueOf (roomBelow (group w m .sort) (group w m .room)) (children (group w m .sort) (x .0) (x .1)) ++ (due (group w m .sort) (group w m .count - 1) (group w m .room) ∷ dues w m)) → whole maxDepth sheet ≡ mapped (λ rs. (o .done ++ (rec (group w m .sort) (x .0) (x .1) ∷ [])) ++ rs) (rest (dues w′ m′) (placeAt sheet to (suc (suc i))))
+  left-is :
+      readLine (group w m .sort) (isZero (group w m .room)) (placeAt sheet pos (suc i)) ≡ got x (placeAt sheet to (suc (suc i)))
+      → Alike (dues w′ m′) (dueOf (roomBelow (group w m .sort) (group w m .room)) (children (group w m .sort) (x .0) (x .1)) ++ (due (group w m .sort) (group w m .count - 1) (group w m .room) ∷ dues w m))
+      → whole maxDepth sheet ≡ mapped (λ rs. (o .done ++ (rec (group w m .sort) (x .0) (x .1) ∷ [])) ++ rs) (rest (dues w′ m′) (placeAt sheet to (suc (suc i))))
   left-is r alike =
       o .left
       ∙ ap (λ st. mapped (λ rs. o .done ++ rs) (rest st (placeAt sheet pos (suc i)))) (top-is w m (o .fit))

@@ -10,7 +10,7 @@ use Rattle.model.specs.Record.{rec, Group, children, beside}
 use Rattle.model.specs.Call.{maxDepth}
 use Rattle.model.specs.Tree.{recordsOf}
 use Rattle.model.specs.Sheet.{Place, next, readLine, readMany, readTree, atEnd}
-use Rattle.line.specs.GroupLaws.{sortsOf}
+use Rattle.words.specs.GroupLaws.{sortsOf}
 use Rattle.sheet.specs.Due.{Due, due, dueOf, mapped, readDue, isZero, roomBelow, step, none-due}
 use Rattle.sheet.specs.Progress.{rest}
 use Rattle.laws.specs.SpelledLaws.{next-same}

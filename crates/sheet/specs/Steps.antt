@@ -17,7 +17,7 @@ use Rattle.words.specs.Words.{kindOf, firstKind, fieldsOf}
 use Rattle.words.specs.Held.{Flags}
 use Rattle.words.specs.Table.{sorts, sortOf, groupSort, groupsFrom, groupsOf, groupCount}
 use Rattle.words.specs.TableLaws.{Rows, done, _▸_, kind-row}
-use Rattle.line.specs.GroupLaws.{groups-are}
+use Rattle.words.specs.GroupLaws.{groups-are}
 use Rattle.sheet.specs.Due.{due, dueOf, roomBelow}
 use Rattle.sheet.specs.Writes.{writes}
 use Rattle.sheet.specs.Stack.{Alike, alike-trans, alike-behind, alike-groups, slack, Fit, dueWords, allowed, entrySlack}
@@ -150,7 +150,12 @@ module _ (w w′ : List ℕ) (m r n : ℕ) (long : workWords ≤ length w) (fit 
       }
 
   -- the children are due, and then what was due before
-  pub due-now : (w″ : List ℕ) (r″ d : ℕ) (sheet : Bytes) (ws : List ℕ) → Flags (forms (group w m .sort) k) ws 0 → d ≡ roomBelow (group w m .sort) (group w m .room) → Groups w′ w″ n ws 0 groupCount r d r″ → Alike (dues w″ r″) (dueOf (roomBelow (group w m .sort) (group w m .room)) (children (group w m .sort) k (fieldsOf (forms (group w m .sort) k) sheet ws 0)) ++ (due (group w m .sort) (group w m .count - 1) (group w m .room) ∷ dues w m))
+  pub due-now :
+      (w″ : List ℕ) (r″ d : ℕ) (sheet : Bytes) (ws : List ℕ)
+      → Flags (forms (group w m .sort) k) ws 0
+      → d ≡ roomBelow (group w m .sort) (group w m .room)
+      → Groups w′ w″ n ws 0 groupCount r d r″
+      → Alike (dues w″ r″) (dueOf (roomBelow (group w m .sort) (group w m .room)) (children (group w m .sort) k (fieldsOf (forms (group w m .sort) k) sheet ws 0)) ++ (due (group w m .sort) (group w m .count - 1) (group w m .room) ∷ dues w m))
   unfolding groupsOf
   due-now w″ r″ d sheet ws flags q g =
       rw (← q)

@@ -8,7 +8,7 @@ ghost use Rattle.words.specs.Table.{groupSort, groupSource, countOf, groupCount
 ghost use Rattle.sheet.specs.Dues.{Pushed, Popped, Room, Grouped, Groups, Space};
 use line::group::group_count;
 use line::group::group_sort;
-use words::table::GROUPS;
+use words::table::groups_of;
 
 // A group has so many words.
 pub const GROUP_WORDS: usize = 3;
@@ -86,7 +86,7 @@ pub fn push_groups(
     requires { ⌜ Space (now stack) kind m room ⌝ }
     ensures { λ r. ⌜ Groups (now (stack .entry)) (now (stack .exit)) kind (part (now (a .entry)) (now (b .entry)) i) 0 groupCount m room r ⌝ }
 {
-    let mut g = GROUPS;
+    let mut g = groups_of(kind);
     let mut top = m;
     while g > 0 {
         g -= 1;

@@ -10,8 +10,9 @@ use Rattle.model.specs.Text.{Bytes}
 use Rattle.model.specs.Field.{Form, Fields, num, flag, var, varOrAbsent, numOrAbsent, number, numberOrAbsent, int, float, text, alias, span, spell}
 use Rattle.model.specs.Field
 use Rattle.model.specs.Kind.{Sort, Kind}
-use Rattle.model.specs.Record.{Group, forms, beside}
+use Rattle.model.specs.Record.{Group, rec, forms, beside, spellRec}
 use Rattle.model.specs.Tree.{Tree, Trees, Forest, node, []ᵗ, _∷ᵗ_, end, _▸_}
+use Rattle.words.specs.Places.{lineStartAt, lineEndAt}
 use Rattle.words.specs.Words.{part, decode, fieldOf, piecesOf, maxRecords}
 
 -- a flag's word is 0 or 1
@@ -66,12 +67,19 @@ Texts (f ∷ fs) sheet ws g = Text f sheet (getD ws (g + g + 2) 0) (getD ws (g +
 abbrev pub roomIn : Sort → ℕ → ℕ
 roomIn s d = cond (beside s) d (d - 1)
 
--- record i is one of the first 2,048, and its words are those of a kind and its fields
+-- a record's line stands in the sheet from x up to y, as it is spelled
+pub record LineAt (s : Sort) (k : Kind s) (f : Fields (forms s k)) (sheet : Bytes) (x y : ℕ) : Type 0 where
+  pub from : x ≤ y
+  pub to : y ≤ length sheet
+  pub spelled : slice x y sheet ≡ spellRec (rec s k f)
+
+-- record i is one of the first 2,048, and its words are those of a kind, its fields and its line
 pub record RecordAt (sheet : Bytes) (a b : List ℕ) (i : ℕ) (s : Sort) (k : Kind s) (f : Fields (forms s k)) : Type 0 where
   pub low : i < maxRecords
   pub is : decode s sheet (part a b i) ≡ some (k, f)
   pub flags : Flags (forms s k) (part a b i) 0
   pub texts : Texts (forms s k) sheet (part a b i) 0
+  pub line : LineAt s k f sheet (getD (part a b i) lineStartAt 0) (getD (part a b i) lineEndAt 0)
 
 -- how many records a tree has
 unfoldable mutual

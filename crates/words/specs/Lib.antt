@@ -6,3 +6,6 @@ pub mod Numbers
 pub mod Table
 pub mod TableLaws
 pub mod LastLaws
+pub mod GroupLaws
+pub mod Fits
+pub mod Count

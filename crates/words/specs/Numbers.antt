@@ -1,5 +1,8 @@
 -- The numbers of the kinds that the code tells apart, as the first word of a record has them. Assumes nothing.
-use mathlib.Core.Path.{_≡_, refl}
+use mathlib.Core.Path.{_≡_, refl, _∙_}
+use mathlib.Core.Bool.{Bool, true, false, cond, false≢true}
+use lib.Dec.{eqb}
+use borrow.Author.Tests.{eqb-true}
 use Prim.Native.Nat.{ℕ, _<_}
 use native.Mathlib.Omega.{arith}
 use mathlib.Core.List.{List, [], _∷_}
@@ -14,6 +17,19 @@ use Rattle.words.specs.Places.{matchKind, whereKind, withKind, returnKin
 abbrev pub Others : ℕ → List ℕ → Type 0
 Others c [] = Unit {0}
 Others c (k ∷ ks) = Others c ks × (c ≡ k → ⊥)
+
+-- a number is one of some
+abbrev pub among : ℕ → List ℕ → Bool
+among y [] = false
+among y (k ∷ ks) = cond (eqb y k) true (among y ks)
+
+pub other-than : (c y : ℕ) (ks : List ℕ) → Others c ks → among y ks ≡ true → c ≡ y → ⊥
+other-than c y [] h e q = false≢true e
+other-than c y (k ∷ ks) h e q = go (λ r. other-than c y ks (h .0) r q) (eqb y k) refl e
+  where
+    go : (among y ks ≡ true → ⊥) → (t : Bool) → eqb y k ≡ t → cond t true (among y ks) ≡ true → ⊥
+    go later true p r = h .1 (q ∙ eqb-true y k p)
+    go later false p r = later r
 
 -- ── clauses ──
 

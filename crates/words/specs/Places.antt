@@ -210,6 +210,13 @@ formCount = 15
 abbrev pub kindAt : ℕ
 kindAt = 0
 
+-- where its line begins in the sheet and where it ends, behind its line feed
+abbrev pub lineStartAt : ℕ
+lineStartAt = 1
+
+abbrev pub lineEndAt : ℕ
+lineEndAt = 15
+
 -- of the statement and of an arm
 abbrev pub stmtClausesAt : ℕ
 stmtClausesAt = 2

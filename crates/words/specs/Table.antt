@@ -226,6 +226,13 @@ groups =
     ∷ (0 ∷ 0 ∷ 0 ∷ 0 ∷ 0 ∷ 0 ∷ 0 ∷ 0 ∷ 0 ∷ 0 ∷ [])  -- undes
     ∷ []
 
+-- how many groups each kind has
+abbrev pub groupNumbers : List ℕ
+groupNumbers =
+    2 ∷ 1 ∷ 1 ∷ 1 ∷ 5 ∷ 4 ∷ 1 ∷ 2 ∷ 0 ∷ 1 ∷ 1 ∷ 1 ∷ 2 ∷
+    2 ∷ 0 ∷ 0 ∷ 1 ∷ 0 ∷ 0 ∷ 0 ∷ 0 ∷ 0 ∷ 0 ∷ 1 ∷ 1 ∷ 3 ∷
+    1 ∷ 1 ∷ 1 ∷ 4 ∷ 1 ∷ 1 ∷ 0 ∷ 1 ∷ 1 ∷ 1 ∷ 2 ∷ 0 ∷ 0 ∷ []
+
 abbrev pub groupSort : ℕ → ℕ → ℕ
 groupSort n g = getD (getD groups n []) (g * 2) 0
 

@@ -73,7 +73,16 @@ tabled (suc (suc (suc (suc (suc (suc zero)))))) h = record { from = refl; to = r
 tabled (suc (suc (suc (suc (suc (suc (suc zero))))))) h = record { from = refl; to = refl; rows = row refl refl refl refl ▸ done }
 tabled (suc (suc (suc (suc (suc (suc (suc (suc zero)))))))) h = record { from = refl; to = refl; rows = row refl refl refl refl ▸ done }
 tabled (suc (suc (suc (suc (suc (suc (suc (suc (suc zero))))))))) h = record { from = refl; to = refl; rows = row refl refl refl refl ▸ done }
-tabled (suc (suc (suc (suc (suc (suc (suc (suc (suc (suc zero)))))))))) h = record { from = refl; to = refl; rows = row refl refl refl refl ▸ row refl refl refl refl ▸ row refl refl refl refl ▸ row refl refl refl refl ▸ row refl refl refl refl ▸ row refl refl refl refl ▸ row refl refl refl refl ▸ row refl refl refl refl ▸ row refl refl refl refl ▸ row refl refl refl refl ▸ row refl refl refl refl ▸ row refl refl refl refl ▸ row refl refl refl refl ▸ row refl refl refl refl ▸ row refl refl refl refl ▸ row refl refl refl refl ▸ row refl refl refl refl ▸ row refl refl refl refl ▸ row refl refl refl refl ▸ row refl refl refl refl ▸ row refl refl refl refl ▸ row refl refl refl refl ▸ done }
+tabled (suc (suc (suc (suc (suc (suc (suc (suc (suc (suc zero)))))))))) h =
+    record {
+      from = refl;
+      to = refl;
+      rows =
+          row refl refl refl refl ▸ row refl refl refl refl ▸ row refl refl refl refl ▸ row refl refl refl refl ▸ row refl refl refl refl ▸ row refl refl refl refl ▸
+          row refl refl refl refl ▸ row refl refl refl refl ▸ row refl refl refl refl ▸ row refl refl refl refl ▸ row refl refl refl refl ▸ row refl refl refl refl ▸
+          row refl refl refl refl ▸ row refl refl refl refl ▸ row refl refl refl refl ▸ row refl refl refl refl ▸ row refl refl refl refl ▸ row refl refl refl refl ▸
+          row refl refl refl refl ▸ row refl refl refl refl ▸ row refl refl refl refl ▸ row refl refl refl refl ▸ done;
+    }
 tabled (suc (suc (suc (suc (suc (suc (suc (suc (suc (suc (suc n))))))))))) h = absurd (omega arith)
 
 -- ── rows of forms ──

@@ -7,6 +7,7 @@ pub mod field;
 pub mod form;
 pub mod key;
 pub mod kind;
+pub mod records;
 pub mod sort;
 pub mod table;
 

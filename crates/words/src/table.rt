@@ -5,11 +5,8 @@ ghost use mathlib.Core.List.{[]};
 ghost use Prim.Native.Nat.{_<_};
 ghost use lib.ListN.{getD};
 ghost use Rattle.words.specs.Places.{kindCount};
-ghost use Rattle.words.specs.Table.{codes, limits, limitCount, groups, fieldCount, entryCount, codeAt, inDigits};
+ghost use Rattle.words.specs.Table.{codes, limits, limitCount, groups, groupNumbers, fieldCount, entryCount, codeAt, inDigits};
 use crate::kind;
-
-// A kind has at most so many groups of children.
-pub const GROUPS: usize = 5;
 
 // A row has its entries as digits of four bits each, the first one topmost.
 const DIGIT_BITS: usize = 4;
@@ -92,7 +89,7 @@ pub fn limit(code: u32) -> u64
     }
 }
 
-// Five groups of children a kind, each two digits, a sort (sort.rt) and a count: 0, 1 or 2 is the count itself, 3 the first word of field 0, 4 that of field 1, and so on.
+// At most five groups of children a kind, each two digits, a sort (sort.rt) and a count: 0, 1 or 2 is the count itself, 3 the first word of field 0, 4 that of field 1, and so on.
 fn group_row(kind: u32) -> u64
     requires { ⌜ kind < kindCount ⌝ }
     ensures { λ r. ⌜ r ≡ inDigits (getD groups kind []) ⌝ }
@@ -147,4 +144,52 @@ pub fn group_entry(kind: u32, j: usize) -> u32
 {
     let row = group_row(kind);
     ((row >> (TOP_GROUP - DIGIT_BITS * j)) % DIGITS) as u32
+}
+
+// How many groups of children a kind has.
+pub fn groups_of(kind: u32) -> usize
+    requires { ⌜ kind < kindCount ⌝ }
+    ensures { λ r. ⌜ r ≡ getD groupNumbers kind 0 ⌝ }
+{
+    match kind {
+        kind::STMT => 2,
+        kind::ARM => 1,
+        kind::MATCH => 1,
+        kind::WHERE => 1,
+        kind::WITH => 5,
+        kind::RETURN => 4,
+        kind::UNWIND => 1,
+        kind::CALL => 2,
+        kind::WRITE => 0,
+        kind::ITEM => 1,
+        kind::KEY => 1,
+        kind::PART => 1,
+        kind::NODE => 2,
+        kind::REL => 2,
+        kind::NAME => 0,
+        kind::YIELD => 0,
+        kind::ENTRY => 1,
+        kind::NULL => 0,
+        kind::BOOL => 0,
+        kind::INT => 0,
+        kind::FLOAT => 0,
+        kind::STR => 0,
+        kind::PARAM => 0,
+        kind::PROP => 1,
+        kind::INDEX => 1,
+        kind::SLICE => 3,
+        kind::LIST => 1,
+        kind::BIN => 1,
+        kind::UN => 1,
+        kind::CASE => 4,
+        kind::IS_NULL => 1,
+        kind::IN => 1,
+        kind::VAR => 0,
+        kind::MAP => 1,
+        kind::FN => 1,
+        kind::PAT => 1,
+        kind::LIST_PREDICATE => 2,
+        kind::UNRES => 0,
+        _ => 0, // undes
+    }
 }

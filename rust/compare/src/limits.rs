@@ -35,7 +35,7 @@ fn one_return(distinct: bool) -> Vec<u8> {
 }
 
 /// So many bytes: one long string.
-fn bytes(size: usize) -> Vec<u8> {
+pub fn bytes(size: usize) -> Vec<u8> {
     let mut sheet = one_where();
     sheet.extend_from_slice(b"str\t");
     sheet.resize(size - 1, b'x');
@@ -106,6 +106,21 @@ pub fn variables(ids: impl ExactSizeIterator<Item = usize>) -> Vec<u8> {
     line!(&mut sheet, "list", ids.len());
     for id in ids {
         line!(&mut sheet, "var", id);
+    }
+    sheet
+}
+
+/// One part of so many relationships between unnamed nodes.
+pub fn chain(rels: usize) -> Vec<u8> {
+    let mut sheet = Vec::new();
+    line!(&mut sheet, "stmt", 1u32, 0u32);
+    line!(&mut sheet, "match", false, 1u32, 0u32, 1u32);
+    line!(&mut sheet, "part", "-", 0u32, 2 * rels + 1);
+    for rel in 0..=rels {
+        if rel > 0 {
+            line!(&mut sheet, "rel", "-", 0u32, 0u32, "one", "-", "-", false, 0u32, 0u32);
+        }
+        line!(&mut sheet, "node", "-", 0u32, false, 0u32, 0u32);
     }
     sheet
 }

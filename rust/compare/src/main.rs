@@ -25,6 +25,7 @@ mod trial;
 
 use std::collections::HashMap;
 use std::path::{Path, PathBuf};
+use std::time::Duration;
 
 const USE: &str = "use:
   compare run [--sheets N] [--seed S] [--threads T] [--folder DIR] [--in-place-of-ours NAME]
@@ -32,8 +33,11 @@ const USE: &str = "use:
   compare answer DIR                   NAME.answer, the Rust's, beside each NAME.sheet
   compare sample SHEETS ANSWERS [--count N] [--seed S]
                                        the fixed list and the Rust's answers to it
-  compare speed                        times
-  compare count [--records N] [--times T]   the same calls, for callgrind";
+  compare speed [--seconds S]          times, for each row in so long at least
+  compare speed --count SIDE --load LOAD [--rounds K]
+                                       the calls of a row alone, for callgrind. SIDE is sizing,
+                                       ours, rust, rust-reading or all; LOAD a number of records,
+                                       or distinct, same, multiples, chain or text";
 
 /// Options by name.
 struct Options(HashMap<String, String>);
@@ -99,6 +103,18 @@ fn one(file: &str, options: &Options) -> Result<bool, String> {
     Ok(true)
 }
 
+fn speed(options: &Options) -> Result<bool, String> {
+    let calls = calls(options)?;
+    match options.0.get("count") {
+        None => speed::table(&calls, Duration::from_secs(options.number("seconds", 2)?)),
+        Some(side) => {
+            let load = options.0.get("load").ok_or(USE)?;
+            speed::count(&calls, side, load, options.number("rounds", 1)? as usize)?;
+        }
+    }
+    Ok(true)
+}
+
 fn act(words: &[&str]) -> Result<bool, String> {
     match words {
         ["run", rest @ ..] => run_sheets(&Options::new(rest)?),
@@ -112,16 +128,7 @@ fn act(words: &[&str]) -> Result<bool, String> {
             let count = options.number("count", 1_000)? as usize;
             answers::sample(options.number("seed", 1)?, count, Path::new(sheets), Path::new(said))
         }
-        ["speed", rest @ ..] => {
-            speed::table(&calls(&Options::new(rest)?)?);
-            Ok(true)
-        }
-        ["count", rest @ ..] => {
-            let options = Options::new(rest)?;
-            let records = options.number("records", 256)? as usize;
-            speed::count(&calls(&options)?, records, options.number("times", 10)? as usize);
-            Ok(true)
-        }
+        ["speed", rest @ ..] => speed(&Options::new(rest)?),
         _ => Err(USE.to_string()),
     }
 }

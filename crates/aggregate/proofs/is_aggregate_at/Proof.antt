@@ -6,9 +6,6 @@ use native.Mathlib.Numerals.{add-one}
 use borrow.Author.Needs.{needs}
 use Rattle.aggregate.proofs.is_aggregate_at.Statement.{statement}
 use Rattle.aggregate.proofs.is_aggregate_at.Tie as tie
-use Rattle.aggregate.proofs.is_aggregate_at.Reads as reads
-use Rattle.aggregate.proofs.is_aggregate_at.Lts as lts
-use Rattle.aggregate.proofs.same_part.Reads as same-part-reads
 
 -- src/lib.rt:57:1
 returns : tie.Need-returns

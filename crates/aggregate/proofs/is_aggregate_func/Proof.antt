@@ -5,9 +5,6 @@ use mathlib.Core.Path.{_∙_}
 use borrow.Author.Needs.{needs}
 use Rattle.aggregate.proofs.is_aggregate_func.Statement.{statement}
 use Rattle.aggregate.proofs.is_aggregate_func.Tie as tie
-use Rattle.aggregate.proofs.is_aggregate_func.Reads as reads
-use Rattle.aggregate.proofs.is_aggregate_func.Lts as lts
-use Rattle.aggregate.proofs.is_aggregate_name.Reads as is-aggregate-name-reads
 
 pub is-aggregate-func-spec : {M : Type 1} → statement M
 is-aggregate-func-spec =

@@ -1,21 +1,19 @@
 -- `aggregate::is_aggregate_name` meets its contract. The loop's invariant: the name is among those left exactly if it is among all. Assumes nothing.
 use Rattle.aggregate.proofs.NameLaws.{lowered, from, all-names, found, on, tried}
 use Rattle.model.specs.Lower.{among, aggregates}
+use Rattle.aggregate.specs.Names.{names}
 use Prim.Native.Nat.{_-_, _≤_}
 use mathlib.Core.Path.{_≡_}
 use native.Mathlib.Omega.{arith}
 use borrow.Author.Needs.{needs}
 use Rattle.aggregate.proofs.is_aggregate_name.Statement.{statement}
 use Rattle.aggregate.proofs.is_aggregate_name.Tie as tie
-use Rattle.aggregate.proofs.is_aggregate_name.Reads as reads
-use Rattle.aggregate.proofs.is_aggregate_name.Lts as lts
-use Rattle.aggregate.proofs.is_aggregate_at.Reads as is-aggregate-at-reads
 
 abbrev Inv-loop : tie.InvT-loop
-Inv-loop s k₀ k = (k ≤ 10) × (among (lowered s) (from (10 - k) k) ≡ among (lowered s) aggregates)
+Inv-loop s k₀ k = (k ≤ names) × (among (lowered s) (from (names - k) k) ≡ among (lowered s) aggregates)
 
 abbrev μ-loop : tie.MeasureT-loop
-μ-loop s k₀ k = 10 - k
+μ-loop s k₀ k = names - k
 
 pub is-aggregate-name-spec : {M : Type 1} → statement M
 is-aggregate-name-spec =

@@ -8,15 +8,20 @@ use native.Mathlib.Omega.{arith}
 use borrow.Author.Needs.{needs}
 use Rattle.aggregate.proofs.same_name.Statement.{statement}
 use Rattle.aggregate.proofs.same_name.Tie as tie
-use Rattle.aggregate.proofs.same_name.Reads as reads
-use Rattle.aggregate.proofs.same_name.Lts as lts
-use Rattle.aggregate.proofs.lowercase.Reads as lowercase-reads
 
 abbrev Inv-loop : tie.InvT-loop
 Inv-loop s name i₀ i = (i ≤ length s) × (length s ≡ length name) × (same (lowered (drop i s)) (drop i name) ≡ same (lowered s) name)
 
 abbrev μ-loop : tie.MeasureT-loop
 μ-loop s name i₀ i = length s - i
+
+loop-again : tie.Need-loop-again Inv-loop μ-loop
+loop-again c =
+    let same : tie.Else2 Inv-loop μ-loop = search in
+    let lowered : tie.After-lowercase Inv-loop μ-loop = search in
+    let turn : tie.In-loop Inv-loop μ-loop = search in
+    let at : tie.At-loop Inv-loop μ-loop = search in
+    (omega arith, search needs, alike _ _ _ _ (at .loop .inv .1) (at .loop .inv .2) (turn .loop-test .taken) _ (lowered .lowercase .ensures) (same .if2 .left))
 
 pub same-name-spec : {M : Type 1} → statement M
 same-name-spec =
@@ -32,5 +37,5 @@ same-name-spec =
     (λ c. search (other, needs))
     (λ c. search needs)
     (λ c. search needs)
-    (λ c. (omega arith, search needs, alike _ _ _ _ ((c .before .before .before .before .before .loop .inv .1)) ((c .before .before .before .before .before .loop .inv .2)) ((c .before .before .before .before .loop-test .taken)) _ ((c .before .before .lowercase .ensures)) ((c .if2 .left))))
+    loop-again
     (λ c. search (ended, needs)))

@@ -3,9 +3,6 @@ use Rattle.laws.specs.PartLaws.{part-is}
 use borrow.Author.Needs.{needs}
 use Rattle.aggregate.proofs.same_part.Statement.{statement}
 use Rattle.aggregate.proofs.same_part.Tie as tie
-use Rattle.aggregate.proofs.same_part.Reads as reads
-use Rattle.aggregate.proofs.same_part.Lts as lts
-use Rattle.aggregate.proofs.same_name.Reads as same-name-reads
 
 pub same-part-spec : {M : Type 1} → statement M
 same-part-spec =

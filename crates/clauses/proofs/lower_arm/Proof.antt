@@ -1,184 +1,141 @@
-use Rattle.clauses.proofs.Joining
-use Rattle.clauses.proofs.Clausing
-use Rattle.clauses.proofs.Room
-use Rattle.clauses.proofs.Moves
+-- `clauses::lower_arm` meets its contract.
 use mathlib.Core.List.{[]}
-use native.Mathlib.Omega.{arith}
 use mathlib.Core.Path.{_∙_}
+use native.Mathlib.Omega.{arith}
+use Rattle.context.specs.OpLaws.{pushed-as}
+use Rattle.projections.specs.Room
+use Rattle.clauses.proofs.Room as Inputs
+use Rattle.clauses.proofs.Joining
+use Rattle.context.specs.OpLaws.{under-nothing}
 use Rattle.clauses.proofs.lower_arm.Statement.{statement}
 use Rattle.clauses.proofs.lower_arm.Tie as tie
 
 -- the ways back, from place to place
-abbrev back-push : tie.After-push → tie.After-input-or-source2
-back-push c = search
+abbrev to-union : tie.After-push → tie.After-union
+to-union c = search
 
-abbrev back-input-or-source2 : tie.After-input-or-source2 → tie.After-input-or-source
-back-input-or-source2 c = search
+abbrev to-input-or-source2 : tie.After-union → tie.After-input-or-source2
+to-input-or-source2 c = search
 
-abbrev back-input-or-source : tie.After-input-or-source → tie.After-lower-clauses
-back-input-or-source c = search
+abbrev to-input-or-source : tie.After-input-or-source2 → tie.After-input-or-source
+to-input-or-source c = search
 
-abbrev back-lower-clauses : tie.After-lower-clauses → tie.After-count
-back-lower-clauses c = search
+abbrev to-lower-clauses : tie.After-input-or-source → tie.After-lower-clauses
+to-lower-clauses c = search
 
-abbrev back-count : tie.After-count → tie.After-word
-back-count c = search
+abbrev to-count : tie.After-lower-clauses → tie.After-count
+to-count c = search
 
-abbrev back-word : tie.After-word → tie.Start
-back-word c = search
+abbrev to-word : tie.After-count → tie.After-word
+to-word c = search
 
-ruleset ways = (back-push, back-input-or-source2, back-input-or-source, back-lower-clauses, back-count, back-word)
+abbrev to-start : tie.After-word → tie.Start
+to-start c = search
+
+ruleset ways = (to-union, to-input-or-source2, to-input-or-source, to-lower-clauses, to-count, to-word, to-start)
 
 word-requires : tie.Need-word-requires
 word-requires c κs =
-    let start : tie.Start = search ways depth 8 in
-    (Room.low (Clausing.some-tree (start .pre .1 .0)), (omega arith, start .pre .0))
+    let s : tie.Start = search ways depth 9 in
+    (Room.low (Room.some-tree (s .pre .held)), (omega arith, s .pre .room))
 
 count-requires : tie.Need-count-requires
 count-requires c κs =
-    let start : tie.Start = search ways depth 8 in
-    (Room.low (Clausing.some-tree (start .pre .1 .0)), (omega arith, start .pre .0))
+    let s : tie.Start = search ways depth 9 in
+    (Room.low (Room.some-tree (s .pre .held)), (omega arith, s .pre .room))
 
-add-lower-clauses : tie.Need-add-lower-clauses
-add-lower-clauses c =
-    let start : tie.Start = search ways depth 8 in
-    let l₀ = Room.bounds-of (Clausing.some-tree (start .pre .1 .0)) (start .pre .1 .1 .0 .0) (start .pre .1 .1 .0 .1) (start .pre .1 .1 .1) in
-    omega arith
+add-first : tie.Need-add-first
+add-first c =
+    let s : tie.Start = search ways depth 9 in
+    let l = Room.bounds-of (Room.some-tree (s .pre .held)) (s .pre .ready) (s .pre .shallow) in
+    omega (arith, l .low)
 
-sub-lower-clauses : tie.Need-sub-lower-clauses
-sub-lower-clauses c =
-    let start : tie.Start = search ways depth 8 in
-    let l₀ = Room.bounds-of (Clausing.some-tree (start .pre .1 .0)) (start .pre .1 .1 .0 .0) (start .pre .1 .1 .0 .1) (start .pre .1 .1 .1) in
-    omega arith
+sub-less : tie.Need-sub-less
+sub-less c =
+    let s : tie.Start = search ways depth 9 in
+    let l = Room.bounds-of (Room.some-tree (s .pre .held)) (s .pre .ready) (s .pre .shallow) in
+    l .deep
 
 lower-clauses-requires : tie.Need-lower-clauses-requires
 lower-clauses-requires c κs =
-    let after-count : tie.After-count = search ways depth 8 in
-    let start : tie.Start = search ways depth 8 in
-    let l₀ = Room.bounds-of (Clausing.some-tree (start .pre .1 .0)) (start .pre .1 .1 .0 .0) (start .pre .1 .1 .0 .1) (start .pre .1 .1 .1) in (
-      start .pre .0,
-      (
-        Joining.some-clauses (start .pre .0) (after-count .count .ensures .0) (start .pre .1 .0),
-        (Moves.ready-from (omega arith) (omega arith) (start .pre .1 .1 .0 .0), omega arith),
-      ),
-    )
+    let n : tie.After-count = search ways depth 9 in
+    let s : tie.Start = search ways depth 9 in
+    let l = Room.bounds-of (Room.some-tree (s .pre .held)) (s .pre .ready) (s .pre .shallow) in
+    record {
+      room = s .pre .room;
+      held = Joining.some-clauses (s .pre .room) (n .count .ensures .0) (s .pre .held);
+      ready = Room.ready-from (omega arith) (omega (arith, l .low)) (s .pre .ready);
+      shallow = omega (arith, l .shallow);
+      stands = under-nothing;
+    }
 
 input-or-source-requires : tie.Need-input-or-source-requires
 input-or-source-requires c κs =
-    let after-lower-clauses : tie.After-lower-clauses = search ways depth 8 in
-    let start : tie.Start = search ways depth 8 in
-    let l₀ = Room.bounds-of (Clausing.some-tree (start .pre .1 .0)) (start .pre .1 .1 .0 .0) (start .pre .1 .1 .0 .1) (start .pre .1 .1 .1) in
-    let x = Joining.few-below (start .pre .1 .1 .0 .0) (after-lower-clauses .lower-clauses .ensures .1 .moved) (omega arith) in
-    (omega arith, rw (after-lower-clauses .lower-clauses .kept .1 .1 .1 .0) ((start .pre .1 .1 .0 .0) .in-ops))
+    let x : tie.After-lower-clauses = search ways depth 9 in
+    let s : tie.Start = search ways depth 9 in
+    let few = Joining.few-below (s .pre .ready) (x .lower-clauses .ensures .moved) (omega arith) in
+    (omega (arith, few), rw (x .lower-clauses .kept .1 .1 .1 .0) (s .pre .ready .in-ops))
 
 input-or-source-requires-2 : tie.Need-input-or-source-requires-2
 input-or-source-requires-2 c κs =
-    let after-input-or-source : tie.After-input-or-source = search ways depth 8 in
-    let after-lower-clauses : tie.After-lower-clauses = search ways depth 8 in
-    let start : tie.Start = search ways depth 8 in
-    let l₀ = Room.bounds-of (Clausing.some-tree (start .pre .1 .0)) (start .pre .1 .1 .0 .0) (start .pre .1 .1 .0 .1) (start .pre .1 .1 .1) in
-    let x = Joining.few-below (start .pre .1 .1 .0 .0) (after-lower-clauses .lower-clauses .ensures .1 .moved) (omega arith) in
-    let y = (after-input-or-source .input-or-source .ensures .input) [] .few in (
-      omega arith,
-      rw
-          ((after-input-or-source .input-or-source .kept .0) ∙ (after-lower-clauses .lower-clauses .kept .1 .1 .1 .0))
-          ((start .pre .1 .1 .0 .0) .in-ops),
-    )
+    let q : tie.After-input-or-source = search ways depth 9 in
+    let x : tie.After-lower-clauses = search ways depth 9 in
+    let s : tie.Start = search ways depth 9 in
+    let few = Joining.few-below (s .pre .ready) (x .lower-clauses .ensures .moved) (omega arith) in
+    let more = q .input-or-source .ensures .input [] .few in
+    (omega (arith, few, more), rw (q .input-or-source .kept .0 ∙ x .lower-clauses .kept .1 .1 .1 .0) (s .pre .ready .in-ops))
 
-cast-first : tie.Need-cast-first
-cast-first c =
-    let after-input-or-source2 : tie.After-input-or-source2 = search ways depth 8 in
-    let after-input-or-source : tie.After-input-or-source = search ways depth 8 in
-    let after-lower-clauses : tie.After-lower-clauses = search ways depth 8 in
-    let start : tie.Start = search ways depth 8 in
-    let l₀ = Room.bounds-of (Clausing.some-tree (start .pre .1 .0)) (start .pre .1 .1 .0 .0) (start .pre .1 .1 .0 .1) (start .pre .1 .1 .1) in
-    let x = Joining.few-below (start .pre .1 .1 .0 .0) (after-lower-clauses .lower-clauses .ensures .1 .moved) (omega arith) in
-    let y = (after-input-or-source .input-or-source .ensures .input) [] .few in
-    let z = after-input-or-source .input-or-source .ensures .near in
-    let z₂ = (after-input-or-source2 .input-or-source2 .ensures .input) [] .few in
-    let w = after-input-or-source2 .input-or-source2 .ensures .near in
-    let v = after-lower-clauses .lower-clauses .ensures .0 in
-    omega arith
-
-cast-second : tie.Need-cast-second
-cast-second c =
-    let after-input-or-source2 : tie.After-input-or-source2 = search ways depth 8 in
-    let after-input-or-source : tie.After-input-or-source = search ways depth 8 in
-    let after-lower-clauses : tie.After-lower-clauses = search ways depth 8 in
-    let start : tie.Start = search ways depth 8 in
-    let l₀ = Room.bounds-of (Clausing.some-tree (start .pre .1 .0)) (start .pre .1 .1 .0 .0) (start .pre .1 .1 .0 .1) (start .pre .1 .1 .1) in
-    let x = Joining.few-below (start .pre .1 .1 .0 .0) (after-lower-clauses .lower-clauses .ensures .1 .moved) (omega arith) in
-    let y = (after-input-or-source .input-or-source .ensures .input) [] .few in
-    let z = after-input-or-source .input-or-source .ensures .near in
-    let z₂ = (after-input-or-source2 .input-or-source2 .ensures .input) [] .few in
-    let w = after-input-or-source2 .input-or-source2 .ensures .near in
-    let v = after-lower-clauses .lower-clauses .ensures .0 in
-    omega arith
-
-cast-push : tie.Need-cast-push
-cast-push c =
-    let start : tie.Start = search ways depth 8 in
-    let l₀ = Room.bounds-of (Clausing.some-tree (start .pre .1 .0)) (start .pre .1 .1 .0 .0) (start .pre .1 .1 .0 .1) (start .pre .1 .1 .1) in
-    omega arith
+union-requires : tie.Need-union-requires
+union-requires c κs =
+    let r : tie.After-input-or-source2 = search ways depth 9 in
+    let q : tie.After-input-or-source = search ways depth 9 in
+    let x : tie.After-lower-clauses = search ways depth 9 in
+    let s : tie.Start = search ways depth 9 in
+    let l = Room.bounds-of (Room.some-tree (s .pre .held)) (s .pre .ready) (s .pre .shallow) in
+    let few = Joining.few-below (s .pre .ready) (x .lower-clauses .ensures .moved) (omega arith) in
+    let more = q .input-or-source .ensures .input [] .few in
+    let more₂ = r .input-or-source2 .ensures .input [] .few in
+    let left = q .input-or-source .ensures .near _ (s .pre .stands) in
+    let right = r .input-or-source2 .ensures .near _ (Inputs.stands-under _ _ (x .lower-clauses .ensures .stands)) in
+    (omega (arith, l .low), omega (arith, few, more, left, l .few), omega (arith, few, more, more₂, right))
 
 push-requires : tie.Need-push-requires
 push-requires c κs =
-    let after-input-or-source2 : tie.After-input-or-source2 = search ways depth 8 in
-    let after-input-or-source : tie.After-input-or-source = search ways depth 8 in
-    let after-lower-clauses : tie.After-lower-clauses = search ways depth 8 in
-    let start : tie.Start = search ways depth 8 in
-    let l₀ = Room.bounds-of (Clausing.some-tree (start .pre .1 .0)) (start .pre .1 .1 .0 .0) (start .pre .1 .1 .0 .1) (start .pre .1 .1 .1) in
-    let x = Joining.few-below (start .pre .1 .1 .0 .0) (after-lower-clauses .lower-clauses .ensures .1 .moved) (omega arith) in
-    let y = (after-input-or-source .input-or-source .ensures .input) [] .few in
-    let z = (after-input-or-source2 .input-or-source2 .ensures .input) [] .few in (
-      omega arith,
-      rw
-          ((after-input-or-source2 .input-or-source2 .kept .0) ∙
-          (after-input-or-source .input-or-source .kept .0) ∙
-          (after-lower-clauses .lower-clauses .kept .1 .1 .1 .0))
-          ((start .pre .1 .1 .0 .0) .in-ops),
-    )
+    let r : tie.After-input-or-source2 = search ways depth 9 in
+    let q : tie.After-input-or-source = search ways depth 9 in
+    let x : tie.After-lower-clauses = search ways depth 9 in
+    let s : tie.Start = search ways depth 9 in
+    let few = Joining.few-below (s .pre .ready) (x .lower-clauses .ensures .moved) (omega arith) in
+    let more = q .input-or-source .ensures .input [] .few in
+    let more₂ = r .input-or-source2 .ensures .input [] .few in
+    (omega (arith, few, more, more₂), rw (r .input-or-source2 .kept .0 ∙ q .input-or-source .kept .0 ∙ x .lower-clauses .kept .1 .1 .1 .0) (s .pre .ready .in-ops))
 
 same-length : tie.Need-same-length
 same-length c =
-    let after-push : tie.After-push = search ways depth 8 in
-    let after-input-or-source2 : tie.After-input-or-source2 = search ways depth 8 in
-    let after-input-or-source : tie.After-input-or-source = search ways depth 8 in
-    let after-lower-clauses : tie.After-lower-clauses = search ways depth 8 in
-    (after-push .push .kept .1 .0) ∙
-    (after-input-or-source2 .input-or-source2 .kept .0) ∙
-    (after-input-or-source .input-or-source .kept .0) ∙
-    (after-lower-clauses .lower-clauses .kept .1 .1 .1 .0)
+    let p : tie.After-push = search ways depth 9 in
+    let r : tie.After-input-or-source2 = search ways depth 9 in
+    let q : tie.After-input-or-source = search ways depth 9 in
+    let x : tie.After-lower-clauses = search ways depth 9 in
+    p .push .kept .1 .0 ∙ r .input-or-source2 .kept .0 ∙ q .input-or-source .kept .0 ∙ x .lower-clauses .kept .1 .1 .1 .0
 
 same-length-2 : tie.Need-same-length-2
 same-length-2 c =
-    let after-lower-clauses : tie.After-lower-clauses = search ways depth 8 in
-    after-lower-clauses .lower-clauses .kept .1 .1 .1 .1 .0
+    let x : tie.After-lower-clauses = search ways depth 9 in
+    x .lower-clauses .kept .1 .1 .1 .1 .0
 
 returns : tie.Need-returns
 returns c =
-    let after-push : tie.After-push = search ways depth 8 in
-    let after-input-or-source2 : tie.After-input-or-source2 = search ways depth 8 in
-    let after-input-or-source : tie.After-input-or-source = search ways depth 8 in
-    let after-lower-clauses : tie.After-lower-clauses = search ways depth 8 in
-    let after-count : tie.After-count = search ways depth 8 in
-    let after-word : tie.After-word = search ways depth 8 in
-    let start : tie.Start = search ways depth 8 in
-    let x = after-push .push .ensures .count in (
-      omega arith,
-      Joining.arm-law
-          _
-          _
-          _
-          (start .pre .0)
-          (after-count .count .ensures .0)
-          (after-word .word .ensures)
-          (after-lower-clauses .lower-clauses .ensures .1)
-          ((after-input-or-source .input-or-source .ensures .input) _)
-          ((after-input-or-source2 .input-or-source2 .ensures .input) _)
-          (after-push .push .ensures)
-          (after-push .push .kept .1 .0),
-    )
+    let p : tie.After-push = search ways depth 9 in
+    let made : tie.After-union = search ways depth 9 in
+    let r : tie.After-input-or-source2 = search ways depth 9 in
+    let q : tie.After-input-or-source = search ways depth 9 in
+    let x : tie.After-lower-clauses = search ways depth 9 in
+    let n : tie.After-count = search ways depth 9 in
+    let w : tie.After-word = search ways depth 9 in
+    let s : tie.Start = search ways depth 9 in
+    let pushed = pushed-as (made .union .ensures) (p .push .ensures) in
+    let law = Joining.arm-law _ _ _ (s .pre .room) (n .count .ensures .0) (w .word .ensures) (x .lower-clauses .ensures) in
+    law (q .input-or-source .ensures .input _) (r .input-or-source2 .ensures .input _) pushed (p .push .kept .1 .0)
 
 pub lower-arm-spec : {M : Type 1} → statement M
 lower-arm-spec =
@@ -186,14 +143,12 @@ lower-arm-spec =
     (tie.spec
     word-requires
     count-requires
-    add-lower-clauses
-    sub-lower-clauses
+    add-first
+    sub-less
     lower-clauses-requires
     input-or-source-requires
     input-or-source-requires-2
-    cast-first
-    cast-second
-    cast-push
+    union-requires
     push-requires
     same-length
     same-length-2

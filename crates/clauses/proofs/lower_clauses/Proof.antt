@@ -1,82 +1,92 @@
-use Rattle.model.specs.Kind.{clause}
-use Rattle.lower.specs.Chains.{givenIf}
-use Rattle.clauses.specs.Steps.{clauseTurn, LowersClauses}
+-- `clauses::lower_clauses` meets its contract.
+use mathlib.Core.Path.{_∙_}
+use Rattle.clauses.proofs.Room as Inputs
 use Rattle.clauses.proofs.Turning
-use Rattle.clauses.proofs.Moves
-use Rattle.lower.specs.Rep.{mem}
+use mathlib.Core.Path.{_≡_, refl}
 use mathlib.Core.Option.{none}
 use lib.ListN.{length}
-use native.Mathlib.Omega.{arith}
-use Prim.Native.Nat.{_≤_}
-use mathlib.Core.Path.{_≡_, refl, _∙_}
+use Rattle.model.specs.Kind.{clause}
+use Rattle.context.specs.Ops.{beforeOf}
+use Rattle.lower.specs.Rep.{mem}
+use Rattle.clauses.specs.Steps.{clauseTurn, LowersClauses}
 use borrow.Author.Needs.{needs}
 use Rattle.clauses.proofs.lower_clauses.Statement.{statement}
 use Rattle.clauses.proofs.lower_clauses.Tie as tie
 
 abbrev Inv-loop : tie.InvT-loop
-Inv-loop sheet a b ops₀ rest₀ i n left cur₀ m₀ ops rest cur m = Turning.Left clause clauseTurn sheet a b left (λ e o m′. LowersClauses sheet a b n left i e none o (mem (cur₀ .ctx) ops₀ rest₀) m′) m (cur .next) (givenIf (cur .has) (cur .last)) (mem (cur .ctx) ops rest) × (cur .last ≤ cur .ctx .ops) × (length ops ≡ length ops₀) × (length rest ≡ length rest₀)
+Inv-loop sheet a b ops₀ rest₀ at n cur₀ m₀ ops rest cur m =
+    Turning.Left
+    clause
+    clauseTurn
+    sheet
+    a
+    b
+    (at .left)
+    (λ e o m′. LowersClauses sheet a b n (at .left) (at .i) e none o (mem (cur₀ .ctx) ops₀ rest₀) m′)
+    m
+    (cur .next)
+    (beforeOf (cur .op))
+    (mem (cur .ctx) ops rest)
+    ×
+    (length ops ≡ length ops₀)
+    ×
+    (length rest ≡ length rest₀)
 
 abbrev μ-loop : tie.MeasureT-loop
-μ-loop sheet a b ops₀ rest₀ i n left cur₀ m₀ ops rest cur m = m
+μ-loop sheet a b ops₀ rest₀ at n cur₀ m₀ ops rest cur m = m
 
--- a place or a need, at the loops' invariants and measures
+-- a place or a need, at the loop's invariant and measure
 abbrev here : (tie.InvT-loop → tie.MeasureT-loop → Type 0) → Type 0
 here X = X Inv-loop μ-loop
 
 -- the ways back, from place to place
-abbrev back-lower-clause : here tie.After-lower-clause → here tie.In-loop
-back-lower-clause c = search
+abbrev to-in-loop : here tie.After-lower-clause → here tie.In-loop
+to-in-loop c = search
 
-abbrev back-in-loop : here tie.In-loop → here tie.At-loop
-back-in-loop c = search
+abbrev to-at-loop : here tie.In-loop → here tie.At-loop
+to-at-loop c = search
 
-abbrev back-at-loop : here tie.At-loop → here tie.Start
-back-at-loop c = search
+abbrev to-start : here tie.At-loop → here tie.Start
+to-start c = search
 
-ruleset ways = (back-lower-clause, back-in-loop, back-at-loop)
+ruleset ways = (to-in-loop, to-at-loop, to-start)
 
 loop-holds : here tie.Need-loop-holds
 loop-holds c =
-    let start : here tie.Start = search ways in
-    (Turning.from-nothing (start .pre .1 .0) (start .pre .1 .1 .0), omega arith, refl, refl)
+    let s : here tie.Start = search ways depth 9 in
+    (Turning.from-nothing (s .pre .held) (s .pre .ready), refl, refl)
 
 lower-clause-requires : here tie.Need-lower-clause-requires
 lower-clause-requires c κs =
-    let in-loop : here tie.In-loop = search ways in
-    let at-loop : here tie.At-loop = search ways in
-    let start : here tie.Start = search ways in (
-      start .pre .0,
-      (
-        Turning.child (in-loop .loop-test .taken) (at-loop .loop .inv .0),
-        ((at-loop .loop .inv .0 .ready, start .pre .1 .1 .1), (at-loop .loop .inv .1, Moves.stands-given _ _ _ (at-loop .loop .inv .0 .stands))),
-      ),
-    )
+    let turn : here tie.In-loop = search ways depth 9 in
+    let l : here tie.At-loop = search ways depth 9 in
+    let s : here tie.Start = search ways depth 9 in
+    let left = l .loop .inv .0 in
+    record { room = s .pre .room; held = Turning.child (turn .loop-test .taken) left; ready = left .ready; shallow = s .pre .shallow; stands = Inputs.stands-under _ _ (left .stands) }
 
 loop-again : here tie.Need-loop-again
 loop-again c =
-    let after-lower-clause : here tie.After-lower-clause = search ways in
-    let in-loop : here tie.In-loop = search ways in
-    let at-loop : here tie.At-loop = search ways in (
-      Turning.again (in-loop .loop-test .taken) (at-loop .loop .inv .0) (Turning.clause-turn (after-lower-clause .lower-clause .ensures .1)),
-      after-lower-clause .lower-clause .ensures .0,
-      (after-lower-clause .lower-clause .kept .1 .1 .1 .0) ∙ (at-loop .loop .inv .2),
-      (after-lower-clause .lower-clause .kept .1 .1 .1 .1 .0) ∙ (at-loop .loop .inv .3),
-    )
+    let x : here tie.After-lower-clause = search ways depth 9 in
+    let turn : here tie.In-loop = search ways depth 9 in
+    let l : here tie.At-loop = search ways depth 9 in
+    let kept = x .lower-clause .kept in
+    let again = Turning.again (turn .loop-test .taken) (l .loop .inv .0) (Turning.clause-turn (x .lower-clause .ensures)) in
+    (again, kept .1 .1 .1 .0 ∙ l .loop .inv .1, kept .1 .1 .1 .1 .0 ∙ l .loop .inv .2)
 
 same-length : here tie.Need-same-length
 same-length c =
-    let at-loop : here tie.At-loop = search ways in
-    at-loop .loop .inv .2
+    let l : here tie.At-loop = search ways depth 9 in
+    l .loop .inv .1
 
 same-length-2 : here tie.Need-same-length-2
 same-length-2 c =
-    let at-loop : here tie.At-loop = search ways in
-    at-loop .loop .inv .3
+    let l : here tie.At-loop = search ways depth 9 in
+    l .loop .inv .2
 
 returns : here tie.Need-returns
 returns c =
-    let at-loop : here tie.At-loop = search ways in
-    (at-loop .loop .inv .1, Turning.done (c .loop-test .left) (at-loop .loop .inv .0))
+    let l : here tie.At-loop = search ways depth 9 in
+    Turning.done (c .loop-test .left) (l .loop .inv .0)
 
 pub lower-clauses-spec : {M : Type 1} → statement M
 lower-clauses-spec =

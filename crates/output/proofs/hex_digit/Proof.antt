@@ -1,4 +1,5 @@
 -- `hex_digit` meets its contract, by its test. Assumes nothing.
+use native.Mathlib.Omega.{arith}
 use borrow.Author.Needs.{needs}
 use borrow.Author.Tests.{lt-ltb, le-ltb}
 use Rattle.model.specs.Text.{hexDigit}
@@ -11,7 +12,7 @@ returns c = rw (lt-ltb _ 10 (c .if1 .taken))
 
 returns-2 : tie.Need-returns-2
 unfolding hexDigit
-returns-2 c = rw (le-ltb _ 10 (c .if1 .left))
+returns-2 c = rw (le-ltb _ 10 (c .if1 .left)) (omega arith)
 
 pub hex-digit-spec : {M : Type 1} → statement M
 hex-digit-spec = tie.close (tie.spec (λ c. search needs) (λ c. search needs) returns returns-2)

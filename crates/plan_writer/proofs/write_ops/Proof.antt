@@ -1,15 +1,12 @@
 -- `write_ops` meets its contract. Assumes nothing.
-use Rattle.plan_sheet.proofs.DueLaws.{planned-less}
 use Rattle.plan_writer.proofs.WholeLaws
+use Rattle.plan_sheet.proofs.DueLaws.{planned-less}
 use Rattle.output.specs.Page.{on}
-use Prim.Native.Nat.{_-_}
 use native.Mathlib.Omega.{arith}
+use Prim.Native.Nat.{_-_}
 use borrow.Author.Needs.{needs}
 use Rattle.plan_writer.proofs.write_ops.Statement.{statement}
 use Rattle.plan_writer.proofs.write_ops.Tie as tie
-use Rattle.plan_writer.proofs.write_ops.Reads as reads
-use Rattle.plan_writer.proofs.write_ops.Lts as lts
-use Rattle.plan_sheet.proofs.write.write_op.Reads as write-op-reads
 
 abbrev Inv-loop : tie.InvT-loop
 Inv-loop plan₀ out sheet a b ops rest n k₀ o₀ plan k o = WholeLaws.Writing sheet a b ops rest n (on plan₀ o₀) k (on plan o)
@@ -17,33 +14,35 @@ Inv-loop plan₀ out sheet a b ops rest n k₀ o₀ plan k o = WholeLaws.Writing
 abbrev μ-loop : tie.MeasureT-loop
 μ-loop plan₀ out sheet a b ops rest n k₀ o₀ plan k o = n - k
 
--- src/lib.rt:24:5
-loop-holds : tie.Need-loop-holds Inv-loop μ-loop
+-- a place or a need, at the loop's invariant and measure
+abbrev here : (tie.InvT-loop → tie.MeasureT-loop → Type 0) → Type 0
+here X = X Inv-loop μ-loop
+
+loop-holds : here tie.Need-loop-holds
 loop-holds c = WholeLaws.no-ops
 
--- src/lib.rt:25:9
-write-op-requires : tie.Need-write-op-requires Inv-loop μ-loop
-write-op-requires c κs = ((c .before .before .before .before .before .before .before .before .before .pre .0), record { ops = (c .before .before .before .before .before .before .before .before .before .pre .1 .ops); planned = planned-less (omega (arith, (c .before .loop-test .taken))) ((c .before .before .before .before .before .before .before .before .before .pre .1 .planned)) })
+write-op-requires : here tie.Need-write-op-requires
+write-op-requires c κs =
+    let turn : here tie.In-loop = search in
+    let s : here tie.Start = search in
+    (s .pre .0, record { ops = s .pre .1 .ops; planned = planned-less (omega (arith, turn .loop-test .taken)) (s .pre .1 .planned) })
 
--- src/lib.rt:26:9
-add-k : tie.Need-add-k Inv-loop μ-loop
-add-k c = search needs
+loop-again : here tie.Need-loop-again
+loop-again c =
+    let one : here tie.After-write-op = search in
+    let turn : here tie.In-loop = search in
+    let l : here tie.At-loop = search in
+    WholeLaws.one-more (turn .loop-test .taken) (l .loop .inv) (one .write-op .ensures) (one .write-op .kept .0)
 
--- src/lib.rt:24:5
-loop-less : tie.Need-loop-less Inv-loop μ-loop
-loop-less c = search needs
+same-length : here tie.Need-same-length
+same-length c =
+    let l : here tie.At-loop = search in
+    l .loop .inv .long
 
--- src/lib.rt:24:5
-loop-again : tie.Need-loop-again Inv-loop μ-loop
-loop-again c = WholeLaws.one-more (c .before .before .before .before .loop-test .taken) (c .before .before .before .before .before .loop .inv) (c .before .before .write-op .ensures) ((c .before .before .write-op .kept .0))
-
--- src/lib.rt:17:1
-same-length : tie.Need-same-length Inv-loop μ-loop
-same-length c = (c .before .loop .inv .long)
-
--- src/lib.rt:17:1
-returns : tie.Need-returns Inv-loop μ-loop
-returns c = WholeLaws.all-ops (c .loop-test .left) (c .before .loop .inv)
+returns : here tie.Need-returns
+returns c =
+    let l : here tie.At-loop = search in
+    WholeLaws.all-ops (c .loop-test .left) (l .loop .inv)
 
 pub write-ops-spec : {M : Type 1} → statement M
 write-ops-spec =
@@ -53,8 +52,8 @@ write-ops-spec =
     μ-loop
     loop-holds
     write-op-requires
-    add-k
-    loop-less
+    (λ c. search needs)
+    (λ c. search needs)
     loop-again
     same-length
     returns)

@@ -11,11 +11,20 @@ use Rattle.plan_writer.proofs.write_sheet.Reads as write-sheet-reads
 
 returns : tie.Need-returns
 unfolding answerOf
-returns c = λ s h. refuses _ (omega arith) ((c .before .before .before .write-sheet .ensures) s h) (c .if1 .taken)
+returns c =
+    let measured : tie.After-write-sheet = search in
+    λ s h. refuses _ (omega arith) (measured .write-sheet .ensures s h) (c .if1 .taken)
 
 returns-2 : tie.Need-returns-2
 unfolding answerOf
-returns-2 c = λ s h. accepts _ (omega arith) ((c .before .before .before .before .before .before .before .write-sheet .ensures) s h) (c .before .before .before .before .if1 .left) ((c .before .before .write-sheet2 .ensures) s h)
+returns-2 c =
+    λ s h.
+    accepts
+    _
+    (omega arith)
+    (let measured : tie.After-write-sheet = search in measured .write-sheet .ensures s h)
+    (let fits : tie.Else1 = search in fits .if1 .left)
+    (let written : tie.After-write-sheet2 = search in written .write-sheet2 .ensures s h)
 
 pub write-plan-spec : {M : Type 1} → statement M
 write-plan-spec =

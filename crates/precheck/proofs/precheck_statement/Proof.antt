@@ -64,16 +64,10 @@ check-arms-requires c κs =
     let after-check-clauses : tie.After-check-clauses = search ways depth 7 in
     let after-count2 : tie.After-count2 = search ways depth 7 in
     let after-count : tie.After-count = search ways depth 7 in
-    let start : tie.Start = search ways depth 7 in (
-      start .pre .0,
-      (
-        omega arith,
-        Laws.after
-            (after-check-clauses .check-clauses .ensures)
-            (after-head .head .given .1)
-            (some-turned (as-statement (start .pre .0) (after-count .count .ensures .0) (after-count2 .count2 .ensures .0)) (some-held (start .pre .1))),
-      ),
-    )
+    let start : tie.Start = search ways depth 7 in
+    let held = some-turned (as-statement (start .pre .0) (after-count .count .ensures .0) (after-count2 .count2 .ensures .0)) (some-held (start .pre .1)) in
+    let arms = Laws.after (after-check-clauses .check-clauses .ensures) (after-head .head .given .1) held in
+    (start .pre .0, (omega arith, search (arms, Laws.some-none)))
 
 returns-2 : tie.Need-returns-2
 returns-2 c =

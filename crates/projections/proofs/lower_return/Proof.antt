@@ -1,176 +1,117 @@
-use Rattle.projections.proofs.ReturnLaws
-use Prim.Native.Nat.{_-_}
-use Rattle.projections.proofs.Room
+-- `projections::lower_return` meets its contract.
 use mathlib.Core.Path.{_∙_}
 use native.Mathlib.Omega.{arith}
+use Rattle.projections.specs.Room
+use Rattle.projections.proofs.ReturnLaws
 use Rattle.projections.proofs.lower_return.Statement.{statement}
 use Rattle.projections.proofs.lower_return.Tie as tie
 
 -- the ways back, from place to place
-abbrev back-lower-trailers : tie.After-lower-trailers → tie.After-second-pass
-back-lower-trailers c = search
+abbrev to-second-pass : tie.After-lower-trailers → tie.After-second-pass
+to-second-pass c = search
 
-abbrev back-second-pass : tie.After-second-pass → tie.After-first-pass
-back-second-pass c = search
+abbrev to-first-pass : tie.After-second-pass → tie.After-first-pass
+to-first-pass c = search
 
-abbrev back-first-pass : tie.After-first-pass → tie.After-count2
-back-first-pass c = search
+abbrev to-count2 : tie.After-first-pass → tie.After-count2
+to-count2 c = search
 
-abbrev back-count2 : tie.After-count2 → tie.After-count
-back-count2 c = search
+abbrev to-count : tie.After-count2 → tie.After-count
+to-count c = search
 
-abbrev back-count : tie.After-count → tie.Start
-back-count c = search
+abbrev to-start : tie.After-count → tie.Start
+to-start c = search
 
-ruleset ways = (back-lower-trailers, back-second-pass, back-first-pass, back-count2, back-count)
+ruleset ways = (to-second-pass, to-first-pass, to-count2, to-count, to-start)
 
 count-requires : tie.Need-count-requires
 count-requires c κs =
-    let start : tie.Start = search ways depth 7 in
-    (Room.low (ReturnLaws.some-tree (start .pre .1 .0 .0)), (omega arith, start .pre .0))
+    let s : tie.Start = search ways depth 9 in
+    (Room.low (s .pre .asked .tree), (omega arith, s .pre .asked .room))
 
 count-requires-2 : tie.Need-count-requires-2
 count-requires-2 c κs =
-    let start : tie.Start = search ways depth 7 in
-    (Room.low (ReturnLaws.some-tree (start .pre .1 .0 .0)), (omega arith, start .pre .0))
+    let s : tie.Start = search ways depth 9 in
+    (Room.low (s .pre .asked .tree), (omega arith, s .pre .asked .room))
 
 sub-less : tie.Need-sub-less
 sub-less c =
-    let start : tie.Start = search ways depth 7 in
-    Room.deep (ReturnLaws.some-tree (start .pre .1 .0 .0))
+    let s : tie.Start = search ways depth 9 in
+    omega (arith, Room.bounds (s .pre .asked))
 
 first-pass-requires : tie.Need-first-pass-requires
 first-pass-requires c κs =
-    let after-count : tie.After-count = search ways depth 7 in
-    let start : tie.Start = search ways depth 7 in
-    let l = start .pre .1 .1 .0 .1 in (
-      start .pre .0,
-      (
-        (
-          after-count .count .ensures .0,
-          ReturnLaws.return-items _ _ (start .pre .0) (start .pre .1 .0 .1) (after-count .count .ensures .0) (start .pre .1 .0 .0),
-        ),
-        ((start .pre .1 .1 .0 .0, omega arith, Room.low (ReturnLaws.some-tree (start .pre .1 .0 .0))), start .pre .1 .1 .1),
-      ),
-    )
+    let n : tie.After-count = search ways depth 9 in
+    let s : tie.Start = search ways depth 9 in
+    let l = Room.bounds (s .pre .asked) in
+    record {
+      room = s .pre .asked .room;
+      counted = n .count .ensures .0;
+      items = ReturnLaws.return-items (s .pre) (n .count .ensures .0);
+      ready = s .pre .asked .ready;
+      low = l .low;
+      shallow = omega (arith, l .shallow);
+      stands = s .pre .asked .stands;
+    }
 
 second-pass-requires : tie.Need-second-pass-requires
 second-pass-requires c κs =
-    let after-first-pass : tie.After-first-pass = search ways depth 7 in
-    let after-count2 : tie.After-count2 = search ways depth 7 in
-    let after-count : tie.After-count = search ways depth 7 in
-    let start : tie.Start = search ways depth 7 in
-    let l = start .pre .1 .1 .0 .1 in (
-      start .pre .0,
-      (
-        (
-          after-count .count .ensures .0,
-          ReturnLaws.some-items
-              (ReturnLaws.return-items _ _ (start .pre .0) (start .pre .1 .0 .1) (after-count .count .ensures .0) (start .pre .1 .0 .0)),
-        ),
-        (
-          ReturnLaws.good-second
-              _
-              _
-              (start .pre .0)
-              (start .pre .1 .0 .1)
-              _
-              (after-count .count .ensures .0)
-              (after-first-pass .first-pass .ensures .0)
-              ((start .args .left) - 1)
-              (omega arith)
-              (Room.low (ReturnLaws.some-tree (start .pre .1 .0 .0)))
-              (start .pre .1 .1 .0 .0),
-          omega arith,
-          Room.low (ReturnLaws.some-tree (start .pre .1 .0 .0)),
-          after-first-pass .first-pass .ensures .1,
-          ReturnLaws.return-flag _ _ (start .pre .0) (start .pre .1 .0 .1) (after-count2 .count2 .ensures .0) (start .pre .1 .0 .0),
-        ),
-      ),
-    )
+    let p : tie.After-first-pass = search ways depth 9 in
+    let n₂ : tie.After-count2 = search ways depth 9 in
+    let n : tie.After-count = search ways depth 9 in
+    let s : tie.Start = search ways depth 9 in
+    let l = Room.bounds (s .pre .asked) in
+    record {
+      room = s .pre .asked .room;
+      counted = n .count .ensures .0;
+      items = Room.some-trees (ReturnLaws.return-items (s .pre) (n .count .ensures .0));
+      good = ReturnLaws.good-second (s .pre) (n .count .ensures .0) (p .first-pass .ensures .0) (omega (arith, l .shallow));
+      low = l .low;
+      shallow = omega (arith, l .shallow);
+      small = p .first-pass .ensures .1;
+      flag = ReturnLaws.return-flag (s .pre) (n₂ .count2 .ensures .0);
+    }
 
 lower-trailers-requires : tie.Need-lower-trailers-requires
 lower-trailers-requires c κs =
-    let after-second-pass : tie.After-second-pass = search ways depth 7 in
-    let after-first-pass : tie.After-first-pass = search ways depth 7 in
-    let after-count2 : tie.After-count2 = search ways depth 7 in
-    let after-count : tie.After-count = search ways depth 7 in
-    let start : tie.Start = search ways depth 7 in
-    let l = start .pre .1 .1 .0 .1 in (
-      start .pre .0,
-      (
-        (
-          ReturnLaws.return-tail
-              _
-              _
-              (start .pre .0)
-              (start .pre .1 .0 .1)
-              _
-              (after-count .count .ensures .0)
-              (after-first-pass .first-pass .ensures .0)
-              (after-count2 .count2 .ensures .0)
-              ((after-second-pass .second-pass .ensures .0) _)
-              (start .pre .1 .0 .0),
-          Room.low (ReturnLaws.some-tree (start .pre .1 .0 .0)),
-        ),
-        (
-          Room.ready-after
-              (ReturnLaws.return-moved
-              _
-              _
-              (start .pre .0)
-              (start .pre .1 .0 .1)
-              _
-              (after-count .count .ensures .0)
-              (after-first-pass .first-pass .ensures .0)
-              (after-count2 .count2 .ensures .0)
-              ((after-second-pass .second-pass .ensures .0) _)
-              (start .pre .1 .0 .0))
-              (start .pre .1 .1 .0 .0),
-          omega arith,
-          after-second-pass .second-pass .ensures .1,
-        ),
-      ),
-    )
+    let q : tie.After-second-pass = search ways depth 9 in
+    let p : tie.After-first-pass = search ways depth 9 in
+    let n₂ : tie.After-count2 = search ways depth 9 in
+    let n : tie.After-count = search ways depth 9 in
+    let s : tie.Start = search ways depth 9 in
+    let l = Room.bounds (s .pre .asked) in
+    record {
+      room = s .pre .asked .room;
+      low = l .low;
+      tail = ReturnLaws.return-tail (s .pre) (n .count .ensures .0) (p .first-pass .ensures .0) (n₂ .count2 .ensures .0) (q .second-pass .ensures .0 _);
+      ready = Room.ready-after (ReturnLaws.return-moved (s .pre) (n .count .ensures .0) (p .first-pass .ensures .0) (n₂ .count2 .ensures .0) (q .second-pass .ensures .0 _)) (s .pre .asked .ready);
+      shallow = omega (arith, l .shallow);
+      stands = q .second-pass .ensures .1;
+    }
 
 same-length : tie.Need-same-length
 same-length c =
-    let after-lower-trailers : tie.After-lower-trailers = search ways depth 7 in
-    let after-second-pass : tie.After-second-pass = search ways depth 7 in
-    let after-first-pass : tie.After-first-pass = search ways depth 7 in
-    (after-lower-trailers .lower-trailers .kept .1 .1 .0) ∙
-    (after-second-pass .second-pass .kept .1 .1 .0) ∙
-    (after-first-pass .first-pass .kept .1 .1 .1 .0)
+    let t : tie.After-lower-trailers = search ways depth 9 in
+    let q : tie.After-second-pass = search ways depth 9 in
+    let p : tie.After-first-pass = search ways depth 9 in
+    t .lower-trailers .kept .1 .1 .0 ∙ q .second-pass .kept .1 .1 .0 ∙ p .first-pass .kept .1 .1 .1 .0
 
 same-length-2 : tie.Need-same-length-2
 same-length-2 c =
-    let after-lower-trailers : tie.After-lower-trailers = search ways depth 7 in
-    let after-second-pass : tie.After-second-pass = search ways depth 7 in
-    let after-first-pass : tie.After-first-pass = search ways depth 7 in
-    (after-lower-trailers .lower-trailers .kept .1 .1 .1 .0) ∙
-    (after-second-pass .second-pass .kept .1 .1 .1 .0) ∙
-    (after-first-pass .first-pass .kept .1 .1 .1 .1 .0)
+    let t : tie.After-lower-trailers = search ways depth 9 in
+    let q : tie.After-second-pass = search ways depth 9 in
+    let p : tie.After-first-pass = search ways depth 9 in
+    t .lower-trailers .kept .1 .1 .1 .0 ∙ q .second-pass .kept .1 .1 .1 .0 ∙ p .first-pass .kept .1 .1 .1 .1 .0
 
 returns : tie.Need-returns
 returns c =
-    let after-lower-trailers : tie.After-lower-trailers = search ways depth 7 in
-    let after-second-pass : tie.After-second-pass = search ways depth 7 in
-    let after-first-pass : tie.After-first-pass = search ways depth 7 in
-    let after-count2 : tie.After-count2 = search ways depth 7 in
-    let after-count : tie.After-count = search ways depth 7 in
-    let start : tie.Start = search ways depth 7 in
-    ReturnLaws.return-law
-    _
-    _
-    (start .pre .0)
-    (start .pre .1 .0 .1)
-    _
-    (after-count .count .ensures .0)
-    (after-first-pass .first-pass .ensures .0)
-    (after-count2 .count2 .ensures .0)
-    ((after-second-pass .second-pass .ensures .0) _)
-    (start .pre .1 .0 .0)
-    (after-lower-trailers .lower-trailers .ensures)
+    let t : tie.After-lower-trailers = search ways depth 9 in
+    let q : tie.After-second-pass = search ways depth 9 in
+    let p : tie.After-first-pass = search ways depth 9 in
+    let n₂ : tie.After-count2 = search ways depth 9 in
+    let n : tie.After-count = search ways depth 9 in
+    let s : tie.Start = search ways depth 9 in
+    ReturnLaws.return-law (s .pre) (n .count .ensures .0) (p .first-pass .ensures .0) (n₂ .count2 .ensures .0) (q .second-pass .ensures .0 _) (t .lower-trailers .ensures)
 
 pub lower-return-spec : {M : Type 1} → statement M
 lower-return-spec =

@@ -1,260 +1,159 @@
-use Rattle.projections.proofs.WithLaws
-use Prim.Native.Nat.{_-_}
-use Rattle.projections.proofs.Room
-use Rattle.lower.specs.Exprs
+-- `projections::lower_with` meets its contract.
 use mathlib.Core.Path.{_∙_}
+use Prim.Native.Nat.{_-_}
 use native.Mathlib.Omega.{arith}
+use native.Mathlib.Nat.{le-refl}
+use Rattle.context.specs.OpLaws.{pushed-as}
+use Rattle.lower.specs.Exprs
+use Rattle.projections.specs.Room
+use Rattle.projections.proofs.WithLaws
 use Rattle.projections.proofs.lower_with.Statement.{statement}
 use Rattle.projections.proofs.lower_with.Tie as tie
 
 -- the ways back, from place to place
-abbrev back-lower-trailers : tie.After-lower-trailers → tie.After-push
-back-lower-trailers c = search
+abbrev to-push : tie.After-lower-trailers → tie.After-push
+to-push c = search
 
-abbrev back-push : tie.After-push → tie.After-lower-exprs
-back-push c = search
+abbrev to-with : tie.After-push → tie.After-with
+to-with c = search
 
-abbrev back-lower-exprs : tie.After-lower-exprs → tie.After-lower-items
-back-lower-exprs c = search
+abbrev to-lower-exprs : tie.After-with → tie.After-lower-exprs
+to-lower-exprs c = search
 
-abbrev back-lower-items : tie.After-lower-items → tie.After-or-source-all
-back-lower-items c = search
+abbrev to-lower-items : tie.After-lower-exprs → tie.After-lower-items
+to-lower-items c = search
 
-abbrev back-or-source-all : tie.After-or-source-all → tie.After-count2
-back-or-source-all c = search
+abbrev to-or-source-all : tie.After-lower-items → tie.After-or-source-all
+to-or-source-all c = search
 
-abbrev back-count2 : tie.After-count2 → tie.After-count
-back-count2 c = search
+abbrev to-count2 : tie.After-or-source-all → tie.After-count2
+to-count2 c = search
 
-abbrev back-count : tie.After-count → tie.Start
-back-count c = search
+abbrev to-count : tie.After-count2 → tie.After-count
+to-count c = search
 
-ruleset ways = (back-lower-trailers, back-push, back-lower-exprs, back-lower-items, back-or-source-all, back-count2, back-count)
+abbrev to-start : tie.After-count → tie.Start
+to-start c = search
+
+ruleset ways = (to-push, to-with, to-lower-exprs, to-lower-items, to-or-source-all, to-count2, to-count, to-start)
 
 count-requires : tie.Need-count-requires
 count-requires c κs =
-    let start : tie.Start = search ways depth 9 in
-    (Room.low (start .pre .1 .0 .0), (omega arith, start .pre .0))
+    let s : tie.Start = search ways depth 9 in
+    (Room.low (s .pre .tree), (omega arith, s .pre .room))
 
 count-requires-2 : tie.Need-count-requires-2
 count-requires-2 c κs =
-    let start : tie.Start = search ways depth 9 in
-    (Room.low (start .pre .1 .0 .0), (omega arith, start .pre .0))
+    let s : tie.Start = search ways depth 9 in
+    (Room.low (s .pre .tree), (omega arith, s .pre .room))
+
+add-first : tie.Need-add-first
+add-first c =
+    let s : tie.Start = search ways depth 9 in
+    omega (arith, Room.bounds (s .pre))
 
 sub-less : tie.Need-sub-less
 sub-less c =
-    let start : tie.Start = search ways depth 9 in
-    Room.deep (start .pre .1 .0 .0)
-
-add-or-source-all : tie.Need-add-or-source-all
-add-or-source-all c =
-    let start : tie.Start = search ways depth 9 in
-    let l = Room.low (start .pre .1 .0 .0) in
-    omega arith
+    let s : tie.Start = search ways depth 9 in
+    omega (arith, Room.bounds (s .pre))
 
 or-source-all-requires : tie.Need-or-source-all-requires
 or-source-all-requires c κs =
-    let start : tie.Start = search ways depth 9 in
-    (Room.can-source (start .pre .1 .1 .0 .0), start .pre .1 .1 .1)
-
-add-lower-items : tie.Need-add-lower-items
-add-lower-items c =
-    let start : tie.Start = search ways depth 9 in
-    let l = Room.low (start .pre .1 .0 .0) in
-    omega arith
+    let s : tie.Start = search ways depth 9 in
+    (Room.can-source (s .pre .ready), s .pre .stands)
 
 lower-items-requires : tie.Need-lower-items-requires
 lower-items-requires c κs =
-    let after-or-source-all : tie.After-or-source-all = search ways depth 9 in
-    let after-count : tie.After-count = search ways depth 9 in
-    let start : tie.Start = search ways depth 9 in
-    let l = start .pre .1 .1 .0 .1 in (
-      start .pre .0,
-      (
-        WithLaws.with-items _ _ (start .pre .0) (start .pre .1 .0 .1) (after-count .count .ensures .0) (start .pre .1 .0 .0),
-        (
-          Room.good-source
-              ((start .args .left) - 1)
-              (omega arith)
-              (Room.low (start .pre .1 .0 .0))
-              (start .pre .1 .1 .0 .0)
-              ((after-or-source-all .or-source-all .ensures .1) _),
-          omega arith,
-          omega arith,
-        ),
-      ),
-    )
+    let q : tie.After-or-source-all = search ways depth 9 in
+    let n : tie.After-count = search ways depth 9 in
+    let s : tie.Start = search ways depth 9 in
+    let l = Room.bounds (s .pre) in
+    let good = Room.good-source (s .pre .ready) (q .or-source-all .ensures .1 _) (s .args .at .left - 1) (le-refl _) (omega (arith, l .low)) (omega (arith, l .shallow)) in
+    record { room = s .pre .room; items = WithLaws.with-items (s .pre) (n .count .ensures .0); good = good; shallow = omega (arith, l .shallow); pass = omega arith }
 
 lower-exprs-requires : tie.Need-lower-exprs-requires
 lower-exprs-requires c κs =
-    let after-lower-items : tie.After-lower-items = search ways depth 9 in
-    let after-or-source-all : tie.After-or-source-all = search ways depth 9 in
-    let after-count2 : tie.After-count2 = search ways depth 9 in
-    let after-count : tie.After-count = search ways depth 9 in
-    let start : tie.Start = search ways depth 9 in
-    let l = start .pre .1 .1 .0 .1 in (
-      start .pre .0,
-      (
-        WithLaws.with-predicate
-            _
-            _
-            (start .pre .0)
-            (start .pre .1 .0 .1)
-            (after-count .count .ensures .0)
-            (after-lower-items .lower-items .ensures)
-            (after-count2 .count2 .ensures .0)
-            (start .pre .1 .0 .0),
-        (
-          Exprs.good-after
-              (after-lower-items .lower-items .ensures .moved)
-              (Room.good-source
-              ((start .args .left) - 1)
-              (omega arith)
-              (Room.low (start .pre .1 .0 .0))
-              (start .pre .1 .1 .0 .0)
-              ((after-or-source-all .or-source-all .ensures .1) _)),
-          omega arith,
-          omega arith,
-          omega arith,
-        ),
-      ),
-    )
+    let i : tie.After-lower-items = search ways depth 9 in
+    let q : tie.After-or-source-all = search ways depth 9 in
+    let n₂ : tie.After-count2 = search ways depth 9 in
+    let n : tie.After-count = search ways depth 9 in
+    let s : tie.Start = search ways depth 9 in
+    let l = Room.bounds (s .pre) in
+    let good = Room.good-source (s .pre .ready) (q .or-source-all .ensures .1 _) (s .args .at .left - 1) (le-refl _) (omega (arith, l .low)) (omega (arith, l .shallow)) in
+    let predicate = WithLaws.with-predicate (s .pre) (n .count .ensures .0) (i .lower-items .ensures) (n₂ .count2 .ensures .0) in
+    record { words = s .pre .room; tree = predicate; room = Exprs.good-after (i .lower-items .ensures .moved) good; depth = omega (arith, l .shallow); pass = omega arith }
 
-cast-push : tie.Need-cast-push
-cast-push c =
-    let start : tie.Start = search ways depth 9 in
-    let l = Room.low (start .pre .1 .0 .0) in
-    omega arith
-
-cast-push-2 : tie.Need-cast-push-2
-cast-push-2 c =
-    let after-or-source-all : tie.After-or-source-all = search ways depth 9 in
-    let start : tie.Start = search ways depth 9 in
-    let l = Room.few-source (start .pre .1 .1 .0 .0) ((after-or-source-all .or-source-all .ensures .1) _) in
-    omega arith
-
-cast-push-3 : tie.Need-cast-push-3
-cast-push-3 c =
-    let start : tie.Start = search ways depth 9 in
-    let l = start .pre .1 .1 .0 .1 in
-    omega arith
+with-requires : tie.Need-with-requires
+with-requires c κs =
+    let q : tie.After-or-source-all = search ways depth 9 in
+    let s : tie.Start = search ways depth 9 in
+    let l = Room.bounds (s .pre) in
+    let input = Room.few-source (s .pre .ready) (q .or-source-all .ensures .1 _) in
+    (Room.fits (omega arith) (omega (arith, l .low)) (omega (arith, l .shallow)), omega (arith, input))
 
 push-requires : tie.Need-push-requires
 push-requires c κs =
-    let after-lower-exprs : tie.After-lower-exprs = search ways depth 9 in
-    let after-lower-items : tie.After-lower-items = search ways depth 9 in
-    let after-or-source-all : tie.After-or-source-all = search ways depth 9 in
-    let start : tie.Start = search ways depth 9 in
-    let l = start .pre .1 .1 .0 .1 in
-    Room.can-push
-    (Exprs.good-after
-    (after-lower-exprs .lower-exprs .ensures .moved)
-    (Exprs.good-after
-    (after-lower-items .lower-items .ensures .moved)
-    (Room.good-source
-    ((start .args .left) - 1)
-    (omega arith)
-    (Room.low (start .pre .1 .0 .0))
-    (start .pre .1 .1 .0 .0)
-    ((after-or-source-all .or-source-all .ensures .1) _))))
+    let x : tie.After-lower-exprs = search ways depth 9 in
+    let i : tie.After-lower-items = search ways depth 9 in
+    let q : tie.After-or-source-all = search ways depth 9 in
+    let s : tie.Start = search ways depth 9 in
+    let l = Room.bounds (s .pre) in
+    let good = Room.good-source (s .pre .ready) (q .or-source-all .ensures .1 _) (s .args .at .left - 1) (le-refl _) (omega (arith, l .low)) (omega (arith, l .shallow)) in
+    let room = Room.can-push (Exprs.good-after (x .lower-exprs .ensures .moved) (Exprs.good-after (i .lower-items .ensures .moved) good)) in
+    (omega (arith, room .0), room .1)
 
 lower-trailers-requires : tie.Need-lower-trailers-requires
 lower-trailers-requires c κs =
-    let after-push : tie.After-push = search ways depth 9 in
-    let after-lower-exprs : tie.After-lower-exprs = search ways depth 9 in
-    let after-lower-items : tie.After-lower-items = search ways depth 9 in
-    let after-or-source-all : tie.After-or-source-all = search ways depth 9 in
-    let after-count2 : tie.After-count2 = search ways depth 9 in
-    let after-count : tie.After-count = search ways depth 9 in
-    let start : tie.Start = search ways depth 9 in
-    let l = start .pre .1 .1 .0 .1 in (
-      start .pre .0,
-      (
-        (
-          WithLaws.with-tail
-              _
-              _
-              (start .pre .0)
-              (start .pre .1 .0 .1)
-              (after-count .count .ensures .0)
-              (after-lower-items .lower-items .ensures)
-              (after-count2 .count2 .ensures .0)
-              (after-lower-exprs .lower-exprs .ensures)
-              (start .pre .1 .0 .0),
-          Room.low (start .pre .1 .0 .0),
-        ),
-        (
-          Room.ready-after
-              (WithLaws.with-moved
-              _
-              _
-              (start .pre .0)
-              (start .pre .1 .0 .1)
-              (after-count .count .ensures .0)
-              (after-lower-items .lower-items .ensures)
-              (after-count2 .count2 .ensures .0)
-              (after-lower-exprs .lower-exprs .ensures)
-              _
-              (start .pre .1 .1 .0 .1)
-              ((after-or-source-all .or-source-all .ensures .1) _)
-              (after-push .push .ensures)
-              (after-push .push .kept .1 .0))
-              (start .pre .1 .1 .0 .0),
-          omega arith,
-          omega (arith, after-push .push .ensures .count),
-        ),
-      ),
-    )
+    let p : tie.After-push = search ways depth 9 in
+    let made : tie.After-with = search ways depth 9 in
+    let x : tie.After-lower-exprs = search ways depth 9 in
+    let i : tie.After-lower-items = search ways depth 9 in
+    let q : tie.After-or-source-all = search ways depth 9 in
+    let n₂ : tie.After-count2 = search ways depth 9 in
+    let n : tie.After-count = search ways depth 9 in
+    let s : tie.Start = search ways depth 9 in
+    let l = Room.bounds (s .pre) in
+    let pushed = pushed-as (made .with .ensures) (p .push .ensures) in
+    let tail = WithLaws.with-tail (s .pre) (n .count .ensures .0) (i .lower-items .ensures) (n₂ .count2 .ensures .0) (x .lower-exprs .ensures) in
+    let moved = WithLaws.with-moved (s .pre) (n .count .ensures .0) (i .lower-items .ensures) (n₂ .count2 .ensures .0) (x .lower-exprs .ensures) (q .or-source-all .ensures .1 _) pushed (p .push .kept .1 .0) in
+    record {
+      room = s .pre .room;
+      low = l .low;
+      tail = tail;
+      ready = Room.ready-after moved (s .pre .ready);
+      shallow = omega (arith, l .shallow);
+      stands = omega (arith, p .push .ensures .count);
+    }
 
 same-length : tie.Need-same-length
 same-length c =
-    let after-lower-trailers : tie.After-lower-trailers = search ways depth 9 in
-    let after-push : tie.After-push = search ways depth 9 in
-    let after-lower-exprs : tie.After-lower-exprs = search ways depth 9 in
-    let after-lower-items : tie.After-lower-items = search ways depth 9 in
-    let after-or-source-all : tie.After-or-source-all = search ways depth 9 in
-    (after-lower-trailers .lower-trailers .kept .1 .1 .0) ∙
-    (after-push .push .kept .1 .0) ∙
-    (after-lower-exprs .lower-exprs .kept .1 .1 .0) ∙
-    (after-lower-items .lower-items .kept .1 .1 .0) ∙
-    (after-or-source-all .or-source-all .kept .0)
+    let t : tie.After-lower-trailers = search ways depth 9 in
+    let p : tie.After-push = search ways depth 9 in
+    let x : tie.After-lower-exprs = search ways depth 9 in
+    let i : tie.After-lower-items = search ways depth 9 in
+    let q : tie.After-or-source-all = search ways depth 9 in
+    t .lower-trailers .kept .1 .1 .0 ∙ p .push .kept .1 .0 ∙ x .lower-exprs .kept .1 .1 .0 ∙ i .lower-items .kept .1 .1 .0 ∙ q .or-source-all .kept .0
 
 same-length-2 : tie.Need-same-length-2
 same-length-2 c =
-    let after-lower-trailers : tie.After-lower-trailers = search ways depth 9 in
-    let after-lower-exprs : tie.After-lower-exprs = search ways depth 9 in
-    let after-lower-items : tie.After-lower-items = search ways depth 9 in
-    (after-lower-trailers .lower-trailers .kept .1 .1 .1 .0) ∙
-    (after-lower-exprs .lower-exprs .kept .1 .1 .1 .0) ∙
-    (after-lower-items .lower-items .kept .1 .1 .1 .0)
+    let t : tie.After-lower-trailers = search ways depth 9 in
+    let x : tie.After-lower-exprs = search ways depth 9 in
+    let i : tie.After-lower-items = search ways depth 9 in
+    t .lower-trailers .kept .1 .1 .1 .0 ∙ x .lower-exprs .kept .1 .1 .1 .0 ∙ i .lower-items .kept .1 .1 .1 .0
 
 returns : tie.Need-returns
 returns c =
-    let after-lower-trailers : tie.After-lower-trailers = search ways depth 9 in
-    let after-push : tie.After-push = search ways depth 9 in
-    let after-lower-exprs : tie.After-lower-exprs = search ways depth 9 in
-    let after-lower-items : tie.After-lower-items = search ways depth 9 in
-    let after-or-source-all : tie.After-or-source-all = search ways depth 9 in
-    let after-count2 : tie.After-count2 = search ways depth 9 in
-    let after-count : tie.After-count = search ways depth 9 in
-    let start : tie.Start = search ways depth 9 in
-    λ sheet.
-    WithLaws.with-law
-    _
-    _
-    (start .pre .0)
-    (start .pre .1 .0 .1)
-    (after-count .count .ensures .0)
-    (after-lower-items .lower-items .ensures)
-    (after-count2 .count2 .ensures .0)
-    (after-lower-exprs .lower-exprs .ensures)
-    _
-    (start .pre .1 .1 .0 .1)
-    ((after-or-source-all .or-source-all .ensures .1) _)
-    (after-push .push .ensures)
-    (after-push .push .kept .1 .0)
-    (after-lower-trailers .lower-trailers .ensures)
-    sheet
+    let t : tie.After-lower-trailers = search ways depth 9 in
+    let p : tie.After-push = search ways depth 9 in
+    let made : tie.After-with = search ways depth 9 in
+    let x : tie.After-lower-exprs = search ways depth 9 in
+    let i : tie.After-lower-items = search ways depth 9 in
+    let q : tie.After-or-source-all = search ways depth 9 in
+    let n₂ : tie.After-count2 = search ways depth 9 in
+    let n : tie.After-count = search ways depth 9 in
+    let s : tie.Start = search ways depth 9 in
+    let pushed = pushed-as (made .with .ensures) (p .push .ensures) in
+    WithLaws.with-law (s .pre) (n .count .ensures .0) (i .lower-items .ensures) (n₂ .count2 .ensures .0) (x .lower-exprs .ensures) (q .or-source-all .ensures .1 _) pushed (p .push .kept .1 .0) (t .lower-trailers .ensures)
 
 pub lower-with-spec : {M : Type 1} → statement M
 lower-with-spec =
@@ -262,15 +161,12 @@ lower-with-spec =
     (tie.spec
     count-requires
     count-requires-2
+    add-first
     sub-less
-    add-or-source-all
     or-source-all-requires
-    add-lower-items
     lower-items-requires
     lower-exprs-requires
-    cast-push
-    cast-push-2
-    cast-push-3
+    with-requires
     push-requires
     lower-trailers-requires
     same-length

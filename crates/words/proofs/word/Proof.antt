@@ -2,8 +2,6 @@ use borrow.Author.Tests.{lt-ltb, le-ltb}
 use borrow.Author.Needs.{needs}
 use Rattle.words.proofs.word.Statement.{statement}
 use Rattle.words.proofs.word.Tie as tie
-use Rattle.words.proofs.word.Reads as reads
-use Rattle.words.proofs.word.Lts as lts
 
 -- src/lib.rt:14:18
 mul-at : tie.Need-mul-at

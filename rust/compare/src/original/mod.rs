@@ -2,6 +2,7 @@
 //! `lower_statement`, and its plan printed as document 01 has it.
 
 pub mod print;
+pub mod reader;
 pub mod tree;
 
 use crate::reading::sheet::Record;

@@ -2,6 +2,7 @@
 
 use crate::line;
 use crate::lines::{Bits, Field};
+use crate::original::reader::plain;
 use cyrs_plan::lower::PlanStatement;
 use cyrs_plan::{
     BinOp, Direction, Expr, ListPredKind, Projection, ReadOp, RelLength, RelSpec, SortDir, UnaryOp,
@@ -25,14 +26,32 @@ pub fn plan(plan: &PlanStatement, out: &mut Vec<u8>) {
 /// A text in the sheet's spelling.
 struct Spelled<'t>(&'t str);
 
+/// Texts of so many bytes are copied in runs; a shorter one costs less byte by byte.
+const LONG: usize = 16;
+
+fn escape(byte: u8) -> Option<&'static [u8; 2]> {
+    match byte {
+        b'\t' => Some(b"\\t"),
+        b'\n' => Some(b"\\n"),
+        b'\\' => Some(b"\\\\"),
+        _ => None,
+    }
+}
+
 impl Field for Spelled<'_> {
     fn put(&self, out: &mut Vec<u8>) {
-        for &byte in self.0.as_bytes() {
-            match byte {
-                b'\t' => out.extend_from_slice(b"\\t"),
-                b'\n' => out.extend_from_slice(b"\\n"),
-                b'\\' => out.extend_from_slice(b"\\\\"),
-                other => out.push(other),
+        let mut rest = self.0.as_bytes();
+        while rest.len() >= LONG {
+            let (run, behind) = rest.split_at(plain(rest));
+            out.extend_from_slice(run);
+            let Some((&special, behind)) = behind.split_first() else { return };
+            out.extend_from_slice(escape(special).expect("a run ends at one"));
+            rest = behind;
+        }
+        for &byte in rest {
+            match escape(byte) {
+                Some(two) => out.extend_from_slice(two),
+                None => out.push(byte),
             }
         }
     }

@@ -13,7 +13,7 @@ use smol_str::SmolStr;
 pub const UNDESUGARED: [&str; 4] =
     ["ListComprehension", "PatternComprehension", "MapProjection", "ExistsSubqueryDeferred"];
 
-const BIN_OPS: [BinOp; 20] = [
+pub const BIN_OPS: [BinOp; 20] = [
     BinOp::Add,
     BinOp::Sub,
     BinOp::Mul,
@@ -36,10 +36,10 @@ const BIN_OPS: [BinOp; 20] = [
     BinOp::Concat,
 ];
 
-const LIST_KINDS: [ListPredKind; 4] =
+pub const LIST_KINDS: [ListPredKind; 4] =
     [ListPredKind::Any, ListPredKind::All, ListPredKind::None, ListPredKind::Single];
 
-const ID: HirId = HirId::DUMMY;
+pub const ID: HirId = HirId::DUMMY;
 
 pub fn range(span: Span) -> TextRange {
     TextRange::new(TextSize::from(span.0), TextSize::from(span.1))
@@ -47,7 +47,7 @@ pub fn range(span: Span) -> TextRange {
 
 /// Statement, arms, items and keys have no span on the sheet; the Rust never
 /// reports theirs.
-fn no_span() -> TextRange {
+pub fn no_span() -> TextRange {
     range((0, 0))
 }
 
@@ -253,7 +253,7 @@ impl<'s> Walk<'_, 's> {
 
 /// The sheet gives these forms no children, so they get empty ones; the check
 /// never looks inside.
-fn undesugared(kind: u32) -> Expr {
+pub fn undesugared(kind: u32) -> Expr {
     let null = || Box::new(Expr::Null);
     match kind {
         0 => Expr::ListComprehension {

@@ -80,8 +80,8 @@ pub enum Why {
     Form,
 }
 
-const MOST_LINES: usize = 2048;
-const MOST_DEEP: usize = 64;
+pub const MOST_LINES: usize = 2048;
+pub const MOST_DEEP: usize = 64;
 
 /// What may stand at a line: the record that the lines before it call for.
 #[derive(Clone, Copy)]

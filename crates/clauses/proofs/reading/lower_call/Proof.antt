@@ -1,15 +1,19 @@
--- `clauses::reading::lower_call` meets its contract. An answer names a place by its type, and `search` finds the way back to it.
+-- `clauses::reading::lower_call` meets its contract.
 use mathlib.Core.List.{[]}
 use mathlib.Core.Path.{_∙_}
 use native.Mathlib.Omega.{arith}
+use Rattle.context.specs.OpLaws.{pushed-as}
+use Rattle.projections.specs.Room
 use Rattle.clauses.proofs.Calling
-use Rattle.clauses.proofs.Room
-use Rattle.clauses.proofs.Moves
+use Rattle.context.specs.OpLaws.{under-more}
 use Rattle.clauses.proofs.reading.lower_call.Statement.{statement}
 use Rattle.clauses.proofs.reading.lower_call.Tie as tie
 
--- the ways back, from call to call
-abbrev to-lower-yields : tie.After-push → tie.After-lower-yields
+-- the ways back, from place to place
+abbrev to-procedure-call : tie.After-push → tie.After-procedure-call
+to-procedure-call c = search
+
+abbrev to-lower-yields : tie.After-procedure-call → tie.After-lower-yields
 to-lower-yields c = search
 
 abbrev to-lower-exprs : tie.After-lower-yields → tie.After-lower-exprs
@@ -24,91 +28,86 @@ to-count c = search
 abbrev to-start : tie.After-count → tie.Start
 to-start c = search
 
-ruleset ways = (to-lower-yields, to-lower-exprs, to-count2, to-count, to-start)
+ruleset ways = (to-procedure-call, to-lower-yields, to-lower-exprs, to-count2, to-count, to-start)
 
 count-requires : tie.Need-count-requires
 count-requires c κs =
-    let s : tie.Start = search ways in
+    let s : tie.Start = search ways depth 9 in
     (Room.low (s .pre .tree), (omega arith, s .pre .room))
 
 count-requires-2 : tie.Need-count-requires-2
 count-requires-2 c κs =
-    let s : tie.Start = search ways in
+    let s : tie.Start = search ways depth 9 in
     (Room.low (s .pre .tree), (omega arith, s .pre .room))
+
+add-first : tie.Need-add-first
+add-first c =
+    let s : tie.Start = search ways depth 9 in
+    omega (arith, Room.bounds (s .pre))
 
 sub-less : tie.Need-sub-less
 sub-less c =
-    let s : tie.Start = search ways in
-    omega (arith, Room.bounds (s .pre))
-
-add-lower-exprs : tie.Need-add-lower-exprs
-add-lower-exprs c =
-    let s : tie.Start = search ways in
+    let s : tie.Start = search ways depth 9 in
     omega (arith, Room.bounds (s .pre))
 
 lower-exprs-requires : tie.Need-lower-exprs-requires
 lower-exprs-requires c κs =
-    let n : tie.After-count = search ways in
-    let s : tie.Start = search ways in
+    let n : tie.After-count = search ways depth 9 in
+    let s : tie.Start = search ways depth 9 in
     let l = Room.bounds (s .pre) in
-    let args = Calling.some-args _ _ (s .pre .room) (s .pre .kind) (n .count .ensures .0) (s .pre .tree) in
-    (s .pre .room, (args, (Moves.ready-good (s .pre .ready) (omega arith) (omega arith) (omega arith), omega arith, omega arith, omega arith)))
+    record {
+      words = s .pre .room;
+      tree = Calling.some-args (s .pre) (n .count .ensures .0);
+      room = Room.ready-good (s .pre .ready) (omega arith) (omega (arith, l .low)) (omega (arith, l .shallow));
+      depth = omega (arith, l .shallow);
+      pass = omega arith;
+    }
 
 lower-yields-requires : tie.Need-lower-yields-requires
 lower-yields-requires c κs =
-    let x : tie.After-lower-exprs = search ways in
-    let n′ : tie.After-count2 = search ways in
-    let n : tie.After-count = search ways in
-    let s : tie.Start = search ways in
-    let yields = Calling.some-yields _ _ (s .pre .room) (s .pre .kind) (n .count .ensures .0) (n′ .count2 .ensures .0) (x .lower-exprs .ensures) (s .pre .tree) in
-    let room = Calling.room-yields _ _ (s .pre .room) (s .pre .kind) (n .count .ensures .0) (n′ .count2 .ensures .0) (x .lower-exprs .ensures) (s .pre .tree) (s .pre .ready) in
-    (s .pre .room, (yields, room))
+    let x : tie.After-lower-exprs = search ways depth 9 in
+    let n′ : tie.After-count2 = search ways depth 9 in
+    let n : tie.After-count = search ways depth 9 in
+    let s : tie.Start = search ways depth 9 in
+    Calling.asked-yields (s .pre) (n .count .ensures .0) (n′ .count2 .ensures .0) (x .lower-exprs .ensures)
 
-cast-push : tie.Need-cast-push
-cast-push c =
-    let s : tie.Start = search ways in
-    omega (arith, Room.bounds (s .pre))
-
-cast-push-2 : tie.Need-cast-push-2
-cast-push-2 c =
-    let s : tie.Start = search ways in
-    omega (arith, Room.bounds (s .pre))
-
-cast-push-3 : tie.Need-cast-push-3
-cast-push-3 c =
-    let s : tie.Start = search ways in
-    omega (arith, Room.bounds (s .pre))
+procedure-call-requires : tie.Need-procedure-call-requires
+procedure-call-requires c κs =
+    let s : tie.Start = search ways depth 9 in
+    let l = Room.bounds (s .pre) in
+    (Room.fits (omega arith) (omega (arith, l .low)) (omega (arith, l .shallow)), under-more (omega (arith, l .few)) (s .pre .stands))
 
 push-requires : tie.Need-push-requires
 push-requires c κs =
-    let y : tie.After-lower-yields = search ways in
-    let x : tie.After-lower-exprs = search ways in
-    let s : tie.Start = search ways in
+    let y : tie.After-lower-yields = search ways depth 9 in
+    let x : tie.After-lower-exprs = search ways depth 9 in
+    let s : tie.Start = search ways depth 9 in
     let few = Room.few-after (s .pre .ready) (x .lower-exprs .ensures .moved) (omega arith) in
-    (omega (arith, y .lower-yields .ensures [] .same), Room.ops-after (s .pre .ready) (x .lower-exprs .ensures .moved) (omega arith))
+    (omega (arith, few, y .lower-yields .ensures [] .same), Room.ops-after (s .pre .ready) (x .lower-exprs .ensures .moved) (omega arith))
 
 same-length : tie.Need-same-length
 same-length c =
-    let p : tie.After-push = search ways in
-    let x : tie.After-lower-exprs = search ways in
+    let p : tie.After-push = search ways depth 9 in
+    let x : tie.After-lower-exprs = search ways depth 9 in
     p .push .kept .1 .0 ∙ x .lower-exprs .kept .1 .1 .0
 
 same-length-2 : tie.Need-same-length-2
 same-length-2 c =
-    let y : tie.After-lower-yields = search ways in
-    let x : tie.After-lower-exprs = search ways in
+    let y : tie.After-lower-yields = search ways depth 9 in
+    let x : tie.After-lower-exprs = search ways depth 9 in
     y .lower-yields .kept .1 .1 .0 ∙ x .lower-exprs .kept .1 .1 .1 .0
 
 returns : tie.Need-returns
 returns c =
-    let p : tie.After-push = search ways in
-    let y : tie.After-lower-yields = search ways in
-    let x : tie.After-lower-exprs = search ways in
-    let n′ : tie.After-count2 = search ways in
-    let n : tie.After-count = search ways in
-    let s : tie.Start = search ways in
-    let law = Calling.call-law _ _ _ _ (s .pre .room) (s .pre .kind) (s .pre .shallow) (n .count .ensures .0) (n′ .count2 .ensures .0) in
-    law (x .lower-exprs .ensures) (y .lower-yields .ensures _) (p .push .ensures) (search)
+    let p : tie.After-push = search ways depth 9 in
+    let made : tie.After-procedure-call = search ways depth 9 in
+    let y : tie.After-lower-yields = search ways depth 9 in
+    let x : tie.After-lower-exprs = search ways depth 9 in
+    let n′ : tie.After-count2 = search ways depth 9 in
+    let n : tie.After-count = search ways depth 9 in
+    let s : tie.Start = search ways depth 9 in
+    let pushed = pushed-as (made .procedure-call .ensures) (p .push .ensures) in
+    Calling.call-law (s .pre) (n .count .ensures .0) (n′ .count2 .ensures .0) (x .lower-exprs .ensures) (y .lower-yields .ensures _) pushed (p .push .kept .1 .0)
 
 pub lower-call-spec : {M : Type 1} → statement M
 lower-call-spec =
@@ -116,13 +115,11 @@ lower-call-spec =
     (tie.spec
     count-requires
     count-requires-2
+    add-first
     sub-less
-    add-lower-exprs
     lower-exprs-requires
     lower-yields-requires
-    cast-push
-    cast-push-2
-    cast-push-3
+    procedure-call-requires
     push-requires
     same-length
     same-length-2

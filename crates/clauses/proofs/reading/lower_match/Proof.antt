@@ -1,18 +1,15 @@
--- `clauses::reading::lower_match` meets its contract. An answer names a place by its type, and `search` finds the way back to it.
-use mathlib.Core.Logic.{inl, inr}
-use mathlib.Core.Path.{sym, _∙_}
-use Prim.Native.Nat.{_≤_}
+-- `clauses::reading::lower_match` meets its contract.
+use mathlib.Core.Path.{_∙_}
 use native.Mathlib.Omega.{arith}
 use native.Mathlib.Nat.{le-refl}
-use borrow.Author.Needs.{needs}
+use Rattle.projections.specs.Room
 use Rattle.clauses.proofs.Matching
-use Rattle.clauses.proofs.Room
-use Rattle.clauses.proofs.Moves
+use Rattle.context.specs.OpLaws.{under-more}
 use Rattle.clauses.proofs.reading.lower_match.Statement.{statement}
 use Rattle.clauses.proofs.reading.lower_match.Tie as tie
 
--- the ways back, from call to call
-abbrev to-lower-parts : tie.After-push → tie.After-lower-parts
+-- the ways back, from place to place
+abbrev to-lower-parts : tie.After-join-before → tie.After-lower-parts
 to-lower-parts c = search
 
 abbrev to-count : tie.After-lower-parts → tie.After-count
@@ -26,102 +23,65 @@ to-start c = search
 
 ruleset ways = (to-lower-parts, to-count, to-word, to-start)
 
--- behind the parts there is room for another operator
-few : (r : tie.After-lower-parts) → r .lower-parts .result .ctx .ops ≤ 16384
-few r =
-    let s : tie.Start = search ways in
-    Room.few-after (s .pre .ready) (r .lower-parts .ensures .moved) (le-refl _)
-
 word-requires : tie.Need-word-requires
 word-requires c κs =
-    let s : tie.Start = search ways in
+    let s : tie.Start = search ways depth 9 in
     (Room.low (s .pre .tree), (omega arith, s .pre .room))
 
 count-requires : tie.Need-count-requires
 count-requires c κs =
-    let s : tie.Start = search ways in
+    let s : tie.Start = search ways depth 9 in
     (Room.low (s .pre .tree), (omega arith, s .pre .room))
 
-sub-lower-parts : tie.Need-sub-lower-parts
-sub-lower-parts c =
-    let s : tie.Start = search ways in
+sub-less : tie.Need-sub-less
+sub-less c =
+    let s : tie.Start = search ways depth 9 in
     omega (arith, Room.bounds (s .pre))
 
 lower-parts-requires : tie.Need-lower-parts-requires
 lower-parts-requires c κs =
-    let n : tie.After-count = search ways in
-    let s : tie.Start = search ways in
+    let n : tie.After-count = search ways depth 9 in
+    let s : tie.Start = search ways depth 9 in
     let l = Room.bounds (s .pre) in
-    let parts = Matching.some-parts (s .pre .room) (s .pre .kind) (n .count .ensures .0) (s .pre .tree) in
-    (s .pre .room, (parts, (Moves.ready-good (s .pre .ready) (omega arith) (omega arith) (omega arith), omega arith, omega arith, omega arith)))
+    let parts = Matching.some-parts (s .pre) (n .count .ensures .0) in
+    record {
+      words = s .pre .room;
+      tree = record { low = l .low; trees = parts };
+      room = Room.ready-good (s .pre .ready) (le-refl _) (omega (arith, l .low)) (omega (arith, l .shallow));
+      depth = omega (arith, l .shallow);
+      pass = omega arith;
+    }
+
+join-before-requires : tie.Need-join-before-requires
+join-before-requires c κs =
+    let r : tie.After-lower-parts = search ways depth 9 in
+    let w : tie.After-word = search ways depth 9 in
+    let s : tie.Start = search ways depth 9 in
+    let l = Room.bounds (s .pre) in
+    let few = Room.few-after (s .pre .ready) (r .lower-parts .ensures .moved) (le-refl _) in
+    let held = Room.ops-after (s .pre .ready) (r .lower-parts .ensures .moved) (le-refl _) in
+    (omega (arith, few), held, r .lower-parts .ensures .low, under-more (omega (arith, l .few)) (s .pre .stands), l .low, Matching.optional-flag (s .pre) (w .word .ensures))
 
 same-length : tie.Need-same-length
-same-length c = search needs
+same-length c =
+    let j : tie.After-join-before = search ways depth 9 in
+    let r : tie.After-lower-parts = search ways depth 9 in
+    j .join-before .kept .0 ∙ r .lower-parts .kept .1 .1 .0
 
 same-length-2 : tie.Need-same-length-2
-same-length-2 c = search needs
+same-length-2 c =
+    let r : tie.After-lower-parts = search ways depth 9 in
+    r .lower-parts .kept .1 .1 .1 .0
 
 returns : tie.Need-returns
 returns c =
-    let r : tie.After-lower-parts = search ways in
-    let n : tie.After-count = search ways in
-    let w : tie.After-word = search ways in
-    let s : tie.Start = search ways in
-    Matching.plain-law _ _ _ _ (s .pre .room) (s .pre .kind) (n .count .ensures .0) (r .lower-parts .ensures) (inl (sym (w .word .ensures) ∙ c .if1 .taken))
-
-same-length-3 : tie.Need-same-length-3
-same-length-3 c = search needs
-
-same-length-4 : tie.Need-same-length-4
-same-length-4 c = search needs
-
-returns-2 : tie.Need-returns-2
-returns-2 c =
-    let r : tie.After-lower-parts = search ways in
-    let n : tie.After-count = search ways in
-    let s : tie.Start = search ways in
-    Matching.plain-law _ _ _ _ (s .pre .room) (s .pre .kind) (n .count .ensures .0) (r .lower-parts .ensures) (inr (c .if2 .taken))
-
-cast-outer : tie.Need-cast-outer
-cast-outer c =
-    let r : tie.After-lower-parts = search ways in
-    let s : tie.Start = search ways in
-    omega (arith, few r, Room.bounds (s .pre))
-
-cast-inner : tie.Need-cast-inner
-cast-inner c =
-    let r : tie.After-lower-parts = search ways in
-    omega (arith, few r, r .lower-parts .ensures .low)
-
-cast-push : tie.Need-cast-push
-cast-push c =
-    let r : tie.After-lower-parts = search ways in
-    let s : tie.Start = search ways in
-    omega (arith, Room.bounds (s .pre))
-
-push-requires : tie.Need-push-requires
-push-requires c κs =
-    let r : tie.After-lower-parts = search ways in
-    let s : tie.Start = search ways in
-    (omega (arith, few r), Room.ops-after (s .pre .ready) (r .lower-parts .ensures .moved) (le-refl _))
-
-same-length-5 : tie.Need-same-length-5
-same-length-5 c = search needs
-
-same-length-6 : tie.Need-same-length-6
-same-length-6 c = search needs
-
-returns-3 : tie.Need-returns-3
-returns-3 c =
-    let p : tie.After-push = search ways in
-    let given : tie.Else2 = search ways in
-    let optional : tie.Else1 = search ways in
-    let r : tie.After-lower-parts = search ways in
-    let n : tie.After-count = search ways in
-    let w : tie.After-word = search ways in
-    let s : tie.Start = search ways in
-    let law = Matching.joined-law _ _ _ _ (s .pre .room) (s .pre .kind) (n .count .ensures .0) (r .lower-parts .ensures) in
-    law (λ e. optional .if1 .left (w .word .ensures ∙ e)) (given .if2 .left) (s .pre .tree) (p .push .ensures) (search)
+    let j : tie.After-join-before = search ways depth 9 in
+    let r : tie.After-lower-parts = search ways depth 9 in
+    let n : tie.After-count = search ways depth 9 in
+    let w : tie.After-word = search ways depth 9 in
+    let s : tie.Start = search ways depth 9 in
+    let law = Matching.match-law (s .pre) (n .count .ensures .0) (w .word .ensures) (r .lower-parts .ensures) (j .join-before .ensures .1 _) in
+    λ sheet. Matching.ends-at (j .join-before .ensures .0) (law sheet)
 
 pub lower-match-spec : {M : Type 1} → statement M
 lower-match-spec =
@@ -129,18 +89,9 @@ lower-match-spec =
     (tie.spec
     word-requires
     count-requires
-    sub-lower-parts
+    sub-less
     lower-parts-requires
+    join-before-requires
     same-length
     same-length-2
-    returns
-    same-length-3
-    same-length-4
-    returns-2
-    cast-outer
-    cast-inner
-    cast-push
-    push-requires
-    same-length-5
-    same-length-6
-    returns-3)
+    returns)

@@ -1,16 +1,16 @@
--- `clauses::reading::lower_reading_clause` meets its contract. An answer names a place by its type, and `search` finds the way back to it.
+-- `clauses::reading::lower_reading_clause` meets its contract.
 use mathlib.Core.Path.{sym, _∙_}
 use native.Mathlib.Omega.{arith}
-use borrow.Author.Needs.{needs}
+use Rattle.projections.specs.Room
 use Rattle.clauses.proofs.Clausing
-use Rattle.clauses.proofs.Room
+use borrow.Author.Needs.{needs}
 use Rattle.clauses.proofs.reading.lower_reading_clause.Statement.{statement}
 use Rattle.clauses.proofs.reading.lower_reading_clause.Tie as tie
 
 word-requires : tie.Need-word-requires
 word-requires c κs =
     let s : tie.Start = search in
-    (Room.low (Clausing.some-tree (s .pre .held)), (omega arith, s .pre .room))
+    (Room.low (Room.some-tree (s .pre .held)), (omega arith, s .pre .room))
 
 lower-match-requires : tie.Need-lower-match-requires
 lower-match-requires c κs =
@@ -31,14 +31,14 @@ lower-with-requires c κs =
     let m : tie.At-match-keys3 = search in
     let w : tie.After-word = search in
     let s : tie.Start = search in
-    (s .pre .room, ((Clausing.some-tree (s .pre .held), sym (w .word .ensures) ∙ m .match .keys3), ((s .pre .ready, s .pre .shallow), s .pre .stands)))
+    Clausing.asked (s .pre) (sym (w .word .ensures) ∙ m .match .keys3)
 
 lower-return-requires : tie.Need-lower-return-requires
 lower-return-requires c κs =
     let m : tie.At-match-keys4 = search in
     let w : tie.After-word = search in
     let s : tie.Start = search in
-    (s .pre .room, ((s .pre .held, sym (w .word .ensures) ∙ m .match .keys4), ((s .pre .ready, s .pre .shallow), s .pre .stands)))
+    record { asked = Clausing.asked (s .pre) (sym (w .word .ensures) ∙ m .match .keys4); held = s .pre .held }
 
 lower-unwind-requires : tie.Need-lower-unwind-requires
 lower-unwind-requires c κs =
@@ -52,23 +52,7 @@ lower-call-requires c κs =
     let m : tie.At-match-rest = search in
     let w : tie.After-word = search in
     let s : tie.Start = search in
-    let other = m .match .rest in
-    let not-2 = other .0 .0 .0 .0 .1 in
-    let not-3 = other .0 .0 .0 .1 in
-    let not-4 = other .0 .0 .1 in
-    let not-5 = other .0 .1 in
-    let not-6 = other .1 in
-    let is = w .word .ensures in
-    Clausing.asked (s .pre)
-    (Clausing.seven
-    (s .pre .room)
-    (s .pre .held)
-    (λ e. not-2 (is ∙ e))
-    (λ e. not-3 (is ∙ e))
-    (λ e. not-4 (is ∙ e))
-    (λ e. not-5 (is ∙ e))
-    (λ e. not-6 (is ∙ e))
-    (s .pre .reads))
+    Clausing.asked (s .pre) (Clausing.a-call-left (s .pre) (w .word .ensures) (m .match .rest))
 
 returns : tie.Need-returns
 returns c =

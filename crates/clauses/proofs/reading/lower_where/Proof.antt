@@ -1,16 +1,19 @@
--- `clauses::reading::lower_where` meets its contract. An answer names a place by its type, and `search` finds the way back to it.
+-- `clauses::reading::lower_where` meets its contract.
 use mathlib.Core.List.{[]}
-use Prim.Native.Nat.{_≤_}
+use mathlib.Core.Path.{_∙_}
 use native.Mathlib.Omega.{arith}
-use borrow.Author.Needs.{needs}
+use Rattle.context.specs.OpLaws.{pushed-as}
+use Rattle.projections.specs.Room
 use Rattle.clauses.proofs.Filtering
-use Rattle.clauses.proofs.Room
-use Rattle.clauses.proofs.Moves
+use Rattle.clauses.proofs.Matching
 use Rattle.clauses.proofs.reading.lower_where.Statement.{statement}
 use Rattle.clauses.proofs.reading.lower_where.Tie as tie
 
--- the ways back, from call to call
-abbrev to-input-or-source : tie.After-push → tie.After-input-or-source
+-- the ways back, from place to place
+abbrev to-filter : tie.After-push → tie.After-filter
+to-filter c = search
+
+abbrev to-input-or-source : tie.After-filter → tie.After-input-or-source
 to-input-or-source c = search
 
 abbrev to-lower-expr : tie.After-input-or-source → tie.After-lower-expr
@@ -19,75 +22,80 @@ to-lower-expr c = search
 abbrev to-start : tie.After-lower-expr → tie.Start
 to-start c = search
 
-ruleset ways = (to-input-or-source, to-lower-expr, to-start)
-
--- behind the expression there is room for another operator
-few : (e : tie.After-lower-expr) → e .lower-expr .result .ctx .ops ≤ 16384
-few e =
-    let s : tie.Start = search ways in
-    Room.few-after (s .pre .ready) (e .lower-expr .ensures .moved) (omega arith)
+ruleset ways = (to-filter, to-input-or-source, to-lower-expr, to-start)
 
 add-first : tie.Need-add-first
 add-first c =
-    let s : tie.Start = search ways in
+    let s : tie.Start = search ways depth 9 in
     omega (arith, Room.bounds (s .pre))
 
 sub-less : tie.Need-sub-less
 sub-less c =
-    let s : tie.Start = search ways in
+    let s : tie.Start = search ways depth 9 in
     omega (arith, Room.bounds (s .pre))
 
 lower-expr-requires : tie.Need-lower-expr-requires
 lower-expr-requires c κs =
-    let s : tie.Start = search ways in
-    let n = Room.bounds (s .pre) in
-    (s .pre .room, (Filtering.some-predicate (s .pre), (Moves.ready-good (s .pre .ready) (omega arith) (omega arith) (omega arith), omega arith, omega arith)))
+    let s : tie.Start = search ways depth 9 in
+    let l = Room.bounds (s .pre) in
+    record {
+      words = s .pre .room;
+      tree = Filtering.some-predicate (s .pre);
+      room = Room.ready-good (s .pre .ready) (omega arith) (omega (arith, l .low)) (omega (arith, l .shallow));
+      depth = omega (arith, l .shallow);
+      pass = omega arith;
+    }
 
 input-or-source-requires : tie.Need-input-or-source-requires
 input-or-source-requires c κs =
-    let e : tie.After-lower-expr = search ways in
-    let s : tie.Start = search ways in
-    search (few, Room.ops-after, needs)
+    let e : tie.After-lower-expr = search ways depth 9 in
+    let s : tie.Start = search ways depth 9 in
+    let few = Room.few-after (s .pre .ready) (e .lower-expr .ensures .moved) (omega arith) in
+    let held = Room.ops-after (s .pre .ready) (e .lower-expr .ensures .moved) (omega arith) in
+    (omega (arith, few), held)
 
-cast-push : tie.Need-cast-push
-cast-push c =
-    let s : tie.Start = search ways in
-    omega (arith, Room.bounds (s .pre))
-
-cast-push-2 : tie.Need-cast-push-2
-cast-push-2 c =
-    let q : tie.After-input-or-source = search ways in
-    let e : tie.After-lower-expr = search ways in
-    let s : tie.Start = search ways in
-    omega (arith, Room.bounds (s .pre), few e, q .input-or-source .ensures .input [] .few)
-
-cast-push-3 : tie.Need-cast-push-3
-cast-push-3 c =
-    let s : tie.Start = search ways in
-    omega (arith, Room.bounds (s .pre))
+filter-requires : tie.Need-filter-requires
+filter-requires c κs =
+    let q : tie.After-input-or-source = search ways depth 9 in
+    let e : tie.After-lower-expr = search ways depth 9 in
+    let s : tie.Start = search ways depth 9 in
+    let l = Room.bounds (s .pre) in
+    let few = Room.few-after (s .pre .ready) (e .lower-expr .ensures .moved) (omega arith) in
+    let left = q .input-or-source .ensures in
+    (Room.fits (omega arith) (omega (arith, l .low)) (omega (arith, l .shallow)), omega (arith, few, l .few, left .near _ (s .pre .stands), left .input [] .few))
 
 push-requires : tie.Need-push-requires
 push-requires c κs =
-    let q : tie.After-input-or-source = search ways in
-    let e : tie.After-lower-expr = search ways in
-    let s : tie.Start = search ways in
+    let q : tie.After-input-or-source = search ways depth 9 in
+    let e : tie.After-lower-expr = search ways depth 9 in
+    let s : tie.Start = search ways depth 9 in
+    let few = Room.few-after (s .pre .ready) (e .lower-expr .ensures .moved) (omega arith) in
     let held = Room.ops-after (s .pre .ready) (e .lower-expr .ensures .moved) (omega arith) in
-    (omega (arith, few e, q .input-or-source .ensures .input [] .few), rw (q .input-or-source .kept .0) held)
+    (omega (arith, few, q .input-or-source .ensures .input [] .few), rw (q .input-or-source .kept .0) held)
 
 same-length : tie.Need-same-length
-same-length c = cc
+same-length c =
+    let p : tie.After-push = search ways depth 9 in
+    let q : tie.After-input-or-source = search ways depth 9 in
+    let e : tie.After-lower-expr = search ways depth 9 in
+    p .push .kept .1 .0 ∙ q .input-or-source .kept .0 ∙ e .lower-expr .kept .1 .1 .0
 
 same-length-2 : tie.Need-same-length-2
-same-length-2 c = search
+same-length-2 c =
+    let e : tie.After-lower-expr = search ways depth 9 in
+    e .lower-expr .kept .1 .1 .1 .0
 
 returns : tie.Need-returns
 returns c =
-    let p : tie.After-push = search ways in
-    let q : tie.After-input-or-source = search ways in
-    let e : tie.After-lower-expr = search ways in
-    let s : tie.Start = search ways in
+    let p : tie.After-push = search ways depth 9 in
+    let made : tie.After-filter = search ways depth 9 in
+    let q : tie.After-input-or-source = search ways depth 9 in
+    let e : tie.After-lower-expr = search ways depth 9 in
+    let s : tie.Start = search ways depth 9 in
     let left = q .input-or-source .ensures in
-    rw (left .same) (Filtering.where-law (s .pre) (e .lower-expr .ensures) (left .input _) (p .push .ensures) (search))
+    let pushed = pushed-as (made .filter .ensures) (p .push .ensures) in
+    let law = Filtering.where-law (s .pre) (e .lower-expr .ensures) (left .input _) pushed (p .push .kept .1 .0) in
+    λ sheet. Matching.ends-at (left .same) (law sheet)
 
 pub lower-where-spec : {M : Type 1} → statement M
 lower-where-spec =
@@ -97,9 +105,7 @@ lower-where-spec =
     sub-less
     lower-expr-requires
     input-or-source-requires
-    cast-push
-    cast-push-2
-    cast-push-3
+    filter-requires
     push-requires
     same-length
     same-length-2

@@ -1,5 +1,5 @@
 -- `build_sheet` meets its contract: the cursor says whether the sheet fits. Assumes nothing.
-use Rattle.gate_cases.proofs.Sheets.{too-long, long-enough}
+use Rattle.output.specs.Whole.{too-long, long-enough}
 use Rattle.output.specs.Writes.{same}
 use native.Mathlib.Omega.{arith}
 use borrow.Author.Needs.{needs}

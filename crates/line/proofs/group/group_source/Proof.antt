@@ -1,5 +1,5 @@
 -- `line::group::group_source` meets its contract: an entry of the table. Assumes nothing.
-use Rattle.line.specs.GroupLaws.{entries-low}
+use Rattle.words.specs.GroupLaws.{entries-low}
 use borrow.Author.Needs.{needs}
 use Rattle.line.proofs.group.group_source.Statement.{statement}
 use Rattle.line.proofs.group.group_source.Tie as tie

@@ -42,4 +42,12 @@ returns-6 c = let r = (c .match .rest) in BehindLaws.next-at _ _ (r .0 .0 .0 .0 
 
 pub first-of-spec : {M : Type 1} → statement M
 first-of-spec =
-    tie.close (tie.spec add-result returns returns-2 returns-3 returns-4 returns-5 returns-6)
+    tie.close (tie.spec
+    (λ c. search needs)
+    add-result
+    returns
+    returns-2
+    returns-3
+    returns-4
+    returns-5
+    returns-6)

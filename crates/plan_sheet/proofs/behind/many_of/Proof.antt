@@ -12,7 +12,10 @@ back-count2 c = search
 abbrev back-count : tie.After-count → tie.Start
 back-count c = search
 
-ruleset ways = (back-count2, back-count)
+abbrev back-count3 : tie.After-count3 → tie.After-count2
+back-count3 c = search
+
+ruleset ways = (back-count3, back-count2, back-count)
 
 returns : tie.Need-returns
 unfolding manyBy
@@ -50,8 +53,8 @@ returns-7 c = rw (c .match .keys7)
 returns-8 : tie.Need-returns-8
 unfolding manyBy
 returns-8 c =
-    let after-count2 : tie.After-count2 = search ways in
-    rw (c .match .keys8, after-count2 .count2 .ensures .0)
+    let args : tie.After-count3 = search ways in
+    rw (c .match .keys8, args .count3 .ensures .0)
 
 returns-9 : tie.Need-returns-9
 returns-9 c =
@@ -75,6 +78,8 @@ pub many-of-spec : {M : Type 1} → statement M
 many-of-spec =
     tie.close
     (tie.spec
+    (λ c. search needs)
+    (λ c κs. search needs)
     (λ c κs. search needs)
     (λ c κs. search needs)
     (λ c. search needs)

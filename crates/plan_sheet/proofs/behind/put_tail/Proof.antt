@@ -12,22 +12,19 @@ back-put-yields c = search
 abbrev back-put-path : tie.After-put-path → tie.At-match-keys2
 back-put-path c = search
 
-abbrev back-put-names : tie.After-put-names → tie.At-match-keys1
+abbrev back-put-names : tie.After-put-names → tie.After-count
 back-put-names c = search
 
-abbrev back-at-match-keys3 : tie.At-match-keys3 → tie.After-count2
+abbrev back-at-match-keys3 : tie.At-match-keys3 → tie.Start
 back-at-match-keys3 c = search
 
-abbrev back-at-match-keys2 : tie.At-match-keys2 → tie.After-count2
+abbrev back-at-match-keys2 : tie.At-match-keys2 → tie.Start
 back-at-match-keys2 c = search
 
-abbrev back-at-match-keys1 : tie.At-match-keys1 → tie.After-count2
+abbrev back-at-match-keys1 : tie.At-match-keys1 → tie.Start
 back-at-match-keys1 c = search
 
-abbrev back-count2 : tie.After-count2 → tie.After-count
-back-count2 c = search
-
-abbrev back-count : tie.After-count → tie.Start
+abbrev back-count : tie.After-count → tie.At-match-keys1
 back-count c = search
 
 ruleset ways = (
@@ -37,17 +34,11 @@ ruleset ways = (
   back-at-match-keys3,
   back-at-match-keys2,
   back-at-match-keys1,
-  back-count2,
   back-count,
 )
 
 count-requires : tie.Need-count-requires
 count-requires c κs =
-    let start : tie.Start = search ways in
-    (start .pre .1 .0 .2, (omega arith, start .pre .0))
-
-count-requires-2 : tie.Need-count-requires-2
-count-requires-2 c κs =
     let start : tie.Start = search ways in
     (start .pre .1 .0 .2, (omega arith, start .pre .0))
 
@@ -61,24 +52,22 @@ put-names-requires c κs =
 put-path-requires : tie.Need-put-path-requires
 put-path-requires c κs =
     let at-match-keys2 : tie.At-match-keys2 = search ways in
-    let after-count2 : tie.After-count2 = search ways in
     let start : tie.Start = search ways in (
       start .pre .0,
       (
-        (start .pre .1 .0 .0, start .pre .1 .0 .1),
-        BehindLaws.path-there (at-match-keys2 .match .keys2) (after-count2 .count2 .ensures .0) (start .pre .1 .1),
+        start .pre .1 .0,
+        BehindLaws.path-there (at-match-keys2 .match .keys2) (start .pre .1 .1),
       ),
     )
 
 put-yields-requires : tie.Need-put-yields-requires
 put-yields-requires c κs =
     let at-match-keys3 : tie.At-match-keys3 = search ways in
-    let after-count2 : tie.After-count2 = search ways in
     let start : tie.Start = search ways in (
       start .pre .0,
       (
-        (start .pre .1 .0 .0, start .pre .1 .0 .1),
-        BehindLaws.yields-there (at-match-keys3 .match .keys3) (after-count2 .count2 .ensures .0) (start .pre .1 .1),
+        start .pre .1 .0,
+        BehindLaws.yields-there (at-match-keys3 .match .keys3) (start .pre .1 .1),
       ),
     )
 
@@ -93,15 +82,13 @@ returns-2 : tie.Need-returns-2
 returns-2 c =
     let after-put-path : tie.After-put-path = search ways in
     let at-match-keys2 : tie.At-match-keys2 = search ways in
-    let after-count2 : tie.After-count2 = search ways in
-    BehindLaws.path-wrote (at-match-keys2 .match .keys2) (after-count2 .count2 .ensures .0) (after-put-path .put-path .ensures)
+    BehindLaws.path-wrote (at-match-keys2 .match .keys2) (after-put-path .put-path .ensures)
 
 returns-3 : tie.Need-returns-3
 returns-3 c =
     let after-put-yields : tie.After-put-yields = search ways in
     let at-match-keys3 : tie.At-match-keys3 = search ways in
-    let after-count2 : tie.After-count2 = search ways in
-    BehindLaws.yields-wrote (at-match-keys3 .match .keys3) (after-count2 .count2 .ensures .0) (after-put-yields .put-yields .ensures)
+    BehindLaws.yields-wrote (at-match-keys3 .match .keys3) (after-put-yields .put-yields .ensures)
 
 returns-4 : tie.Need-returns-4
 returns-4 c = BehindLaws.nothing-wrote (c .match .rest .0 .0 .1) (c .match .rest .0 .1) (c .match .rest .1)
@@ -110,8 +97,8 @@ pub put-tail-spec : {M : Type 1} → statement M
 put-tail-spec =
     tie.close
     (tie.spec
+    (λ c. search needs)
     count-requires
-    count-requires-2
     put-names-requires
     put-path-requires
     put-yields-requires

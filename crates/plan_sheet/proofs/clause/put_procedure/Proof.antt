@@ -6,11 +6,8 @@ use Rattle.plan_sheet.proofs.clause.put_procedure.Statement.{statement}
 use Rattle.plan_sheet.proofs.clause.put_procedure.Tie as tie
 
 -- the ways back, from place to place
-abbrev back-put-byte : tie.After-put-byte → tie.After-put-numbers
-back-put-byte c = search
-
-abbrev back-put-numbers : tie.After-put-numbers → tie.After-put-text
-back-put-numbers c = search
+abbrev back-put-counts : tie.After-put-counts → tie.After-put-text
+back-put-counts c = search
 
 abbrev back-put-text : tie.After-put-text → tie.After-put-input
 back-put-text c = search
@@ -18,17 +15,8 @@ back-put-text c = search
 abbrev back-put-input : tie.After-put-input → tie.After-put-keyword
 back-put-input c = search
 
-abbrev back-put-keyword : tie.After-put-keyword → tie.After-word5
+abbrev back-put-keyword : tie.After-put-keyword → tie.After-word2
 back-put-keyword c = search
-
-abbrev back-word5 : tie.After-word5 → tie.After-word4
-back-word5 c = search
-
-abbrev back-word4 : tie.After-word4 → tie.After-word3
-back-word4 c = search
-
-abbrev back-word3 : tie.After-word3 → tie.After-word2
-back-word3 c = search
 
 abbrev back-word2 : tie.After-word2 → tie.After-word
 back-word2 c = search
@@ -36,88 +24,39 @@ back-word2 c = search
 abbrev back-word : tie.After-word → tie.Start
 back-word c = search
 
-ruleset ways = (
-  back-put-byte,
-  back-put-numbers,
-  back-put-text,
-  back-put-input,
-  back-put-keyword,
-  back-word5,
-  back-word4,
-  back-word3,
-  back-word2,
-  back-word,
-)
+ruleset ways = (back-put-counts, back-put-text, back-put-input, back-put-keyword, back-word2, back-word)
 
 put-text-requires : tie.Need-put-text-requires
 put-text-requires c κs =
-    let after-word2 : tie.After-word2 = c .before .before .before .before .before .before .before .before .before .before .before .before in
-    let after-word : tie.After-word = c .before .before .before .before .before .before .before .before .before .before .before .before .before in
-    let start : tie.Start =
-    c .before .before .before .before .before .before .before .before .before .before .before .before .before .before .before .before .before
-    .before
-    in
-    rw (after-word .word .ensures, after-word2 .word2 .ensures) (start .pre .1 .1)
+    let start : tie.Start = search in
+    let from : tie.After-word = search in
+    let to : tie.After-word2 = search in
+    rw (from .word .ensures, to .word2 .ensures) (start .pre .1 .1)
 
 returns : tie.Need-returns
 unfolding callText
 returns c =
-    let after-put-byte : tie.After-put-byte = c .before .before in
-    let after-put-numbers : tie.After-put-numbers = c .before .before .before .before .before .before in
-    let after-put-text : tie.After-put-text = c .before .before .before .before .before .before .before .before .before .before in
-    let after-put-input : tie.After-put-input =
-    c .before .before .before .before .before .before .before .before .before .before .before .before .before .before
-    in
-    let after-put-keyword : tie.After-put-keyword =
-    c .before .before .before .before .before .before .before .before .before .before .before .before .before .before .before .before .before
-    .before
-    in
-    let after-word5 : tie.After-word5 =
-    c .before .before .before .before .before .before .before .before .before .before .before .before .before .before .before .before .before
-    .before .before .before
-    in
-    let after-word4 : tie.After-word4 =
-    c .before .before .before .before .before .before .before .before .before .before .before .before .before .before .before .before .before
-    .before .before .before .before
-    in
-    let after-word3 : tie.After-word3 =
-    c .before .before .before .before .before .before .before .before .before .before .before .before .before .before .before .before .before
-    .before .before .before .before .before
-    in
-    let after-word2 : tie.After-word2 =
-    c .before .before .before .before .before .before .before .before .before .before .before .before .before .before .before .before .before
-    .before .before .before .before .before .before
-    in
-    let after-word : tie.After-word =
-    c .before .before .before .before .before .before .before .before .before .before .before .before .before .before .before .before .before
-    .before .before .before .before .before .before .before
-    in
-    rw
-    (after-word .word .ensures, after-word2 .word2 .ensures, after-word3 .word3 .ensures, after-word4 .word4 .ensures, after-word5 .word5 .ensures)
-    at
-    ((after-put-keyword .put-keyword .ensures)
-    ⨾
-    (after-put-input .put-input .ensures)
-    ⨾
-    (after-put-text .put-text .ensures)
-    ⨾
-    (after-put-numbers .put-numbers .ensures)
-    ⨾
-    (after-put-byte .put-byte .ensures))
+    let from : tie.After-word = search ways depth 8 in
+    let to : tie.After-word2 = search ways depth 8 in
+    let keyword : tie.After-put-keyword = search ways depth 8 in
+    let input : tie.After-put-input = search ways depth 8 in
+    let name : tie.After-put-text = search ways depth 8 in
+    let counts : tie.After-put-counts = search ways depth 8 in
+    keyword .put-keyword .ensures
+    ⨾ input .put-input .ensures
+    ⨾ rw (from .word .ensures, to .word2 .ensures) at (name .put-text .ensures)
+    ⨾ counts .put-counts .ensures
 
 pub put-procedure-spec : {M : Type 1} → statement M
 put-procedure-spec =
     tie.close
     (tie.spec
     (λ c κs. search needs)
-    (λ c κs. search needs)
-    (λ c κs. search needs)
-    (λ c κs. search needs)
+    (λ c. search needs)
     (λ c κs. search needs)
     (λ c κs. search needs)
     (λ c κs. search needs)
     put-text-requires
-    (λ c κs. search needs)
     (λ c κs. search needs)
     (λ c. search needs)
     returns)

@@ -4,8 +4,8 @@ use Rattle.plan_sheet.proofs.head.put_any.Statement.{statement}
 use Rattle.plan_sheet.proofs.head.put_any.Tie as tie
 
 -- the ways back, from place to place
-abbrev back-put-row : tie.After-put-row → tie.After-word2
-back-put-row c = search
+abbrev back-put-row3 : tie.After-put-row3 → tie.After-word2
+back-put-row3 c = search
 
 abbrev back-word2 : tie.After-word2 → tie.After-word
 back-word2 c = search
@@ -13,14 +13,14 @@ back-word2 c = search
 abbrev back-word : tie.After-word → tie.Start
 back-word c = search
 
-ruleset ways = (back-put-row, back-word2, back-word)
+ruleset ways = (back-put-row3, back-word2, back-word)
 
 returns : tie.Need-returns
 returns c =
     let after-word : tie.After-word = search in
     let after-word2 : tie.After-word2 = search in
-    let after-put-row : tie.After-put-row = search in
-    rw (after-word .word .ensures, after-word2 .word2 .ensures) at (after-put-row .put-row .ensures)
+    let after-put-row3 : tie.After-put-row3 = search in
+    rw (after-word .word .ensures, after-word2 .word2 .ensures) at (after-put-row3 .put-row3 .ensures)
 
 pub put-any-spec : {M : Type 1} → statement M
 put-any-spec =

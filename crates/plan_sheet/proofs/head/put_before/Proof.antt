@@ -132,8 +132,10 @@ put-before-spec =
     (tie.spec
     word-requires
     add-next
+    (λ c. search needs)
     put-line-requires
     add-next-2
+    (λ c. search needs)
     put-line-requires-2
     add-next-3
     put-item-requires

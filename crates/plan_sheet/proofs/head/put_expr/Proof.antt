@@ -7,17 +7,17 @@ use Rattle.plan_sheet.proofs.head.put_expr.Statement.{statement}
 use Rattle.plan_sheet.proofs.head.put_expr.Tie as tie
 
 -- the ways back, from place to place
-abbrev back-put-row4 : tie.After-put-row4 → tie.At-match-keys7
-back-put-row4 c = search
+abbrev back-put-row03 : tie.After-put-row03 → tie.At-match-keys7
+back-put-row03 c = search
 
-abbrev back-put-row3 : tie.After-put-row3 → tie.At-match-keys6
-back-put-row3 c = search
+abbrev back-put-row02 : tie.After-put-row02 → tie.At-match-keys6
+back-put-row02 c = search
 
-abbrev back-put-row2 : tie.After-put-row2 → tie.At-match-keys4
-back-put-row2 c = search
+abbrev back-put-row0 : tie.After-put-row0 → tie.At-match-keys4
+back-put-row0 c = search
 
-abbrev back-put-row : tie.After-put-row → tie.At-match-keys1
-back-put-row c = search
+abbrev back-put-row1 : tie.After-put-row1 → tie.At-match-keys1
+back-put-row1 c = search
 
 abbrev back-put-line2 : tie.After-put-line2 → tie.At-match-rest
 back-put-line2 c = search
@@ -56,10 +56,10 @@ abbrev back-at-match-keys1 : tie.At-match-keys1 → tie.Start
 back-at-match-keys1 c = search
 
 ruleset ways = (
-  back-put-row4,
-  back-put-row3,
-  back-put-row2,
-  back-put-row,
+  back-put-row03,
+  back-put-row02,
+  back-put-row0,
+  back-put-row1,
   back-put-line2,
   back-put-line,
   back-put-call,
@@ -120,10 +120,10 @@ put-line-requires-2 c κs =
 
 returns : tie.Need-returns
 returns c =
-    let after-put-row : tie.After-put-row = search ways in
+    let after-put-row1 : tie.After-put-row1 = search ways in
     let at-match-keys1 : tie.At-match-keys1 = search ways in
     let start : tie.Start = search ways in
-    λ h. rw (HeadLaws.var-head (start .pre .0) _ h (sym (start .pre .1 .1) ∙ (at-match-keys1 .match .keys1))) (after-put-row .put-row .ensures)
+    λ h. rw (HeadLaws.var-head (start .pre .0) _ h (sym (start .pre .1 .1) ∙ (at-match-keys1 .match .keys1))) (after-put-row1 .put-row1 .ensures)
 
 returns-2 : tie.Need-returns-2
 returns-2 c =
@@ -142,10 +142,10 @@ returns-3 c =
 
 returns-4 : tie.Need-returns-4
 returns-4 c =
-    let after-put-row2 : tie.After-put-row2 = search ways in
+    let after-put-row0 : tie.After-put-row0 = search ways in
     let at-match-keys4 : tie.At-match-keys4 = search ways in
     let start : tie.Start = search ways in
-    λ h. rw (HeadLaws.exists-head (start .pre .0) _ h (sym (start .pre .1 .1) ∙ (at-match-keys4 .match .keys4))) (after-put-row2 .put-row2 .ensures)
+    λ h. rw (HeadLaws.exists-head (start .pre .0) _ h (sym (start .pre .1 .1) ∙ (at-match-keys4 .match .keys4))) (after-put-row0 .put-row0 .ensures)
 
 returns-5 : tie.Need-returns-5
 returns-5 c =
@@ -156,19 +156,19 @@ returns-5 c =
 
 returns-6 : tie.Need-returns-6
 returns-6 c =
-    let after-put-row3 : tie.After-put-row3 = search ways in
+    let after-put-row02 : tie.After-put-row02 = search ways in
     let at-match-keys6 : tie.At-match-keys6 = search ways in
     let start : tie.Start = search ways in
     λ h.
-    rw (HeadLaws.unresolved-head (start .pre .0) _ h (sym (start .pre .1 .1) ∙ (at-match-keys6 .match .keys6))) (after-put-row3 .put-row3 .ensures)
+    rw (HeadLaws.unresolved-head (start .pre .0) _ h (sym (start .pre .1 .1) ∙ (at-match-keys6 .match .keys6))) (after-put-row02 .put-row02 .ensures)
 
 returns-7 : tie.Need-returns-7
 returns-7 c =
-    let after-put-row4 : tie.After-put-row4 = search ways in
+    let after-put-row03 : tie.After-put-row03 = search ways in
     let at-match-keys7 : tie.At-match-keys7 = search ways in
     let start : tie.Start = search ways in
     λ h.
-    rw (HeadLaws.undesugared-head (start .pre .0) _ h (sym (start .pre .1 .1) ∙ (at-match-keys7 .match .keys7))) (after-put-row4 .put-row4 .ensures)
+    rw (HeadLaws.undesugared-head (start .pre .0) _ h (sym (start .pre .1 .1) ∙ (at-match-keys7 .match .keys7))) (after-put-row03 .put-row03 .ensures)
 
 returns-8 : tie.Need-returns-8
 returns-8 c =
@@ -196,6 +196,7 @@ put-expr-spec =
     tie.close
     (tie.spec
     (λ c κs. search needs)
+    (λ c. search needs)
     put-line-requires
     put-call-requires
     (λ c κs. search needs)

@@ -4,8 +4,8 @@ use Rattle.plan_sheet.proofs.item.put_agg.Statement.{statement}
 use Rattle.plan_sheet.proofs.item.put_agg.Tie as tie
 
 -- the ways back, from place to place
-abbrev back-put-named : tie.After-put-named → tie.After-word4
-back-put-named c = search
+abbrev back-put-named2 : tie.After-put-named2 → tie.After-word4
+back-put-named2 c = search
 
 abbrev back-word4 : tie.After-word4 → tie.After-word3
 back-word4 c = search
@@ -19,7 +19,7 @@ back-word2 c = search
 abbrev back-word : tie.After-word → tie.Start
 back-word c = search
 
-ruleset ways = (back-put-named, back-word4, back-word3, back-word2, back-word)
+ruleset ways = (back-put-named2, back-word4, back-word3, back-word2, back-word)
 
 returns : tie.Need-returns
 returns c =
@@ -27,17 +27,18 @@ returns c =
     let after-word2 : tie.After-word2 = search in
     let after-word3 : tie.After-word3 = search in
     let after-word4 : tie.After-word4 = search in
-    let after-put-named : tie.After-put-named = search in
+    let after-put-named2 : tie.After-put-named2 = search in
     rw
     (after-word .word .ensures, after-word2 .word2 .ensures, after-word3 .word3 .ensures, after-word4 .word4 .ensures)
     at
-    (after-put-named .put-named .ensures)
+    (after-put-named2 .put-named2 .ensures)
 
 pub put-agg-spec : {M : Type 1} → statement M
 put-agg-spec =
     tie.close
     (tie.spec
     (λ c κs. search needs)
+    (λ c. search needs)
     (λ c κs. search needs)
     (λ c κs. search needs)
     (λ c κs. search needs)

@@ -79,6 +79,7 @@ put-names-spec =
     Inv-loop
     μ-loop
     loop-holds
+    (λ c. search needs)
     put-line-requires
     add-at
     (λ c. search needs)

@@ -1,6 +1,5 @@
 -- `put_op` meets its contract. Assumes nothing.
 use Rattle.plan_sheet.proofs.OpLaws
-use native.Mathlib.Omega.{arith}
 use borrow.Author.Needs.{needs}
 use Rattle.plan_sheet.proofs.op.put_op.Statement.{statement}
 use Rattle.plan_sheet.proofs.op.put_op.Tie as tie
@@ -18,11 +17,11 @@ back-put-source c = search
 abbrev back-put-row3 : tie.After-put-row3 → tie.At-match-keys6
 back-put-row3 c = search
 
-abbrev back-put-row2 : tie.After-put-row2 → tie.At-match-keys3
-back-put-row2 c = search
+abbrev back-put-row1 : tie.After-put-row1 → tie.At-match-keys3
+back-put-row1 c = search
 
-abbrev back-put-row : tie.After-put-row → tie.At-match-keys1
-back-put-row c = search
+abbrev back-put-row2 : tie.After-put-row2 → tie.At-match-keys1
+back-put-row2 c = search
 
 abbrev back-put-clause-op : tie.After-put-clause-op → tie.At-match-rest
 back-put-clause-op c = search
@@ -53,8 +52,8 @@ ruleset ways = (
   back-put-expand,
   back-put-source,
   back-put-row3,
+  back-put-row1,
   back-put-row2,
-  back-put-row,
   back-put-clause-op,
   back-at-match-rest,
   back-at-match-keys6,
@@ -68,44 +67,14 @@ ruleset ways = (
 put-source-requires : tie.Need-put-source-requires
 put-source-requires c κs =
     let start : tie.Start = search ways in
-    (start .pre .0, (start .pre .1 .1) .stored .sane .low)
-
-add-put-expand : tie.Need-add-put-expand
-add-put-expand c =
-    let at-match-keys4 : tie.At-match-keys4 = search ways in
-    let start : tie.Start = search ways in
-    let l = OpLaws.expand-low (start .pre .1 .1) (at-match-keys4 .match .keys4) in
-    omega (arith, l .0, l .1, (start .pre .1 .1) .stored .sane .near, start .pre .1 .0)
-
-add-put-expand-2 : tie.Need-add-put-expand-2
-add-put-expand-2 c =
-    let at-match-keys4 : tie.At-match-keys4 = search ways in
-    let start : tie.Start = search ways in
-    let l = OpLaws.expand-low (start .pre .1 .1) (at-match-keys4 .match .keys4) in
-    omega (arith, l .0, l .1, (start .pre .1 .1) .stored .sane .near, start .pre .1 .0)
-
-add-put-expand-3 : tie.Need-add-put-expand-3
-add-put-expand-3 c =
-    let at-match-keys4 : tie.At-match-keys4 = search ways in
-    let start : tie.Start = search ways in
-    let l = OpLaws.expand-low (start .pre .1 .1) (at-match-keys4 .match .keys4) in
-    omega (arith, l .0, l .1, (start .pre .1 .1) .stored .sane .near, start .pre .1 .0)
-
-add-put-expand-4 : tie.Need-add-put-expand-4
-add-put-expand-4 c =
-    let at-match-keys4 : tie.At-match-keys4 = search ways in
-    let start : tie.Start = search ways in
-    let l = OpLaws.expand-low (start .pre .1 .1) (at-match-keys4 .match .keys4) in
-    omega (arith, l .0, l .1, (start .pre .1 .1) .stored .sane .near, start .pre .1 .0)
+    (start .pre .0, (start .pre .1 .1) .stored .bounded .low)
 
 put-expand-requires : tie.Need-put-expand-requires
 put-expand-requires c κs =
     let at-match-keys4 : tie.At-match-keys4 = search ways in
     let start : tie.Start = search ways in
-    let l = OpLaws.expand-low (start .pre .1 .1) (at-match-keys4 .match .keys4) in (
-      omega (arith, l .0, l .1, (start .pre .1 .1) .stored .sane .near, start .pre .1 .0),
-      omega (arith, l .0, l .1, (start .pre .1 .1) .stored .sane .near, start .pre .1 .0),
-    )
+    let l = OpLaws.expand-low (start .pre .1 .1) (at-match-keys4 .match .keys4) in
+    ((l .0, l .1, (start .pre .1 .1) .stored .bounded .near), start .pre .1 .0)
 
 put-short-requires : tie.Need-put-short-requires
 put-short-requires c κs =
@@ -114,9 +83,9 @@ put-short-requires c κs =
       start .pre .0,
       (
         (
-          (start .pre .1 .1) .stored .sane .low,
-          (start .pre .1 .1) .stored .sane .far (at-match-keys5 .match .keys5),
-          (start .pre .1 .1) .stored .sane .near,
+          (start .pre .1 .1) .stored .bounded .low,
+          (start .pre .1 .1) .stored .bounded .far (at-match-keys5 .match .keys5),
+          (start .pre .1 .1) .stored .bounded .near,
         ),
         start .pre .1 .0,
       ),
@@ -131,9 +100,9 @@ put-clause-op-requires c κs =
 
 returns : tie.Need-returns
 returns c =
-    let after-put-row : tie.After-put-row = search ways in
+    let after-put-row2 : tie.After-put-row2 = search ways in
     let at-match-keys1 : tie.At-match-keys1 = search ways in
-    λ h. rw (OpLaws.all-line h (at-match-keys1 .match .keys1)) (after-put-row .put-row .ensures)
+    λ h. rw (OpLaws.all-line h (at-match-keys1 .match .keys1)) (after-put-row2 .put-row2 .ensures)
 
 returns-2 : tie.Need-returns-2
 returns-2 c =
@@ -143,9 +112,9 @@ returns-2 c =
 
 returns-3 : tie.Need-returns-3
 returns-3 c =
-    let after-put-row2 : tie.After-put-row2 = search ways in
+    let after-put-row1 : tie.After-put-row1 = search ways in
     let at-match-keys3 : tie.At-match-keys3 = search ways in
-    λ h. rw (OpLaws.filter-line h (at-match-keys3 .match .keys3)) (after-put-row2 .put-row2 .ensures)
+    λ h. rw (OpLaws.filter-line h (at-match-keys3 .match .keys3)) (after-put-row1 .put-row1 .ensures)
 
 returns-4 : tie.Need-returns-4
 returns-4 c =
@@ -175,15 +144,10 @@ put-op-spec =
     tie.close
     (tie.spec
     (λ c κs. search needs)
+    (λ c. search needs)
     put-source-requires
     (λ c κs. search needs)
-    add-put-expand
-    add-put-expand-2
-    (λ c. search needs)
-    add-put-expand-3
-    add-put-expand-4
     put-expand-requires
-    (λ c. search needs)
     put-short-requires
     (λ c κs. search needs)
     put-clause-op-requires

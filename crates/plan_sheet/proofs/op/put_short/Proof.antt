@@ -4,38 +4,38 @@ use Rattle.plan_sheet.proofs.op.put_short.Statement.{statement}
 use Rattle.plan_sheet.proofs.op.put_short.Tie as tie
 
 -- the ways back, from place to place
-abbrev back-put-row : tie.After-put-row → tie.After-is-two
-back-put-row c = search
+abbrev back-put-row5 : tie.After-put-row5 → tie.After-is-all
+back-put-row5 c = search
 
-abbrev back-is-two : tie.After-is-two → tie.After-word
-back-is-two c = search
+abbrev back-is-all : tie.After-is-all → tie.After-word
+back-is-all c = search
 
-abbrev back-word : tie.After-word → tie.After-note3
+abbrev back-word : tie.After-word → tie.After-note-of3
 back-word c = search
 
-abbrev back-note3 : tie.After-note3 → tie.After-note2
-back-note3 c = search
+abbrev back-note-of3 : tie.After-note-of3 → tie.After-note-of2
+back-note-of3 c = search
 
-abbrev back-note2 : tie.After-note2 → tie.After-note
-back-note2 c = search
+abbrev back-note-of2 : tie.After-note-of2 → tie.After-note-of
+back-note-of2 c = search
 
-abbrev back-note : tie.After-note → tie.Start
-back-note c = search
+abbrev back-note-of : tie.After-note-of → tie.Start
+back-note-of c = search
 
-ruleset ways = (back-put-row, back-is-two, back-word, back-note3, back-note2, back-note)
+ruleset ways = (back-put-row5, back-is-all, back-word, back-note-of3, back-note-of2, back-note-of)
 
 returns : tie.Need-returns
 returns c =
-    let after-note : tie.After-note = search in
-    let after-note2 : tie.After-note2 = search in
-    let after-note3 : tie.After-note3 = search in
-    let after-word : tie.After-word = search in
-    let after-is-two : tie.After-is-two = search in
-    let after-put-row : tie.After-put-row = search in
+    let from : tie.After-note-of = search in
+    let to : tie.After-note-of2 = search in
+    let path : tie.After-note-of3 = search in
+    let shortest : tie.After-word = search in
+    let all : tie.After-is-all = search in
+    let line : tie.After-put-row5 = search in
     rw
-    (after-note .note .ensures, after-note2 .note2 .ensures, after-note3 .note3 .ensures, after-is-two .is-two .ensures, after-word .word .ensures)
+    (from .note-of .ensures, to .note-of2 .ensures, path .note-of3 .ensures, all .is-all .ensures, shortest .word .ensures)
     at
-    (after-put-row .put-row .ensures)
+    (line .put-row5 .ensures)
 
 pub put-short-spec : {M : Type 1} → statement M
 put-short-spec =
@@ -43,12 +43,10 @@ put-short-spec =
     (tie.spec
     (λ c. search needs)
     (λ c. search needs)
-    (λ c κs. search needs)
-    (λ c. search needs)
     (λ c. search needs)
     (λ c κs. search needs)
     (λ c. search needs)
-    (λ c. search needs)
+    (λ c κs. search needs)
     (λ c κs. search needs)
     (λ c κs. search needs)
     (λ c κs. search needs)

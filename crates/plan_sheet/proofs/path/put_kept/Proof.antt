@@ -5,11 +5,11 @@ use Rattle.plan_sheet.proofs.path.put_kept.Statement.{statement}
 use Rattle.plan_sheet.proofs.path.put_kept.Tie as tie
 
 -- the ways back, from place to place
-abbrev back-put-row : tie.After-put-row → tie.After-note
-back-put-row c = search
+abbrev back-put-row1 : tie.After-put-row1 → tie.After-note-of
+back-put-row1 c = search
 
-abbrev back-note : tie.After-note → tie.Then2
-back-note c = search
+abbrev back-note-of : tie.After-note-of → tie.Then2
+back-note-of c = search
 
 abbrev back-then2 : tie.Then2 → tie.Else1
 back-then2 c = search
@@ -17,7 +17,7 @@ back-then2 c = search
 abbrev back-else1 : tie.Else1 → tie.Start
 back-else1 c = search
 
-ruleset ways = (back-put-row, back-note, back-then2, back-else1)
+ruleset ways = (back-put-row1, back-note-of, back-then2, back-else1)
 
 returns : tie.Need-returns
 returns c =
@@ -26,8 +26,8 @@ returns c =
 
 returns-2 : tie.Need-returns-2
 returns-2 c =
-    let after-put-row : tie.After-put-row = search ways in
-    let after-note : tie.After-note = search ways in
+    let after-put-row1 : tie.After-put-row1 = search ways in
+    let after-note-of : tie.After-note-of = search ways in
     let then2 : tie.Then2 = search ways in
     let else1 : tie.Else1 = search ways in
     let start : tie.Start = search ways in
@@ -38,8 +38,8 @@ returns-2 c =
     (start .args .waits)
     (else1 .if1 .left)
     (then2 .if2 .taken)
-    (after-note .note .ensures)
-    (after-put-row .put-row .ensures)
+    (after-note-of .note-of .ensures)
+    (after-put-row1 .put-row1 .ensures)
 
 returns-3 : tie.Need-returns-3
 returns-3 c =

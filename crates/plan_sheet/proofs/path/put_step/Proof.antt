@@ -5,11 +5,11 @@ use Rattle.plan_sheet.proofs.path.put_step.Statement.{statement}
 use Rattle.plan_sheet.proofs.path.put_step.Tie as tie
 
 -- the ways back, from place to place
-abbrev back-put-row : tie.After-put-row → tie.After-note
-back-put-row c = search
+abbrev back-put-row1 : tie.After-put-row1 → tie.After-note-of
+back-put-row1 c = search
 
-abbrev back-note : tie.After-note → tie.After-put-kept
-back-note c = search
+abbrev back-note-of : tie.After-note-of → tie.After-put-kept
+back-note-of c = search
 
 abbrev back-put-kept : tie.After-put-kept → tie.Then1
 back-put-kept c = search
@@ -17,12 +17,12 @@ back-put-kept c = search
 abbrev back-then1 : tie.Then1 → tie.Start
 back-then1 c = search
 
-ruleset ways = (back-put-row, back-note, back-put-kept, back-then1)
+ruleset ways = (back-put-row1, back-note-of, back-put-kept, back-then1)
 
 returns : tie.Need-returns
 returns c =
-    let after-put-row : tie.After-put-row = search ways in
-    let after-note : tie.After-note = search ways in
+    let after-put-row1 : tie.After-put-row1 = search ways in
+    let after-note-of : tie.After-note-of = search ways in
     let after-put-kept : tie.After-put-kept = search ways in
     let then1 : tie.Then1 = search ways in
     let start : tie.Start = search ways in
@@ -34,8 +34,8 @@ returns c =
     (then1 .if1 .taken)
     (start .pre .3)
     (after-put-kept .put-kept .ensures)
-    (after-note .note .ensures)
-    (after-put-row .put-row .ensures)
+    (after-note-of .note-of .ensures)
+    (after-put-row1 .put-row1 .ensures)
 
 returns-2 : tie.Need-returns-2
 returns-2 c =
@@ -46,11 +46,10 @@ pub put-step-spec : {M : Type 1} → statement M
 put-step-spec =
     tie.close
     (tie.spec
-    (λ c. search needs)
     (λ c κs. search needs)
-    (λ c. search needs)
     (λ c κs. search needs)
     (λ c κs. search needs)
     (λ c. search needs)
     returns
+    (λ c. search needs)
     returns-2)

@@ -2,6 +2,7 @@
 use Prim.Native.Nat.{ℕ}
 use native.Mathlib.Omega.{arith}
 use borrow.Author.Needs.{needs}
+use Rattle.precheck.proofs.Laws.{some-none}
 use Rattle.precheck.proofs.Checks.{some-turned, walks-turned, as-entries, as-pattern, as-plain, as-unresolved, as-undesugared}
 use borrow.Fn.Kinds.{In, Out}
 use Rattle.precheck.proofs.check_expr.Reads as reads
@@ -19,7 +20,7 @@ module _ (t : ℕ) where
       let n : here lts.After-children-of = search in
       let w : here lts.After-word = search in
       let s : here lts.Start = search in
-      let plain = as-plain (s .pre .1 .0) (w .word .ensures) (n .children-of .ensures) (c .match .rest) in
+      let plain = as-plain (s .pre .1 .0) (w .word .ensures) (n .children-of .ensures .0) (c .match .rest) in
       (omega arith, (s .pre .1 .0, some-turned plain (s .pre .1 .1 .some)))
 
   returns-3 : here lts.Need-returns-3
@@ -27,7 +28,7 @@ module _ (t : ℕ) where
       let n : here lts.After-children-of = search in
       let w : here lts.After-word = search in
       let s : here lts.Start = search in
-      as-unresolved (s .pre .1 .0) (w .word .ensures) (n .children-of .ensures) (c .match .keys3)
+      as-unresolved (s .pre .1 .0) (w .word .ensures) (n .children-of .ensures .0) (c .match .keys3)
 
   returns-4 : here lts.Need-returns-4
   returns-4 c =
@@ -35,7 +36,7 @@ module _ (t : ℕ) where
       let x : here lts.After-word2 = search in
       let w : here lts.After-word = search in
       let s : here lts.Start = search in
-      as-undesugared (s .pre .1 .0) (w .word .ensures) (n .children-of .ensures) (x .word2 .ensures) (c .match .keys4)
+      as-undesugared (s .pre .1 .0) (w .word .ensures) (n .children-of .ensures .0) (x .word2 .ensures) (c .match .keys4)
 
   returns-5 : here lts.Need-returns-5
   returns-5 c =
@@ -43,7 +44,7 @@ module _ (t : ℕ) where
       let n : here lts.After-children-of = search in
       let w : here lts.After-word = search in
       let s : here lts.Start = search in
-      walks-turned (as-plain (s .pre .1 .0) (w .word .ensures) (n .children-of .ensures) (m .match .rest)) (c .check-exprs2 .ensures)
+      walks-turned (as-plain (s .pre .1 .0) (w .word .ensures) (n .children-of .ensures .0) (m .match .rest)) (c .check-exprs2 .ensures)
 
   pub meets : {M : Type 1} → lts.Closed (check-expr-calls t) (check-expr-at t) reads.Post M
   meets =
@@ -58,7 +59,7 @@ module _ (t : ℕ) where
       (λ c. search needs)
       (λ c. search needs)
       (λ c κs. search (some-turned, as-entries, needs))
-      (λ c κs. search (some-turned, as-pattern, needs))
+      (λ c κs. search (some-turned, as-pattern, some-none, needs))
       check-exprs-requires-2
       (λ c. search (walks-turned, as-entries, needs))
       (λ c. search (walks-turned, as-pattern, needs))

@@ -1,54 +1,54 @@
-use Rattle.projections.proofs.TrailerLaws
-use Rattle.lower.specs.Exprs
+-- `projections::items::lower_items` meets its contract.
 use native.Mathlib.Omega.{arith}
 use native.Mathlib.Nat.{le-refl}
 use borrow.Author.Needs.{needs}
+use Rattle.lower.specs.Exprs
+use Rattle.projections.proofs.TrailerLaws
 use Rattle.projections.proofs.items.lower_items.Statement.{statement}
 use Rattle.projections.proofs.items.lower_items.Tie as tie
 
 -- the ways back, from place to place
-abbrev back-lower-exprs : tie.After-lower-exprs → tie.Else1
-back-lower-exprs c = search
+abbrev to-else1 : tie.After-lower-exprs → tie.Else1
+to-else1 c = search
 
-abbrev back-else1 : tie.Else1 → tie.Start
-back-else1 c = search
+abbrev to-start : tie.Else1 → tie.Start
+to-start c = search
 
-ruleset ways = (back-lower-exprs, back-else1)
+ruleset ways = (to-else1, to-start)
 
 returns : tie.Need-returns
 returns c =
-    let start : tie.Start = search ways in
-    rw (c .if1 .taken) (Exprs.nil-law _ _ 1 _ _ _ _ (start .pre .1 .1 .0 .here))
+    let s : tie.Start = search ways in
+    rw (c .if1 .taken) (Exprs.nil-law _ _ 1 _ _ _ _ (s .pre .good .here))
 
-sub-lower-exprs : tie.Need-sub-lower-exprs
-sub-lower-exprs c =
-    let else1 : tie.Else1 = search ways in
-    let start : tie.Start = search ways in
-    let l = TrailerLaws.carried-deep (start .pre .1 .0) (else1 .if1 .left) in
-    omega arith
+sub-less : tie.Need-sub-less
+sub-less c =
+    let some : tie.Else1 = search ways in
+    let s : tie.Start = search ways in
+    omega (arith, TrailerLaws.carried-deep (s .pre .items) (some .if1 .left))
 
 lower-exprs-requires : tie.Need-lower-exprs-requires
 lower-exprs-requires c κs =
-    let start : tie.Start = search ways in
-    let l = start .pre .1 .1 .1 in (
-      start .pre .0,
-      (
-        start .pre .1 .0,
-        (Exprs.good-from (omega arith) (le-refl _) (start .pre .1 .1 .0 .here) (start .pre .1 .1 .0), omega arith, start .pre .1 .1 .2, omega arith),
-      ),
-    )
+    let s : tie.Start = search ways in
+    record {
+      words = s .pre .room;
+      tree = s .pre .items;
+      room = Exprs.good-from (omega arith) (le-refl _) (s .pre .good .here) (s .pre .good);
+      depth = omega (arith, s .pre .shallow);
+      pass = s .pre .pass;
+    }
 
 returns-2 : tie.Need-returns-2
 returns-2 c =
-    let after-lower-exprs : tie.After-lower-exprs = search ways in
-    after-lower-exprs .lower-exprs .ensures
+    let x : tie.After-lower-exprs = search ways in
+    x .lower-exprs .ensures
 
 pub lower-items-spec : {M : Type 1} → statement M
 lower-items-spec =
     tie.close
     (tie.spec
     returns
-    sub-lower-exprs
+    sub-less
     lower-exprs-requires
     (λ c. search needs)
     (λ c. search needs)

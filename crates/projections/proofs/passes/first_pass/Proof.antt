@@ -1,155 +1,93 @@
-use Rattle.projections.proofs.PartLaws
-use Rattle.projections.proofs.PassLaws
-use Rattle.projections.proofs.Room
-use Rattle.lower.specs.Exprs
+-- `projections::passes::first_pass` meets its contract.
 use mathlib.Core.Path.{_∙_}
 use native.Mathlib.Omega.{arith}
+use native.Mathlib.Nat.{le-refl}
+use Rattle.lower.specs.Exprs
+use Rattle.projections.specs.Room
+use Rattle.projections.proofs.PartLaws
+use Rattle.projections.proofs.PassLaws
 use Rattle.projections.proofs.passes.first_pass.Statement.{statement}
 use Rattle.projections.proofs.passes.first_pass.Tie as tie
 
 -- the ways back, from place to place
-abbrev back-push-if : tie.After-push-if → tie.After-split-projections-agg
-back-push-if c = search
+abbrev to-split-projections-agg : tie.After-aggregate-if → tie.After-split-projections-agg
+to-split-projections-agg c = search
 
-abbrev back-split-projections-agg : tie.After-split-projections-agg → tie.After-or-source-all
-back-split-projections-agg c = search
+abbrev to-or-source-all : tie.After-split-projections-agg → tie.After-or-source-all
+to-or-source-all c = search
 
-abbrev back-or-source-all : tie.After-or-source-all → tie.Start
-back-or-source-all c = search
+abbrev to-start : tie.After-or-source-all → tie.Start
+to-start c = search
 
-ruleset ways = (back-push-if, back-split-projections-agg, back-or-source-all)
+ruleset ways = (to-split-projections-agg, to-or-source-all, to-start)
 
-add-or-source-all : tie.Need-add-or-source-all
-add-or-source-all c =
-    let start : tie.Start = search ways in
-    let l = start .pre .1 .1 .0 .2 in
-    omega arith
+add-first : tie.Need-add-first
+add-first c =
+    let s : tie.Start = search ways in
+    omega (arith, s .pre .low)
 
 or-source-all-requires : tie.Need-or-source-all-requires
 or-source-all-requires c κs =
-    let start : tie.Start = search ways in
-    (Room.can-source (start .pre .1 .1 .0 .0), start .pre .1 .1 .1)
-
-add-split-projections-agg : tie.Need-add-split-projections-agg
-add-split-projections-agg c =
-    let start : tie.Start = search ways in
-    let l = start .pre .1 .1 .0 .2 in
-    omega arith
+    let s : tie.Start = search ways in
+    (Room.can-source (s .pre .ready), s .pre .stands)
 
 split-projections-agg-requires : tie.Need-split-projections-agg-requires
 split-projections-agg-requires c κs =
-    let after-or-source-all : tie.After-or-source-all = search ways in
-    let start : tie.Start = search ways in (
-      start .pre .0,
-      (
-        start .pre .1 .0 .1,
-        (
-          Room.good-source
-              (start .args .left)
-              (start .pre .1 .1 .0 .1)
-              (start .pre .1 .1 .0 .2)
-              (start .pre .1 .1 .0 .0)
-              ((after-or-source-all .or-source-all .ensures .1) _),
-          start .pre .1 .1 .0 .1,
-        ),
-      ),
-    )
+    let q : tie.After-or-source-all = search ways in
+    let s : tie.Start = search ways in
+    let good = Room.good-source (s .pre .ready) (q .or-source-all .ensures .1 _) _ (le-refl _) (omega (arith, s .pre .low)) (s .pre .shallow) in
+    record { room = s .pre .room; items = s .pre .items; good = good; shallow = s .pre .shallow }
 
 sub-keys : tie.Need-sub-keys
 sub-keys c =
-    let after-split-projections-agg : tie.After-split-projections-agg = search ways in
-    after-split-projections-agg .split-projections-agg .ensures .1
+    let p : tie.After-split-projections-agg = search ways in
+    p .split-projections-agg .ensures .1
 
-push-if-requires : tie.Need-push-if-requires
-push-if-requires c κs =
-    let after-split-projections-agg : tie.After-split-projections-agg = search ways in
-    let after-or-source-all : tie.After-or-source-all = search ways in
-    let start : tie.Start = search ways in
-    let l = start .pre .1 .1 .0 .2 in
-    let l′ = PartLaws.few-items (start .pre .1 .0 .1) (omega (arith, start .pre .1 .1 .0 .2)) in
-    let h = after-split-projections-agg .split-projections-agg .ensures .1 in
-    let l′′ = start .pre .1 .1 .0 .1 in (
-      Room.few-ops
-          (Exprs.good-after
-          ((after-split-projections-agg .split-projections-agg .ensures .0) .moved)
-          (Room.good-source
-          (start .args .left)
-          (start .pre .1 .1 .0 .1)
-          (start .pre .1 .1 .0 .2)
-          (start .pre .1 .1 .0 .0)
-          ((after-or-source-all .or-source-all .ensures .1) _))),
-      (Exprs.good-after
-          ((after-split-projections-agg .split-projections-agg .ensures .0) .moved)
-          (Room.good-source
-          (start .args .left)
-          (start .pre .1 .1 .0 .1)
-          (start .pre .1 .1 .0 .2)
-          (start .pre .1 .1 .0 .0)
-          ((after-or-source-all .or-source-all .ensures .1) _))) .in-ops,
-      omega arith,
-      Room.few-source (start .pre .1 .1 .0 .0) ((after-or-source-all .or-source-all .ensures .1) _),
-      omega arith,
-      omega arith,
-      omega arith,
-    )
+aggregate-if-requires : tie.Need-aggregate-if-requires
+aggregate-if-requires c κs =
+    let p : tie.After-split-projections-agg = search ways in
+    let q : tie.After-or-source-all = search ways in
+    let s : tie.Start = search ways in
+    let good = Room.good-source (s .pre .ready) (q .or-source-all .ensures .1 _) _ (le-refl _) (omega (arith, s .pre .low)) (s .pre .shallow) in
+    let room = Room.can-push (Exprs.good-after (p .split-projections-agg .ensures .0 .moved) good) in
+    let few = PartLaws.few-items (s .pre .items) (omega (arith, s .pre .low)) in
+    let aggs = p .split-projections-agg .ensures .1 in
+    let input = Room.few-source (s .pre .ready) (q .or-source-all .ensures .1 _) in
+    (room .0, room .1, Room.fits (omega arith) (omega (arith, s .pre .low)) (s .pre .shallow), omega (arith, input), omega (arith, few), omega (arith, few, aggs))
 
 same-length : tie.Need-same-length
 same-length c =
-    let after-push-if : tie.After-push-if = search ways in
-    let after-split-projections-agg : tie.After-split-projections-agg = search ways in
-    let after-or-source-all : tie.After-or-source-all = search ways in
-    (after-push-if .push-if .kept .0) ∙
-    (after-split-projections-agg .split-projections-agg .kept .1 .1 .1 .0) ∙
-    (after-or-source-all .or-source-all .kept .0)
+    let a : tie.After-aggregate-if = search ways in
+    let p : tie.After-split-projections-agg = search ways in
+    let q : tie.After-or-source-all = search ways in
+    a .aggregate-if .kept .0 ∙ p .split-projections-agg .kept .1 .1 .1 .0 ∙ q .or-source-all .kept .0
 
 same-length-2 : tie.Need-same-length-2
 same-length-2 c =
-    let after-split-projections-agg : tie.After-split-projections-agg = search ways in
-    after-split-projections-agg .split-projections-agg .kept .1 .1 .1 .1 .0
+    let p : tie.After-split-projections-agg = search ways in
+    p .split-projections-agg .kept .1 .1 .1 .1 .0
 
 returns : tie.Need-returns
 returns c =
-    let after-push-if : tie.After-push-if = search ways in
-    let after-split-projections-agg : tie.After-split-projections-agg = search ways in
-    let after-or-source-all : tie.After-or-source-all = search ways in
-    let start : tie.Start = search ways in
-    let l =
-    Room.few-ops
-    (Exprs.good-after
-    ((after-split-projections-agg .split-projections-agg .ensures .0) .moved)
-    (Room.good-source
-    (start .args .left)
-    (start .pre .1 .1 .0 .1)
-    (start .pre .1 .1 .0 .2)
-    (start .pre .1 .1 .0 .0)
-    ((after-or-source-all .or-source-all .ensures .1) _)))
-    in (
-      PassLaws.first-law
-          _
-          _
-          _
-          (start .pre .1 .1 .0 .1)
-          (start .pre .1 .1 .0 .2)
-          (start .pre .1 .0 .0)
-          ((after-or-source-all .or-source-all .ensures .1) _)
-          (after-split-projections-agg .split-projections-agg .ensures .0)
-          (after-push-if .push-if .ensures .1),
-      PassLaws.left-word
-          (after-push-if .push-if .ensures .1)
-          (Room.few-source (start .pre .1 .1 .0 .0) ((after-or-source-all .or-source-all .ensures .1) _))
-          (omega arith),
-    )
+    let a : tie.After-aggregate-if = search ways in
+    let p : tie.After-split-projections-agg = search ways in
+    let q : tie.After-or-source-all = search ways in
+    let s : tie.Start = search ways in
+    let good = Room.good-source (s .pre .ready) (q .or-source-all .ensures .1 _) _ (le-refl _) (omega (arith, s .pre .low)) (s .pre .shallow) in
+    let room = Room.can-push (Exprs.good-after (p .split-projections-agg .ensures .0 .moved) good) in
+    let law = PassLaws.first-law (s .pre) (q .or-source-all .ensures .1 _) (p .split-projections-agg .ensures .0) (a .aggregate-if .ensures .1) in
+    let input = Room.few-source (s .pre .ready) (q .or-source-all .ensures .1 _) in
+    (PassLaws.ends-at (a .aggregate-if .ensures .0) law, PassLaws.left-word (a .aggregate-if .ensures .1) (omega (arith, input)) (omega (arith, room .0)))
 
 pub first-pass-spec : {M : Type 1} → statement M
 first-pass-spec =
     tie.close
     (tie.spec
-    add-or-source-all
+    add-first
     or-source-all-requires
-    add-split-projections-agg
     split-projections-agg-requires
     sub-keys
-    push-if-requires
+    aggregate-if-requires
     same-length
     same-length-2
     returns)

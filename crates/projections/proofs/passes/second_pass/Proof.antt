@@ -1,138 +1,93 @@
-use Rattle.projections.proofs.PassLaws
-use Rattle.projections.proofs.Room
-use Rattle.lower.specs.Exprs
+-- `projections::passes::second_pass` meets its contract.
 use mathlib.Core.Path.{_∙_}
 use native.Mathlib.Omega.{arith}
+use Rattle.context.specs.OpLaws.{pushed-as}
+use Rattle.lower.specs.Exprs
+use Rattle.projections.specs.Room
+use Rattle.projections.proofs.PassLaws
 use Rattle.projections.proofs.passes.second_pass.Statement.{statement}
 use Rattle.projections.proofs.passes.second_pass.Tie as tie
 
 -- the ways back, from place to place
-abbrev back-push-if : tie.After-push-if → tie.After-push
-back-push-if c = search
+abbrev to-push : tie.After-distinct-if → tie.After-push
+to-push c = search
 
-abbrev back-push : tie.After-push → tie.After-lower-items
-back-push c = search
+abbrev to-project : tie.After-push → tie.After-project
+to-project c = search
 
-abbrev back-lower-items : tie.After-lower-items → tie.Start
-back-lower-items c = search
+abbrev to-lower-items : tie.After-project → tie.After-lower-items
+to-lower-items c = search
 
-ruleset ways = (back-push-if, back-push, back-lower-items)
+abbrev to-start : tie.After-lower-items → tie.Start
+to-start c = search
 
-add-lower-items : tie.Need-add-lower-items
-add-lower-items c =
-    let start : tie.Start = search ways in
-    let l = start .pre .1 .1 .2 in
-    omega arith
+ruleset ways = (to-push, to-project, to-lower-items, to-start)
+
+add-t15 : tie.Need-add-t15
+add-t15 c =
+    let s : tie.Start = search ways in
+    omega (arith, s .pre .low)
 
 lower-items-requires : tie.Need-lower-items-requires
 lower-items-requires c κs =
-    let start : tie.Start = search ways in
-    (start .pre .0, (PassLaws.items-some (start .pre .1 .0 .1), (start .pre .1 .1 .0, start .pre .1 .1 .1, omega arith)))
+    let s : tie.Start = search ways in
+    record { room = s .pre .room; items = PassLaws.items-some (s .pre .items); good = s .pre .good; shallow = s .pre .shallow; pass = omega arith }
 
-cast-push : tie.Need-cast-push
-cast-push c =
-    let start : tie.Start = search ways in
-    let l = start .pre .1 .1 .2 in
-    omega arith
-
-cast-push-2 : tie.Need-cast-push-2
-cast-push-2 c =
-    let start : tie.Start = search ways in
-    let l = start .pre .1 .1 .3 in
-    omega arith
-
-cast-push-3 : tie.Need-cast-push-3
-cast-push-3 c =
-    let start : tie.Start = search ways in
-    let l = start .pre .1 .1 .1 in
-    omega arith
+project-requires : tie.Need-project-requires
+project-requires c κs =
+    let s : tie.Start = search ways in
+    (Room.fits (omega arith) (omega (arith, s .pre .low)) (s .pre .shallow), s .pre .small)
 
 push-requires : tie.Need-push-requires
 push-requires c κs =
-    let after-lower-items : tie.After-lower-items = search ways in
-    let start : tie.Start = search ways in
-    Room.can-push (Exprs.good-after (after-lower-items .lower-items .ensures .moved) (start .pre .1 .1 .0))
+    let i : tie.After-lower-items = search ways in
+    let s : tie.Start = search ways in
+    let good = Exprs.good-after (i .lower-items .ensures .moved) (s .pre .good) in
+    let room = Room.can-push good in
+    (omega (arith, room .0), room .1)
 
-push-if-requires : tie.Need-push-if-requires
-push-if-requires c κs =
-    let after-push : tie.After-push = search ways in
-    let after-lower-items : tie.After-lower-items = search ways in
-    let start : tie.Start = search ways in (
-      (Room.push-again
-          (Exprs.good-after (after-lower-items .lower-items .ensures .moved) (start .pre .1 .1 .0))
-          (after-push .push .ensures)
-          (after-push .push .kept .1 .0)) .0,
-      (Room.push-again
-          (Exprs.good-after (after-lower-items .lower-items .ensures .moved) (start .pre .1 .1 .0))
-          (after-push .push .ensures)
-          (after-push .push .kept .1 .0)) .1,
-      omega arith,
-      (Room.push-again
-          (Exprs.good-after (after-lower-items .lower-items .ensures .moved) (start .pre .1 .1 .0))
-          (after-push .push .ensures)
-          (after-push .push .kept .1 .0)) .2,
-      omega arith,
-      omega arith,
-      omega arith,
-    )
+distinct-if-requires : tie.Need-distinct-if-requires
+distinct-if-requires c κs =
+    let p : tie.After-push = search ways in
+    let i : tie.After-lower-items = search ways in
+    let s : tie.Start = search ways in
+    let good = Exprs.good-after (i .lower-items .ensures .moved) (s .pre .good) in
+    let room = Room.push-again good (p .push .ensures) (p .push .kept .1 .0) in
+    (room .0, room .1, omega (arith, Room.can-push good .0))
 
 same-length : tie.Need-same-length
 same-length c =
-    let after-push-if : tie.After-push-if = search ways in
-    let after-push : tie.After-push = search ways in
-    let after-lower-items : tie.After-lower-items = search ways in
-    (after-push-if .push-if .kept .0) ∙ (after-push .push .kept .1 .0) ∙ (after-lower-items .lower-items .kept .1 .1 .0)
+    let d : tie.After-distinct-if = search ways in
+    let p : tie.After-push = search ways in
+    let i : tie.After-lower-items = search ways in
+    d .distinct-if .kept .0 ∙ p .push .kept .1 .0 ∙ i .lower-items .kept .1 .1 .0
 
 same-length-2 : tie.Need-same-length-2
 same-length-2 c =
-    let after-lower-items : tie.After-lower-items = search ways in
-    after-lower-items .lower-items .kept .1 .1 .1 .0
+    let i : tie.After-lower-items = search ways in
+    i .lower-items .kept .1 .1 .1 .0
 
 returns : tie.Need-returns
 returns c =
-    let after-push-if : tie.After-push-if = search ways in
-    let after-push : tie.After-push = search ways in
-    let after-lower-items : tie.After-lower-items = search ways in
-    let start : tie.Start = search ways in (
-      (λ sheet.
-          PassLaws.second-law
-          _
-          _
-          _
-          (start .pre .1 .1 .1)
-          (start .pre .1 .1 .2)
-          (start .pre .1 .0 .0)
-          (start .pre .1 .1 .4)
-          (after-lower-items .lower-items .ensures)
-          (after-push .push .ensures)
-          (after-push .push .kept .1 .0)
-          (after-push-if .push-if .ensures .1)
-          sheet),
-      PassLaws.second-low
-          _
-          _
-          _
-          (start .pre .1 .1 .1)
-          (start .pre .1 .1 .2)
-          (start .pre .1 .0 .0)
-          (start .pre .1 .1 .4)
-          (after-lower-items .lower-items .ensures)
-          (after-push .push .ensures)
-          (after-push .push .kept .1 .0)
-          (after-push-if .push-if .ensures .1),
-    )
+    let d : tie.After-distinct-if = search ways in
+    let p : tie.After-push = search ways in
+    let made : tie.After-project = search ways in
+    let i : tie.After-lower-items = search ways in
+    let s : tie.Start = search ways in
+    let pushed = pushed-as (made .project .ensures) (p .push .ensures) in
+    let law = PassLaws.second-law (s .pre) (i .lower-items .ensures) pushed (p .push .kept .1 .0) (d .distinct-if .ensures .1) in
+    let low = PassLaws.second-low (s .pre) (i .lower-items .ensures) pushed (p .push .kept .1 .0) (d .distinct-if .ensures .1) in
+    (λ sheet. PassLaws.ends-at (d .distinct-if .ensures .0) (law sheet), low)
 
 pub second-pass-spec : {M : Type 1} → statement M
 second-pass-spec =
     tie.close
     (tie.spec
-    add-lower-items
+    add-t15
     lower-items-requires
-    cast-push
-    cast-push-2
-    cast-push-3
+    project-requires
     push-requires
-    push-if-requires
+    distinct-if-requires
     same-length
     same-length-2
     returns)

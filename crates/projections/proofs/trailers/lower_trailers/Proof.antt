@@ -1,135 +1,112 @@
-use Rattle.projections.proofs.TrailerLaws
-use Rattle.projections.proofs.Room
+-- `projections::trailers::lower_trailers` meets its contract.
+use mathlib.Core.Path.{_∙_}
 use native.Mathlib.Omega.{arith}
-use borrow.Author.Needs.{needs}
+use Rattle.projections.specs.Room
+use Rattle.projections.proofs.TrailerLaws
 use Rattle.projections.proofs.trailers.lower_trailers.Statement.{statement}
 use Rattle.projections.proofs.trailers.lower_trailers.Tie as tie
 
 -- the ways back, from place to place
-abbrev back-over-expr2 : tie.After-over-expr2 → tie.After-over-expr
-back-over-expr2 c = search
+abbrev to-over-expr : tie.After-over-expr2 → tie.After-over-expr
+to-over-expr c = search
 
-abbrev back-over-expr : tie.After-over-expr → tie.After-order-by
-back-over-expr c = search
+abbrev to-order-by : tie.After-over-expr → tie.After-order-by
+to-order-by c = search
 
-abbrev back-order-by : tie.After-order-by → tie.After-count3
-back-order-by c = search
+abbrev to-count3 : tie.After-order-by → tie.After-count3
+to-count3 c = search
 
-abbrev back-count3 : tie.After-count3 → tie.After-count2
-back-count3 c = search
+abbrev to-count2 : tie.After-count3 → tie.After-count2
+to-count2 c = search
 
-abbrev back-count2 : tie.After-count2 → tie.After-count
-back-count2 c = search
+abbrev to-count : tie.After-count2 → tie.After-count
+to-count c = search
 
-abbrev back-count : tie.After-count → tie.Start
-back-count c = search
+abbrev to-start : tie.After-count → tie.Start
+to-start c = search
 
-ruleset ways = (back-over-expr2, back-over-expr, back-order-by, back-count3, back-count2, back-count)
+ruleset ways = (to-over-expr, to-order-by, to-count3, to-count2, to-count, to-start)
+
+count-requires : tie.Need-count-requires
+count-requires c κs =
+    let s : tie.Start = search ways depth 9 in
+    (s .pre .low, (omega arith, s .pre .room))
+
+count-requires-2 : tie.Need-count-requires-2
+count-requires-2 c κs =
+    let s : tie.Start = search ways depth 9 in
+    (s .pre .low, (omega arith, s .pre .room))
+
+count-requires-3 : tie.Need-count-requires-3
+count-requires-3 c κs =
+    let s : tie.Start = search ways depth 9 in
+    (s .pre .low, (omega arith, s .pre .room))
 
 order-by-requires : tie.Need-order-by-requires
 order-by-requires c κs =
-    let after-count : tie.After-count = search ways depth 8 in
-    let start : tie.Start = search ways depth 8 in
-    (start .pre .0, (TrailerLaws.tail-keys (after-count .count .ensures .0) (start .pre .1 .0 .0), start .pre .1 .1))
+    let n : tie.After-count = search ways depth 9 in
+    let s : tie.Start = search ways depth 9 in
+    let trees = TrailerLaws.tail-keys (n .count .ensures .0) (s .pre .tail) in
+    record { room = s .pre .room; trees = trees; ready = s .pre .ready; shallow = s .pre .shallow; stands = s .pre .stands }
 
 over-expr-requires : tie.Need-over-expr-requires
 over-expr-requires c κs =
-    let after-order-by : tie.After-order-by = search ways depth 8 in
-    let after-count2 : tie.After-count2 = search ways depth 8 in
-    let after-count : tie.After-count = search ways depth 8 in
-    let start : tie.Start = search ways depth 8 in (
-      start .pre .0,
-      (
-        (
-          TrailerLaws.skip-some
-              _
-              _
-              _
-              _
-              (after-count .count .ensures .0)
-              (after-order-by .order-by .ensures)
-              (after-count2 .count2 .ensures .0)
-              (start .pre .1 .0 .0),
-          TrailerLaws.skip-one (after-count2 .count2 .ensures .0) (start .pre .1 .0 .0),
-        ),
-        (
-          (
-            Room.ready-after (after-order-by .order-by .ensures .moved) (start .pre .1 .1 .0),
-            start .pre .1 .1 .1,
-            after-order-by .order-by .ensures .low,
-          ),
-          (omega arith, omega arith),
-        ),
-      ),
-    )
+    let o : tie.After-order-by = search ways depth 9 in
+    let n₂ : tie.After-count2 = search ways depth 9 in
+    let n : tie.After-count = search ways depth 9 in
+    let s : tie.Start = search ways depth 9 in
+    let ready = Room.ready-after (o .order-by .ensures .moved) (s .pre .ready) in
+    let trees = TrailerLaws.skip-some _ _ _ _ (n .count .ensures .0) (o .order-by .ensures) (n₂ .count2 .ensures .0) (s .pre .tail) in
+    (record { room = s .pre .room; trees = trees; ready = ready; shallow = s .pre .shallow; stands = o .order-by .ensures .low }, TrailerLaws.skip-one (n₂ .count2 .ensures .0) (s .pre .tail))
 
 over-expr-requires-2 : tie.Need-over-expr-requires-2
 over-expr-requires-2 c κs =
-    let after-over-expr : tie.After-over-expr = search ways depth 8 in
-    let after-order-by : tie.After-order-by = search ways depth 8 in
-    let after-count3 : tie.After-count3 = search ways depth 8 in
-    let after-count2 : tie.After-count2 = search ways depth 8 in
-    let after-count : tie.After-count = search ways depth 8 in
-    let start : tie.Start = search ways depth 8 in (
-      start .pre .0,
-      (
-        (
-          TrailerLaws.limit-some
-              _
-              _
-              _
-              _
-              (after-count .count .ensures .0)
-              (after-order-by .order-by .ensures)
-              (after-count2 .count2 .ensures .0)
-              (after-over-expr .over-expr .ensures .next)
-              (after-count3 .count3 .ensures .0)
-              (start .pre .1 .0 .0),
-          TrailerLaws.limit-one (after-count3 .count3 .ensures .0) (start .pre .1 .0 .0),
-        ),
-        (
-          (
-            Room.ready-after
-                (after-over-expr .over-expr .ensures .moved)
-                (Room.ready-after (after-order-by .order-by .ensures .moved) (start .pre .1 .1 .0)),
-            start .pre .1 .1 .1,
-            after-over-expr .over-expr .ensures .low,
-          ),
-          (omega arith, omega arith),
-        ),
-      ),
-    )
+    let x : tie.After-over-expr = search ways depth 9 in
+    let o : tie.After-order-by = search ways depth 9 in
+    let n₃ : tie.After-count3 = search ways depth 9 in
+    let n₂ : tie.After-count2 = search ways depth 9 in
+    let n : tie.After-count = search ways depth 9 in
+    let s : tie.Start = search ways depth 9 in
+    let ready = Room.ready-after (o .order-by .ensures .moved) (s .pre .ready) in
+    let next = x .over-expr .ensures .next in
+    let trees = TrailerLaws.limit-some _ _ _ _ (n .count .ensures .0) (o .order-by .ensures) (n₂ .count2 .ensures .0) next (n₃ .count3 .ensures .0) (s .pre .tail) in
+    let behind = Room.ready-after (x .over-expr .ensures .moved) ready in
+    (record { room = s .pre .room; trees = trees; ready = behind; shallow = s .pre .shallow; stands = x .over-expr .ensures .low }, TrailerLaws.limit-one (n₃ .count3 .ensures .0) (s .pre .tail))
+
+same-length : tie.Need-same-length
+same-length c =
+    let y : tie.After-over-expr2 = search ways depth 9 in
+    let x : tie.After-over-expr = search ways depth 9 in
+    let o : tie.After-order-by = search ways depth 9 in
+    y .over-expr2 .kept .1 .1 .0 ∙ x .over-expr .kept .1 .1 .0 ∙ o .order-by .kept .1 .1 .0
+
+same-length-2 : tie.Need-same-length-2
+same-length-2 c =
+    let y : tie.After-over-expr2 = search ways depth 9 in
+    let x : tie.After-over-expr = search ways depth 9 in
+    let o : tie.After-order-by = search ways depth 9 in
+    y .over-expr2 .kept .1 .1 .1 .0 ∙ x .over-expr .kept .1 .1 .1 .0 ∙ o .order-by .kept .1 .1 .1 .0
 
 returns : tie.Need-returns
 returns c =
-    let after-over-expr2 : tie.After-over-expr2 = search ways depth 8 in
-    let after-over-expr : tie.After-over-expr = search ways depth 8 in
-    let after-order-by : tie.After-order-by = search ways depth 8 in
-    let after-count3 : tie.After-count3 = search ways depth 8 in
-    let after-count2 : tie.After-count2 = search ways depth 8 in
-    let after-count : tie.After-count = search ways depth 8 in
-    TrailerLaws.tail-law
-    _
-    _
-    _
-    _
-    (after-count .count .ensures .0)
-    (after-order-by .order-by .ensures)
-    (after-count2 .count2 .ensures .0)
-    (after-over-expr .over-expr .ensures)
-    (after-count3 .count3 .ensures .0)
-    (after-over-expr2 .over-expr2 .ensures)
+    let y : tie.After-over-expr2 = search ways depth 9 in
+    let x : tie.After-over-expr = search ways depth 9 in
+    let o : tie.After-order-by = search ways depth 9 in
+    let n₃ : tie.After-count3 = search ways depth 9 in
+    let n₂ : tie.After-count2 = search ways depth 9 in
+    let n : tie.After-count = search ways depth 9 in
+    TrailerLaws.tail-law _ _ _ _ (n .count .ensures .0) (o .order-by .ensures) (n₂ .count2 .ensures .0) (x .over-expr .ensures) (n₃ .count3 .ensures .0) (y .over-expr2 .ensures)
 
 pub lower-trailers-spec : {M : Type 1} → statement M
 lower-trailers-spec =
     tie.close
     (tie.spec
-    (λ c κs. search needs)
-    (λ c κs. search needs)
-    (λ c κs. search needs)
+    count-requires
+    count-requires-2
+    count-requires-3
     order-by-requires
     over-expr-requires
     over-expr-requires-2
-    (λ c. search needs)
-    (λ c. search needs)
+    same-length
+    same-length-2
     returns)

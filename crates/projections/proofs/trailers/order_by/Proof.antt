@@ -1,94 +1,73 @@
-use Rattle.projections.proofs.TrailerLaws
-use Rattle.projections.proofs.Room
-use Rattle.lower.specs.Exprs
+-- `projections::trailers::order_by` meets its contract.
 use mathlib.Core.Path.{_∙_}
 use native.Mathlib.Omega.{arith}
+use native.Mathlib.Nat.{le-refl}
+use Rattle.context.specs.OpLaws.{pushed-as}
+use Rattle.lower.specs.Exprs
+use Rattle.projections.specs.Room
+use Rattle.projections.proofs.TrailerLaws
 use Rattle.projections.proofs.trailers.order_by.Statement.{statement}
 use Rattle.projections.proofs.trailers.order_by.Tie as tie
 
 -- the ways back, from place to place
-abbrev back-push : tie.After-push → tie.After-lower-items
-back-push c = search
+abbrev to-order-by : tie.After-push → tie.After-order-by
+to-order-by c = search
 
-abbrev back-lower-items : tie.After-lower-items → tie.Else1
-back-lower-items c = search
+abbrev to-lower-items : tie.After-order-by → tie.After-lower-items
+to-lower-items c = search
 
-abbrev back-else1 : tie.Else1 → tie.Start
-back-else1 c = search
+abbrev to-else1 : tie.After-lower-items → tie.Else1
+to-else1 c = search
 
-ruleset ways = (back-push, back-lower-items, back-else1)
+abbrev to-start : tie.Else1 → tie.Start
+to-start c = search
+
+ruleset ways = (to-order-by, to-lower-items, to-else1, to-start)
 
 returns : tie.Need-returns
 returns c =
-    let start : tie.Start = search ways in
-    TrailerLaws.no-order _ _ _ _ _ (c .if1 .taken) (start .pre .1 .1 .0 .here) (start .pre .1 .1 .2)
+    let s : tie.Start = search ways in
+    TrailerLaws.no-order _ _ _ _ _ (c .if1 .taken) (s .pre .ready .here) (s .pre .stands)
 
 lower-items-requires : tie.Need-lower-items-requires
 lower-items-requires c κs =
-    let start : tie.Start = search ways in (
-      start .pre .0,
-      (TrailerLaws.keys-some (start .pre .1 .0), (Room.ready-good _ (start .pre .1 .1 .1) (start .pre .1 .1 .0), start .pre .1 .1 .1, omega arith)),
-    )
+    let s : tie.Start = search ways in
+    let good = Room.ready-good (s .pre .ready) (le-refl _) (s .pre .ready .here) (s .pre .shallow) in
+    record { room = s .pre .room; items = TrailerLaws.keys-some (s .pre .trees); good = good; shallow = s .pre .shallow; pass = omega arith }
 
-cast-push : tie.Need-cast-push
-cast-push c =
-    let start : tie.Start = search ways in
-    let l = start .pre .1 .1 .0 .here in
-    omega arith
-
-cast-push-2 : tie.Need-cast-push-2
-cast-push-2 c =
-    let start : tie.Start = search ways in
-    let l = Room.few (start .pre .1 .1 .0) in
-    let h = start .pre .1 .1 .2 in
-    omega arith
-
-cast-push-3 : tie.Need-cast-push-3
-cast-push-3 c =
-    let start : tie.Start = search ways in
-    let l = Room.few-trees (start .pre .1 .1 .0 .here) (start .pre .1 .0) in
-    omega arith
-
-cast-push-4 : tie.Need-cast-push-4
-cast-push-4 c =
-    let start : tie.Start = search ways in
-    let l = start .pre .1 .1 .1 in
-    omega arith
+order-by-requires : tie.Need-order-by-requires
+order-by-requires c κs =
+    let s : tie.Start = search ways in
+    let here = s .pre .ready .here in
+    (Room.fits (omega arith) here (s .pre .shallow), omega (arith, Room.few (s .pre .ready), s .pre .stands), omega (arith, Room.few-trees here (s .pre .trees)))
 
 push-requires : tie.Need-push-requires
 push-requires c κs =
-    let after-lower-items : tie.After-lower-items = search ways in
-    let start : tie.Start = search ways in
-    Room.can-push (Exprs.good-after (after-lower-items .lower-items .ensures .moved) (Room.ready-good _ (start .pre .1 .1 .1) (start .pre .1 .1 .0)))
+    let i : tie.After-lower-items = search ways in
+    let s : tie.Start = search ways in
+    let good = Room.ready-good (s .pre .ready) (le-refl _) (s .pre .ready .here) (s .pre .shallow) in
+    let room = Room.can-push (Exprs.good-after (i .lower-items .ensures .moved) good) in
+    (omega (arith, room .0), room .1)
 
 same-length : tie.Need-same-length
 same-length c =
-    let after-push : tie.After-push = search ways in
-    let after-lower-items : tie.After-lower-items = search ways in
-    (after-push .push .kept .1 .0) ∙ (after-lower-items .lower-items .kept .1 .1 .0)
+    let p : tie.After-push = search ways in
+    let i : tie.After-lower-items = search ways in
+    p .push .kept .1 .0 ∙ i .lower-items .kept .1 .1 .0
 
 same-length-2 : tie.Need-same-length-2
 same-length-2 c =
-    let after-lower-items : tie.After-lower-items = search ways in
-    after-lower-items .lower-items .kept .1 .1 .1 .0
+    let i : tie.After-lower-items = search ways in
+    i .lower-items .kept .1 .1 .1 .0
 
 returns-2 : tie.Need-returns-2
 returns-2 c =
-    let after-push : tie.After-push = search ways in
-    let after-lower-items : tie.After-lower-items = search ways in
-    let else1 : tie.Else1 = search ways in
-    let start : tie.Start = search ways in
-    TrailerLaws.order-law
-    _
-    _
-    _
-    (start .pre .1 .0)
-    (start .pre .1 .1 .1)
-    (start .pre .1 .1 .0 .here)
-    (else1 .if1 .left)
-    (after-lower-items .lower-items .ensures)
-    (after-push .push .ensures)
-    (after-push .push .kept .1 .0)
+    let p : tie.After-push = search ways in
+    let made : tie.After-order-by = search ways in
+    let i : tie.After-lower-items = search ways in
+    let some : tie.Else1 = search ways in
+    let s : tie.Start = search ways in
+    TrailerLaws.order-law (s .pre) (some .if1 .left) (i .lower-items .ensures) (pushed-as (made .order-by .ensures) (p .push .ensures)) (p .push .kept .1 .0)
 
 pub order-by-spec : {M : Type 1} → statement M
 order-by-spec =
@@ -96,10 +75,7 @@ order-by-spec =
     (tie.spec
     returns
     lower-items-requires
-    cast-push
-    cast-push-2
-    cast-push-3
-    cast-push-4
+    order-by-requires
     push-requires
     same-length
     same-length-2

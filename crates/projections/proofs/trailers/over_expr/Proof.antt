@@ -1,115 +1,88 @@
-use Rattle.projections.proofs.TrailerLaws
-use Rattle.projections.proofs.Room
-use Rattle.lower.specs.Exprs
+-- `projections::trailers::over_expr` meets its contract.
 use mathlib.Core.Path.{_∙_}
 use native.Mathlib.Omega.{arith}
+use native.Mathlib.Nat.{le-refl}
+use borrow.Author.Needs.{needs}
+use Rattle.context.specs.OpLaws.{pushed-as}
+use Rattle.lower.specs.Exprs
+use Rattle.projections.specs.Room
+use Rattle.projections.proofs.TrailerLaws
 use Rattle.projections.proofs.trailers.over_expr.Statement.{statement}
 use Rattle.projections.proofs.trailers.over_expr.Tie as tie
 
 -- the ways back, from place to place
-abbrev back-push : tie.After-push → tie.After-lower-expr
-back-push c = search
+abbrev to-trailer-op : tie.After-push → tie.After-trailer-op
+to-trailer-op c = search
 
-abbrev back-lower-expr : tie.After-lower-expr → tie.Else1
-back-lower-expr c = search
+abbrev to-lower-expr : tie.After-trailer-op → tie.After-lower-expr
+to-lower-expr c = search
 
-abbrev back-else1 : tie.Else1 → tie.Start
-back-else1 c = search
+abbrev to-else1 : tie.After-lower-expr → tie.Else1
+to-else1 c = search
 
-ruleset ways = (back-push, back-lower-expr, back-else1)
+abbrev to-start : tie.Else1 → tie.Start
+to-start c = search
+
+ruleset ways = (to-trailer-op, to-lower-expr, to-else1, to-start)
 
 returns : tie.Need-returns
 returns c =
-    let start : tie.Start = search ways in
-    TrailerLaws.no-over
-    (start .args .n)
-    _
-    _
-    (start .args .kind)
-    (start .args .input)
-    _
-    (c .if1 .taken)
-    (start .pre .1 .1 .0 .0 .here)
-    (start .pre .1 .1 .0 .2)
+    let x : tie.After-input-of = search in
+    let none : tie.Then1 = search in
+    let s : tie.Start = search in
+    TrailerLaws.no-over _ _ _ (s .args .trailer) _ (x .input-of .ensures) (none .if1 .taken) (s .pre .0 .ready .here) (s .pre .0 .stands)
 
 lower-expr-requires : tie.Need-lower-expr-requires
 lower-expr-requires c κs =
-    let else1 : tie.Else1 = search ways in
-    let start : tie.Start = search ways in (
-      start .pre .0,
-      (
-        TrailerLaws.expr-some (start .pre .1 .0 .0) (start .pre .1 .0 .1) (else1 .if1 .left),
-        (Room.ready-good _ (start .pre .1 .1 .0 .1) (start .pre .1 .1 .0 .0), start .pre .1 .1 .0 .1, omega arith),
-      ),
-    )
+    let some : tie.Else1 = search ways in
+    let s : tie.Start = search ways in
+    let asked = s .pre .0 in
+    let good = Room.ready-good (asked .ready) (le-refl _) (asked .ready .here) (asked .shallow) in
+    record { words = asked .room; tree = TrailerLaws.expr-some (asked .trees) (s .pre .1) (some .if1 .left); room = good; depth = asked .shallow; pass = omega arith }
 
-cast-push : tie.Need-cast-push
-cast-push c =
-    let start : tie.Start = search ways in
-    let l = start .pre .1 .1 .0 .0 .here in
-    omega arith
-
-cast-push-2 : tie.Need-cast-push-2
-cast-push-2 c =
-    let start : tie.Start = search ways in
-    let l = Room.few (start .pre .1 .1 .0 .0) in
-    let h = start .pre .1 .1 .0 .2 in
-    omega arith
-
-cast-push-3 : tie.Need-cast-push-3
-cast-push-3 c =
-    let start : tie.Start = search ways in
-    let l = start .pre .1 .1 .0 .1 in
-    omega arith
+trailer-op-requires : tie.Need-trailer-op-requires
+trailer-op-requires c κs =
+    let s : tie.Start = search ways in
+    let asked = s .pre .0 in
+    (Room.fits (omega arith) (asked .ready .here) (asked .shallow), omega (arith, Room.few (asked .ready), asked .stands))
 
 push-requires : tie.Need-push-requires
 push-requires c κs =
-    let after-lower-expr : tie.After-lower-expr = search ways in
-    let start : tie.Start = search ways in
-    Room.can-push
-    (Exprs.good-after (after-lower-expr .lower-expr .ensures .moved) (Room.ready-good _ (start .pre .1 .1 .0 .1) (start .pre .1 .1 .0 .0)))
+    let x : tie.After-lower-expr = search ways in
+    let s : tie.Start = search ways in
+    let asked = s .pre .0 in
+    let good = Room.ready-good (asked .ready) (le-refl _) (asked .ready .here) (asked .shallow) in
+    let room = Room.can-push (Exprs.good-after (x .lower-expr .ensures .moved) good) in
+    (omega (arith, room .0), room .1)
 
 same-length : tie.Need-same-length
 same-length c =
-    let after-push : tie.After-push = search ways in
-    let after-lower-expr : tie.After-lower-expr = search ways in
-    (after-push .push .kept .1 .0) ∙ (after-lower-expr .lower-expr .kept .1 .1 .0)
+    let p : tie.After-push = search ways in
+    let x : tie.After-lower-expr = search ways in
+    p .push .kept .1 .0 ∙ x .lower-expr .kept .1 .1 .0
 
 same-length-2 : tie.Need-same-length-2
 same-length-2 c =
-    let after-lower-expr : tie.After-lower-expr = search ways in
-    after-lower-expr .lower-expr .kept .1 .1 .1 .0
+    let x : tie.After-lower-expr = search ways in
+    x .lower-expr .kept .1 .1 .1 .0
 
 returns-2 : tie.Need-returns-2
 returns-2 c =
-    let after-push : tie.After-push = search ways in
-    let after-lower-expr : tie.After-lower-expr = search ways in
-    let else1 : tie.Else1 = search ways in
-    let start : tie.Start = search ways in
-    TrailerLaws.over-law
-    _
-    (start .args .kind)
-    (start .args .input)
-    _
-    (start .pre .1 .1 .1 .0)
-    (start .pre .1 .1 .1 .1)
-    (start .pre .1 .0 .0)
-    (start .pre .1 .1 .0 .1)
-    (start .pre .1 .0 .1)
-    (else1 .if1 .left)
-    (after-lower-expr .lower-expr .ensures)
-    (after-push .push .ensures)
-    (after-push .push .kept .1 .0)
+    let p : tie.After-push = search ways in
+    let made : tie.After-trailer-op = search ways in
+    let x : tie.After-lower-expr = search ways in
+    let some : tie.Else1 = search ways in
+    let s : tie.Start = search ways in
+    TrailerLaws.over-law (s .args .trailer) (s .pre .0) (s .pre .1) (some .if1 .left) (x .lower-expr .ensures) (pushed-as (made .trailer-op .ensures) (p .push .ensures)) (p .push .kept .1 .0)
 
 pub over-expr-spec : {M : Type 1} → statement M
 over-expr-spec =
     tie.close
     (tie.spec
+    (λ c κs. search needs)
     returns
     lower-expr-requires
-    cast-push
-    cast-push-2
-    cast-push-3
+    trailer-op-requires
     push-requires
     same-length
     same-length-2

@@ -89,8 +89,8 @@ read-into-requires c κs =
     let else2 : tie.Else2 = search ways depth 11 in
     let after-piece-end : tie.After-piece-end = search ways depth 11 in
     let start : tie.Start = search ways depth 11 in (
-      (after-piece-end .piece-end .ensures .from, after-piece-end .piece-end .ensures .within),
-      (start .pre .0, ((top-sort _ _ _ _ _ _ _ _ (start .pre .1), omega (arith, (start .pre .1) .few, else2 .if2 .left)), (start .pre .1) .roomy)),
+      record { from = after-piece-end .piece-end .ensures .from; to = after-piece-end .piece-end .ensures .within; short = start .pre .0 },
+      ((top-sort _ _ _ _ _ _ _ _ (start .pre .1), omega (arith, (start .pre .1) .few, else2 .if2 .left)), (start .pre .1) .roomy),
     )
 
 returns-4 : tie.Need-returns-4

@@ -4,8 +4,6 @@ use native.Mathlib.Omega.{arith}
 use borrow.Author.Needs.{needs}
 use Rattle.sheet.proofs.stack.push.Statement.{statement}
 use Rattle.sheet.proofs.stack.push.Tie as tie
-use Rattle.sheet.proofs.stack.push.Reads as reads
-use Rattle.sheet.proofs.stack.push.Lts as lts
 
 -- src/stack.rt:12:14
 mul-at : tie.Need-mul-at

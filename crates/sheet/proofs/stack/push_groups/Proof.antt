@@ -1,13 +1,18 @@
-use Prim.Native.Nat.{_≤_, _-_}
+-- `sheet::stack::push_groups` meets its contract: the groups that a kind has, from the last to the first; those behind it are groups of none. Assumes nothing.
+use Prim.Native.Nat.{_≤_, _-_, _<_}
 use native.Mathlib.Omega.{arith}
+use lib.ListN.{getD}
 use Rattle.words.specs.Words.{part}
-use Rattle.sheet.specs.Dues.{Groups, groups-none, groups-step, groups-all, room-left}
+use Rattle.words.specs.Places.{kindCount}
+use Rattle.words.specs.Table.{groupCount, groupNumbers}
+use Rattle.words.specs.GroupLaws.{groups-few}
+use Rattle.sheet.specs.Dues.{Groups, groups-behind, begun, groups-step, groups-all, room-left}
 use borrow.Author.Needs.{needs}
 use Rattle.sheet.proofs.stack.push_groups.Statement.{statement}
 use Rattle.sheet.proofs.stack.push_groups.Tie as tie
 
 abbrev Inv-loop : tie.InvT-loop
-Inv-loop a b stack₀ m i kind room g₀ top₀ stack g top = (g ≤ 5) × Groups stack₀ stack kind (part a b i) g (5 - g) m room top
+Inv-loop a b stack₀ m i kind room g₀ top₀ stack g top = (g ≤ groupCount) × Groups stack₀ stack kind (part a b i) g (groupCount - g) m room top
 
 abbrev μ-loop : tie.MeasureT-loop
 μ-loop a b stack₀ m i kind room g₀ top₀ stack g top = g
@@ -31,7 +36,10 @@ ruleset ways = (back-push-group, back-in-loop, back-at-loop)
 loop-holds : here tie.Need-loop-holds
 loop-holds c =
     let start : here tie.Start = search ways in
-    (omega arith, groups-none _ _ _ _ _ (start .pre .1 .1 .1))
+    let low : start .args .kind < kindCount = start .pre .0 in
+    let few = groups-few _ low in
+    let passed = groups-behind _ _ _ _ _ (start .pre .1 .1 .1) low (groupCount - getD groupNumbers (start .args .kind) 0) (omega arith) in
+    rw (c .groups-of .ensures) (few, begun _ _ _ _ _ _ few passed)
 
 loop-again : here tie.Need-loop-again
 loop-again c =
@@ -69,6 +77,7 @@ push-groups-spec =
     (tie.spec
     Inv-loop
     μ-loop
+    (λ c κs. search needs)
     loop-holds
     (λ c. search needs)
     (λ c κs. search (room-left, needs))

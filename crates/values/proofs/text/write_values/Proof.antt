@@ -1,6 +1,6 @@
 use Rattle.output.specs.Writes.{same}
 use Rattle.values.proofs.Numbers.{six}
-use Rattle.values.proofs.Sheets.{too-long, long-enough}
+use Rattle.output.specs.Whole.{too-long, long-enough}
 use native.Mathlib.Omega.{arith}
 use borrow.Author.Needs.{needs}
 use Rattle.values.proofs.text.write_values.Statement.{statement}

@@ -1,0 +1,131 @@
+-- `write_aggregate`, of the cycle.
+use native.Mathlib.Omega.{arith}
+use Rattle.plan_sheet.proofs.PartedLaws
+use Rattle.plan_sheet.proofs.CycleLaws
+use borrow.Author.Needs.{needs}
+use Prim.Native.Nat.{ℕ}
+use borrow.Fn.Kinds.{In, Out}
+use Rattle.plan_sheet.proofs.write.write_aggregate.Reads as reads
+use Rattle.plan_sheet.proofs.write.write_aggregate.Kinds as kinds
+use Rattle.plan_sheet.proofs.write.+write_aggregate+write_aggregates+write_element+write_expr+write_exprs+write_key+write_keys+write_op.Lts-write_aggregate as lts
+use Rattle.plan_sheet.proofs.write.+write_aggregate+write_aggregates+write_element+write_expr+write_exprs+write_key+write_keys+write_op.Proof.Claims.{write-aggregate-at, write-aggregate-calls}
+
+module _ (t : ℕ) where
+  -- a place or a need of this function, at the measure t
+  abbrev here : (lts.Claims → In 6 kinds.ps → Out 6 kinds.ps kinds.r → Type 0) → Type 0
+  here X = X (write-aggregate-calls t) (write-aggregate-at t) reads.Post
+
+  -- the ways back, from place to place
+  abbrev back-write-exprs : here lts.After-write-exprs → here lts.After-count
+  back-write-exprs c = search
+
+  abbrev back-count : here lts.After-count → here lts.After-put-agg
+  back-count c = search
+
+  abbrev back-put-agg : here lts.After-put-agg → here lts.Then1
+  back-put-agg c = search
+
+  abbrev back-then1 : here lts.Then1 → here lts.After-is-aggregate
+  back-then1 c = search
+
+  abbrev back-else1 : here lts.Else1 → here lts.After-is-aggregate
+  back-else1 c = search
+
+  abbrev back-is-aggregate : here lts.After-is-aggregate → here lts.Start
+  back-is-aggregate c = search
+
+  ruleset ways = (back-write-exprs, back-count, back-put-agg, back-then1, back-else1, back-is-aggregate)
+
+  is-aggregate-requires : here lts.Need-is-aggregate-requires
+  is-aggregate-requires c κs =
+      let s : here lts.Start = search ways depth 9 in
+      (s .pre .1 .0 .records, PartedLaws.some-expr (s .pre .1 .1 .1))
+
+  put-agg-requires : here lts.Need-put-agg-requires
+  put-agg-requires c κs =
+      let then : here lts.Then1 = search ways depth 9 in
+      let told : here lts.After-is-aggregate = search ways depth 9 in
+      let s : here lts.Start = search ways depth 9 in (
+        s .pre .1 .0 .records,
+        (
+          CycleLaws.one-low (s .pre .1 .1 .1),
+          PartedLaws.agg-in (s .pre .1 .0 .records) (told .is-aggregate .ensures) (then .if1 .taken) (s .pre .1 .1 .1),
+        ),
+      )
+
+  add-t16 : here lts.Need-add-t16
+  add-t16 c =
+      let s : here lts.Start = search ways depth 9 in
+      omega (arith, CycleLaws.one-low (s .pre .1 .1 .1))
+
+  sub-t17 : here lts.Need-sub-t17
+  sub-t17 c =
+      let s : here lts.Start = search ways depth 9 in
+      omega (arith, CycleLaws.one-deep (s .pre .1 .1 .1))
+
+  count-requires : here lts.Need-count-requires
+  count-requires c κs =
+      let s : here lts.Start = search ways depth 9 in
+      (CycleLaws.one-low (s .pre .1 .1 .1), (omega arith, s .pre .1 .0 .records))
+
+  write-exprs-requires : here lts.Need-write-exprs-requires
+  write-exprs-requires c κs =
+      let count : here lts.After-count = search ways depth 9 in
+      let then : here lts.Then1 = search ways depth 9 in
+      let told : here lts.After-is-aggregate = search ways depth 9 in
+      let s : here lts.Start = search ways depth 9 in (
+        omega (arith, s .pre .0, CycleLaws.one-deep (s .pre .1 .1 .1)),
+        (
+          s .pre .1 .0,
+          (
+            CycleLaws.nearer (s .pre .1 .1 .0),
+            PartedLaws.args (s .pre .1 .0 .records) (told .is-aggregate .ensures) (then .if1 .taken) (s .pre .1 .1 .1) (count .count .ensures .0),
+          ),
+        ),
+      )
+
+  returns : here lts.Need-returns
+  returns c =
+      let args : here lts.After-write-exprs = search ways depth 9 in
+      let count : here lts.After-count = search ways depth 9 in
+      let line : here lts.After-put-agg = search ways depth 9 in
+      let then : here lts.Then1 = search ways depth 9 in
+      let told : here lts.After-is-aggregate = search ways depth 9 in
+      let s : here lts.Start = search ways depth 9 in
+      λ h.
+      PartedLaws.agg-wrote
+      (s .pre .1 .0 .records)
+      (told .is-aggregate .ensures)
+      (then .if1 .taken)
+      h
+      (count .count .ensures .0)
+      (line .put-agg .ensures)
+      (args .write-exprs .ensures)
+
+  skip-requires : here lts.Need-skip-requires
+  skip-requires c κs =
+      let s : here lts.Start = search ways depth 9 in
+      (s .pre .1 .0 .records, CycleLaws.starts (s .pre .1 .1 .1))
+
+  returns-2 : here lts.Need-returns-2
+  returns-2 c =
+      let else : here lts.Else1 = search ways depth 9 in
+      let told : here lts.After-is-aggregate = search ways depth 9 in
+      PartedLaws.no-aggregate (told .is-aggregate .ensures) (else .if1 .left) (c .skip .ensures)
+
+  pub meets : {M : Type 1} → lts.Closed (write-aggregate-calls t) (write-aggregate-at t) reads.Post M
+  meets =
+      lts.spec
+      (write-aggregate-calls t)
+      (write-aggregate-at t)
+      reads.Post
+      is-aggregate-requires
+      put-agg-requires
+      add-t16
+      sub-t17
+      count-requires
+      write-exprs-requires
+      (λ c. search needs)
+      returns
+      skip-requires
+      returns-2
