@@ -25,7 +25,7 @@ import sys
 
 ROOT = pathlib.Path(__file__).resolve().parent.parent
 # So many commands may be left out in all documents together.
-MOST_LEFT_OUT = 16
+MOST_LEFT_OUT = 12
 # A block that takes longer than this, in seconds, is to be marked.
 LONGEST = 300
 COMMAND = re.compile(r" {4}(\$ |\(?cd |rt |cargo |python3 |make |target/|tools/|dresserhawk |compare |valgrind )")
