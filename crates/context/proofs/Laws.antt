@@ -12,6 +12,9 @@ use borrow.Author.Tests.{eq-eqb, ne-eqb}
 use Rattle.model.specs.Lower.{lookup, issue, mapVar, numbered, fresh, endpointVar}
 use Rattle.words.specs.Words.{optionOf}
 use Rattle.context.specs.Tables.{varsOf, foundOf, Op, opAt, maxStored, opWords, Indexed, Issued, NoteWritten, Numbers, Pushed, varsAt}
+use Rattle.context.specs.Ops.{bindOf}
+use Rattle.context.specs.declared.Bind.{Bind}
+use Rattle.context.specs.declared.Bind.the-variants as bind
 use Rattle.context.specs.declared.LowerCtx.{LowerCtx}
 use Rattle.context.specs.declared.Numbered.{Numbered}
 use Rattle.context.specs.declared.index.Found.{Found}
@@ -102,19 +105,14 @@ number-law id place n c rest vs′ rest′ r l en i k =
     let e : drop varsAt rest′ ≡ vs′ = k′ .vars ∙ part-drop rest vs′ l in
     record { issued = rw e i′; noted = record { here = k′ .noted .here; other = λ q h x. k′ .noted .other q h x ∙ part-note rest vs′ l q h } }
 
-pub unnamed-law : (named id place : ℕ) (c : LowerCtx) (rest rest′ : List ℕ) (r : Numbered) → named ≡ 0 → (r .number ≡ c .next) × (r .ctx .ops ≡ c .ops) × (r .ctx .next ≡ c .next + 1) × (r .ctx .mapped ≡ c .mapped) → NoteWritten place (r .number) rest rest′ → Numbers (endpointVar (optionOf named id)) place c rest rest′ r
-unfolding endpointVar optionOf fresh issue
-unnamed-law named id place c rest rest′ r z f n =
-    record { issued = record { is = λ ops. rw (z, n .vars, f .0, f .2, f .3, add-one); ops = f .1; low = omega (arith, f .2); met = omega (arith, f .3); index = λ x. rw (n .vars, f .3) x }; noted = n .noted }
+pub unnamed-law : (b : Bind) (place : ℕ) (c : LowerCtx) (rest rest′ : List ℕ) (r : Numbered) → b ≡ bind.Unnamed → (r .number ≡ c .next) × (r .ctx .ops ≡ c .ops) × (r .ctx .next ≡ c .next + 1) × (r .ctx .mapped ≡ c .mapped) → NoteWritten place (r .number) rest rest′ → Numbers (endpointVar (bindOf b)) place c rest rest′ r
+unfolding endpointVar fresh issue
+unnamed-law b place c rest rest′ r z f n =
+    rw z (record { issued = record { is = λ ops. rw (n .vars, f .0, f .2, f .3, add-one); ops = f .1; low = omega (arith, f .2); met = omega (arith, f .3); index = λ x. rw (n .vars, f .3) x }; noted = n .noted })
 
-named-by : (named id : ℕ) → ((named ≡ 0) → ⊥) → optionOf named id ≡ some id
-unfolding optionOf
-named-by zero id h = absurd (h refl)
-named-by (suc n) id h = refl
-
-pub named-law : (named id place : ℕ) (c : LowerCtx) (rest rest′ : List ℕ) (r : Numbered) → ((named ≡ 0) → ⊥) → Numbers (mapVar id) place c rest rest′ r → Numbers (endpointVar (optionOf named id)) place c rest rest′ r
+pub named-law : (b : Bind) (id place : ℕ) (c : LowerCtx) (rest rest′ : List ℕ) (r : Numbered) → b ≡ bind.Var id → Numbers (mapVar id) place c rest rest′ r → Numbers (endpointVar (bindOf b)) place c rest rest′ r
 unfolding endpointVar
-named-law named id place c rest rest′ r z n = rw (named-by named id z) n
+named-law b id place c rest rest′ r z n = rw z n
 
 -- ── operators ──
 
@@ -141,7 +139,12 @@ run-at o b j (x ∷ xs) (suc p) h l =
 abbrev wordsOf : Op → List ℕ
 wordsOf op = op .kind ∷ op .idx ∷ op .input ∷ op .x ∷ op .y ∷ op .left ∷ op .base ∷ []
 
-pub stored : (c : LowerCtx) (o : List ℕ) (op : Op) → c .ops < maxStored → workWords ≤ length o → Pushed c (record { ops = c .ops + 1; next = c .next; mapped = c .mapped }) o (set (set (set (set (set (set (set o (c .ops * opWords + 1) (op .kind)) (c .ops * opWords + 2) (op .idx)) (c .ops * opWords + 3) (op .input)) (c .ops * opWords + 4) (op .x)) (c .ops * opWords + 5) (op .y)) (c .ops * opWords + 6) (op .left)) (c .ops * opWords + 7) (op .base)) op
+pub stored : (c : LowerCtx) (o : List ℕ) (op : Op) → c .ops < maxStored → workWords ≤ length o → Pushed c (record {
+  ops = c .ops + 1;
+  next = c .next;
+  mapped = c .mapped;
+}) o (set (set (set (set (set (set (set o (c .ops * opWords + 1) (op .kind)) (c .ops * opWords + 2) (op .idx)) (c .ops * opWords + 3) (op .input))
+    (c .ops * opWords + 4) (op .x)) (c .ops * opWords + 5) (op .y)) (c .ops * opWords + 6) (op .left)) (c .ops * opWords + 7) (op .base)) op
 unfolding run opAt
 stored c o op h g =
     let B : ℕ = c .ops * opWords in

@@ -7,12 +7,19 @@ use Rattle.words.specs.Words.{two32}
 use Rattle.context.specs.declared.At.{At}
 use Rattle.context.specs.declared.Before.{Before}
 use Rattle.context.specs.declared.Before.the-variants as before
+use Rattle.context.specs.declared.Bind.{Bind}
+use Rattle.context.specs.declared.Bind.the-variants as bind
 use Rattle.context.specs.declared.op.Op.{Op}
 
 -- the operator that stands before, as the definition has it
 unfoldable pub beforeOf : Before → Option ℕ
 beforeOf before.Nothing = none
 beforeOf (before.Op k) = some k
+
+-- a variable that may be absent, as the definition has it
+abbrev pub bindOf : Bind → Option ℕ
+bindOf bind.Unnamed = none
+bindOf (bind.Var id) = some id
 
 -- the operator that stands before, if there is one, is below n
 pub record Under (b : Before) (n : ℕ) : Type 0 where

@@ -4,7 +4,7 @@ ghost use Prim.Native.Nat.{_+_, _<_, _≤_};
 ghost use lib.ListN.{length};
 ghost use Rattle.model.specs.Call.{workWords};
 ghost use Rattle.model.specs.Lower.{lookup, mapVar, endpointVar};
-ghost use Rattle.words.specs.Words.{optionOf};
+ghost use Rattle.context.specs.Ops.{bindOf};
 ghost use Rattle.context.specs.Tables.{varsAt, maxVars, maxCount, varWords, varsOf, foundOf, Indexed, Issued, CanNumber, Numbers, NoteWritten, Pushed};
 use crate::index::Found;
 use crate::op::Op;
@@ -51,6 +51,12 @@ pub struct At {
 pub enum Before {
     Nothing,
     Op(usize),
+}
+
+// The variable of a node, a rel or a part, if it has one.
+pub enum Bind {
+    Unnamed,
+    Var(u32),
 }
 
 // A number issued, and the state behind it.
@@ -127,16 +133,18 @@ impl LowerCtx {
     }
 
     // The number of a node or a rel, by its id or, unnamed, the next one; noted at a place.
-    pub fn endpoint_var(self, rest: &mut [u32], named: u32, id: u32, place: usize) -> Numbered
+    pub fn endpoint_var(self, rest: &mut [u32], bind: Bind, place: usize) -> Numbered
         requires { ⌜ CanNumber self place (now rest) ⌝ }
-        ensures { λ r. ⌜ Numbers (endpointVar (optionOf named id)) place self (now (rest .entry)) (now (rest .exit)) r ⌝ }
+        ensures { λ r. ⌜ Numbers (endpointVar (bindOf bind)) place self (now (rest .entry)) (now (rest .exit)) r ⌝ }
     {
-        if named == 0 {
-            let r = self.fresh();
-            note(rest, place, r.number);
-            return r;
+        match bind {
+            Bind::Var(id) => self.number(rest, id, place),
+            Bind::Unnamed => {
+                let r = self.fresh();
+                note(rest, place, r.number);
+                r
+            }
         }
-        self.number(rest, id, place)
     }
 
     // One more operator, stored if the table has room.

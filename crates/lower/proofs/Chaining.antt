@@ -27,7 +27,9 @@ use Rattle.lower.specs.Shows.{shows-all, shows-path}
 use Rattle.lower.specs.Rep.{atPlace, State, Mem, mem, Written, Sub, Blank, Rep, Rooted}
 use Rattle.lower.specs.Pieces.{SomeTree}
 use Rattle.lower.specs.Patterns.{SomeTrees}
-use Rattle.lower.specs.Chains.{givenIf, seenIf, stepsOf, no-rel, SameChain, ChainInBounds, Anchored, passed, ChainedAll, LowersElements, Sourced, OrSource, chainL, LowersChain, startChain}
+use Rattle.lower.specs.Chains.{lastOf, LastUnder, stepsOf, no-rel, SameChain, ChainInBounds, Anchored, passed, ChainedAll, LowersElements, Sourced, OrSource, chainL, LowersChain, startChain}
+use Rattle.lower.specs.declared.Last.{Last}
+use Rattle.lower.specs.declared.Last.the-variants as last
 use Rattle.lower.specs.declared.Chain.{Chain}
 use Rattle.lower.specs.State.{sub-more, sub-within, blank-within, blank-before, back, to-refl, to-then, to-wider, push-to, Given, number-to, upcoming-number}
 use Rattle.words.specs.Fits.{tree-low}
@@ -62,14 +64,14 @@ source-new current m c os e p lo = record {
 pub source-as : {o o′ : Option ℕ} {k : ℕ} {m m′ : Mem} → o ≡ o′ → OrSource (orSourceAll o) k m m′ → OrSource (orSourceAll o′) k m m′
 source-as e p = rw e at p
 
-given-low : (has last n k : ℕ) → (((has ≡ 0) → ⊥) → last < n) → some k ≡ givenIf has last → k < n
-unfolding givenIf numberOf
-given-low zero last n k l e = let z : k ≡ suc k = ap (λ (o : Option ℕ). numberOf o (suc k)) e in absurd (omega arith)
-given-low (suc has) last n k l e = let z : k ≡ last = ap (λ (o : Option ℕ). numberOf o 0) e in let y = l (λ x. absurd (omega arith)) in omega arith
+under-by : (l : Last) (n k : ℕ) → LastUnder l n → some k ≡ rootOf (lastOf l) → k < n
+unfolding rootOf numberOf
+under-by last.Nothing n k u e = let z : k ≡ suc k = ap (λ (o : Option ℕ). numberOf o (suc k)) e in absurd (omega arith)
+under-by (last.Op j origin) n k u e = let z : k ≡ j = ap (λ (o : Option ℕ). numberOf o 0) e in let y = u .op j origin refl in omega arith
 
-pub root-under : {root : Before} {n : ℕ} (has last : ℕ) → beforeOf root ≡ givenIf has last → (((has ≡ 0) → ⊥) → last < n) → Under root n
+pub root-under : {root : Before} {l : Last} {n : ℕ} → beforeOf root ≡ rootOf (lastOf l) → LastUnder l n → Under root n
 unfolding beforeOf
-root-under {n = n} has last e l = record { op = λ k h. given-low has last n k l (rw h at e) }
+root-under {l = l} {n = n} e u = record { op = λ k h. under-by l n k u (rw h at e) }
 
 -- ── a part, opened ──
 
@@ -99,20 +101,22 @@ some-elements room en x = let v = a-part room (x .tree) (x .held) in rw (en ∙ 
 abbrev noChain : Lower.Chain
 noChain = record { last = none; pending = none; path = [] }
 
+lastNumber : Last → ℕ → ℕ
+lastNumber last.Nothing n = n
+lastNumber (last.Op k o) n = k
+
+last-apart : {k origin : ℕ} → last.Nothing ≡ last.Op k origin → ⊥
+unfolding lastNumber
+last-apart {k} e = let z : suc k ≡ k = ap (λ (l : Last). lastNumber l (suc k)) e in absurd (omega arith)
+
 pub start-bounded : (i : ℕ) (c : LowerCtx) → i + 1 ≤ maxRecords → ChainInBounds (startChain i c)
-start-bounded i c l = record { has = omega arith; waits = omega arith; from = le-refl _; next = l; last = omega arith; below = λ h. absurd (h refl); kept = omega arith }
+start-bounded i c l = record { from = le-refl _; next = l; last = record { op = λ k origin e. absurd (last-apart e) }; kept = omega arith }
 
 pub start-anchored : (a b : List ℕ) (sheet : Bytes) (d i : ℕ) (c : LowerCtx) → Anchored a b d (startChain i c)
-start-anchored a b sheet d i c = record { sheet = sheet; pending = none; waiting = no-rel refl refl refl }
+start-anchored a b sheet d i c = record { sheet = sheet; pending = none; waiting = no-rel refl refl }
 
 start-same : (sheet : Bytes) (a b : List ℕ) (d i : ℕ) (c : LowerCtx) → SameChain sheet a b d (startChain i c) noChain
-unfolding givenIf
-start-same sheet a b d i c = record { last = refl; waiting = no-rel refl refl refl; kept = refl }
-
-root-given : (h last origin : ℕ) → rootOf (givenIf h (last, origin)) ≡ givenIf h last
-unfolding rootOf givenIf
-root-given zero last origin = refl
-root-given (suc h) last origin = refl
+start-same sheet a b d i c = record { last = refl; waiting = no-rel refl refl; kept = refl }
 
 abbrev afterElements : {n : ℕ} → Trees patternElement n → State → Lower.Chain × State
 afterElements ts s = lowerElements noChain (stepsOf ts) s
@@ -121,7 +125,7 @@ chain-def : {n : ℕ} (o : Option ℕ) (ts : Trees patternElement n) (s : State)
 unfolding lowerChain _>>=_
 chain-def o ts s g e = rw e
 
-option-some : (x y : ℕ) → ((x ≡ 0) → ⊥) → optionOf x y ≡ some y
+pub option-some : (x y : ℕ) → ((x ≡ 0) → ⊥) → optionOf x y ≡ some y
 unfolding optionOf
 option-some zero y h = absurd (h refl)
 option-some (suc x) y h = refl
@@ -129,7 +133,9 @@ option-some (suc x) y h = refl
 path-is : (k x x′ n n′ : ℕ) (path path′ : List ℕ) → x ≡ x′ → n ≡ n′ → path ≡ path′ → op ReadOp.BindPath (k, (x, (n, tt))) ∷ pathElements path ≡ op ReadOp.BindPath (k, (x′, (n′, tt))) ∷ pathElements path′
 path-is k x x′ n n′ path path′ ex en ep = rw (ex, en, ep)
 
-module _ {a b : List ℕ} {n base : ℕ} {c : LowerCtx} {ch : Chain} {os os₁ rs rs₁ : List ℕ} {k : ℕ} {m₂ : Mem} (d i : ℕ) (room : Roomy a b) (lb : base ≤ secondPass) (en : n ≡ cell a b i partElementsAt) (el : LowersElements a b n (d - 1) base (startChain i c) ch os os₁ rs rs₁) (sr : OrSource (orSourceAll (givenIf (ch .has) (ch .last))) k (mem (ch .ctx) os₁ rs₁) m₂) where
+module _ {a b : List ℕ} {n base : ℕ} {c : LowerCtx} {ch : Chain} {os os₁ rs rs₁ : List ℕ} {k : ℕ} {m₂ : Mem} (d i : ℕ) (room : Roomy a b) (lb : base ≤ secondPass)
+    (en : n ≡ cell a b i partElementsAt) (el : LowersElements a b n (d - 1) base (startChain i c) ch os os₁ rs rs₁)
+    (sr : OrSource (orSourceAll (rootOf (lastOf (ch .last)))) k (mem (ch .ctx) os₁ rs₁) m₂) where
   chain-next : (sheet : Bytes) (t : Tree patternPart) → Held sheet a b t d i → ch .next ≡ i + size t
   chain-next sheet t hd =
       let v = a-part room t hd in
@@ -141,8 +147,8 @@ module _ {a b : List ℕ} {n base : ℕ} {c : LowerCtx} {ch : Chain} {os os₁ r
   -- elements and source
   pub record Rooting (sheet : Bytes) (t : Tree patternPart) (W : Written) (s : State) (v : IsPart sheet a b d i t) : Type 0 where
     pub all : ChainedAll sheet a b W (d - 1) base (startChain i c) ch (v .elements) noChain s (mem c os rs) (mem (ch .ctx) os₁ rs₁)
-    pub src : Sourced sheet a b (orSourceAll (givenIf (ch .has) (ch .last))) k (passed base (startChain i c) ch W) (afterElements (v .elements) s .1) (mem (ch .ctx) os₁ rs₁) m₂
-    pub def : (o : Option ℕ) → lowerChain o (stepsOf (v .elements)) s ≡ bindPath o k (afterElements (v .elements) s .0 .path) (orSourceAll (givenIf (ch .has) (ch .last)) (afterElements (v .elements) s .1) .1)
+    pub src : Sourced sheet a b (orSourceAll (rootOf (lastOf (ch .last)))) k (passed base (startChain i c) ch W) (afterElements (v .elements) s .1) (mem (ch .ctx) os₁ rs₁) m₂
+    pub def : (o : Option ℕ) → lowerChain o (stepsOf (v .elements)) s ≡ bindPath o k (afterElements (v .elements) s .0 .path) (orSourceAll (rootOf (lastOf (ch .last))) (afterElements (v .elements) s .1) .1)
 
   rooting : (sheet : Bytes) (t : Tree patternPart) (hd : Held sheet a b t d i) (W : Written) (s : State) → Rep sheet a b W s (mem c os rs) → Blank W (base + suc i) (base + suc (ch .next)) → Rooting sheet t W s (a-part room t hd)
   rooting sheet t hd W s r bl =
@@ -150,7 +156,7 @@ module _ {a b : List ℕ} {n base : ℕ} {c : LowerCtx} {ch : Chain} {os os₁ r
       let el′ : LowersElements a b (v .n) (d - 1) base (startChain i c) ch os os₁ rs rs₁ = rw (en ∙ sym (v .many)) at el in
       let y = el′ .run sheet (v .elements) (v .held) W s noChain r (start-same sheet a b (d - 1) i c) (blank-within (omega arith) (le-refl _) bl) in
       let z = sr .run sheet a b _ _ (y .to .rep) in
-      record { all = y; src = z; def = λ o. chain-def o (v .elements) s _ (ap rootOf (y .same .last) ∙ root-given (ch .has) (ch .last) (ch .origin)) ∙ ap (λ (x : ℕ). bindPath o x (afterElements (v .elements) s .0 .path) (orSourceAll (givenIf (ch .has) (ch .last)) (afterElements (v .elements) s .1) .1)) (sym (z .root)) }
+      record { all = y; src = z; def = λ o. chain-def o (v .elements) s _ (ap rootOf (y .same .last)) ∙ ap (λ (x : ℕ). bindPath o x (afterElements (v .elements) s .0 .path) (orSourceAll (rootOf (lastOf (ch .last))) (afterElements (v .elements) s .1) .1)) (sym (z .root)) }
 
   module _ (k2 : cell a b i partNamedAt ≡ 0) where
     unnamed-run : (sheet : Bytes) (t : Tree patternPart) → Held sheet a b t d i → (W : Written) (s : State) → Rep sheet a b W s (mem c os rs) → Blank W (base + suc i) (base + suc (ch .next)) → Rooted sheet a b W (chainL t) k base (suc i) (suc (ch .next)) s (mem c os rs) m₂
@@ -173,9 +179,11 @@ module _ {a b : List ℕ} {n base : ℕ} {c : LowerCtx} {ch : Chain} {os os₁ r
           run = unnamed-run;
         }
 
-  module _ {place : ℕ} {r₃ : Numbered} {rest₃ os₄ : List ℕ} {c₄ : LowerCtx} (sh : d ≤ maxDepth) (k2 : (cell a b i partNamedAt ≡ 0) → ⊥) (ep : place ≡ base + (i + 1)) (nm : Numbers (mapVar (cell a b i partVarAt)) place (m₂ .ctx) (m₂ .rest) rest₃ r₃) (lr : length rest₃ ≡ length (m₂ .rest)) (pp : Pushed (r₃ .ctx) c₄ (m₂ .ops) os₄ (bindPathOp (atPlace base i (d - 1)) k (ch .kept) (r₃ .number))) (lo : length os₄ ≡ length (m₂ .ops)) where
+  module _ {place : ℕ} {r₃ : Numbered} {rest₃ os₄ : List ℕ} {c₄ : LowerCtx} (sh : d ≤ maxDepth) (k2 : (cell a b i partNamedAt ≡ 0) → ⊥) (ep : place ≡ base + (i + 1))
+      (nm : Numbers (mapVar (cell a b i partVarAt)) place (m₂ .ctx) (m₂ .rest) rest₃ r₃) (lr : length rest₃ ≡ length (m₂ .rest))
+      (pp : Pushed (r₃ .ctx) c₄ (m₂ .ops) os₄ (bindPathOp (atPlace base i (d - 1)) k (ch .kept) (r₃ .number))) (lo : length os₄ ≡ length (m₂ .ops)) where
     named-run : (sheet : Bytes) (t : Tree patternPart) → Held sheet a b t d i → (W : Written) (s : State) → Rep sheet a b W s (mem c os rs) → Blank W (base + suc i) (base + suc (ch .next)) → Rooted sheet a b W (chainL t) (r₃ .ctx .ops) base (suc i) (suc (ch .next)) s (mem c os rs) (mem c₄ os₄ rest₃)
-    unfolding bindPath _>>=_ push optionOf seenIf
+    unfolding bindPath _>>=_ push optionOf
     named-run sheet t hd W s r bl =
         let v = a-part room t hd in
         let x = rooting sheet t hd W s r bl in
@@ -183,7 +191,7 @@ module _ {a b : List ℕ} {n base : ℕ} {c : LowerCtx} {ch : Chain} {os os₁ r
         let f = el .bounded .from in
         let g₀ = el .ahead in
         let W₁ : Written = passed base (startChain i c) ch W in
-        let s₂ : State = orSourceAll (givenIf (ch .has) (ch .last)) (afterElements (v .elements) s .1) .1 in
+        let s₂ : State = orSourceAll (rootOf (lastOf (ch .last))) (afterElements (v .elements) s .1) .1 in
         let path : List ℕ = afterElements (v .elements) s .0 .path in
         let D = v .chain s ∙ ap (λ (o : Option ℕ). lowerChain o (stepsOf (v .elements)) s) (option-some (cell a b i partNamedAt) id k2) ∙ x .def (some id) in
         let ep′ : place ≡ base + suc i = omega arith in
@@ -209,7 +217,16 @@ module _ {a b : List ℕ} {n base : ℕ} {c : LowerCtx} {ch : Chain} {os os₁ r
         let f = el .bounded .from in
         let n = nm .issued in
         record {
-          moved = record { up = omega (arith, v .up); here = el .bounded .next; few = omega (arith, v .few, sr .few, n .ops, pp .count); low = omega (arith, v .low, sr .next, n .low, pp .next); met = omega (arith, v .met, sr .mapped, n .met, pp .mapped); in-ops = lo ∙ sr .in-ops ∙ v .in-ops; in-rest = lr ∙ ap length (sr .rest) ∙ v .in-rest; index = λ x. rw (pp .mapped) (n .index (rw (sr .mapped, sr .rest) (v .index x))) };
+          moved = record {
+            up = omega (arith, v .up);
+            here = el .bounded .next;
+            few = omega (arith, v .few, sr .few, n .ops, pp .count);
+            low = omega (arith, v .low, sr .next, n .low, pp .next);
+            met = omega (arith, v .met, sr .mapped, n .met, pp .mapped);
+            in-ops = lo ∙ sr .in-ops ∙ v .in-ops;
+            in-rest = lr ∙ ap length (sr .rest) ∙ v .in-rest;
+            index = λ x. rw (pp .mapped) (n .index (rw (sr .mapped, sr .rest) (v .index x)));
+          };
           low = omega (arith, pp .count);
           next = chain-next;
           run = named-run;

@@ -40,7 +40,8 @@ use Rattle.model.specs.Call.{maxDepth}
 abbrev pub nodeStep : (bind : Option ℕ) {n : ℕ} → Trees name n → (p : Bool) → Trees expr (one p) → NodeStep
 nodeStep bind {n} names p props = record { bind = bind; labels = toList n (foldOf Lowered made names); props = propsOf p (foldOf Lowered made props) }
 
-module _ (bn br : Option ℕ) {n n′ : ℕ} (labels : Trees name n) (types : Trees name n′) (p p′ : Bool) (props : Trees expr (one p)) (props′ : Trees expr (one p′)) (r : RelStep) (er : r ≡ record { bind = br; types = toList n′ (foldOf Lowered made types); direction = r .direction; length = r .length; props = propsOf p′ (foldOf Lowered made props′) }) (s : State) where
+module _ (bn br : Option ℕ) {n n′ : ℕ} (labels : Trees name n) (types : Trees name n′) (p p′ : Bool) (props : Trees expr (one p)) (props′ : Trees expr (one p′)) (r : RelStep)
+    (er : r ≡ record { bind = br; types = toList n′ (foldOf Lowered made types); direction = r .direction; length = r .length; props = propsOf p′ (foldOf Lowered made props′) }) (s : State) where
   abbrev s₁ : State
   s₁ = endpointVar bn s .1
 
@@ -84,19 +85,44 @@ pub record Places (B rel far e₁ e₂ nt nl : ℕ) : Type 0 where
   pub at-far : (B + suc far ≤ B + suc far) × (B + suc far < B + suc far + 1)
 
 places : (B rel far e₁ e₂ nt nl : ℕ) → far ≡ e₁ → rel + 1 + nt ≤ e₁ → far + 1 + nl ≤ e₂ → far < maxRecords → B ≤ maxRecords → Places B rel far e₁ e₂ nt nl
-places B rel far e₁ e₂ nt nl a b c d e = record { rf = omega arith; fe = omega arith; r1f = omega arith; r1e = omega arith; r1t = omega arith; ef = omega arith; rt = omega arith; ee = omega arith; el = omega arith; r1l = omega arith; f1l = omega arith; rl = omega arith; low-rel = omega arith; low-far = omega arith; at-rel = (omega arith, omega arith); at-far = (omega arith, omega arith) }
+places B rel far e₁ e₂ nt nl a b c d e = record {
+  rf = omega arith;
+  fe = omega arith;
+  r1f = omega arith;
+  r1e = omega arith;
+  r1t = omega arith;
+  ef = omega arith;
+  rt = omega arith;
+  ee = omega arith;
+  el = omega arith;
+  r1l = omega arith;
+  f1l = omega arith;
+  rl = omega arith;
+  low-rel = omega arith;
+  low-far = omega arith;
+  at-rel = (omega arith, omega arith);
+  at-far = (omega arith, omega arith);
+}
 
 place-at : (p B i : ℕ) → p ≡ B + (i + 1) → p ≡ B + suc i
 place-at p B i e = omega arith
 
 -- the records of an expand, as they are rendered
-recs-are : (N : Notes) (A : Ops) (t tr : Tree patternElement) {n n′ : ℕ} (names : Trees name n) (types : Trees name n′) (p p′ : Bool) (props : Trees expr (one p)) (props′ : Trees expr (one p′)) (h h′ : Rec) (x y input origin x′ y′ : ℕ) (q q′ : Recs) → x ≡ x′ → y ≡ y′ → specRecs N A tr ≡ h′ ∷ (renderOf N A types ++ renderOf N A props′) → specRecs N A t ≡ h ∷ (renderOf N A names ++ renderOf N A props) → renderC N A (plainC props′) ≡ q′ → renderC N A (plainC props) ≡ q → op ReadOp.Expand (input, (origin, (x′, (y′, tt)))) ∷ ((h′ ∷ (toList n′ (foldOf Lowered made types) ++ q′)) ++ (h ∷ (toList n (foldOf Lowered made names) ++ q))) ≡ op ReadOp.Expand (input, (origin, (x, (y, tt)))) ∷ (specRecs N A tr ++ specRecs N A t)
+recs-are : (N : Notes) (A : Ops) (t tr : Tree patternElement) {n n′ : ℕ} (names : Trees name n) (types : Trees name n′) (p p′ : Bool) (props : Trees expr (one p))
+    (props′ : Trees expr (one p′)) (h h′ : Rec) (x y input origin x′ y′ : ℕ) (q q′ : Recs) → x ≡ x′ → y ≡ y′ → specRecs N A tr ≡ h′ ∷ (renderOf N A types ++ renderOf N A props′) →
+    specRecs N A t ≡ h ∷ (renderOf N A names ++ renderOf N A props) → renderC N A (plainC props′) ≡ q′ → renderC N A (plainC props) ≡ q →
+    op ReadOp.Expand (input, (origin, (x′, (y′, tt)))) ∷ ((h′ ∷ (toList n′ (foldOf Lowered made types) ++ q′)) ++ (h ∷ (toList n (foldOf Lowered made names) ++ q))) ≡ op ReadOp.Expand (input, (origin, (x, (y, tt)))) ∷ (specRecs N A tr ++ specRecs N A t)
 recs-are N A t tr names types p p′ props props′ h h′ x y input origin x′ y′ q q′ ex ey et′ et eq′ eq = rw (ex, ey, et′, et, plain-render N A props′, plain-render N A props, eq′, eq, names-render N A types, names-render N A names)
 
 expand-bounded : (rel input origin far d base : ℕ) → d ≤ maxDepth → base ≤ secondPass → rel < maxRecords → InBounds (expandOp (atPlace base rel d) input origin far)
 expand-bounded rel input origin far d base sh lb l = record { shallow = sh; near = lb; low = l; far = λ e. absurd (omega arith); flagged = λ e. absurd (omega arith) }
 
-module _ {a b : List ℕ} (d base far rel : ℕ) {e₁ e₂ n₁ n₂ input origin p₁ p₂ : ℕ} {c₀ : LowerCtx} {os rest rest₁ rest₂ : List ℕ} {r₁ r₂ : Numbered} {m₃ m₄ : Mem} {c₅ : LowerCtx} {os₅ : List ℕ} (room : Roomy a b) (k12 : cell a b far kindAt ≡ nodeKind) (k13 : cell a b rel kindAt ≡ relKind) (lb : base ≤ secondPass) (sh : d ≤ maxDepth) (la : far < maxRecords) (ep₁ : p₁ ≡ base + (far + 1)) (nm₁ : Numbers (endpointVar (optionOf (cell a b far elementNamedAt) (cell a b far elementVarAt))) p₁ c₀ rest rest₁ r₁) (ep₂ : p₂ ≡ base + (rel + 1)) (nm₂ : Numbers (endpointVar (optionOf (cell a b rel elementNamedAt) (cell a b rel elementVarAt))) p₂ (r₁ .ctx) rest₁ rest₂ r₂) (en₁ : n₁ ≡ cell a b rel relPropsAt) (x₁ : LowersExprs a b n₁ 0 (d - 1) base (rel + 1 + cell a b rel relTypesAt) e₁ (mem (r₂ .ctx) os rest₂) m₃) (en₂ : n₂ ≡ cell a b far nodePropsAt) (x₂ : LowersExprs a b n₂ 0 (d - 1) base (far + 1 + cell a b far relTypesAt) e₂ m₃ m₄) (pe : Pushed (m₄ .ctx) c₅ (m₄ .ops) os₅ (expandOp (atPlace base rel d) input origin far)) where
+module _ {a b : List ℕ} (d base far rel : ℕ) {e₁ e₂ n₁ n₂ input origin p₁ p₂ : ℕ} {c₀ : LowerCtx} {os rest rest₁ rest₂ : List ℕ} {r₁ r₂ : Numbered} {m₃ m₄ : Mem} {c₅ : LowerCtx}
+    {os₅ : List ℕ} (room : Roomy a b) (k12 : cell a b far kindAt ≡ nodeKind) (k13 : cell a b rel kindAt ≡ relKind) (lb : base ≤ secondPass) (sh : d ≤ maxDepth) (la : far < maxRecords)
+    (ep₁ : p₁ ≡ base + (far + 1)) (nm₁ : Numbers (endpointVar (optionOf (cell a b far elementNamedAt) (cell a b far elementVarAt))) p₁ c₀ rest rest₁ r₁) (ep₂ : p₂ ≡ base + (rel + 1))
+    (nm₂ : Numbers (endpointVar (optionOf (cell a b rel elementNamedAt) (cell a b rel elementVarAt))) p₂ (r₁ .ctx) rest₁ rest₂ r₂) (en₁ : n₁ ≡ cell a b rel relPropsAt)
+    (x₁ : LowersExprs a b n₁ 0 (d - 1) base (rel + 1 + cell a b rel relTypesAt) e₁ (mem (r₂ .ctx) os rest₂) m₃) (en₂ : n₂ ≡ cell a b far nodePropsAt)
+    (x₂ : LowersExprs a b n₂ 0 (d - 1) base (far + 1 + cell a b far nodeLabelsAt) e₂ m₃ m₄) (pe : Pushed (m₄ .ctx) c₅ (m₄ .ops) os₅ (expandOp (atPlace base rel d) input origin far)) where
   -- what an expand has done
   pub record Expanded (sheet : Bytes) (W : Written) (s : State) (c : Lower.Chain) (n : NodeStep) : Type 0 where
     pub to : To sheet a b W ((base + suc rel, base + suc e₂) ∷ W) s (lowerElement c (ofNode n) s .1) (mem c₀ os rest) (mem c₅ os₅ (m₄ .rest))
@@ -126,7 +152,9 @@ module _ {a b : List ℕ} (d base far rel : ℕ) {e₁ e₂ n₁ n₂ input orig
       let w = v .many in
       omega arith
 
-  pub expand-run : (sheet : Bytes) (t tr : Tree patternElement) (n : NodeStep) (r : RelStep) (hd : Held sheet a b t d far) (hr : Held sheet a b tr d rel) → stepOf t ≡ ofNode n → stepOf tr ≡ ofRel r → far ≡ rel + size tr → (W : Written) (s : State) (c : Lower.Chain) → c .pending ≡ some r → c .last ≡ some (input, origin) → Rep sheet a b W s (mem c₀ os rest) → Blank W (base + suc rel) (base + suc e₂) → Expanded sheet W s c n
+  pub expand-run : (sheet : Bytes) (t tr : Tree patternElement) (n : NodeStep) (r : RelStep) (hd : Held sheet a b t d far) (hr : Held sheet a b tr d rel) → stepOf t ≡ ofNode n →
+      stepOf tr ≡ ofRel r → far ≡ rel + size tr → (W : Written) (s : State) (c : Lower.Chain) → c .pending ≡ some r → c .last ≡ some (input, origin) → Rep sheet a b W s (mem c₀ os rest) →
+      Blank W (base + suc rel) (base + suc e₂) → Expanded sheet W s c n
   unfolding push
   expand-run sheet t tr n r hd hr st sr er W s c ep el q bl =
       let vn = a-node room t hd k12 in
@@ -172,7 +200,10 @@ module _ {a b : List ℕ} (d base far rel : ℕ) {e₁ e₂ n₁ n₂ input orig
           is-far = k12;
           below-rel = vr .el .below (shift N base) (m₄ .ctx .ops) (plain-below (shift N base) (m₄ .ctx .ops) (vr .el .props) (carried-more (shift N base) (m₃ .ctx .ops) (m₄ .ctx .ops) (y₂ .to .grow) (plainC (vr .el .props)) (y₁ .below N A (back (y₂ .to) f))));
           below-far = vn .el .below (shift N base) (m₄ .ctx .ops) (plain-below (shift N base) (m₄ .ctx .ops) (vn .el .props) (y₂ .below N A f));
-          is = recs-are (shift N base) A t tr (vn .el .names) (vr .el .names) (vn .el .p) (vr .el .p) (vn .el .props) (vr .el .props) _ _ _ _ input origin _ _ _ _ (noted N A f .0) (noted N A f .1) (vr .el .spec (shift N base) A ∙ ap (λ (h : Rec). h ∷ (renderOf (shift N base) A (vr .el .names) ++ renderOf (shift N base) A (vr .el .props))) (vr .head)) (vn .el .spec (shift N base) A ∙ ap (λ (h : Rec). h ∷ (renderOf (shift N base) A (vn .el .names) ++ renderOf (shift N base) A (vn .el .props))) (vn .head)) (y₁ .shown N A (back (y₂ .to) f)) (y₂ .shown N A f);
+          is = recs-are (shift N base) A t tr (vn .el .names) (vr .el .names) (vn .el .p) (vr .el .p) (vn .el .props) (vr .el .props) _ _ _ _ input origin _ _ _ _ (noted N A f .0)
+              (noted N A f .1) (vr .el .spec (shift N base) A ∙ ap (λ (h : Rec). h ∷ (renderOf (shift N base) A (vr .el .names) ++ renderOf (shift N base) A (vr .el .props))) (vr .head))
+              (vn .el .spec (shift N base) A ∙ ap (λ (h : Rec). h ∷ (renderOf (shift N base) A (vn .el .names) ++ renderOf (shift N base) A (vn .el .props))) (vn .head))
+              (y₁ .shown N A (back (y₂ .to) f)) (y₂ .shown N A f);
         });
       }) in
       let u : Sub W₄ ((base + suc rel, base + suc e₂) ∷ W) = sub-within (P .rl) (le-refl _) (sub-within (P .rt) (P .ee) (sub-within (le-refl _) (P .r1e) (sub-within (P .rf) (P .fe) (sub-more (base + suc rel, base + suc e₂) W)))) in

@@ -15,7 +15,7 @@ use Rattle.lower.specs.Render.{keptFrom}
 use Rattle.lower.specs.Rep.{State, mem, Written, Sub, Blank, Rep, RoomFor}
 use Rattle.lower.specs.Pieces.{SomeTree}
 use Rattle.lower.specs.Patterns.{SomeTrees}
-use Rattle.lower.specs.Chains.{givenIf, stepOf, SameChain, ChainInBounds, Anchored, ChainedAll, LowersElement, LowersElements}
+use Rattle.lower.specs.Chains.{from, stepOf, SameChain, ChainInBounds, Anchored, ChainedAll, LowersElement, LowersElements}
 use Rattle.lower.specs.declared.Chain.{Chain}
 use Rattle.lower.specs.State.{sub-more, sub-within, blank-within, blank-behind, back, to-refl, to-then, to-wider}
 use Rattle.lower.specs.Exprs.{moved-refl, moved-then, good-after, narrow}
@@ -27,7 +27,7 @@ none-size ch []ᵗ = omega arith
 module _ {a b : List ℕ} (d base : ℕ) (ch : Chain) (os rs : List ℕ) where
   none-run : (sheet : Bytes) (ts : Trees patternElement 0) (W : Written) (s : State) (c : Lower.Chain) → Rep sheet a b W s (mem (ch .ctx) os rs) → SameChain sheet a b d ch c → ChainedAll sheet a b W d base ch ch ts c s (mem (ch .ctx) os rs) (mem (ch .ctx) os rs)
   unfolding lowerElements ret toList fold keptFrom
-  none-run sheet []ᵗ W s c r l = record { to = to-wider (sub-more (base + suc (ch .from), base + suc (ch .from)) W) (to-refl r); same = l; path = λ N A f. sym (append-nil (c .path)) }
+  none-run sheet []ᵗ W s c r l = record { to = to-wider (sub-more (base + suc (from ch), base + suc (from ch)) W) (to-refl r); same = l; path = λ N A f. sym (append-nil (c .path)) }
 
   pub none-law : ChainInBounds ch → Anchored a b d ch → LowersElements a b 0 d base ch ch os os rs rs
   none-law st an = record {
@@ -47,7 +47,8 @@ module _ {a b : List ℕ} {n d base : ℕ} {ch ch₁ ch₂ : Chain} {os os₁ os
       let y = q .next sheet ts (rw x (h .1)) in
       omega arith
 
-  both-run : (sheet : Bytes) (ts : Trees patternElement (suc n)) → HeldOf sheet a b ts d (ch .next) → (W : Written) (s : State) (c : Lower.Chain) → Rep sheet a b W s (mem (ch .ctx) os rs) → SameChain sheet a b d ch c → Blank W (base + suc (ch .from)) (base + suc (ch₂ .next)) → ChainedAll sheet a b W d base ch ch₂ ts c s (mem (ch .ctx) os rs) (mem (ch₂ .ctx) os₂ rs₂)
+  both-run : (sheet : Bytes) (ts : Trees patternElement (suc n)) → HeldOf sheet a b ts d (ch .next) → (W : Written) (s : State) (c : Lower.Chain) → Rep sheet a b W s (mem (ch .ctx) os rs) →
+      SameChain sheet a b d ch c → Blank W (base + suc (from ch)) (base + suc (ch₂ .next)) → ChainedAll sheet a b W d base ch ch₂ ts c s (mem (ch .ctx) os rs) (mem (ch₂ .ctx) os₂ rs₂)
   unfolding Held lowerElements _>>=_ toList fold
   both-run sheet (t ∷ᵗ ts) h W s c r l bl =
       let x = p .next sheet t (h .0) in
@@ -58,7 +59,7 @@ module _ {a b : List ℕ} {n d base : ℕ} {ch ch₁ ch₂ : Chain} {os os₁ os
       let y = p .run sheet t (h .0) W s c r l (blank-within (le-refl _) (omega arith) bl) in
       let c₁ : Lower.Chain = lowerElement c (stepOf t) s .0 in
       let z = q .run sheet ts (rw x (h .1)) _ _ c₁ (y .to .rep) (y .same) (blank-behind (le-refl _) (blank-within (omega arith) (le-refl _) bl)) in
-      let u : Sub ((base + suc (ch₁ .from), base + suc (ch₂ .from)) ∷ (base + suc (ch .from), base + suc (ch₁ .from)) ∷ W) ((base + suc (ch .from), base + suc (ch₂ .from)) ∷ W) = sub-within (omega arith) (le-refl _) (sub-within (le-refl _) (omega arith) (sub-more (base + suc (ch .from), base + suc (ch₂ .from)) W)) in
+      let u : Sub ((base + suc (from ch₁), base + suc (from ch₂)) ∷ (base + suc (from ch), base + suc (from ch₁)) ∷ W) ((base + suc (from ch), base + suc (from ch₂)) ∷ W) = sub-within (omega arith) (le-refl _) (sub-within (le-refl _) (omega arith) (sub-more (base + suc (from ch), base + suc (from ch₂)) W)) in
       record {
         to = to-wider u (to-then (y .to) (z .to));
         same = z .same;
@@ -73,7 +74,7 @@ module _ {a b : List ℕ} {n d base : ℕ} {ch ch₁ ch₂ : Chain} {os os₁ os
 -- k elements are left, and once they are lowered from here, all is done
 pub record Left (a b : List ℕ) (d base : ℕ) (Done : Chain → List ℕ → List ℕ → Type 0) (k : ℕ) (ch : Chain) (os rs : List ℕ) : Type 0 where
   pub some : SomeTrees a b patternElement k d (ch .next)
-  pub good : RoomFor d (ch .from) (mem (ch .ctx) os rs)
+  pub good : RoomFor d (from ch) (mem (ch .ctx) os rs)
   pub bounded : ChainInBounds ch
   pub anchored : Anchored a b d ch
   pub rest : (ch′ : Chain) (os′ rs′ : List ℕ) → LowersElements a b k d base ch ch′ os os′ rs rs′ → Done ch′ os′ rs′
@@ -106,8 +107,3 @@ module _ {a b : List ℕ} {d base : ℕ} {Done : Chain → List ℕ → List ℕ
 
   pub done : {k : ℕ} {ch : Chain} {os rs : List ℕ} → k ≡ 0 → Left a b d base Done k ch os rs → Done ch os rs
   done {k} {ch} {os} {rs} h p = p .rest ch os rs (rw h (none-law d base ch os rs (p .bounded) (p .anchored)))
-
-pub some-given : {A : Type 0} (h : ℕ) (x : A) → ((h ≡ 0) → ⊥) → givenIf h x ≡ some x
-unfolding givenIf
-some-given zero x n = absurd (n refl)
-some-given (suc h) x n = refl

@@ -83,7 +83,9 @@ module _ {sheet : Bytes} {a b : List ℕ} {d i : ℕ} (room : Roomy a b) where
   predicate (node expr line Expr.Unresolved f kids) hd e = let z = number-at room (hd .1) in absurd (omega arith)
   predicate (node expr line Expr.Undesugared f kids) hd e = let z = number-at room (hd .1) in absurd (omega arith)
 
-naming-run : {sheet : Bytes} {a b : List ℕ} {d base i e id : ℕ} {m m′ : Mem} (t : Tree expr) (o : Naming sheet a b d i id t) (W : Written) (s : State) (rest′ : List ℕ) (r : Numbered) → base ≤ secondPass → i < maxRecords → i + 1 ≤ e → Given sheet a b W s (mapVar id) (base + suc i) m rest′ r → Ran sheet a b ((base + suc i, base + suc i + 1) ∷ W) (carriedPiece (o .list)) base (suc (i + 1)) (suc e) (mapVar id s .1) (mem (r .ctx) (m .ops) rest′) m′ → Ran sheet a b W (exprPiece t) base (suc i) (suc e) s m m′
+naming-run : {sheet : Bytes} {a b : List ℕ} {d base i e id : ℕ} {m m′ : Mem} (t : Tree expr) (o : Naming sheet a b d i id t) (W : Written) (s : State) (rest′ : List ℕ) (r : Numbered) →
+    base ≤ secondPass → i < maxRecords → i + 1 ≤ e → Given sheet a b W s (mapVar id) (base + suc i) m rest′ r → Ran sheet a b ((base + suc i, base + suc i + 1) ∷ W)
+    (carriedPiece (o .list)) base (suc (i + 1)) (suc e) (mapVar id s .1) (mem (r .ctx) (m .ops) rest′) m′ → Ran sheet a b W (exprPiece t) base (suc i) (suc e) s m m′
 naming-run {base = base} {i = i} {e = e} {id = id} {m = m} t o W s rest′ r lb li le g p =
     let u : Sub ((base + suc (i + 1), base + suc e) ∷ (base + suc i, base + suc i + 1) ∷ W) ((base + suc i, base + suc e) ∷ W) = sub-within (omega arith) (le-refl _) (sub-within (le-refl _) (omega arith) (sub-more (base + suc i, base + suc e) W)) in
     record {
@@ -95,7 +97,9 @@ naming-run {base = base} {i = i} {e = e} {id = id} {m = m} t o W s rest′ r lb 
       below = λ N A f. o .below (shift N base) _ (p .below N A (narrow u (rw (o .lower s) at f)));
     }
 
-module _ {a b : List ℕ} {n d base i e id place : ℕ} {c : LowerCtx} {os rest rest′ : List ℕ} {r : Numbered} {m′ : Mem} (see : (sheet : Bytes) (t : Tree expr) → Held sheet a b t d i → Naming sheet a b d i id t) (en : n ≡ countAt a b i) (lb : base ≤ secondPass) (li : i < maxRecords) (ep : place ≡ base + (i + 1)) (nm : Numbers (mapVar id) place c rest rest′ r) (lr : length rest′ ≡ length rest) (p : LowersExprs a b n 0 (d - 1) base (i + 1) e (mem (r .ctx) os rest′) m′) where
+module _ {a b : List ℕ} {n d base i e id place : ℕ} {c : LowerCtx} {os rest rest′ : List ℕ} {r : Numbered} {m′ : Mem} (see : (sheet : Bytes) (t : Tree expr) → Held sheet a b t d i →
+    Naming sheet a b d i id t) (en : n ≡ countAt a b i) (lb : base ≤ secondPass) (li : i < maxRecords) (ep : place ≡ base + (i + 1)) (nm : Numbers (mapVar id) place c rest rest′ r)
+    (lr : length rest′ ≡ length rest) (p : LowersExprs a b n 0 (d - 1) base (i + 1) e (mem (r .ctx) os rest′) m′) where
   naming-next : (sheet : Bytes) (t : Tree expr) → Held sheet a b t d i → e ≡ i + size t
   naming-next sheet t hd =
       let o = see sheet t hd in
@@ -156,7 +160,9 @@ module _ {sheet : Bytes} {a b : List ℕ} {d i : ℕ} (room : Roomy a b) where
   pattern (node expr line Expr.Unresolved f kids) hd e = let z = number-at room (hd .1) in absurd (omega arith)
   pattern (node expr line Expr.Undesugared f kids) hd e = let z = number-at room (hd .1) in absurd (omega arith)
 
-module _ {a b : List ℕ} {n d base i e k place : ℕ} {rest′ : List ℕ} {m m₁ : Mem} (see : (sheet : Bytes) (t : Tree expr) → Held sheet a b t d i → Matched sheet a b d i t) (en : n ≡ cell a b i patPartsAt) (lb : base ≤ secondPass) (li : i < maxRecords) (ep : place ≡ base + (i + 1)) (p : LowersParts a b n (d - 1) base i e k m m₁) (nt : NoteWritten place k (m₁ .rest) rest′) (lr : length rest′ ≡ length (m₁ .rest)) where
+module _ {a b : List ℕ} {n d base i e k place : ℕ} {rest′ : List ℕ} {m m₁ : Mem} (see : (sheet : Bytes) (t : Tree expr) → Held sheet a b t d i → Matched sheet a b d i t)
+    (en : n ≡ cell a b i patPartsAt) (lb : base ≤ secondPass) (li : i < maxRecords) (ep : place ≡ base + (i + 1)) (p : LowersParts a b n (d - 1) base i e k m m₁)
+    (nt : NoteWritten place k (m₁ .rest) rest′) (lr : length rest′ ≡ length (m₁ .rest)) where
   pattern-next : (sheet : Bytes) (t : Tree expr) → Held sheet a b t d i → e ≡ i + size t
   pattern-next sheet t hd =
       let o = see sheet t hd in

@@ -16,33 +16,43 @@ use Rattle.words.specs.Count.{Starts, Ends}
 use Rattle.lower.specs.Rep.{State, Mem}
 use Rattle.lower.specs.Pieces.{SomeTree}
 use Rattle.lower.specs.Patterns.{partL, LowersPart}
-use Rattle.lower.specs.Chains.{stepsOf, chainL, LowersChain, elementOf}
+use Rattle.lower.specs.Chains.{stepsOf, chainL, LowersChain, ReadAt, ElementAt, node-at, rel-at}
 use Rattle.lower.specs.declared.Element.{Element}
-use Rattle.lower.specs.declared.Element.the-variants.{Node, Rel}
+use Rattle.lower.specs.declared.Element.the-variants as element
+use Rattle.lower.specs.declared.Read.{Read}
 use Rattle.words.specs.Fits.{tree-fits}
 use Rattle.lower.proofs.Elements.{a-node, a-rel, other-element}
 use Rattle.lower.proofs.Chaining.{IsPart, a-part}
 use Rattle.lower.proofs.Shortest.{Three, three, plain-part, other-part, shape-not-three, steps-length}
-use Rattle.words.specs.Places.{kindAt, nodeKind, relKind, partShortestAt, partElementsAt}
+use Rattle.words.specs.Places.{kindAt, nodeKind, relKind, partShortestAt, partElementsAt, nodePropsAt, relPropsAt}
 
--- ── an element's enum tells its kind ──
+-- ── what was read of an element ──
 
-Told : Element → ℕ
-Told (Node i) = 12
-Told (Rel i) = 13
+readOf : Element → Read
+readOf (element.Node x) = x
+readOf (element.Rel x) = x
 
-told-by : (t : Bool) (k i : ℕ) (r : Element) → eqb k 12 ≡ t → r ≡ cond t (Node i) (Rel i) → (Told r ≡ nodeKind → k ≡ nodeKind) × (Told r ≡ relKind → (k ≡ nodeKind) → ⊥)
-unfolding Told
-told-by true k i r e h = rw h (λ z. eqb-true k 12 e, λ z. absurd (omega arith))
-told-by false k i r e h = rw h (λ z. absurd (omega arith), λ z. eqb-false k 12 e)
+nodes : Element → ℕ
+nodes (element.Node x) = 1
+nodes (element.Rel x) = 0
 
-pub is-node : (k i x : ℕ) (r : Element) → r ≡ elementOf k i → r ≡ Node x → k ≡ nodeKind
-unfolding Told
-is-node k i x r h e = told-by (eqb k 12) k i r refl h .0 (rw e)
+pub record NodeRead (a b : List ℕ) (i : ℕ) (x : Read) : Type 0 where
+  pub is : cell a b i kindAt ≡ nodeKind
+  pub read : ReadAt a b i nodePropsAt x
 
-pub is-rel : (k i x : ℕ) (r : Element) → r ≡ elementOf k i → r ≡ Rel x → (k ≡ nodeKind) → ⊥
-unfolding Told
-is-rel k i x r h e = told-by (eqb k 12) k i r refl h .1 (rw e)
+pub record RelRead (a b : List ℕ) (i : ℕ) (x : Read) : Type 0 where
+  pub is : (cell a b i kindAt ≡ nodeKind) → ⊥
+  pub read : ReadAt a b i relPropsAt x
+
+pub node-read : {a b : List ℕ} {i : ℕ} {r : Element} {x : Read} → ElementAt a b i r → r ≡ element.Node x → NodeRead a b i x
+unfolding readOf nodes
+node-read (node-at y e k p) h = let z = ap readOf (sym e ∙ h) in record { is = k; read = rw z at p }
+node-read (rel-at y e k p) h = let z : _≡_ {A = ℕ} 0 1 = ap nodes (sym e ∙ h) in absurd (omega arith)
+
+pub rel-read : {a b : List ℕ} {i : ℕ} {r : Element} {x : Read} → ElementAt a b i r → r ≡ element.Rel x → RelRead a b i x
+unfolding readOf nodes
+rel-read (node-at y e k p) h = let z : _≡_ {A = ℕ} 1 0 = ap nodes (sym e ∙ h) in absurd (omega arith)
+rel-read (rel-at y e k p) h = let z = ap readOf (sym e ∙ h) in record { is = k; read = rw z at p }
 
 -- ── as a chain ──
 
@@ -142,6 +152,3 @@ first-some {a} {b} d i room k6 x =
     let v = a-part room (x .tree) (x .held) in
     let th = three (v .elements) (v .many ∙ k6) in
     record { sheet = x .sheet; tree = th .first; held = th .held (x .sheet) a b (d - 1) (i + 1) (v .held) .0 }
-
-pub one-of : {n : ℕ} → n ≤ 1 → ((n ≡ 0) → ⊥) → n ≡ 1
-one-of l h = omega arith

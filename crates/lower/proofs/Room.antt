@@ -14,12 +14,14 @@ use Rattle.words.specs.Fits.{tree-fits}
 use Rattle.lower.specs.Carry.{plainC, plain-held, plain-size}
 use Rattle.lower.proofs.Elements.{a-node, other-element}
 use Rattle.lower.proofs.Elements
-use Rattle.lower.proofs.Linking.{rel-kind}
+use Rattle.lower.proofs.Linking.{rel-kind, rel-waits}
+use Rattle.lower.specs.declared.Pending.{Pending}
+use Rattle.lower.specs.declared.Pending.the-variants as pending
 use mathlib.Core.Option.{Option}
 use Rattle.model.specs.Lower.{RelStep}
 use Rattle.model.specs.Record.{one}
 use Rattle.words.specs.Count.{Ends}
-use Rattle.lower.specs.Chains.{LowersRel, LowersStart, OrSource, Waiting, no-rel, a-rel, Anchored}
+use Rattle.lower.specs.Chains.{fromOf, from, LowersRel, LowersStart, OrSource, Anchored}
 use Rattle.lower.specs.declared.Chain.{Chain}
 use Rattle.model.specs.Tree.{Tree, node}
 use Rattle.words.specs.Words.{cell, Roomy, optionOf}
@@ -35,7 +37,7 @@ use Rattle.model.specs.Call.{maxDepth, workWords}
 use Rattle.words.specs.Words.{maxRecords}
 use Rattle.context.specs.Tables.{secondPass}
 use Rattle.context.specs.declared.At.{At}
-use Rattle.lower.specs.Asked.{Asked, TreeAsked, ElementAsked, ChainAsked}
+use Rattle.lower.specs.Asked.{Asked, SomeElement, TreeAsked, ElementAsked, ChainAsked}
 use Rattle.lower.specs.Pieces.{SomeTree, SomeCarried, LowersExprs}
 use Rattle.words.specs.Places.{kindAt, nodeKind, relKind, elementNamedAt, elementVarAt, nodeLabelsAt, nodePropsAt, relTypesAt, relPropsAt}
 
@@ -122,7 +124,9 @@ names-by {a} {b} sheet room d i t hd = names-fit (tree-fits sheet a b t d i hd .
 pub names-low : {a b : List ℕ} {d i : ℕ} → Roomy a b → SomeTree a b patternElement d i → i + 1 + cell a b i nodeLabelsAt ≤ maxRecords
 names-low {a} {b} {d} {i} room x = names-by (x .sheet) room d i (x .tree) (x .held)
 
-pub rel-done : {a b : List ℕ} {d base i e n j : ℕ} {c : LowerCtx} {os rest rest₁ : List ℕ} {r : Numbered} {m′ : Mem} (place : ℕ) → place ≡ base + (i + 1) → Numbers (endpointVar (optionOf (cell a b i elementNamedAt) (cell a b i elementVarAt))) place c rest rest₁ r → length rest₁ ≡ length rest → n ≡ cell a b i relPropsAt → j ≡ i + 1 + cell a b i relTypesAt → LowersExprs a b n 0 (d - 1) base j e (mem (r .ctx) os rest₁) m′ → LowersRel a b d base i e c os rest m′
+pub rel-done : {a b : List ℕ} {d base i e n j : ℕ} {c : LowerCtx} {os rest rest₁ : List ℕ} {r : Numbered} {m′ : Mem} (place : ℕ) → place ≡ base + (i + 1) →
+    Numbers (endpointVar (optionOf (cell a b i elementNamedAt) (cell a b i elementVarAt))) place c rest rest₁ r → length rest₁ ≡ length rest → n ≡ cell a b i relPropsAt →
+    j ≡ i + 1 + cell a b i relTypesAt → LowersExprs a b n 0 (d - 1) base j e (mem (r .ctx) os rest₁) m′ → LowersRel a b d base i e c os rest m′
 rel-done {rest₁ = rest₁} {r = r} place ep nm l en ej p = record { named = r; between = rest₁; noted = rw ep at nm; kept = l; props = rw (en, ej) at p }
 
 -- a rel's end
@@ -145,27 +149,20 @@ module _ {L : Lowering ℕ} {k d i : ℕ} {c c′ : LowerCtx} {os os′ rs : Lis
   source-few = (let x = g .few in let y = g .here in let z = q .few in omega arith, let x = g .few in let y = g .here in let z = q .few in let w = q .low in omega arith)
 
 -- the rel that waits
-module _ {a b : List ℕ} {d : ℕ} {ch : Chain} (room : Roomy a b) (w1 : ch .waits ≡ 1) where
-  rel-by : {sheet : Bytes} {o : Option RelStep} → Waiting sheet a b d ch o → SomeTree a b patternElement d (ch .from)
-  rel-by (no-rel w f e) = absurd (omega arith)
-  rel-by {sheet} (a-rel w t r hd st nx e) = record { sheet = sheet; tree = t; held = hd }
+module _ {a b : List ℕ} {d : ℕ} {ch : Chain} {rel : ℕ} (room : Roomy a b) (w1 : ch .pending ≡ pending.Rel rel) (x : Anchored a b d ch) where
+  pub waiting-rel : SomeElement a b relKind d rel
+  waiting-rel =
+      let w = rel-waits w1 (x .waiting) in
+      record { tree = record { sheet = x .sheet; tree = w .tree; held = w .held }; is = rel-kind room (x .sheet) d rel (w .tree) (w .step) (w .held) (w .is) }
 
-  kind-by : {sheet : Bytes} {o : Option RelStep} → Waiting sheet a b d ch o → cell a b (ch .from) kindAt ≡ relKind
-  kind-by (no-rel w f e) = absurd (omega arith)
-  kind-by {sheet} (a-rel w t r hd st nx e) = rel-kind room sheet d (ch .from) t r hd st
+  pub waiting-end : {base e : ℕ} {c : LowerCtx} {os rest : List ℕ} {m′ : Mem} → LowersRel a b d base rel e c os rest m′ → e ≡ ch .next
+  waiting-end p =
+      let w = rel-waits w1 (x .waiting) in
+      rel-end room d rel (waiting-rel .is) p (x .sheet) (w .tree) (w .held) ∙ sym (w .ends)
 
-  end-by : {sheet : Bytes} {o : Option RelStep} {base e : ℕ} {c : LowerCtx} {os rest : List ℕ} {m′ : Mem} → Waiting sheet a b d ch o → LowersRel a b d base (ch .from) e c os rest m′ → e ≡ ch .next
-  end-by (no-rel w f e) p = absurd (omega arith)
-  end-by {sheet} (a-rel w t r hd st nx e) p = rel-end room d (ch .from) (rel-kind room sheet d (ch .from) t r hd st) p sheet t hd ∙ sym nx
-
-  pub waiting-rel : Anchored a b d ch → SomeTree a b patternElement d (ch .from)
-  waiting-rel x = rel-by (x .waiting)
-
-  pub waiting-kind : Anchored a b d ch → cell a b (ch .from) kindAt ≡ relKind
-  waiting-kind x = kind-by (x .waiting)
-
-  pub waiting-end : {base e : ℕ} {c : LowerCtx} {os rest : List ℕ} {m′ : Mem} → Anchored a b d ch → LowersRel a b d base (ch .from) e c os rest m′ → e ≡ ch .next
-  waiting-end x p = end-by (x .waiting) p
+-- the record from which on nothing is lowered, where a rel waits
+pub from-rel : (ch : Chain) {rel : ℕ} → ch .pending ≡ pending.Rel rel → from ch ≡ rel
+from-rel ch e = ap (λ (p : Pending). fromOf p (ch .next)) e
 
 -- behind a rel
 pub after-rel : {a b : List ℕ} {d base i e : ℕ} {c : LowerCtx} {os rest : List ℕ} {m′ : Mem} (j : ℕ) → RoomFor (d - 1) i (mem c os rest) → LowersRel a b d base i e c os rest m′ → e ≤ j → j ≤ maxRecords → RoomFor (d - 1) j m′

@@ -175,5 +175,7 @@ at-place p = (omega arith, omega arith)
 pub place-at : (p B i : ℕ) → p ≡ B + (i + 1) → p ≡ B + suc i
 place-at p B i e = omega arith
 
-pub short-is : (N : Notes) (A : Ops) (tr : Tree patternElement) {n : ℕ} (types : Trees name n) (p : Bool) (props : Trees expr (one p)) (h : Rec) (input input′ x x′ y y′ z z′ : ℕ) (all : Bool) (q : Recs) → input′ ≡ input → x ≡ x′ → y ≡ y′ → z ≡ z′ → specRecs N A tr ≡ h ∷ (renderOf N A types ++ renderOf N A props) → renderC N A (plainC props) ≡ q → op ReadOp.ShortestPath (input, (x′, (y′, (z′, (all, tt))))) ∷ (h ∷ (toList n (foldOf Lowered made types) ++ q)) ≡ op ReadOp.ShortestPath (input′, (x, (y, (z, (all, tt))))) ∷ specRecs N A tr
+pub short-is : (N : Notes) (A : Ops) (tr : Tree patternElement) {n : ℕ} (types : Trees name n) (p : Bool) (props : Trees expr (one p)) (h : Rec) (input input′ x x′ y y′ z z′ : ℕ)
+    (all : Bool) (q : Recs) → input′ ≡ input → x ≡ x′ → y ≡ y′ → z ≡ z′ → specRecs N A tr ≡ h ∷ (renderOf N A types ++ renderOf N A props) → renderC N A (plainC props) ≡ q →
+    op ReadOp.ShortestPath (input, (x′, (y′, (z′, (all, tt))))) ∷ (h ∷ (toList n (foldOf Lowered made types) ++ q)) ≡ op ReadOp.ShortestPath (input′, (x, (y, (z, (all, tt))))) ∷ specRecs N A tr
 short-is N A tr types p props h input input′ x x′ y y′ z z′ all q ei ex ey ez es eq = rw (ei, ex, ey, ez, es, plain-render N A props, eq, names-render N A types)

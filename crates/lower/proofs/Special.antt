@@ -49,9 +49,16 @@ shape-three ss x y z n b r e ex ey ez = rw (e, ex, ey, ez)
 short-bounded : (i input rel far d base : ℕ) → d ≤ maxDepth → base ≤ secondPass → i < maxRecords → far < maxRecords → InBounds (shortestPathOp (atPlace base i (d - 1)) input rel far)
 short-bounded i input rel far d base sh lb l h = record { shallow = omega arith; near = lb; low = l; far = λ e. h; flagged = λ e. absurd (omega arith) }
 
-module _ {a b : List ℕ} (d base i rel far e : ℕ) {p₁ p₃ p₄ e₁ e₂ k₁ : ℕ} {c₀ : LowerCtx} {os rest rest₁ rest₄ rest₅ os₆ : List ℕ} {r₁ r₃ r₄ : Numbered} {m₂ m₃ : Mem} {c₆ : LowerCtx} (room : Roomy a b) (lb : base ≤ secondPass) (sh : d ≤ maxDepth) (k4 : (cell a b i partShortestAt ≡ 0) → ⊥) (k6 : cell a b i partElementsAt ≡ 3) (ka : cell a b (i + 1) kindAt ≡ nodeKind) (kr : cell a b rel kindAt ≡ relKind) (kf : cell a b far kindAt ≡ nodeKind) (na : Ends a b (i + 1) rel) (nr : Ends a b rel far) (nf : Ends a b far e)
-    (ep₁ : p₁ ≡ base + (i + 1 + 1)) (nm₁ : Numbers (endpointVar (optionOf (cell a b (i + 1) elementNamedAt) (cell a b (i + 1) elementVarAt))) p₁ c₀ rest rest₁ r₁) (lr₁ : length rest₁ ≡ length rest) (ls : LowersStart a b (d - 1) base (i + 1) (r₁ .number) e₁ k₁ (mem (r₁ .ctx) os rest₁) m₂) (lr : LowersRel a b (d - 1) base rel e₂ (m₂ .ctx) (m₂ .ops) (m₂ .rest) m₃)
-    (ep₃ : p₃ ≡ base + (far + 1)) (nm₃ : Numbers (endpointVar (optionOf (cell a b far elementNamedAt) (cell a b far elementVarAt))) p₃ (m₃ .ctx) (m₃ .rest) rest₄ r₃) (lr₃ : length rest₄ ≡ length (m₃ .rest)) (ep₄ : p₄ ≡ base + (i + 1)) (nm₄ : Numbers (endpointVar (optionOf (cell a b i partNamedAt) (cell a b i partVarAt))) p₄ (r₃ .ctx) rest₄ rest₅ r₄) (lr₄ : length rest₅ ≡ length rest₄) (pp : Pushed (r₄ .ctx) c₆ (m₃ .ops) os₆ (shortestPathOp (atPlace base i (d - 1)) k₁ rel far)) (lo : length os₆ ≡ length (m₃ .ops)) where
+module _ {a b : List ℕ} (d base i rel far e : ℕ) {p₁ p₃ p₄ e₁ e₂ k₁ : ℕ} {c₀ : LowerCtx} {os rest rest₁ rest₄ rest₅ os₆ : List ℕ} {r₁ r₃ r₄ : Numbered} {m₂ m₃ : Mem} {c₆ : LowerCtx}
+    (room : Roomy a b) (lb : base ≤ secondPass) (sh : d ≤ maxDepth) (k4 : (cell a b i partShortestAt ≡ 0) → ⊥) (k6 : cell a b i partElementsAt ≡ 3) (ka : cell a b (i + 1) kindAt ≡ nodeKind)
+    (kr : cell a b rel kindAt ≡ relKind) (kf : cell a b far kindAt ≡ nodeKind) (na : Ends a b (i + 1) rel) (nr : Ends a b rel far) (nf : Ends a b far e)
+    (ep₁ : p₁ ≡ base + (i + 1 + 1)) (nm₁ : Numbers (endpointVar (optionOf (cell a b (i + 1) elementNamedAt) (cell a b (i + 1) elementVarAt))) p₁ c₀ rest rest₁ r₁)
+    (lr₁ : length rest₁ ≡ length rest) (ls : LowersStart a b (d - 1) base (i + 1) (r₁ .number) e₁ k₁ (mem (r₁ .ctx) os rest₁) m₂) (lr : LowersRel a b (d - 1) base rel e₂ (m₂ .ctx)
+    (m₂ .ops) (m₂ .rest) m₃)
+    (ep₃ : p₃ ≡ base + (far + 1)) (nm₃ : Numbers (endpointVar (optionOf (cell a b far elementNamedAt) (cell a b far elementVarAt))) p₃ (m₃ .ctx) (m₃ .rest) rest₄ r₃)
+    (lr₃ : length rest₄ ≡ length (m₃ .rest)) (ep₄ : p₄ ≡ base + (i + 1)) (nm₄ : Numbers (endpointVar (optionOf (cell a b i partNamedAt)
+    (cell a b i partVarAt))) p₄ (r₃ .ctx) rest₄ rest₅ r₄) (lr₄ : length rest₅ ≡ length rest₄)
+    (pp : Pushed (r₄ .ctx) c₆ (m₃ .ops) os₆ (shortestPathOp (atPlace base i (d - 1)) k₁ rel far)) (lo : length os₆ ≡ length (m₃ .ops)) where
   -- the three elements, and where they end
   pub record Sits (sheet : Bytes) (t : Tree patternPart) (v : IsPart sheet a b d i t) : Type 0 where
     pub trees : Three (v .elements)
@@ -148,7 +155,9 @@ module _ {a b : List ℕ} (d base i rel far e : ℕ) {p₁ p₃ p₄ e₁ e₂ k
       let s₄ : State = lowerC (plainC (vr .el .props)) (endpointVar br s₂ .1) .1 in
       let g₅ : Given sheet a b W₄ s₄ (endpointVar bt) (base + suc far) m₃ rest₄ r₃ = number-to (endpointVar bt) (base + suc far) m₃ rest₄ r₃ (y₄ .to .rep) (rw (place-at p₃ base far ep₃) at nm₃) (blank-behind (le-refl _) (blank-behind (P .r1f) (blank-behind (P .rf) (blank-behind (P .j1f) (blank-within (P .if) (P .f1e) bl))))) in
       let s₅ : State = endpointVar bt s₄ .1 in
-      let g₆ : Given sheet a b W₅ s₅ (endpointVar o) (base + suc i) (mem (r₃ .ctx) (m₃ .ops) rest₄) rest₅ r₄ = number-to (endpointVar o) (base + suc i) (mem (r₃ .ctx) (m₃ .ops) rest₄) rest₅ r₄ (g₅ .to .rep) (rw (place-at p₄ base i ep₄) at nm₄) (blank-before (P .i1f) (blank-before (P .i1t) (blank-before (P .i1r) (blank-before (P .i1j1) (blank-before (P .i1j) (blank-within (le-refl _) (P .i1e) bl)))))) in
+      let g₆ : Given sheet a b W₅ s₅ (endpointVar o) (base + suc i) (mem (r₃ .ctx) (m₃ .ops) rest₄) rest₅ r₄ = number-to (endpointVar o) (base + suc i) (mem (r₃ .ctx)
+      (m₃ .ops) rest₄) rest₅ r₄ (g₅ .to .rep) (rw (place-at p₄ base i ep₄) at nm₄) (blank-before (P .i1f) (blank-before (P .i1t) (blank-before (P .i1r) (blank-before (P .i1j1)
+      (blank-before (P .i1j) (blank-within (le-refl _) (P .i1e) bl)))))) in
       let recs : Recs = shortRecs o br bt n₀ b₀ (vr .el .names) (vr .el .p) (vr .el .props) r₀ refl refl s all in
       let y₇ = push-to (mem (r₄ .ctx) (m₃ .ops) rest₅) c₆ os₆ (shortestPathOp (atPlace base i (d - 1)) k₁ rel far) recs (g₆ .to .rep) pp
       (λ N A f.
@@ -165,7 +174,10 @@ module _ {a b : List ℕ} (d base i rel far e : ℕ) {p₁ p₃ p₄ e₁ e₂ k
           below-rel = vr .el .below (shift N base) (r₄ .ctx .ops) (plain-below (shift N base) (r₄ .ctx .ops) (vr .el .props) (carried-more (shift N base) (m₃ .ctx .ops) (r₄ .ctx .ops) l₃ (plainC (vr .el .props)) (y₄ .below N A f₄)));
           all = all;
           is-all = refl;
-          is = short-is (shift N base) A (S .trees .rel) (vr .el .names) (vr .el .p) (vr .el .props) _ _ _ _ _ _ _ _ _ all _ (y₂ .root) (f₁ .notes .at (base + suc (i + 1)) (P .low-j) (inl (at-place (base + suc (i + 1)))) ∙ g₁ .noted ∙ g₁ .number) (f₅ .notes .at (base + suc far) (P .low-f) (inl (at-place (base + suc far))) ∙ g₅ .noted ∙ g₅ .number) (f .notes .at (base + suc i) (P .low-i) (inl (at-place (base + suc i))) ∙ g₆ .noted ∙ g₆ .number) (vr .el .spec (shift N base) A ∙ ap (λ (h : Rec). h ∷ (renderOf (shift N base) A (vr .el .names) ++ renderOf (shift N base) A (vr .el .props))) (vr .head)) (y₄ .shown N A f₄);
+          is = short-is (shift N base) A (S .trees .rel) (vr .el .names) (vr .el .p) (vr .el .props) _ _ _ _ _ _ _ _ _ all _ (y₂ .root) (f₁ .notes .at (base + suc (i + 1)) (P .low-j)
+              (inl (at-place (base + suc (i + 1)))) ∙ g₁ .noted ∙ g₁ .number) (f₅ .notes .at (base + suc far) (P .low-f) (inl (at-place (base + suc far))) ∙ g₅ .noted ∙ g₅ .number)
+              (f .notes .at (base + suc i) (P .low-i) (inl (at-place (base + suc i))) ∙ g₆ .noted ∙ g₆ .number)
+              (vr .el .spec (shift N base) A ∙ ap (λ (h : Rec). h ∷ (renderOf (shift N base) A (vr .el .names) ++ renderOf (shift N base) A (vr .el .props))) (vr .head)) (y₄ .shown N A f₄);
         });
       }) in
       let u : Sub W₆ ((base + suc i, base + suc e) ∷ W) = sub-within (le-refl _) (P .i1e) (sub-within (P .if) (P .f1e) (sub-within (P .it) (P .fe) (sub-within (P .ir) (P .r1e) (sub-within (P .ij1) (P .re) (sub-within (P .ij) (P .j1e) (sub-more (base + suc i, base + suc e) W)))))) in

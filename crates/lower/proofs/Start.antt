@@ -103,7 +103,9 @@ module _ {a b : List ℕ} {base number : ℕ} {c : LowerCtx} {os′ : List ℕ} 
           run = λ sheet t n hd st W s r bl. bare-run sheet t n hd st W s r;
         }
 
-  module _ {e : ℕ} {c₃ : LowerCtx} {os₃ : List ℕ} {m₂ : Mem} (k6 : (cell a b i nodePropsAt ≡ 0) → ⊥) (ex : LowersExpr a b (d - 1) base (i + 1 + cell a b i nodeLabelsAt) e (mem c os′ (m .rest)) m₂) (pf : Pushed (m₂ .ctx) c₃ (m₂ .ops) os₃ (filterOp (atPlace base (i + 1 + cell a b i nodeLabelsAt) (d - 1)) (m .ctx .ops))) (lo₃ : length os₃ ≡ length (m₂ .ops)) where
+  module _ {e : ℕ} {c₃ : LowerCtx} {os₃ : List ℕ} {m₂ : Mem} (k6 : (cell a b i nodePropsAt ≡ 0) → ⊥)
+      (ex : LowersExpr a b (d - 1) base (i + 1 + cell a b i nodeLabelsAt) e (mem c os′ (m .rest)) m₂)
+      (pf : Pushed (m₂ .ctx) c₃ (m₂ .ops) os₃ (filterOp (atPlace base (i + 1 + cell a b i nodeLabelsAt) (d - 1)) (m .ctx .ops))) (lo₃ : length os₃ ≡ length (m₂ .ops)) where
     prop-at : (sheet : Bytes) (t : Tree patternElement) (hd : Held sheet a b t d i) → OneProp (a-node room t hd k12 .el .p) (a-node room t hd k12 .el .props)
     prop-at sheet t hd = let v = a-node room t hd k12 .el in one-prop (v .p) (v .props) (λ z. k6 (sym (v .flagged) ∙ z))
 
@@ -148,6 +150,15 @@ module _ {a b : List ℕ} {base number : ℕ} {c : LowerCtx} {os′ : List ℕ} 
           run = filtered-run;
         }
 
--- the same, with the count of labels as it was read
-pub filtered-read : {a b : List ℕ} {base number e : ℕ} {c c₃ : LowerCtx} {os′ os₃ : List ℕ} {m m₂ : Mem} (d i n : ℕ) → Roomy a b → cell a b i kindAt ≡ nodeKind → (d ≤ maxDepth) × (base ≤ secondPass) → n ≡ cell a b i nodeLabelsAt → Pushed (m .ctx) c (m .ops) os′ (sourceOp (atPlace base i (d - 1)) number) → length os′ ≡ length (m .ops) → ((cell a b i nodePropsAt ≡ 0) → ⊥) → LowersExpr a b (d - 1) base (i + 1 + n) e (mem c os′ (m .rest)) m₂ → Pushed (m₂ .ctx) c₃ (m₂ .ops) os₃ (filterOp (atPlace base (i + 1 + n) (d - 1)) (m .ctx .ops)) → length os₃ ≡ length (m₂ .ops) → LowersStart a b d base i number e (m₂ .ctx .ops) m (mem c₃ os₃ (m₂ .rest))
-filtered-read d i n room k12 sh en ps lo k6 ex pf lo₃ = filtered-law d i room k12 sh ps lo k6 (rw en at ex) (rw en at pf) lo₃
+-- the same, with the record behind the labels as it was read
+module _ {a b : List ℕ} {base number : ℕ} {c : LowerCtx} {os′ : List ℕ} {m : Mem} (d i j : ℕ) (room : Roomy a b) (k12 : cell a b i kindAt ≡ nodeKind) (sh : (d ≤ maxDepth) × (base ≤ secondPass))
+    (ej : j ≡ i + 1 + cell a b i nodeLabelsAt) (ps : Pushed (m .ctx) c (m .ops) os′ (sourceOp (atPlace base i (d - 1)) number)) (lo : length os′ ≡ length (m .ops)) where
+  pub bare-read : cell a b i nodePropsAt ≡ 0 → SomeTree a b patternElement d i → LowersStart a b d base i number j (m .ctx .ops) m (mem c os′ (m .rest))
+  bare-read k6 x = rw ej (bare-law d i room k12 sh ps lo k6 x)
+
+  pub filtered-read : {e : ℕ} {c₃ : LowerCtx} {os₃ : List ℕ} {m₂ : Mem} → ((cell a b i nodePropsAt ≡ 0) → ⊥) → LowersExpr a b (d - 1) base j e (mem c os′ (m .rest)) m₂ →
+      Pushed (m₂ .ctx) c₃ (m₂ .ops) os₃ (filterOp (atPlace base j (d - 1)) (m .ctx .ops)) → length os₃ ≡ length (m₂ .ops) → LowersStart a b d base i number e (m₂ .ctx .ops) m (mem c₃ os₃ (m₂ .rest))
+  filtered-read k6 ex pf lo₃ = filtered-law d i room k12 sh ps lo k6 (rw ej at ex) (rw ej at pf) lo₃
+
+pub prop-read : {a b : List ℕ} (d i j : ℕ) (room : Roomy a b) (k12 : cell a b i kindAt ≡ nodeKind) → j ≡ i + 1 + cell a b i nodeLabelsAt → SomeTree a b patternElement d i → ((cell a b i nodePropsAt ≡ 0) → ⊥) → SomeTree a b expr (d - 1) j
+prop-read d i j room k12 ej x h = rw ej (some-prop d i room k12 x h)

@@ -52,7 +52,9 @@ nil-run base i m []ᶜ W s r = record { to = to-wider (sub-more (base + suc i, b
 pub nil-law : (a b : List ℕ) (gap d base i : ℕ) (m : Mem) → i ≤ maxRecords → LowersExprs a b 0 gap d base i i m m
 nil-law a b gap d base i m h = record { moved = moved-refl h; next = λ sheet cs hd. nil-next gap i cs; run = λ sheet cs hd W s r bl. nil-run base i m cs W s r }
 
-both-run : {sheet : Bytes} {a b : List ℕ} (base o i j e : ℕ) (m m₁ m₂ : Mem) {n : ℕ} (c : Recs × Tree expr) (cs : Carried n) (W : Written) (s : State) → o ≤ i → i ≤ j → j ≤ e → Ran sheet a b W (exprPiece (c .1)) base (suc i) (suc j) s m m₁ → Ran sheet a b ((base + suc i, base + suc j) ∷ W) (carriedPiece cs) base (suc j) (suc e) (lowerExpr (c .1) s .1) m₁ m₂ → Ran sheet a b W (carriedPiece (c ∷ᶜ cs)) base (suc o) (suc e) s m m₂
+both-run : {sheet : Bytes} {a b : List ℕ} (base o i j e : ℕ) (m m₁ m₂ : Mem) {n : ℕ} (c : Recs × Tree expr) (cs : Carried n) (W : Written) (s : State) → o ≤ i → i ≤ j → j ≤ e →
+    Ran sheet a b W (exprPiece (c .1)) base (suc i) (suc j) s m m₁ → Ran sheet a b ((base + suc i, base + suc j) ∷ W) (carriedPiece cs) base (suc j) (suc e) (lowerExpr (c .1) s .1) m₁ m₂ →
+    Ran sheet a b W (carriedPiece (c ∷ᶜ cs)) base (suc o) (suc e) s m m₂
 unfolding lowerC renderC BelowC _>>=_ ret
 both-run base o i j e m m₁ m₂ c cs W s lo l l′ p q =
     let u : Sub ((base + suc j, base + suc e) ∷ (base + suc i, base + suc j) ∷ W) ((base + suc o, base + suc e) ∷ W) = sub-within (omega arith) (le-refl _) (sub-within (omega arith) (omega arith) (sub-more (base + suc o, base + suc e) W)) in

@@ -5,40 +5,73 @@ ghost use mathlib.Core.List.{List};
 ghost use lib.ListN.{length};
 ghost use Rattle.model.specs.Call.{workWords};
 ghost use Rattle.model.specs.Kind.{expr, patternPart, patternElement};
-ghost use Rattle.model.specs.Lower.{orSourceAll};
-ghost use Rattle.words.specs.Words.{Roomy, cell, maxRecords};
-ghost use Rattle.words.specs.Places.{kindAt, nodeKind, relKind};
+ghost use Rattle.model.specs.Lower.{orSourceAll, rootOf};
+ghost use Rattle.words.specs.Words.{Roomy, cell, maxRecords, recordWords, optionOf};
+ghost use Rattle.words.specs.Places.{elementNamedAt, elementVarAt};
 ghost use Rattle.lower.specs.Rep.{mem};
 ghost use Rattle.lower.specs.Pieces.{LowersExpr, LowersExprs};
 ghost use Rattle.lower.specs.Patterns.{LowersPart, LowersParts};
-ghost use Rattle.lower.specs.Chains.{givenIf, LowersElement, LowersElements, LowersStart, LowersRel, OrSource, LowersChain, elementOf, startChain};
-ghost use Rattle.lower.specs.Asked.{TreeAsked, ExprsAsked, BehindAsked, ElementAsked, SpecialAsked, ChainAsked, StartAsked, ExpandAsked};
+ghost use Rattle.lower.specs.Chains.{lastOf, LowersElement, LowersElements, LowersStart, LowersRel, OrSource, LowersChain, ReadAt, ElementAt, startChain};
+ghost use Rattle.lower.specs.Asked.{TreeAsked, ExprsAsked, BehindAsked, NodeAsked, RelAsked, SpecialAsked, ChainAsked, StartAsked, ExpandAsked};
 ghost use Rattle.context.specs.Tables.{maxCount};
-ghost use Rattle.context.specs.Ops.{beforeOf, Under};
+ghost use Rattle.context.specs.Ops.{beforeOf, bindOf, Under};
 use context::At;
 use context::Before;
+use context::Bind;
 use context::LowerCtx;
 use context::op;
 use words::field;
 use words::kind;
 use words::records;
 
-// Elements of a part, so far: the next one's record; whether there is an operator, the last one and its node's number; whether a rel waits for its far node; the record from which nothing is lowered yet, which is the rel that waits; how many numbers the path has.
+// The last operator of a chain and its node's number, if there is one.
+pub enum Last {
+    Nothing,
+    Op(usize, u32),
+}
+
+// The rel that waits for its far node, at its record, if one does.
+pub enum Pending {
+    Nothing,
+    Rel(usize),
+}
+
+// Elements of a part, so far: the next one's record; the last operator; the rel that waits, from which on nothing is lowered yet; how many numbers the path has.
 pub struct Chain {
     pub next: usize,
     pub ctx: LowerCtx,
-    pub has: u32,
-    pub last: usize,
-    pub origin: u32,
-    pub waits: u32,
-    pub from: usize,
+    pub last: Last,
+    pub pending: Pending,
     pub kept: u32,
 }
 
-// An element of a part, at its record.
+// A node behind a rel: what is read of it, the rel's record, the operator before and its node's number.
+pub struct Link {
+    pub node: Read,
+    pub rel: usize,
+    pub input: usize,
+    pub origin: u32,
+}
+
+// What is read of an element: its variable, the record behind its names, and how many props it has there, one or none.
+pub struct Read {
+    pub bind: Bind,
+    pub first: usize,
+    pub props: usize,
+}
+
+// An element of a part.
 pub enum Element {
-    Node(usize),
-    Rel(usize),
+    Node(Read),
+    Rel(Read),
+}
+
+// The elements of a special part: what is read of its near node and of its far one, and the records of the rel and of the far node.
+pub struct Ends {
+    pub near: Read,
+    pub rel: usize,
+    pub far: usize,
+    pub to: Read,
 }
 
 // The record behind what is lowered, and the state.
@@ -54,16 +87,43 @@ pub struct Root {
     pub ctx: LowerCtx,
 }
 
+// The variable of the part or the element at record i.
+fn read_bind(a: &[u32], b: &[u32], i: usize) -> Bind
+    requires { ⌜ Roomy (now a) (now b) ⌝ }
+    requires { ⌜ i < maxRecords ⌝ }
+    ensures { λ r. ⌜ bindOf r ≡ optionOf (cell (now (a .entry)) (now (b .entry)) i elementNamedAt) (cell (now (a .entry)) (now (b .entry)) i elementVarAt) ⌝ }
+{
+    let named = words::word(a, b, i, field::ELEMENT_NAMED);
+    if named == 0 {
+        return Bind::Unnamed;
+    }
+    let id = words::word(a, b, i, field::ELEMENT_VAR);
+    Bind::Var(id)
+}
+
+// The element at record i, whose props are counted by word c.
+fn read_at(a: &[u32], b: &[u32], i: usize, c: usize) -> Read
+    requires { ⌜ Roomy (now a) (now b) ⌝ }
+    requires { ⌜ (i < maxRecords) × (c < recordWords) ⌝ }
+    ensures { λ r. ⌜ ReadAt (now (a .entry)) (now (b .entry)) i c r ⌝ }
+{
+    let bind = read_bind(a, b, i);
+    let names = records::count(a, b, i, field::NODE_LABELS);
+    let props = records::count(a, b, i, c);
+    let first = i + 1 + names;
+    Read { bind, first, props }
+}
+
 fn read_element(a: &[u32], b: &[u32], i: usize) -> Element
     requires { ⌜ Roomy (now a) (now b) ⌝ }
     requires { ⌜ i < maxRecords ⌝ }
-    ensures { λ r. ⌜ r ≡ elementOf (cell (now (a .entry)) (now (b .entry)) i kindAt) i ⌝ }
+    ensures { λ r. ⌜ ElementAt (now (a .entry)) (now (b .entry)) i r ⌝ }
 {
     let kind = words::word(a, b, i, field::KIND);
     if kind == kind::NODE {
-        return Element::Node(i);
+        return Element::Node(read_at(a, b, i, field::NODE_PROPS));
     }
-    Element::Rel(i)
+    Element::Rel(read_at(a, b, i, field::REL_PROPS))
 }
 
 // The operator before, or a source of everything, which names the next number and does not take it.
@@ -87,13 +147,13 @@ pub fn or_source_all(ops: &mut [u32], ctx: LowerCtx, current: Before, next: usiz
 }
 
 // The root of a chain so far, if it has one.
-fn root_of(has: u32, last: usize) -> Before
-    ensures { λ r. ⌜ beforeOf r ≡ givenIf has last ⌝ }
+fn root_of(last: Last) -> Before
+    ensures { λ r. ⌜ beforeOf r ≡ rootOf (lastOf last) ⌝ }
 {
-    if has == 0 {
-        return Before::Nothing;
+    match last {
+        Last::Op(k, n) => Before::Op(k),
+        Last::Nothing => Before::Nothing,
     }
-    Before::Op(last)
 }
 
 // A pattern of no parts, at record i: a source that does take a number.
@@ -272,21 +332,23 @@ fn lower_pattern_part(
     if n != 3 {
         return lower_chain(a, b, ops, rest, ctx, at);
     }
-    let rel = records::skip(a, b, i + 1);
-    let Element::Node(x) = read_element(a, b, i + 1) else {
+    let first = i + 1;
+    let rel = records::skip(a, b, first);
+    let Element::Node(near) = read_element(a, b, first) else {
         return lower_chain(a, b, ops, rest, ctx, at);
     };
     let far = records::skip(a, b, rel);
-    let Element::Rel(y) = read_element(a, b, rel) else {
+    let Element::Rel(between) = read_element(a, b, rel) else {
         return lower_chain(a, b, ops, rest, ctx, at);
     };
-    let Element::Node(z) = read_element(a, b, far) else {
+    let Element::Node(to) = read_element(a, b, far) else {
         return lower_chain(a, b, ops, rest, ctx, at);
     };
-    lower_shortest_path_part(a, b, ops, rest, ctx, at, rel, far)
+    let ends = Ends { near, rel, far, to };
+    lower_shortest_path_part(a, b, ops, rest, ctx, at, ends, between)
 }
 
-// The special shortest part at a place, whose rel and far node stand at rel and far.
+// The special shortest part at a place.
 fn lower_shortest_path_part(
     a: &[u32],
     b: &[u32],
@@ -294,41 +356,42 @@ fn lower_shortest_path_part(
     rest: &mut [u32],
     ctx: LowerCtx,
     at: At,
-    rel: usize,
-    far: usize,
+    ends: Ends,
+    between: Read,
 ) -> Root
-    requires { ⌜ SpecialAsked (now a) (now b) at rel far (mem ctx (now ops) (now rest)) ⌝ }
+    requires { ⌜ SpecialAsked (now a) (now b) at ends between (mem ctx (now ops) (now rest)) ⌝ }
     ensures { λ r. ⌜ LowersPart (now (a .entry)) (now (b .entry)) (at .left) (at .base) (at .i) (r .next) (r .op) (mem ctx (now (ops .entry)) (now (rest .entry))) (mem (r .ctx) (now (ops .exit)) (now (rest .exit))) ⌝ }
 {
     let i = at.i;
     let base = at.base;
     let first = i + 1;
     let less = at.left - 1;
-    let from_named = words::word(a, b, first, field::ELEMENT_NAMED);
-    let from_id = words::word(a, b, first, field::ELEMENT_VAR);
-    let from = ctx.endpoint_var(rest, from_named, from_id, base + (first + 1));
+    let rel = ends.rel;
+    let far = ends.far;
+    let node = ends.near;
+    let from_bind = node.bind;
+    let from = ctx.endpoint_var(rest, from_bind, base + (first + 1));
     let c = from.ctx;
     let near = At {
         base,
         i: first,
         left: less,
     };
-    let r = start_node(a, b, ops, rest, c, near, from.number);
+    let r = start_node(a, b, ops, rest, c, near, from.number, node);
     let d = r.ctx;
-    let between = At {
+    let place = At {
         base,
         i: rel,
         left: less,
     };
-    let s = lower_rel_element(a, b, ops, rest, d, between);
-    let to_named = words::word(a, b, far, field::ELEMENT_NAMED);
-    let to_id = words::word(a, b, far, field::ELEMENT_VAR);
+    let s = lower_rel_element(a, b, ops, rest, d, place, between);
+    let to_node = ends.to;
+    let to_bind = to_node.bind;
     let e = s.ctx;
-    let to = e.endpoint_var(rest, to_named, to_id, base + (far + 1));
-    let named = words::word(a, b, i, field::PART_NAMED);
-    let id = words::word(a, b, i, field::PART_VAR);
+    let to = e.endpoint_var(rest, to_bind, base + (far + 1));
+    let bind = read_bind(a, b, i);
     let f = to.ctx;
-    let path = f.endpoint_var(rest, named, id, base + first);
+    let path = f.endpoint_var(rest, bind, base + first);
     let g = path.ctx;
     let k = g.ops;
     let whole = At {
@@ -367,7 +430,8 @@ fn lower_chain(
     };
     let ch = lower_elements(a, b, ops, rest, ctx, below, n);
     let c = ch.ctx;
-    let root = root_of(ch.has, ch.last);
+    let last = ch.last;
+    let root = root_of(last);
     let q = or_source_all(ops, c, root, ch.next);
     let named = words::word(a, b, i, field::PART_NAMED);
     if named == 0 {
@@ -403,11 +467,8 @@ fn lower_elements(
     let mut ch = Chain {
         next: first,
         ctx,
-        has: 0,
-        last: 0,
-        origin: 0,
-        waits: 0,
-        from: first,
+        last: Last::Nothing,
+        pending: Pending::Nothing,
         kept: 0,
     };
     let mut m = n;
@@ -433,27 +494,33 @@ fn lower_element(
     ensures { λ r. ⌜ LowersElement (now (a .entry)) (now (b .entry)) left base ch r (now (ops .entry)) (now (ops .exit)) (now (rest .entry)) (now (rest .exit)) ⌝ }
 {
     let i = ch.next;
-    let Element::Node(x) = read_element(a, b, i) else {
+    let Element::Node(node) = read_element(a, b, i) else {
         let end = records::skip(a, b, i);
         let c = ch.ctx;
+        let last = ch.last;
         return Chain {
             next: end,
             ctx: c,
-            has: ch.has,
-            last: ch.last,
-            origin: ch.origin,
-            waits: 1,
-            from: i,
+            last,
+            pending: Pending::Rel(i),
             kept: ch.kept,
         };
     };
-    if ch.waits == 0 {
-        return start_chain(a, b, ops, rest, ch, base, left);
-    }
-    if ch.has == 0 {
-        return start_chain(a, b, ops, rest, ch, base, left);
-    }
-    expand_to(a, b, ops, rest, ch, base, left)
+    let pending = ch.pending;
+    let Pending::Rel(rel) = pending else {
+        return start_chain(a, b, ops, rest, ch, base, left, node);
+    };
+    let last = ch.last;
+    let Last::Op(input, origin) = last else {
+        return start_chain(a, b, ops, rest, ch, base, left, node);
+    };
+    let link = Link {
+        node,
+        rel,
+        input,
+        origin,
+    };
+    expand_to(a, b, ops, rest, ch, base, left, link)
 }
 
 // A node at the start, or with no rel pending.
@@ -465,28 +532,25 @@ fn start_chain(
     ch: Chain,
     base: usize,
     left: usize,
+    node: Read,
 ) -> Chain
-    requires { ⌜ StartAsked (now a) (now b) base left ch (now ops) (now rest) ⌝ }
+    requires { ⌜ StartAsked (now a) (now b) base left ch node (now ops) (now rest) ⌝ }
     ensures { λ r. ⌜ LowersElement (now (a .entry)) (now (b .entry)) left base ch r (now (ops .entry)) (now (ops .exit)) (now (rest .entry)) (now (rest .exit)) ⌝ }
 {
     let i = ch.next;
-    let named = words::word(a, b, i, field::ELEMENT_NAMED);
-    let id = words::word(a, b, i, field::ELEMENT_VAR);
+    let bind = node.bind;
     let cur = ch.ctx;
-    let m = cur.endpoint_var(rest, named, id, base + (i + 1));
+    let m = cur.endpoint_var(rest, bind, base + (i + 1));
     let c = m.ctx;
     let place = At { base, i, left };
-    let r = start_node(a, b, ops, rest, c, place, m.number);
+    let r = start_node(a, b, ops, rest, c, place, m.number, node);
     let d = r.ctx;
     let kept = ch.kept + 1;
     Chain {
         next: r.next,
         ctx: d,
-        has: 1,
-        last: r.op,
-        origin: m.number,
-        waits: 0,
-        from: r.next,
+        last: Last::Op(r.op, m.number),
+        pending: Pending::Nothing,
         kept,
     }
 }
@@ -500,42 +564,38 @@ fn expand_to(
     ch: Chain,
     base: usize,
     left: usize,
+    link: Link,
 ) -> Chain
-    requires { ⌜ ExpandAsked (now a) (now b) base left ch (now ops) (now rest) ⌝ }
+    requires { ⌜ ExpandAsked (now a) (now b) base left ch link (now ops) (now rest) ⌝ }
     ensures { λ r. ⌜ LowersElement (now (a .entry)) (now (b .entry)) left base ch r (now (ops .entry)) (now (ops .exit)) (now (rest .entry)) (now (rest .exit)) ⌝ }
 {
     let i = ch.next;
-    let rel = ch.from;
-    let named = words::word(a, b, i, field::ELEMENT_NAMED);
-    let id = words::word(a, b, i, field::ELEMENT_VAR);
+    let rel = link.rel;
+    let node = link.node;
+    let bind = node.bind;
     let cur = ch.ctx;
-    let m = cur.endpoint_var(rest, named, id, base + (i + 1));
+    let m = cur.endpoint_var(rest, bind, base + (i + 1));
     let c = m.ctx;
     let place = At { base, i: rel, left };
-    let s = lower_rel_element(a, b, ops, rest, c, place);
-    let labels = records::count(a, b, i, field::NODE_LABELS);
-    let props = records::count(a, b, i, field::NODE_PROPS);
+    let between = read_at(a, b, rel, field::REL_PROPS);
+    let s = lower_rel_element(a, b, ops, rest, c, place, between);
     let d = s.ctx;
-    let first = i + 1 + labels;
     let less = left - 1;
     let below = At {
         base,
-        i: first,
+        i: node.first,
         left: less,
     };
-    let t = lower_exprs(a, b, ops, rest, d, below, props, 0);
+    let t = lower_exprs(a, b, ops, rest, d, below, node.props, 0);
     let f = t.ctx;
     let k = f.ops;
-    let z = f.push(ops, op::expand(place, ch.last, ch.origin, i));
+    let z = f.push(ops, op::expand(place, link.input, link.origin, i));
     let kept = ch.kept + 2;
     Chain {
         next: t.next,
         ctx: z,
-        has: 1,
-        last: k,
-        origin: m.number,
-        waits: 0,
-        from: t.next,
+        last: Last::Op(k, m.number),
+        pending: Pending::Nothing,
         kept,
     }
 }
@@ -549,14 +609,13 @@ fn start_node(
     ctx: LowerCtx,
     at: At,
     number: u32,
+    node: Read,
 ) -> Root
-    requires { ⌜ ElementAsked nodeKind (now a) (now b) at (mem ctx (now ops) (now rest)) ⌝ }
+    requires { ⌜ NodeAsked (now a) (now b) at node (mem ctx (now ops) (now rest)) ⌝ }
     ensures { λ r. ⌜ LowersStart (now (a .entry)) (now (b .entry)) (at .left) (at .base) (at .i) number (r .next) (r .op) (mem ctx (now (ops .entry)) (now (rest .entry))) (mem (r .ctx) (now (ops .exit)) (now (rest .exit))) ⌝ }
 {
     let i = at.i;
-    let labels = records::count(a, b, i, field::NODE_LABELS);
-    let props = words::word(a, b, i, field::NODE_PROPS);
-    let first = i + 1 + labels;
+    let first = node.first;
     let less = at.left - 1;
     let here = At {
         base: at.base,
@@ -570,7 +629,7 @@ fn start_node(
     };
     let k = ctx.ops;
     let p = ctx.push(ops, op::source(here, number));
-    if props == 0 {
+    if node.props == 0 {
         return Root {
             next: first,
             op: k,
@@ -596,23 +655,20 @@ fn lower_rel_element(
     rest: &mut [u32],
     ctx: LowerCtx,
     at: At,
+    rel: Read,
 ) -> Reached
-    requires { ⌜ ElementAsked relKind (now a) (now b) at (mem ctx (now ops) (now rest)) ⌝ }
+    requires { ⌜ RelAsked (now a) (now b) at rel (mem ctx (now ops) (now rest)) ⌝ }
     ensures { λ r. ⌜ LowersRel (now (a .entry)) (now (b .entry)) (at .left) (at .base) (at .i) (r .next) ctx (now (ops .entry)) (now (rest .entry)) (mem (r .ctx) (now (ops .exit)) (now (rest .exit))) ⌝ }
 {
     let i = at.i;
-    let named = words::word(a, b, i, field::ELEMENT_NAMED);
-    let id = words::word(a, b, i, field::ELEMENT_VAR);
-    let m = ctx.endpoint_var(rest, named, id, at.base + (i + 1));
-    let types = records::count(a, b, i, field::REL_TYPES);
-    let props = records::count(a, b, i, field::REL_PROPS);
+    let bind = rel.bind;
+    let m = ctx.endpoint_var(rest, bind, at.base + (i + 1));
     let c = m.ctx;
-    let first = i + 1 + types;
     let less = at.left - 1;
     let below = At {
         base: at.base,
-        i: first,
+        i: rel.first,
         left: less,
     };
-    lower_exprs(a, b, ops, rest, c, below, props, 0)
+    lower_exprs(a, b, ops, rest, c, below, rel.props, 0)
 }

@@ -51,6 +51,8 @@ use Rattle.lower.proofs.lower_no_parts.Reads as lower-no-parts-reads
 use Rattle.lower.proofs.or_source_all.Reads as or-source-all-reads
 use Rattle.lower.proofs.root_of.Reads as root-of-reads
 use Rattle.lower.proofs.read_element.Reads as read-element-reads
+use Rattle.lower.proofs.read_at.Reads as read-at-reads
+use Rattle.lower.proofs.read_bind.Reads as read-bind-reads
 use Rattle.words.proofs.records.children_of.Reads as children-of-reads
 use Rattle.words.proofs.records.count.Reads as count-reads
 use Rattle.words.proofs.records.skip.Reads as skip-reads
@@ -225,14 +227,12 @@ start-node-below t =
 
 abbrev pub expand-to-calls : ℕ → expand-to-lts.Claims
 expand-to-calls t = (
-  word-reads.Asked,
-  word-reads.Learnt,
   endpoint-var-reads.Asked,
   endpoint-var-reads.Learnt,
+  read-at-reads.Asked,
+  read-at-reads.Learnt,
   lower-rel-element-below t,
   lower-rel-element.Post,
-  count-reads.Asked,
-  count-reads.Learnt,
   lower-exprs-below t,
   lower-exprs.Post,
   expand-reads.Asked,
@@ -317,26 +317,22 @@ lower-pattern-part-calls t = (
 
 abbrev pub lower-rel-element-calls : ℕ → lower-rel-element-lts.Claims
 lower-rel-element-calls t = (
-  word-reads.Asked,
-  word-reads.Learnt,
   endpoint-var-reads.Asked,
   endpoint-var-reads.Learnt,
-  count-reads.Asked,
-  count-reads.Learnt,
   lower-exprs-below t,
   lower-exprs.Post,
 )
 
 abbrev pub lower-shortest-path-part-calls : ℕ → lower-shortest-path-part-lts.Claims
 lower-shortest-path-part-calls t = (
-  word-reads.Asked,
-  word-reads.Learnt,
   endpoint-var-reads.Asked,
   endpoint-var-reads.Learnt,
   start-node-below t,
   start-node.Post,
   lower-rel-element-below t,
   lower-rel-element.Post,
+  read-bind-reads.Asked,
+  read-bind-reads.Learnt,
   shortest-path-reads.Asked,
   shortest-path-reads.Learnt,
   push-reads.Asked,
@@ -346,15 +342,15 @@ lower-shortest-path-part-calls t = (
 )
 
 abbrev pub start-chain-calls : ℕ → start-chain-lts.Claims
-start-chain-calls t =
-    (word-reads.Asked, word-reads.Learnt, endpoint-var-reads.Asked, endpoint-var-reads.Learnt, start-node-below t, start-node.Post)
+start-chain-calls t = (
+  endpoint-var-reads.Asked,
+  endpoint-var-reads.Learnt,
+  start-node-below t,
+  start-node.Post,
+)
 
 abbrev pub start-node-calls : ℕ → start-node-lts.Claims
 start-node-calls t = (
-  count-reads.Asked,
-  count-reads.Learnt,
-  word-reads.Asked,
-  word-reads.Learnt,
   source-reads.Asked,
   source-reads.Learnt,
   push-reads.Asked,

@@ -1,7 +1,7 @@
 -- `expand_to`, of the cycle.
 use Prim.Native.Nat.{_+_, ℕ}
 use Rattle.context.specs.OpLaws.{pushed-as}
-use Rattle.lower.proofs.Reading.{endpoint-read, exprs-behind}
+use Rattle.lower.proofs.Reading.{endpoint-read, exprs-read}
 use Rattle.lower.proofs.Linking
 use Rattle.lower.specs.Exprs
 use Rattle.lower.proofs.Room
@@ -25,38 +25,19 @@ module _ (t : ℕ) where
   abbrev back-expand : here lts.After-expand → here lts.After-lower-exprs
   back-expand c = search
 
-  abbrev back-lower-exprs : here lts.After-lower-exprs → here lts.After-count2
+  abbrev back-lower-exprs : here lts.After-lower-exprs → here lts.After-lower-rel-element
   back-lower-exprs c = search
 
-  abbrev back-count2 : here lts.After-count2 → here lts.After-count
-  back-count2 c = search
-
-  abbrev back-count : here lts.After-count → here lts.After-lower-rel-element
-  back-count c = search
-
-  abbrev back-lower-rel-element : here lts.After-lower-rel-element → here lts.After-endpoint-var
+  abbrev back-lower-rel-element : here lts.After-lower-rel-element → here lts.After-read-at
   back-lower-rel-element c = search
 
-  abbrev back-endpoint-var : here lts.After-endpoint-var → here lts.After-word2
+  abbrev back-read-at : here lts.After-read-at → here lts.After-endpoint-var
+  back-read-at c = search
+
+  abbrev back-endpoint-var : here lts.After-endpoint-var → here lts.Start
   back-endpoint-var c = search
 
-  abbrev back-word2 : here lts.After-word2 → here lts.After-word
-  back-word2 c = search
-
-  abbrev back-word : here lts.After-word → here lts.Start
-  back-word c = search
-
-  ruleset ways = (back-push, back-expand, back-lower-exprs, back-count2, back-count, back-lower-rel-element, back-endpoint-var, back-word2, back-word)
-
-  word-requires : here lts.Need-word-requires
-  word-requires c κs =
-      let start : here lts.Start = search ways depth 12 in
-      (Room.low (start .pre .1 .chain .tree), (omega arith, start .pre .1 .chain .words))
-
-  word-requires-2 : here lts.Need-word-requires-2
-  word-requires-2 c κs =
-      let start : here lts.Start = search ways depth 12 in
-      (Room.low (start .pre .1 .chain .tree), (omega arith, start .pre .1 .chain .words))
+  ruleset ways = (back-push, back-expand, back-lower-exprs, back-lower-rel-element, back-read-at, back-endpoint-var)
 
   add-endpoint-var : here lts.Need-add-endpoint-var
   add-endpoint-var c =
@@ -74,50 +55,36 @@ module _ (t : ℕ) where
       let l = Room.chain-bounds (start .pre .1 .chain) in
       Room.can-number (start .pre .1 .chain .room) _ _ _ (start .pre .1 .chain .pass) (omega arith) refl
 
+  read-at-requires : here lts.Need-read-at-requires
+  read-at-requires c κs =
+      let start : here lts.Start = search ways depth 12 in
+      let w = Room.waiting-rel (start .pre .1 .chain .words) (start .pre .1 .waits) (start .pre .1 .chain .anchored) in
+      (start .pre .1 .chain .words, (Room.low (w .tree), omega arith))
+
   lower-rel-element-requires : here lts.Need-lower-rel-element-requires
   lower-rel-element-requires c κs =
+      let after-read-at : here lts.After-read-at = search ways depth 12 in
       let after-endpoint-var : here lts.After-endpoint-var = search ways depth 12 in
       let start : here lts.Start = search ways depth 12 in (
         omega (arith, start .pre .0),
         record {
-          words = start .pre .1 .chain .words;
-          tree = record {
+          asked = record {
+            words = start .pre .1 .chain .words;
             tree = Room.waiting-rel (start .pre .1 .chain .words) (start .pre .1 .waits) (start .pre .1 .chain .anchored);
-            is = Room.waiting-kind (start .pre .1 .chain .words) (start .pre .1 .waits) (start .pre .1 .chain .anchored);
+            room =
+                Room.good-at
+                (Room.from-rel (start .args .ch) (start .pre .1 .waits))
+                (Room.numbered
+                (start .pre .1 .chain .room)
+                (after-endpoint-var .endpoint-var .ensures .issued)
+                (after-endpoint-var .endpoint-var .kept .1 .0)
+                (Room.deep (start .pre .1 .chain .tree)));
+            depth = start .pre .1 .chain .depth;
+            pass = start .pre .1 .chain .pass;
           };
-          room =
-              Room.numbered
-              (start .pre .1 .chain .room)
-              (after-endpoint-var .endpoint-var .ensures .issued)
-              (after-endpoint-var .endpoint-var .kept .1 .0)
-              (Room.deep (start .pre .1 .chain .tree));
-          depth = start .pre .1 .chain .depth;
-          pass = start .pre .1 .chain .pass;
+          read = after-read-at .read-at .ensures;
         },
       )
-
-  count-requires : here lts.Need-count-requires
-  count-requires c κs =
-      let start : here lts.Start = search ways depth 12 in
-      (Room.low (start .pre .1 .chain .tree), (omega arith, start .pre .1 .chain .words))
-
-  count-requires-2 : here lts.Need-count-requires-2
-  count-requires-2 c κs =
-      let start : here lts.Start = search ways depth 12 in
-      (Room.low (start .pre .1 .chain .tree), (omega arith, start .pre .1 .chain .words))
-
-  add-first : here lts.Need-add-first
-  add-first c =
-      let start : here lts.Start = search ways depth 12 in
-      omega (arith, Room.chain-bounds (start .pre .1 .chain))
-
-  add-first-2 : here lts.Need-add-first-2
-  add-first-2 c =
-      let after-count : here lts.After-count = search ways depth 12 in
-      let start : here lts.Start = search ways depth 12 in
-      let l₀ = Room.names-low (start .pre .1 .chain .words) (start .pre .1 .chain .tree) in
-      let n₀ = after-count .count .ensures .0 in
-      omega arith
 
   sub-less : here lts.Need-sub-less
   sub-less c =
@@ -126,8 +93,6 @@ module _ (t : ℕ) where
 
   lower-exprs-requires : here lts.Need-lower-exprs-requires
   lower-exprs-requires c κs =
-      let after-count2 : here lts.After-count2 = search ways depth 12 in
-      let after-count : here lts.After-count = search ways depth 12 in
       let after-lower-rel-element : here lts.After-lower-rel-element = search ways depth 12 in
       let after-endpoint-var : here lts.After-endpoint-var = search ways depth 12 in
       let start : here lts.Start = search ways depth 12 in
@@ -140,7 +105,7 @@ module _ (t : ℕ) where
       (after-lower-rel-element .lower-rel-element .ensures)
       in
       let l₀′ = Room.names-low (start .pre .1 .chain .words) (start .pre .1 .chain .tree) in
-      let n₀ = after-count .count .ensures .0 in
+      let n₀ = start .pre .1 .read .first in
       let l₀′′ = Room.low (start .pre .1 .chain .tree) in
       let l₂ = start .pre .1 .chain .depth in
       let l₃ = start .pre .1 .chain .pass in (
@@ -151,19 +116,19 @@ module _ (t : ℕ) where
               Room.node-some
               (start .pre .1 .chain .words)
               (start .pre .1 .chain .tree)
-              (start .pre .1 .node)
+              (start .pre .1 .is)
               _
               _
-              (after-count2 .count2 .ensures .0)
-              (ap (λ z. (start .args .ch .next) + 1 + z) (after-count .count .ensures .0));
+              (start .pre .1 .read .props)
+              (start .pre .1 .read .first);
           room =
               Room.after-rel
               _
-              (Room.numbered
+              (Room.good-at (Room.from-rel (start .args .ch) (start .pre .1 .waits)) (Room.numbered
               (start .pre .1 .chain .room)
               (after-endpoint-var .endpoint-var .ensures .issued)
               (after-endpoint-var .endpoint-var .kept .1 .0)
-              (Room.deep (start .pre .1 .chain .tree)))
+              (Room.deep (start .pre .1 .chain .tree))))
               (after-lower-rel-element .lower-rel-element .ensures)
               (omega arith)
               (omega arith);
@@ -177,15 +142,15 @@ module _ (t : ℕ) where
       let start : here lts.Start = search ways depth 12 in
       let l₀ = Room.low (start .pre .1 .chain .tree) in
       let l₂ = start .pre .1 .chain .depth in
-      let q = (start .pre .1 .chain .bounded) .from in
+      let q = start .pre .1 .chain .bounded .from in
+      let fr = Room.from-rel (start .args .ch) (start .pre .1 .waits) in
       let g = Room.few-ops (start .pre .1 .chain .room) in
-      let q′ = (start .pre .1 .chain .bounded) .last in
+      let q′ = start .pre .1 .chain .bounded .last .op _ _ (start .pre .1 .has) in
       (Room.fits (start .pre .1 .chain .pass) (omega arith) (omega arith), omega arith, omega arith)
 
   push-requires : here lts.Need-push-requires
   push-requires c κs =
       let after-lower-exprs : here lts.After-lower-exprs = search ways depth 12 in
-      let after-count : here lts.After-count = search ways depth 12 in
       let after-lower-rel-element : here lts.After-lower-rel-element = search ways depth 12 in
       let after-endpoint-var : here lts.After-endpoint-var = search ways depth 12 in
       let start : here lts.Start = search ways depth 12 in
@@ -197,17 +162,17 @@ module _ (t : ℕ) where
       (after-lower-rel-element .lower-rel-element .ensures)
       in
       let l₀′ = Room.names-low (start .pre .1 .chain .words) (start .pre .1 .chain .tree) in
-      let n₀ = after-count .count .ensures .0 in
+      let n₀ = start .pre .1 .read .first in
       Room.can-push
       (Exprs.good-after
       (after-lower-exprs .lower-exprs .ensures .moved)
       (Room.after-rel
       _
-      (Room.numbered
+      (Room.good-at (Room.from-rel (start .args .ch) (start .pre .1 .waits)) (Room.numbered
       (start .pre .1 .chain .room)
       (after-endpoint-var .endpoint-var .ensures .issued)
       (after-endpoint-var .endpoint-var .kept .1 .0)
-      (Room.deep (start .pre .1 .chain .tree)))
+      (Room.deep (start .pre .1 .chain .tree))))
       (after-lower-rel-element .lower-rel-element .ensures)
       (omega arith)
       (omega arith)))
@@ -240,12 +205,8 @@ module _ (t : ℕ) where
       let after-push : here lts.After-push = search ways depth 12 in
       let after-expand : here lts.After-expand = search ways depth 12 in
       let after-lower-exprs : here lts.After-lower-exprs = search ways depth 12 in
-      let after-count2 : here lts.After-count2 = search ways depth 12 in
-      let after-count : here lts.After-count = search ways depth 12 in
       let after-lower-rel-element : here lts.After-lower-rel-element = search ways depth 12 in
       let after-endpoint-var : here lts.After-endpoint-var = search ways depth 12 in
-      let after-word2 : here lts.After-word2 = search ways depth 12 in
-      let after-word : here lts.After-word = search ways depth 12 in
       let start : here lts.Start = search ways depth 12 in
       Linking.expand-law
       _
@@ -257,18 +218,18 @@ module _ (t : ℕ) where
       (start .pre .1 .chain .bounded)
       (start .pre .1 .waits)
       (start .pre .1 .has)
-      (start .pre .1 .node)
+      (start .pre .1 .is)
       (Room.low (start .pre .1 .chain .tree))
       refl
-      (endpoint-read (after-word .word .ensures) (after-word2 .word2 .ensures) (after-endpoint-var .endpoint-var .ensures))
+      (endpoint-read (start .pre .1 .read .bind) (after-endpoint-var .endpoint-var .ensures))
       (after-endpoint-var .endpoint-var .kept .1 .0)
       refl
       (after-lower-rel-element .lower-rel-element .ensures .noted)
       (after-lower-rel-element .lower-rel-element .ensures .kept)
       refl
       (after-lower-rel-element .lower-rel-element .ensures .props)
-      (after-count2 .count2 .ensures .0)
-      (exprs-behind _ (after-count .count .ensures .0) (after-lower-exprs .lower-exprs .ensures))
+      (start .pre .1 .read .props)
+      (exprs-read (start .pre .1 .read .first) (after-lower-exprs .lower-exprs .ensures))
       (pushed-as (after-expand .expand .ensures) (after-push .push .ensures))
       (after-push .push .kept .1 .0)
       (start .pre .1 .chain .tree)
@@ -280,16 +241,11 @@ module _ (t : ℕ) where
       (expand-to-calls t)
       (expand-to-at t)
       reads.Post
-      word-requires
-      word-requires-2
       add-endpoint-var
       add-endpoint-var-2
       endpoint-var-requires
+      read-at-requires
       lower-rel-element-requires
-      count-requires
-      count-requires-2
-      add-first
-      add-first-2
       sub-less
       lower-exprs-requires
       expand-requires

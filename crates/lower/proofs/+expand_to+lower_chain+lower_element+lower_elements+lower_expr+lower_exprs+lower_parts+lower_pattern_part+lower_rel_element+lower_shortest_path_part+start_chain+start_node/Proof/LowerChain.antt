@@ -105,7 +105,7 @@ module _ (t : ℕ) where
               (omega arith)
               (start .pre .1 .room))) .in-ops,
         ),
-        Chaining.root-under _ _ (after-root-of .root-of .ensures) (after-lower-elements .lower-elements .ensures .bounded .below),
+        Chaining.root-under (after-root-of .root-of .ensures) (after-lower-elements .lower-elements .ensures .bounded .last),
       )
 
   word-requires : here lts.Need-word-requires

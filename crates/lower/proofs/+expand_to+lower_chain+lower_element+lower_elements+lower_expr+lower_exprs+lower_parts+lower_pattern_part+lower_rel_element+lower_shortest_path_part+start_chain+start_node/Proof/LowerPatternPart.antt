@@ -17,14 +17,14 @@ module _ (t : ℕ) where
   here X = X (lower-pattern-part-calls t) (lower-pattern-part-at t) reads.Post
 
   -- the ways back, from place to place
-  abbrev back-lower-shortest-path-part : here lts.After-lower-shortest-path-part → here lts.After-z
+  abbrev back-lower-shortest-path-part : here lts.After-lower-shortest-path-part → here lts.After-to
   back-lower-shortest-path-part c = search
 
   abbrev back-lower-chain5 : here lts.After-lower-chain5 → here lts.After-enum-told3
   back-lower-chain5 c = search
 
-  abbrev back-z : here lts.After-z → here lts.After-read-element3
-  back-z c = search
+  abbrev back-to : here lts.After-to → here lts.After-read-element3
+  back-to c = search
 
   abbrev back-enum-told3 : here lts.After-enum-told3 → here lts.After-read-element3
   back-enum-told3 c = search
@@ -32,11 +32,11 @@ module _ (t : ℕ) where
   abbrev back-lower-chain4 : here lts.After-lower-chain4 → here lts.After-enum-told2
   back-lower-chain4 c = search
 
-  abbrev back-read-element3 : here lts.After-read-element3 → here lts.After-y
+  abbrev back-read-element3 : here lts.After-read-element3 → here lts.After-between
   back-read-element3 c = search
 
-  abbrev back-y : here lts.After-y → here lts.After-read-element2
-  back-y c = search
+  abbrev back-between : here lts.After-between → here lts.After-read-element2
+  back-between c = search
 
   abbrev back-enum-told2 : here lts.After-enum-told2 → here lts.After-read-element2
   back-enum-told2 c = search
@@ -47,11 +47,11 @@ module _ (t : ℕ) where
   abbrev back-lower-chain3 : here lts.After-lower-chain3 → here lts.After-enum-told
   back-lower-chain3 c = search
 
-  abbrev back-skip2 : here lts.After-skip2 → here lts.After-x
+  abbrev back-skip2 : here lts.After-skip2 → here lts.After-near
   back-skip2 c = search
 
-  abbrev back-x : here lts.After-x → here lts.After-read-element
-  back-x c = search
+  abbrev back-near : here lts.After-near → here lts.After-read-element
+  back-near c = search
 
   abbrev back-enum-told : here lts.After-enum-told → here lts.After-read-element
   back-enum-told c = search
@@ -89,16 +89,16 @@ module _ (t : ℕ) where
   ruleset ways = (
     back-lower-shortest-path-part,
     back-lower-chain5,
-    back-z,
+    back-to,
     back-enum-told3,
     back-lower-chain4,
     back-read-element3,
-    back-y,
+    back-between,
     back-enum-told2,
     back-read-element2,
     back-lower-chain3,
     back-skip2,
-    back-x,
+    back-near,
     back-enum-told,
     back-lower-chain2,
     back-read-element,
@@ -172,8 +172,8 @@ module _ (t : ℕ) where
       (Part.not-three _ _ (start .pre .1 .words) (λ e. (then2 .if2 .taken) ((after-word2 .word2 .ensures) ∙ e)))
       (after-lower-chain2 .lower-chain2 .ensures)
 
-  add-skip : here lts.Need-add-skip
-  add-skip c =
+  add-first : here lts.Need-add-first
+  add-first c =
       let start : here lts.Start = search ways depth 15 in
       omega (arith, Room.bounds (start .pre .1))
 
@@ -184,11 +184,6 @@ module _ (t : ℕ) where
         start .pre .1 .words,
         Part.starts (Part.first-some _ _ (start .pre .1 .words) (sym (after-word2 .word2 .ensures) ∙ (c .if2 .left)) (start .pre .1 .tree)),
       )
-
-  add-read-element : here lts.Need-add-read-element
-  add-read-element c =
-      let start : here lts.Start = search ways depth 15 in
-      omega (arith, Room.bounds (start .pre .1))
 
   read-element-requires : here lts.Need-read-element-requires
   read-element-requires c κs =
@@ -230,7 +225,7 @@ module _ (t : ℕ) where
       (start .pre .1 .words)
       (sym (after-word2 .word2 .ensures) ∙ (else2 .if2 .left))
       (after-skip .skip .ensures)
-      (Part.is-rel _ _ _ _ (after-read-element .read-element .ensures) (after-enum-told .enum-told .given .1)))
+      (Part.rel-read (after-read-element .read-element .ensures) (after-enum-told .enum-told .given .1) .is))
       (after-lower-chain3 .lower-chain3 .ensures)
 
   skip-requires-2 : here lts.Need-skip-requires-2
@@ -287,7 +282,7 @@ module _ (t : ℕ) where
       let after-lower-chain4 : here lts.After-lower-chain4 = search ways depth 15 in
       let after-enum-told2 : here lts.After-enum-told2 = search ways depth 15 in
       let after-read-element2 : here lts.After-read-element2 = search ways depth 15 in
-      let after-x : here lts.After-x = search ways depth 15 in
+      let after-near : here lts.After-near = search ways depth 15 in
       let after-read-element : here lts.After-read-element = search ways depth 15 in
       let after-skip : here lts.After-skip = search ways depth 15 in
       let else2 : here lts.Else2 = search ways depth 15 in
@@ -300,8 +295,8 @@ module _ (t : ℕ) where
       (start .pre .1 .words)
       (sym (after-word2 .word2 .ensures) ∙ (else2 .if2 .left))
       (after-skip .skip .ensures)
-      (Part.is-node _ _ _ _ (after-read-element .read-element .ensures) (after-x .x .given .1))
-      (Part.is-node _ _ _ _ (after-read-element2 .read-element2 .ensures) (after-enum-told2 .enum-told2 .given .1)))
+      (Part.node-read (after-read-element .read-element .ensures) (after-near .near .given .1) .is)
+      (Part.node-read (after-read-element2 .read-element2 .ensures) (after-enum-told2 .enum-told2 .given .1) .is))
       (after-lower-chain4 .lower-chain4 .ensures)
 
   read-element-requires-3 : here lts.Need-read-element-requires-3
@@ -345,10 +340,10 @@ module _ (t : ℕ) where
       let after-lower-chain5 : here lts.After-lower-chain5 = search ways depth 15 in
       let after-enum-told3 : here lts.After-enum-told3 = search ways depth 15 in
       let after-read-element3 : here lts.After-read-element3 = search ways depth 15 in
-      let after-y : here lts.After-y = search ways depth 15 in
+      let after-between : here lts.After-between = search ways depth 15 in
       let after-read-element2 : here lts.After-read-element2 = search ways depth 15 in
       let after-skip2 : here lts.After-skip2 = search ways depth 15 in
-      let after-x : here lts.After-x = search ways depth 15 in
+      let after-near : here lts.After-near = search ways depth 15 in
       let after-read-element : here lts.After-read-element = search ways depth 15 in
       let after-skip : here lts.After-skip = search ways depth 15 in
       let else2 : here lts.Else2 = search ways depth 15 in
@@ -362,19 +357,19 @@ module _ (t : ℕ) where
       (sym (after-word2 .word2 .ensures) ∙ (else2 .if2 .left))
       (after-skip .skip .ensures)
       (after-skip2 .skip2 .ensures)
-      (Part.is-node _ _ _ _ (after-read-element .read-element .ensures) (after-x .x .given .1))
-      (Part.is-rel _ _ _ _ (after-read-element2 .read-element2 .ensures) (after-y .y .given .1))
-      (Part.is-rel _ _ _ _ (after-read-element3 .read-element3 .ensures) (after-enum-told3 .enum-told3 .given .1)))
+      (Part.node-read (after-read-element .read-element .ensures) (after-near .near .given .1) .is)
+      (Part.rel-read (after-read-element2 .read-element2 .ensures) (after-between .between .given .1) .is)
+      (Part.rel-read (after-read-element3 .read-element3 .ensures) (after-enum-told3 .enum-told3 .given .1) .is))
       (after-lower-chain5 .lower-chain5 .ensures)
 
   lower-shortest-path-part-requires : here lts.Need-lower-shortest-path-part-requires
   lower-shortest-path-part-requires c κs =
-      let after-z : here lts.After-z = search ways depth 15 in
+      let after-to : here lts.After-to = search ways depth 15 in
       let after-read-element3 : here lts.After-read-element3 = search ways depth 15 in
-      let after-y : here lts.After-y = search ways depth 15 in
+      let after-between : here lts.After-between = search ways depth 15 in
       let after-read-element2 : here lts.After-read-element2 = search ways depth 15 in
       let after-skip2 : here lts.After-skip2 = search ways depth 15 in
-      let after-x : here lts.After-x = search ways depth 15 in
+      let after-near : here lts.After-near = search ways depth 15 in
       let after-read-element : here lts.After-read-element = search ways depth 15 in
       let after-skip : here lts.After-skip = search ways depth 15 in
       let else2 : here lts.Else2 = search ways depth 15 in
@@ -388,7 +383,7 @@ module _ (t : ℕ) where
           special = record {
             shortest = λ e. (else1 .if1 .left) ((after-word .word .ensures) ∙ e);
             three = (sym (after-word2 .word2 .ensures) ∙ (else2 .if2 .left));
-            first = (Part.is-node _ _ _ _ (after-read-element .read-element .ensures) (after-x .x .given .1));
+            first = (Part.node-read (after-read-element .read-element .ensures) (after-near .near .given .1) .is);
             second =
                 Part.other-kind
                 (start .pre .1 .words)
@@ -399,11 +394,14 @@ module _ (t : ℕ) where
                 (sym (after-word2 .word2 .ensures) ∙ (else2 .if2 .left))
                 (after-skip .skip .ensures)
                 (start .pre .1 .tree))
-                (Part.is-rel _ _ _ _ (after-read-element2 .read-element2 .ensures) (after-y .y .given .1));
-            third = Part.is-node _ _ _ _ (after-read-element3 .read-element3 .ensures) (after-z .z .given .1);
+                (Part.rel-read (after-read-element2 .read-element2 .ensures) (after-between .between .given .1) .is);
+            third = Part.node-read (after-read-element3 .read-element3 .ensures) (after-to .to .given .1) .is;
             first-end = (after-skip .skip .ensures);
             second-end = (after-skip2 .skip2 .ensures);
           };
+          near = Part.node-read (after-read-element .read-element .ensures) (after-near .near .given .1) .read;
+          rel = Part.rel-read (after-read-element2 .read-element2 .ensures) (after-between .between .given .1) .read;
+          to = Part.node-read (after-read-element3 .read-element3 .ensures) (after-to .to .given .1) .read;
         },
       )
 
@@ -438,9 +436,8 @@ module _ (t : ℕ) where
       same-length-3
       same-length-4
       returns-2
-      add-skip
+      add-first
       skip-requires
-      add-read-element
       read-element-requires
       (λ c. search needs)
       (λ c. search needs)

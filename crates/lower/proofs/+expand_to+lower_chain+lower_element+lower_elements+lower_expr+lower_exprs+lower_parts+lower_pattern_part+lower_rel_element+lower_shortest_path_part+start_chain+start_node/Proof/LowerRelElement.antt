@@ -17,102 +17,54 @@ module _ (t : ℕ) where
   here X = X (lower-rel-element-calls t) (lower-rel-element-at t) reads.Post
 
   -- the ways back, from place to place
-  abbrev back-lower-exprs : here lts.After-lower-exprs → here lts.After-count2
+  abbrev back-lower-exprs : here lts.After-lower-exprs → here lts.After-endpoint-var
   back-lower-exprs c = search
 
-  abbrev back-count2 : here lts.After-count2 → here lts.After-count
-  back-count2 c = search
-
-  abbrev back-count : here lts.After-count → here lts.After-endpoint-var
-  back-count c = search
-
-  abbrev back-endpoint-var : here lts.After-endpoint-var → here lts.After-word2
+  abbrev back-endpoint-var : here lts.After-endpoint-var → here lts.Start
   back-endpoint-var c = search
 
-  abbrev back-word2 : here lts.After-word2 → here lts.After-word
-  back-word2 c = search
-
-  abbrev back-word : here lts.After-word → here lts.Start
-  back-word c = search
-
-  ruleset ways = (back-lower-exprs, back-count2, back-count, back-endpoint-var, back-word2, back-word)
-
-  word-requires : here lts.Need-word-requires
-  word-requires c κs =
-      let start : here lts.Start = search ways depth 10 in
-      (Room.low (start .pre .1 .tree .tree), (omega arith, start .pre .1 .words))
-
-  word-requires-2 : here lts.Need-word-requires-2
-  word-requires-2 c κs =
-      let start : here lts.Start = search ways depth 10 in
-      (Room.low (start .pre .1 .tree .tree), (omega arith, start .pre .1 .words))
+  ruleset ways = (back-lower-exprs, back-endpoint-var)
 
   add-endpoint-var : here lts.Need-add-endpoint-var
   add-endpoint-var c =
       let start : here lts.Start = search ways depth 10 in
-      omega (arith, Room.element-bounds (start .pre .1))
+      omega (arith, Room.element-bounds (start .pre .1 .asked))
 
   add-endpoint-var-2 : here lts.Need-add-endpoint-var-2
   add-endpoint-var-2 c =
       let start : here lts.Start = search ways depth 10 in
-      omega (arith, Room.element-bounds (start .pre .1))
+      omega (arith, Room.element-bounds (start .pre .1 .asked))
 
   endpoint-var-requires : here lts.Need-endpoint-var-requires
   endpoint-var-requires c κs =
       let start : here lts.Start = search ways depth 10 in
-      let l = Room.element-bounds (start .pre .1) in
-      Room.can-number (start .pre .1 .room) _ _ _ (start .pre .1 .pass) (omega arith) refl
-
-  count-requires : here lts.Need-count-requires
-  count-requires c κs =
-      let start : here lts.Start = search ways depth 10 in
-      (Room.low (start .pre .1 .tree .tree), (omega arith, start .pre .1 .words))
-
-  count-requires-2 : here lts.Need-count-requires-2
-  count-requires-2 c κs =
-      let start : here lts.Start = search ways depth 10 in
-      (Room.low (start .pre .1 .tree .tree), (omega arith, start .pre .1 .words))
-
-  add-first : here lts.Need-add-first
-  add-first c =
-      let start : here lts.Start = search ways depth 10 in
-      omega (arith, Room.element-bounds (start .pre .1))
-
-  add-first-2 : here lts.Need-add-first-2
-  add-first-2 c =
-      let after-count : here lts.After-count = search ways depth 10 in
-      let start : here lts.Start = search ways depth 10 in
-      let l₀ = Room.names-low (start .pre .1 .words) (start .pre .1 .tree .tree) in
-      let l = Room.element-bounds (start .pre .1) in
-      let n₀ = after-count .count .ensures .0 in
-      omega arith
+      let l = Room.element-bounds (start .pre .1 .asked) in
+      Room.can-number (start .pre .1 .asked .room) _ _ _ (start .pre .1 .asked .pass) (omega arith) refl
 
   sub-less : here lts.Need-sub-less
   sub-less c =
       let start : here lts.Start = search ways depth 10 in
-      omega (arith, Room.element-bounds (start .pre .1))
+      omega (arith, Room.element-bounds (start .pre .1 .asked))
 
   lower-exprs-requires : here lts.Need-lower-exprs-requires
   lower-exprs-requires c κs =
-      let after-count2 : here lts.After-count2 = search ways depth 10 in
-      let after-count : here lts.After-count = search ways depth 10 in
       let after-endpoint-var : here lts.After-endpoint-var = search ways depth 10 in
       let start : here lts.Start = search ways depth 10 in
-      let l = Room.element-bounds (start .pre .1) in
-      let l₀′ = Room.names-low (start .pre .1 .words) (start .pre .1 .tree .tree) in
-      let n₀ = after-count .count .ensures .0 in (
+      let l = Room.element-bounds (start .pre .1 .asked) in
+      let l₀′ = Room.names-low (start .pre .1 .asked .words) (start .pre .1 .asked .tree .tree) in
+      let n₀ = start .pre .1 .read .first in (
         omega arith,
-        Room.asked-on _ _ _ (start .pre .1) (omega arith)
+        Room.asked-on _ _ _ (start .pre .1 .asked) (omega arith)
             (Room.prop-some
-            (start .pre .1 .words)
-            (start .pre .1 .tree .tree)
-            (start .pre .1 .tree .is)
+            (start .pre .1 .asked .words)
+            (start .pre .1 .asked .tree .tree)
+            (start .pre .1 .asked .tree .is)
             _
             _
-            (after-count2 .count2 .ensures .0)
-            (ap (λ z. (start .args .at .i) + 1 + z) (after-count .count .ensures .0)))
+            (start .pre .1 .read .props)
+            (start .pre .1 .read .first))
             (Room.numbered-on
-            (start .pre .1 .room)
+            (start .pre .1 .asked .room)
             _
             _
             (after-endpoint-var .endpoint-var .ensures .issued)
@@ -136,19 +88,15 @@ module _ (t : ℕ) where
   returns : here lts.Need-returns
   returns c =
       let after-lower-exprs : here lts.After-lower-exprs = search ways depth 10 in
-      let after-count2 : here lts.After-count2 = search ways depth 10 in
-      let after-count : here lts.After-count = search ways depth 10 in
       let after-endpoint-var : here lts.After-endpoint-var = search ways depth 10 in
-      let after-word2 : here lts.After-word2 = search ways depth 10 in
-      let after-word : here lts.After-word = search ways depth 10 in
       let start : here lts.Start = search ways depth 10 in
       Room.rel-done
       _
       refl
-      (endpoint-read (after-word .word .ensures) (after-word2 .word2 .ensures) (after-endpoint-var .endpoint-var .ensures))
+      (endpoint-read (start .pre .1 .read .bind) (after-endpoint-var .endpoint-var .ensures))
       (after-endpoint-var .endpoint-var .kept .1 .0)
-      (after-count2 .count2 .ensures .0)
-      (ap (λ z. (start .args .at .i) + 1 + z) (after-count .count .ensures .0))
+      (start .pre .1 .read .props)
+      (start .pre .1 .read .first)
       (after-lower-exprs .lower-exprs .ensures)
 
   pub meets : {M : Type 1} → lts.Closed (lower-rel-element-calls t) (lower-rel-element-at t) reads.Post M
@@ -157,15 +105,9 @@ module _ (t : ℕ) where
       (lower-rel-element-calls t)
       (lower-rel-element-at t)
       reads.Post
-      word-requires
-      word-requires-2
       add-endpoint-var
       add-endpoint-var-2
       endpoint-var-requires
-      count-requires
-      count-requires-2
-      add-first
-      add-first-2
       sub-less
       lower-exprs-requires
       same-length

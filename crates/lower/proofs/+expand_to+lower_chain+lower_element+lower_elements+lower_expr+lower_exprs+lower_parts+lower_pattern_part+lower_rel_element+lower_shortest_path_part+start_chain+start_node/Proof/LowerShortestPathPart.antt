@@ -27,23 +27,14 @@ module _ (t : ℕ) where
   abbrev back-shortest-path : here lts.After-shortest-path → here lts.After-endpoint-var3
   back-shortest-path c = search
 
-  abbrev back-endpoint-var3 : here lts.After-endpoint-var3 → here lts.After-word6
+  abbrev back-endpoint-var3 : here lts.After-endpoint-var3 → here lts.After-read-bind
   back-endpoint-var3 c = search
 
-  abbrev back-word6 : here lts.After-word6 → here lts.After-word5
-  back-word6 c = search
+  abbrev back-read-bind : here lts.After-read-bind → here lts.After-endpoint-var2
+  back-read-bind c = search
 
-  abbrev back-word5 : here lts.After-word5 → here lts.After-endpoint-var2
-  back-word5 c = search
-
-  abbrev back-endpoint-var2 : here lts.After-endpoint-var2 → here lts.After-word4
+  abbrev back-endpoint-var2 : here lts.After-endpoint-var2 → here lts.After-lower-rel-element
   back-endpoint-var2 c = search
-
-  abbrev back-word4 : here lts.After-word4 → here lts.After-word3
-  back-word4 c = search
-
-  abbrev back-word3 : here lts.After-word3 → here lts.After-lower-rel-element
-  back-word3 c = search
 
   abbrev back-lower-rel-element : here lts.After-lower-rel-element → here lts.After-start-node
   back-lower-rel-element c = search
@@ -51,29 +42,18 @@ module _ (t : ℕ) where
   abbrev back-start-node : here lts.After-start-node → here lts.After-endpoint-var
   back-start-node c = search
 
-  abbrev back-endpoint-var : here lts.After-endpoint-var → here lts.After-word2
+  abbrev back-endpoint-var : here lts.After-endpoint-var → here lts.Start
   back-endpoint-var c = search
-
-  abbrev back-word2 : here lts.After-word2 → here lts.After-word
-  back-word2 c = search
-
-  abbrev back-word : here lts.After-word → here lts.Start
-  back-word c = search
 
   ruleset ways = (
     back-push,
     back-shortest-path,
     back-endpoint-var3,
-    back-word6,
-    back-word5,
+    back-read-bind,
     back-endpoint-var2,
-    back-word4,
-    back-word3,
     back-lower-rel-element,
     back-start-node,
     back-endpoint-var,
-    back-word2,
-    back-word,
   )
 
   add-first : here lts.Need-add-first
@@ -89,16 +69,6 @@ module _ (t : ℕ) where
       let l = Room.bounds (start .pre .1 .part) in
       let l₄ = Room.low (Asking.first-of (start .pre .1) .tree) in
       omega arith
-
-  word-requires : here lts.Need-word-requires
-  word-requires c κs =
-      let start : here lts.Start = search ways depth 16 in
-      (Room.low (Asking.first-of (start .pre .1) .tree), (omega arith, start .pre .1 .part .words))
-
-  word-requires-2 : here lts.Need-word-requires-2
-  word-requires-2 c κs =
-      let start : here lts.Start = search ways depth 16 in
-      (Room.low (Asking.first-of (start .pre .1) .tree), (omega arith, start .pre .1 .part .words))
 
   add-endpoint-var : here lts.Need-add-endpoint-var
   add-endpoint-var c =
@@ -126,14 +96,18 @@ module _ (t : ℕ) where
       let after-endpoint-var : here lts.After-endpoint-var = search ways depth 16 in
       let start : here lts.Start = search ways depth 16 in (
         omega (arith, start .pre .0, Room.bounds (start .pre .1 .part)),
-        Room.asked-on
-            _
-            _
-            _
-            (start .pre .1 .part)
-            (omega (arith, Room.bounds (start .pre .1 .part)))
-            (Asking.first-of (start .pre .1))
-            (Asking.near-room (start .pre .1) (after-endpoint-var .endpoint-var .ensures) (after-endpoint-var .endpoint-var .kept .1 .0)),
+        record {
+          asked =
+              Room.asked-on
+              _
+              _
+              _
+              (start .pre .1 .part)
+              (omega (arith, Room.bounds (start .pre .1 .part)))
+              (Asking.first-of (start .pre .1))
+              (Asking.near-room (start .pre .1) (after-endpoint-var .endpoint-var .ensures) (after-endpoint-var .endpoint-var .kept .1 .0));
+          read = start .pre .1 .near;
+        },
       )
 
   lower-rel-element-requires : here lts.Need-lower-rel-element-requires
@@ -142,34 +116,22 @@ module _ (t : ℕ) where
       let after-endpoint-var : here lts.After-endpoint-var = search ways depth 16 in
       let start : here lts.Start = search ways depth 16 in (
         omega (arith, start .pre .0, Room.bounds (start .pre .1 .part)),
-        Room.asked-on
-            _
-            _
-            _
-            (start .pre .1 .part)
-            (omega (arith, Room.bounds (start .pre .1 .part)))
-            (Asking.rel-of (start .pre .1))
-            (Asking.rel-room
-            (start .pre .1)
-            (after-endpoint-var .endpoint-var .ensures)
-            (after-endpoint-var .endpoint-var .kept .1 .0)
-            (after-start-node .start-node .ensures)),
-      )
-
-  word-requires-3 : here lts.Need-word-requires-3
-  word-requires-3 c κs =
-      let start : here lts.Start = search ways depth 16 in (
-        Room.low
-            (Asking.far-of (start .pre .1) .tree),
-        (omega arith, start .pre .1 .part .words),
-      )
-
-  word-requires-4 : here lts.Need-word-requires-4
-  word-requires-4 c κs =
-      let start : here lts.Start = search ways depth 16 in (
-        Room.low
-            (Asking.far-of (start .pre .1) .tree),
-        (omega arith, start .pre .1 .part .words),
+        record {
+          asked =
+              Room.asked-on
+              _
+              _
+              _
+              (start .pre .1 .part)
+              (omega (arith, Room.bounds (start .pre .1 .part)))
+              (Asking.rel-of (start .pre .1))
+              (Asking.rel-room
+              (start .pre .1)
+              (after-endpoint-var .endpoint-var .ensures)
+              (after-endpoint-var .endpoint-var .kept .1 .0)
+              (after-start-node .start-node .ensures));
+          read = start .pre .1 .rel;
+        },
       )
 
   add-endpoint-var-3 : here lts.Need-add-endpoint-var-3
@@ -228,15 +190,10 @@ module _ (t : ℕ) where
       (omega arith)
       refl
 
-  word-requires-5 : here lts.Need-word-requires-5
-  word-requires-5 c κs =
+  read-bind-requires : here lts.Need-read-bind-requires
+  read-bind-requires c κs =
       let start : here lts.Start = search ways depth 16 in
-      (Room.low (start .pre .1 .part .tree), (omega arith, start .pre .1 .part .words))
-
-  word-requires-6 : here lts.Need-word-requires-6
-  word-requires-6 c κs =
-      let start : here lts.Start = search ways depth 16 in
-      (Room.low (start .pre .1 .part .tree), (omega arith, start .pre .1 .part .words))
+      (start .pre .1 .part .words, Room.low (start .pre .1 .part .tree))
 
   add-endpoint-var-5 : here lts.Need-add-endpoint-var-5
   add-endpoint-var-5 c =
@@ -376,16 +333,11 @@ module _ (t : ℕ) where
       let after-push : here lts.After-push = search ways depth 16 in
       let after-shortest-path : here lts.After-shortest-path = search ways depth 16 in
       let after-endpoint-var3 : here lts.After-endpoint-var3 = search ways depth 16 in
-      let after-word6 : here lts.After-word6 = search ways depth 16 in
-      let after-word5 : here lts.After-word5 = search ways depth 16 in
+      let after-read-bind : here lts.After-read-bind = search ways depth 16 in
       let after-endpoint-var2 : here lts.After-endpoint-var2 = search ways depth 16 in
-      let after-word4 : here lts.After-word4 = search ways depth 16 in
-      let after-word3 : here lts.After-word3 = search ways depth 16 in
       let after-lower-rel-element : here lts.After-lower-rel-element = search ways depth 16 in
       let after-start-node : here lts.After-start-node = search ways depth 16 in
       let after-endpoint-var : here lts.After-endpoint-var = search ways depth 16 in
-      let after-word2 : here lts.After-word2 = search ways depth 16 in
-      let after-word : here lts.After-word = search ways depth 16 in
       let start : here lts.Start = search ways depth 16 in
       Special.special-law
       _
@@ -406,15 +358,15 @@ module _ (t : ℕ) where
       (start .pre .1 .special .second-end)
       (c .skip .ensures)
       refl
-      (endpoint-read (after-word .word .ensures) (after-word2 .word2 .ensures) (after-endpoint-var .endpoint-var .ensures))
+      (endpoint-read (start .pre .1 .near .bind) (after-endpoint-var .endpoint-var .ensures))
       (after-endpoint-var .endpoint-var .kept .1 .0)
       (after-start-node .start-node .ensures)
       (after-lower-rel-element .lower-rel-element .ensures)
       refl
-      (endpoint-read (after-word3 .word3 .ensures) (after-word4 .word4 .ensures) (after-endpoint-var2 .endpoint-var2 .ensures))
+      (endpoint-read (start .pre .1 .to .bind) (after-endpoint-var2 .endpoint-var2 .ensures))
       (after-endpoint-var2 .endpoint-var2 .kept .1 .0)
       refl
-      (endpoint-read (after-word5 .word5 .ensures) (after-word6 .word6 .ensures) (after-endpoint-var3 .endpoint-var3 .ensures))
+      (endpoint-read (after-read-bind .read-bind .ensures) (after-endpoint-var3 .endpoint-var3 .ensures))
       (after-endpoint-var3 .endpoint-var3 .kept .1 .0)
       (pushed-as (after-shortest-path .shortest-path .ensures) (after-push .push .ensures))
       (after-push .push .kept .1 .0)
@@ -428,20 +380,15 @@ module _ (t : ℕ) where
       reads.Post
       add-first
       sub-less
-      word-requires
-      word-requires-2
       add-endpoint-var
       add-endpoint-var-2
       endpoint-var-requires
       start-node-requires
       lower-rel-element-requires
-      word-requires-3
-      word-requires-4
       add-endpoint-var-3
       add-endpoint-var-4
       endpoint-var-requires-2
-      word-requires-5
-      word-requires-6
+      read-bind-requires
       add-endpoint-var-5
       endpoint-var-requires-3
       shortest-path-requires

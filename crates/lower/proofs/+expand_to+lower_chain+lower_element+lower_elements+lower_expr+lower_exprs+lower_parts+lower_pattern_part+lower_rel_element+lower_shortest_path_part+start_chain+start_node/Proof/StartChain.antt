@@ -22,26 +22,10 @@ module _ (t : ℕ) where
   abbrev back-start-node : here lts.After-start-node → here lts.After-endpoint-var
   back-start-node c = search
 
-  abbrev back-endpoint-var : here lts.After-endpoint-var → here lts.After-word2
+  abbrev back-endpoint-var : here lts.After-endpoint-var → here lts.Start
   back-endpoint-var c = search
 
-  abbrev back-word2 : here lts.After-word2 → here lts.After-word
-  back-word2 c = search
-
-  abbrev back-word : here lts.After-word → here lts.Start
-  back-word c = search
-
-  ruleset ways = (back-start-node, back-endpoint-var, back-word2, back-word)
-
-  word-requires : here lts.Need-word-requires
-  word-requires c κs =
-      let start : here lts.Start = search ways in
-      (Room.low (start .pre .1 .chain .tree), (omega arith, start .pre .1 .chain .words))
-
-  word-requires-2 : here lts.Need-word-requires-2
-  word-requires-2 c κs =
-      let start : here lts.Start = search ways in
-      (Room.low (start .pre .1 .chain .tree), (omega arith, start .pre .1 .chain .words))
+  ruleset ways = (back-start-node, back-endpoint-var)
 
   add-endpoint-var : here lts.Need-add-endpoint-var
   add-endpoint-var c =
@@ -65,20 +49,23 @@ module _ (t : ℕ) where
       let start : here lts.Start = search ways in (
         omega arith,
         record {
-          words = start .pre .1 .chain .words;
-          tree = record { tree = start .pre .1 .chain .tree; is = start .pre .1 .node };
-          room =
-              Exprs.good-from
-              (le-refl _)
-              (start .pre .1 .chain .bounded .from)
-              (start .pre .1 .chain .bounded .next)
-              (Room.numbered
-              (start .pre .1 .chain .room)
-              (after-endpoint-var .endpoint-var .ensures .issued)
-              (after-endpoint-var .endpoint-var .kept .1 .0)
-              (Room.deep (start .pre .1 .chain .tree)));
-          depth = start .pre .1 .chain .depth;
-          pass = start .pre .1 .chain .pass;
+          asked = record {
+            words = start .pre .1 .chain .words;
+            tree = record { tree = start .pre .1 .chain .tree; is = start .pre .1 .is };
+            room =
+                Exprs.good-from
+                (le-refl _)
+                (start .pre .1 .chain .bounded .from)
+                (start .pre .1 .chain .bounded .next)
+                (Room.numbered
+                (start .pre .1 .chain .room)
+                (after-endpoint-var .endpoint-var .ensures .issued)
+                (after-endpoint-var .endpoint-var .kept .1 .0)
+                (Room.deep (start .pre .1 .chain .tree)));
+            depth = start .pre .1 .chain .depth;
+            pass = start .pre .1 .chain .pass;
+          };
+          read = start .pre .1 .read;
         },
       )
 
@@ -104,8 +91,6 @@ module _ (t : ℕ) where
   returns c =
       let after-start-node : here lts.After-start-node = search ways in
       let after-endpoint-var : here lts.After-endpoint-var = search ways in
-      let after-word2 : here lts.After-word2 = search ways in
-      let after-word : here lts.After-word = search ways in
       let start : here lts.Start = search ways in
       Linking.start-law
       _
@@ -114,10 +99,10 @@ module _ (t : ℕ) where
       (start .pre .1 .chain .words)
       (start .pre .1 .chain .pass)
       (start .pre .1 .chain .bounded)
-      (start .pre .1 .node)
+      (start .pre .1 .is)
       (start .pre .1 .anew)
       refl
-      (endpoint-read (after-word .word .ensures) (after-word2 .word2 .ensures) (after-endpoint-var .endpoint-var .ensures))
+      (endpoint-read (start .pre .1 .read .bind) (after-endpoint-var .endpoint-var .ensures))
       (after-endpoint-var .endpoint-var .kept .1 .0)
       (after-start-node .start-node .ensures)
       (start .pre .1 .chain .tree)
@@ -128,8 +113,6 @@ module _ (t : ℕ) where
       (start-chain-calls t)
       (start-chain-at t)
       reads.Post
-      word-requires
-      word-requires-2
       add-endpoint-var
       add-endpoint-var-2
       endpoint-var-requires

@@ -34,57 +34,27 @@ module _ (t : ℕ) where
   abbrev back-push : here lts.After-push → here lts.After-source
   back-push c = search
 
-  abbrev back-source : here lts.After-source → here lts.After-word
+  abbrev back-source : here lts.After-source → here lts.Start
   back-source c = search
 
-  abbrev back-word : here lts.After-word → here lts.After-count
-  back-word c = search
-
-  abbrev back-count : here lts.After-count → here lts.Start
-  back-count c = search
-
-  ruleset ways = (back-push2, back-filter, back-lower-expr, back-else1, back-push, back-source, back-word, back-count)
-
-  count-requires : here lts.Need-count-requires
-  count-requires c κs =
-      let start : here lts.Start = search ways depth 10 in
-      (Room.low (start .pre .1 .tree .tree), (omega arith, start .pre .1 .words))
-
-  word-requires : here lts.Need-word-requires
-  word-requires c κs =
-      let start : here lts.Start = search ways depth 10 in
-      (Room.low (start .pre .1 .tree .tree), (omega arith, start .pre .1 .words))
-
-  add-first : here lts.Need-add-first
-  add-first c =
-      let start : here lts.Start = search ways depth 10 in
-      omega (arith, Room.element-bounds (start .pre .1))
-
-  add-first-2 : here lts.Need-add-first-2
-  add-first-2 c =
-      let after-count : here lts.After-count = search ways depth 10 in
-      let start : here lts.Start = search ways depth 10 in
-      let l₀ = Room.names-low (start .pre .1 .words) (start .pre .1 .tree .tree) in
-      let l = Room.element-bounds (start .pre .1) in
-      let n₀ = after-count .count .ensures .0 in
-      omega arith
+  ruleset ways = (back-push2, back-filter, back-lower-expr, back-else1, back-push, back-source)
 
   sub-less : here lts.Need-sub-less
   sub-less c =
       let start : here lts.Start = search ways depth 10 in
-      omega (arith, Room.element-bounds (start .pre .1))
+      omega (arith, Room.element-bounds (start .pre .1 .asked))
 
   source-requires : here lts.Need-source-requires
   source-requires c κs =
       let start : here lts.Start = search ways depth 10 in
-      let l₀ = Room.low (start .pre .1 .tree .tree) in
-      let l₂ = start .pre .1 .depth in
-      Room.fits (start .pre .1 .pass) (omega arith) (omega arith)
+      let l₀ = Room.low (start .pre .1 .asked .tree .tree) in
+      let l₂ = start .pre .1 .asked .depth in
+      Room.fits (start .pre .1 .asked .pass) (omega arith) (omega arith)
 
   push-requires : here lts.Need-push-requires
   push-requires c κs =
       let start : here lts.Start = search ways depth 10 in
-      Room.can-push (start .pre .1 .room)
+      Room.can-push (start .pre .1 .asked .room)
 
   same-length : here lts.Need-same-length
   same-length c =
@@ -95,45 +65,41 @@ module _ (t : ℕ) where
   returns c =
       let after-push : here lts.After-push = search ways depth 10 in
       let after-source : here lts.After-source = search ways depth 10 in
-      let after-word : here lts.After-word = search ways depth 10 in
-      let after-count : here lts.After-count = search ways depth 10 in
       let start : here lts.Start = search ways depth 10 in
-      rw
-      (ap (λ z. (start .args .at .i) + 1 + z) (after-count .count .ensures .0))
-      (Start.bare-law
+      Start.bare-read
       _
       _
-      (start .pre .1 .words)
-      (start .pre .1 .tree .is)
-      (start .pre .1 .depth, start .pre .1 .pass)
+      _
+      (start .pre .1 .asked .words)
+      (start .pre .1 .asked .tree .is)
+      (start .pre .1 .asked .depth, start .pre .1 .asked .pass)
+      (start .pre .1 .read .first)
       (pushed-as (after-source .source .ensures) (after-push .push .ensures))
       (after-push .push .kept .1 .0)
-      (sym (after-word .word .ensures) ∙ (c .if1 .taken))
-      (start .pre .1 .tree .tree))
+      (sym (start .pre .1 .read .props) ∙ (c .if1 .taken))
+      (start .pre .1 .asked .tree .tree)
 
   lower-expr-requires : here lts.Need-lower-expr-requires
   lower-expr-requires c κs =
       let else1 : here lts.Else1 = search ways depth 10 in
       let after-push : here lts.After-push = search ways depth 10 in
-      let after-word : here lts.After-word = search ways depth 10 in
-      let after-count : here lts.After-count = search ways depth 10 in
       let start : here lts.Start = search ways depth 10 in
-      let l = Room.element-bounds (start .pre .1) in
-      let l₀′ = Room.names-low (start .pre .1 .words) (start .pre .1 .tree .tree) in
-      let n₀ = after-count .count .ensures .0 in (
+      let l = Room.element-bounds (start .pre .1 .asked) in
+      let l₀′ = Room.names-low (start .pre .1 .asked .words) (start .pre .1 .asked .tree .tree) in
+      let n₀ = start .pre .1 .read .first in (
         omega arith,
-        Room.asked-on _ _ _ (start .pre .1) (omega arith)
-            (rw
-            (ap (λ z. (start .args .at .i) + 1 + z) (after-count .count .ensures .0))
-            (Start.some-prop
+        Room.asked-on _ _ _ (start .pre .1 .asked) (omega arith)
+            (Start.prop-read
             _
             _
-            (start .pre .1 .words)
-            (start .pre .1 .tree .is)
-            (start .pre .1 .tree .tree)
-            (λ e. (else1 .if1 .left) ((after-word .word .ensures) ∙ e))))
+            _
+            (start .pre .1 .asked .words)
+            (start .pre .1 .asked .tree .is)
+            (start .pre .1 .read .first)
+            (start .pre .1 .asked .tree .tree)
+            (λ e. (else1 .if1 .left) (start .pre .1 .read .props ∙ e)))
             (Room.pushed-on
-            (start .pre .1 .room)
+            (start .pre .1 .asked .room)
             _
             _
             (after-push .push .ensures)
@@ -145,27 +111,25 @@ module _ (t : ℕ) where
 
   filter-requires : here lts.Need-filter-requires
   filter-requires c κs =
-      let after-count : here lts.After-count = search ways depth 10 in
       let start : here lts.Start = search ways depth 10 in
-      let l₀ = Room.names-low (start .pre .1 .words) (start .pre .1 .tree .tree) in
-      let l₂ = start .pre .1 .depth in
-      let n₀ = after-count .count .ensures .0 in
-      let g = Room.few-ops (start .pre .1 .room) in
-      (Room.fits (start .pre .1 .pass) (omega arith) (omega arith), omega arith)
+      let l₀ = Room.names-low (start .pre .1 .asked .words) (start .pre .1 .asked .tree .tree) in
+      let l₂ = start .pre .1 .asked .depth in
+      let n₀ = start .pre .1 .read .first in
+      let g = Room.few-ops (start .pre .1 .asked .room) in
+      (Room.fits (start .pre .1 .asked .pass) (omega arith) (omega arith), omega arith)
 
   push-requires-2 : here lts.Need-push-requires-2
   push-requires-2 c κs =
       let after-lower-expr : here lts.After-lower-expr = search ways depth 10 in
       let after-push : here lts.After-push = search ways depth 10 in
-      let after-count : here lts.After-count = search ways depth 10 in
       let start : here lts.Start = search ways depth 10 in
-      let l₀ = Room.names-low (start .pre .1 .words) (start .pre .1 .tree .tree) in
-      let l = Room.element-bounds (start .pre .1) in
-      let n₀ = after-count .count .ensures .0 in
+      let l₀ = Room.names-low (start .pre .1 .asked .words) (start .pre .1 .asked .tree .tree) in
+      let l = Room.element-bounds (start .pre .1 .asked) in
+      let n₀ = start .pre .1 .read .first in
       Room.can-push
       (Exprs.good-after
       (after-lower-expr .lower-expr .ensures .moved)
-      (Room.pushed-on (start .pre .1 .room) _ _ (after-push .push .ensures) (after-push .push .kept .1 .0) (le-refl _) (omega arith) (omega arith)))
+      (Room.pushed-on (start .pre .1 .asked .room) _ _ (after-push .push .ensures) (after-push .push .kept .1 .0) (le-refl _) (omega arith) (omega arith)))
 
   same-length-2 : here lts.Need-same-length-2
   same-length-2 c =
@@ -187,20 +151,18 @@ module _ (t : ℕ) where
       let else1 : here lts.Else1 = search ways depth 10 in
       let after-push : here lts.After-push = search ways depth 10 in
       let after-source : here lts.After-source = search ways depth 10 in
-      let after-word : here lts.After-word = search ways depth 10 in
-      let after-count : here lts.After-count = search ways depth 10 in
       let start : here lts.Start = search ways depth 10 in
       Start.filtered-read
       _
       _
       _
-      (start .pre .1 .words)
-      (start .pre .1 .tree .is)
-      (start .pre .1 .depth, start .pre .1 .pass)
-      (after-count .count .ensures .0)
+      (start .pre .1 .asked .words)
+      (start .pre .1 .asked .tree .is)
+      (start .pre .1 .asked .depth, start .pre .1 .asked .pass)
+      (start .pre .1 .read .first)
       (pushed-as (after-source .source .ensures) (after-push .push .ensures))
       (after-push .push .kept .1 .0)
-      (λ e. (else1 .if1 .left) ((after-word .word .ensures) ∙ e))
+      (λ e. (else1 .if1 .left) (start .pre .1 .read .props ∙ e))
       (after-lower-expr .lower-expr .ensures)
       (pushed-as (after-filter .filter .ensures) (after-push2 .push2 .ensures))
       (after-push2 .push2 .kept .1 .0)
@@ -211,10 +173,6 @@ module _ (t : ℕ) where
       (start-node-calls t)
       (start-node-at t)
       reads.Post
-      count-requires
-      word-requires
-      add-first
-      add-first-2
       sub-less
       source-requires
       push-requires
