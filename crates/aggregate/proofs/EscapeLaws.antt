@@ -7,7 +7,7 @@ use mathlib.Core.List.{List, [], _∷_, tail, append-nil}
 use lib.Dec.{eqb, ltb}
 use lib.Seq.{slice}
 use borrow.Author.Tests.{eqb-true, ne-eqb, ltb-true}
-use Rattle.model.specs.Text.{Bytes, bytes, bytesFrom, same, sameBy, join, behind, tab, escape, escapeByte, unescape}
+use Rattle.model.specs.Text.{Bytes, bytes, bytesFrom, same, sameBy, join, behind, tab, lineFeed, backslash, escape, escapeByte, unescape}
 use Rattle.model.specs.Field.{text, spell}
 use Rattle.model.specs.Lower.{lowercase, among, aggregates, isAggregateFunc}
 use Rattle.laws.specs.TextLaws.{and-left, and-right, every, join-split}
@@ -17,27 +17,27 @@ use Rattle.aggregate.proofs.NameLaws.{lowered}
 
 -- every byte is above the backslash
 abbrev high : Bytes → Bool
-high u = every (λ c. ltb 92 c) u
+high u = every (λ c. ltb backslash c) u
 
-low-other : (b c : ℕ) → b ≤ 92 → ltb 92 c ≡ true → eqb b c ≡ false
-low-other b c h e = ne-eqb b c (omega (arith, ltb-true 92 c e))
+low-other : (b c : ℕ) → b ≤ backslash → ltb backslash c ≡ true → eqb b c ≡ false
+low-other b c h e = ne-eqb b c (omega (arith, ltb-true backslash c e))
 
 module _ (b : ℕ) (v : Bytes) where
-  same-escape-byte : (c : ℕ) (u : Bytes) → ltb 92 c ≡ true → same (lowered (escape v)) u ≡ same (lowered v) u → same (lowered (escape (b ∷ v))) (c ∷ u) ≡ same (lowered (b ∷ v)) (c ∷ u)
+  same-escape-byte : (c : ℕ) (u : Bytes) → ltb backslash c ≡ true → same (lowered (escape v)) u ≡ same (lowered v) u → same (lowered (escape (b ∷ v))) (c ∷ u) ≡ same (lowered (b ∷ v)) (c ∷ u)
   unfolding same sameBy escape escapeByte lowercase
-  same-escape-byte c u t h = go (eqb b 9) refl (eqb b 10) refl (eqb b 92) refl
+  same-escape-byte c u t h = go (eqb b tab) refl (eqb b lineFeed) refl (eqb b backslash) refl
     where
-      go : (p : Bool) → eqb b 9 ≡ p → (q : Bool) → eqb b 10 ≡ q → (r : Bool) → eqb b 92 ≡ r → same (lowered (escape (b ∷ v))) (c ∷ u) ≡ same (lowered (b ∷ v)) (c ∷ u)
-      go true e q f r g = rw (eqb-true b 9 e, low-other 92 c (omega arith) t, low-other 9 c (omega arith) t)
-      go false e true f r g = rw (eqb-true b 10 f, low-other 92 c (omega arith) t, low-other 10 c (omega arith) t)
-      go false e false f true g = rw (eqb-true b 92 g, low-other 92 c (omega arith) t)
+      go : (p : Bool) → eqb b tab ≡ p → (q : Bool) → eqb b lineFeed ≡ q → (r : Bool) → eqb b backslash ≡ r → same (lowered (escape (b ∷ v))) (c ∷ u) ≡ same (lowered (b ∷ v)) (c ∷ u)
+      go true e q f r g = rw (eqb-true b tab e, low-other backslash c (omega arith) t, low-other tab c (omega arith) t)
+      go false e true f r g = rw (eqb-true b lineFeed f, low-other backslash c (omega arith) t, low-other lineFeed c (omega arith) t)
+      go false e false f true g = rw (eqb-true b backslash g, low-other backslash c (omega arith) t)
       go false e false f false g = rw (e, f, g) (ap (λ x. eqb (lowercase b) c && x) h)
 
   same-escape-none : same (lowered (escape (b ∷ v))) [] ≡ false
   unfolding same sameBy escape escapeByte
-  same-escape-none = go (eqb b 9) refl (eqb b 10) refl (eqb b 92) refl
+  same-escape-none = go (eqb b tab) refl (eqb b lineFeed) refl (eqb b backslash) refl
     where
-      go : (p : Bool) → eqb b 9 ≡ p → (q : Bool) → eqb b 10 ≡ q → (r : Bool) → eqb b 92 ≡ r → same (lowered (escape (b ∷ v))) [] ≡ false
+      go : (p : Bool) → eqb b tab ≡ p → (q : Bool) → eqb b lineFeed ≡ q → (r : Bool) → eqb b backslash ≡ r → same (lowered (escape (b ∷ v))) [] ≡ false
       go true e q f r g = rw e
       go false e true f r g = rw (e, f)
       go false e false f true g = rw (e, f, g)
@@ -47,7 +47,7 @@ same-escape : (v u : Bytes) → high u ≡ true → same (lowered (escape v)) u 
 unfolding same sameBy escape every
 same-escape [] u h = refl
 same-escape (b ∷ v) [] h = same-escape-none b v
-same-escape (b ∷ v) (c ∷ u) h = same-escape-byte b v c u (and-left _ _ h) (same-escape v u (and-right (ltb 92 c) _ h))
+same-escape (b ∷ v) (c ∷ u) h = same-escape-byte b v c u (and-left _ _ h) (same-escape v u (and-right (ltb backslash c) _ h))
 
 among-escape : (v : Bytes) (us : List Bytes) → every (λ u. high u) us ≡ true → among (lowered (escape v)) us ≡ among (lowered v) us
 unfolding among every

@@ -76,23 +76,23 @@ module _ (f : Fields (forms clause Clause.Call)) (args : Trees expr (f .1 .0)) (
 
 module _ {a b : List ℕ} {at : At} {current : Before} {m : Mem} (g : ClauseAsked callKind a b at current m) where
   pub some-args : {n : ℕ} → n ≡ cell a b (at .i) callArgsAt → SomeCarried a b n 0 (at .left - 1) (at .i + 1)
-  some-args en = let v = a-call (g .room) (g .tree .tree) (g .tree .held) (g .kind) in rw (en ∙ sym (v .many)) (record { sheet = g .tree .sheet; list = plainC (v .args); held = plain-held (g .tree .sheet) a b (v .args) (at .left - 1) (at .i + 1) (v .held-args) })
+  some-args en = let v = a-call (g .words) (g .tree .tree) (g .tree .held) (g .kind) in rw (en ∙ sym (v .many)) (record { sheet = g .tree .sheet; list = plainC (v .args); held = plain-held (g .tree .sheet) a b (v .args) (at .left - 1) (at .i + 1) (v .held-args) })
 
   -- where its yields begin
-  pub args-end : {n e : ℕ} {m₁ : Mem} → n ≡ cell a b (at .i) callArgsAt → LowersExprs a b n 0 (at .left - 1) 0 (at .i + 1) e m m₁ → (sheet : Bytes) (t : Tree clause) (hd : Held sheet a b t (at .left) (at .i)) → e ≡ at .i + 1 + sizeOf (a-call (g .room) t hd (g .kind) .args)
+  pub args-end : {n e : ℕ} {m₁ : Mem} → n ≡ cell a b (at .i) callArgsAt → LowersExprs a b n 0 (at .left - 1) 0 (at .i + 1) e m m₁ → (sheet : Bytes) (t : Tree clause) (hd : Held sheet a b t (at .left) (at .i)) → e ≡ at .i + 1 + sizeOf (a-call (g .words) t hd (g .kind) .args)
   args-end {n} {e} {m₁} en p sheet t hd =
-      let v = a-call (g .room) t hd (g .kind) in
+      let v = a-call (g .words) t hd (g .kind) in
       let p′ : LowersExprs a b (v .fields .1 .0) 0 (at .left - 1) 0 (at .i + 1) e m m₁ = rw (en ∙ sym (v .many)) at p in
       let q = p′ .next sheet (plainC (v .args)) (plain-held sheet a b (v .args) (at .left - 1) (at .i + 1) (v .held-args)) in
       let z = plain-size (v .args) in
       omega arith
 
   some-yields : {n n′ e : ℕ} {m₁ : Mem} → n ≡ cell a b (at .i) callArgsAt → n′ ≡ cell a b (at .i) callYieldsAt → LowersExprs a b n 0 (at .left - 1) 0 (at .i + 1) e m m₁ → SomeYields a b n′ e
-  some-yields en en′ p = let v = a-call (g .room) (g .tree .tree) (g .tree .held) (g .kind) in rw (en′ ∙ sym (v .yielded), args-end en p (g .tree .sheet) (g .tree .tree) (g .tree .held)) (record { sheet = g .tree .sheet; depth = at .left - 1; trees = v .yields; held = v .held-yields })
+  some-yields en en′ p = let v = a-call (g .words) (g .tree .tree) (g .tree .held) (g .kind) in rw (en′ ∙ sym (v .yielded), args-end en p (g .tree .sheet) (g .tree .tree) (g .tree .held)) (record { sheet = g .tree .sheet; depth = at .left - 1; trees = v .yields; held = v .held-yields })
 
   yields-fit : {n n′ e : ℕ} {m₁ : Mem} → n ≡ cell a b (at .i) callArgsAt → n′ ≡ cell a b (at .i) callYieldsAt → LowersExprs a b n 0 (at .left - 1) 0 (at .i + 1) e m m₁ → e + n′ ≤ maxRecords
   yields-fit en en′ p =
-      let v = a-call (g .room) (g .tree .tree) (g .tree .held) (g .kind) in
+      let v = a-call (g .words) (g .tree .tree) (g .tree .held) (g .kind) in
       let q = args-end en p (g .tree .sheet) (g .tree .tree) (g .tree .held) in
       let f = tree-fits (g .tree .sheet) a b (g .tree .tree) (at .left) (at .i) (g .tree .held) .1 in
       let z = v .sized in
@@ -106,7 +106,7 @@ module _ {a b : List ℕ} {at : At} {current : Before} {m : Mem} (g : ClauseAske
       let r = g .ready in
       let v = p .moved in
       record {
-        room = g .room;
+        words = g .words;
         some = some-yields en en′ p;
         fits = f;
         met = omega (arith, f, r .met, v .met, v .up, r .here);
@@ -121,7 +121,7 @@ module _ {a b : List ℕ} {at : At} {current : Before} {n n′ j e : ℕ} {c : L
     (pc : Pushed (m₂ .ctx) c (m₂ .ops) os (procedureCallOp (atPlace 0 (at .i) (at .left - 1)) current)) (lo : length os ≡ length (m₂ .ops)) where
   call-run : (sheet : Bytes) (t : Tree clause) → Held sheet a b t (at .left) (at .i) → (W : Written) (s : State) → Rep sheet a b W s m → BothBlank W (suc (at .i)) (suc e) → Leaves sheet a b W (λ s. lowerClause t (beforeOf current) s) (some (m₂ .ctx .ops)) (suc (at .i)) (suc e) s m (mem c os (m₂ .rest))
   call-run sheet t hd W s r bl =
-      let v = a-call (g .room) t hd (g .kind) in
+      let v = a-call (g .words) t hd (g .kind) in
       let o : Option ℕ = beforeOf current in
       let up = x .moved .up in
       let up′ = y .moved .up in
@@ -132,7 +132,7 @@ module _ {a b : List ℕ} {at : At} {current : Before} {n n′ j e : ℕ} {c : L
       let recs : Recs = called (v .fields) (v .args) (v .yields) o s in
       let s₂ : State = yielded (v .fields) (v .args) (v .yields) o s in
       let w = push-to m₂ c os (procedureCallOp (atPlace 0 (at .i) (at .left - 1)) current) recs (q .to .rep) pc
-      (λ N A f. call-stored (at .i) (at .left - 1) (v .fields) (v .args) (v .yields) _ _ (less-deep (at .left) (g .shallow)) (v .at) (v .held-args) (v .held-yields)
+      (λ N A f. call-stored (at .i) (at .left - 1) (v .fields) (v .args) (v .yields) _ _ (less-deep (at .left) (g .depth)) (v .at) (v .held-args) (v .held-yields)
       (below-of-more (shift N 0) (m₁ .ctx .ops) (m₂ .ctx .ops) (q .to .grow) (v .args) (plain-below (shift N 0) (m₁ .ctx .ops) (v .args) (p .below N A (back (q .to) f))))
       (plain-render (shift N 0) A (v .args) ∙ p .shown N A (back (q .to) f)) (q .shown N A f) current) in
       let u : Sub ((0 + suc j, 0 + suc e) ∷ (0 + suc (at .i + 1), 0 + suc j) ∷ W) (bothPasses (suc (at .i)) (suc e) W) = sub-within (omega arith) (omega arith) (sub-first (omega arith) (omega arith)) in
@@ -145,6 +145,6 @@ module _ {a b : List ℕ} {at : At} {current : Before} {n n′ j e : ℕ} {c : L
       record {
         moved = record { up = omega (arith, v .up, w .up); here = w .here; few = omega (arith, v .few, v .up, w .few, w .up, pc .count); low = omega (arith, v .low, v .up, w .low, w .up, pc .next); met = omega (arith, v .met, v .up, w .met, w .up, pc .mapped); in-ops = lo ∙ w .in-ops ∙ v .in-ops; in-rest = w .in-rest ∙ v .in-rest; index = λ z. rw (pc .mapped) (w .index (v .index z)) };
         stands = omega (arith, pc .count);
-        next = λ t hd. (let o = a-call (g .room) t hd (g .kind) in let p = args-end g en x sheet t hd in let q = y .next in let z = o .sized in let f = yields-size (o .yields) in let g = o .yielded in omega arith);
+        next = λ t hd. (let o = a-call (g .words) t hd (g .kind) in let p = args-end g en x sheet t hd in let q = y .next in let z = o .sized in let f = yields-size (o .yields) in let g = o .yielded in omega arith);
         run = call-run sheet;
       }

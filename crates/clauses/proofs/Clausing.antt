@@ -27,11 +27,11 @@ use Rattle.clauses.proofs.Opened.{a-write, call-kind}
 
 -- what the function of one kind asks
 pub asked : {sheet : Bytes} {a b : List ℕ} {k : ℕ} {at : At} {current : Before} {m : Mem} → ReadingAsked sheet a b at current m → cell a b (at .i) kindAt ≡ k → ClauseAsked k a b at current m
-asked g e = record { room = g .room; tree = some-tree (g .held); kind = e; ready = g .ready; shallow = g .shallow; stands = g .stands }
+asked g e = record { words = g .words; tree = some-tree (g .held); kind = e; ready = g .ready; depth = g .depth; stands = g .stands }
 
 -- the one kind that is left
 pub a-call-left : {sheet : Bytes} {a b : List ℕ} {at : At} {current : Before} {m : Mem} {n : ℕ} → ReadingAsked sheet a b at current m → n ≡ cell a b (at .i) kindAt → Others n (unwindKind ∷ returnKind ∷ withKind ∷ whereKind ∷ matchKind ∷ []) → cell a b (at .i) kindAt ≡ callKind
-a-call-left {sheet} {at = at} g e o = call-kind sheet (at .left) (at .i) (g .room) (g .held .tree) (g .held .is) (rw e at o) (g .reads)
+a-call-left {sheet} {at = at} g e o = call-kind sheet (at .left) (at .i) (g .words) (g .held .tree) (g .held .is) (rw e at o) (g .reads)
 
 -- an operator that is left, as the code has it
 pub left-one : {sheet : Bytes} {a b : List ℕ} {d i e k : ℕ} {o : Option ℕ} {m m′ : Mem} → LowersClause sheet a b d i e o (some k) m m′ → LowersClause sheet a b d i e o (beforeOf (before.Op k)) m m′

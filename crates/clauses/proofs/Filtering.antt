@@ -30,7 +30,7 @@ use Rattle.clauses.proofs.Opened.{a-where}
 use Rattle.clauses.proofs.Matching.{leaves}
 
 pub some-predicate : {a b : List ℕ} {at : At} {current : Before} {m : Mem} → ClauseAsked whereKind a b at current m → SomeTree a b expr (at .left - 1) (at .i + 1)
-some-predicate g = let v = a-where (g .room) (g .tree .tree) (g .tree .held) (g .kind) in record { sheet = g .tree .sheet; tree = v .tree; held = v .held }
+some-predicate g = let v = a-where (g .words) (g .tree .tree) (g .tree .held) (g .kind) in record { sheet = g .tree .sheet; tree = v .tree; held = v .held }
 
 filter-is : (k k′ : ℕ) (rs rs′ : Recs) → k ≡ k′ → rs ≡ rs′ → filter k′ rs′ ≡ op ReadOp.Filter (k, tt) ∷ rs
 unfolding filter
@@ -48,8 +48,8 @@ module _ {a b : List ℕ} {at : At} {current : Before} {k e : ℕ} {c : LowerCtx
     (pf : Pushed (m₂ .ctx) c (m₂ .ops) os (filterOp (atPlace 0 (at .i + 1) (at .left - 1)) k)) (lo : length os ≡ length (m₂ .ops)) where
   where-run : (sheet : Bytes) (t : Tree clause) → Held sheet a b t (at .left) (at .i) → (W : Written) (s : State) → Rep sheet a b W s m → BothBlank W (suc (at .i)) (suc e) → Leaves sheet a b W (λ s. lowerClause t (beforeOf current) s) (some (m₂ .ctx .ops)) (suc (at .i)) (suc e) s m (mem c os (m₂ .rest))
   where-run sheet t hd W s r bl =
-      let v = a-where (g .room) t hd (g .kind) in
-      let sh = g .shallow in
+      let v = a-where (g .words) t hd (g .kind) in
+      let sh = g .depth in
       let y = x .run sheet (v .tree) (v .held) W s r (blank-within (omega arith) (omega arith) (bl .first)) in
       let z = sr .run sheet a b _ _ (y .to .rep) in
       let s₂ : State = orSourceAll (beforeOf current) (lowerExpr (v .tree) s .1) .1 in
@@ -72,6 +72,6 @@ module _ {a b : List ℕ} {at : At} {current : Before} {k e : ℕ} {c : LowerCtx
       record {
         moved = record { up = omega (arith, v .up); here = v .here; few = omega (arith, v .few, v .up, sr .few, pf .count); low = omega (arith, v .low, v .up, sr .next, pf .next); met = omega (arith, v .met, v .up, sr .mapped, pf .mapped); in-ops = lo ∙ sr .in-ops ∙ v .in-ops; in-rest = ap length (sr .rest) ∙ v .in-rest; index = λ z. rw (pf .mapped, sr .mapped, sr .rest) (v .index z) };
         stands = omega (arith, pf .count);
-        next = λ t hd. (let w = a-where (g .room) t hd (g .kind) in let y = x .next sheet (w .tree) (w .held) in let z = w .sized in omega arith);
+        next = λ t hd. (let w = a-where (g .words) t hd (g .kind) in let y = x .next sheet (w .tree) (w .held) in let z = w .sized in omega arith);
         run = where-run sheet;
       }

@@ -19,7 +19,8 @@ use Rattle.context.specs.declared.Before.the-variants as before
 use Rattle.context.specs.declared.LowerCtx.{LowerCtx}
 use Rattle.lower.specs.Shows.{InBounds, shows-union}
 use Rattle.lower.specs.Rep.{State, Mem, mem, Written, Rep}
-use Rattle.lower.specs.Clauses.{Ready, MovedTwice, BothBlank, Leaves}
+use Rattle.lower.specs.Clauses.{MovedTwice, BothBlank, Leaves}
+use Rattle.projections.specs.Ready.{Ready}
 use Rattle.lower.specs.State.{to-then, to-wider, push-to}
 use Rattle.words.specs.Fits.{tree-low}
 use Rattle.clauses.specs.Turns.{inTurn}
@@ -38,7 +39,7 @@ pub some-clauses : {sheet : Bytes} {a b : List ℕ} {n d i : ℕ} → Roomy a b 
 some-clauses room en x = let v = an-arm room (x .tree) (x .is) in rw (en ∙ sym (v .many)) (record { trees = v .clauses; are = v .held })
 
 -- behind its clauses
-pub few-below : {i j e : ℕ} {m m₁ : Mem} → Ready i m → MovedTwice j e m m₁ → i ≤ j → m₁ .ctx .ops ≤ 4 * maxRecords
+pub few-below : {i j e : ℕ} {m m₁ : Mem} → Ready i m → MovedTwice j e m m₁ → i ≤ j → m₁ .ctx .ops ≤ 8 * maxRecords
 few-below g p l = omega (arith, g .few, p .few, p .here)
 
 -- the definition, step by step

@@ -95,33 +95,33 @@ module _ {q k l i : ℕ} {o : Before} {c c′ : LowerCtx} {os os′ : List ℕ} 
 
 module _ {a b : List ℕ} {at : At} {current : Before} {m : Mem} (g : ClauseAsked matchKind a b at current m) where
   pub some-parts : {n : ℕ} → n ≡ cell a b (at .i) matchPartsAt → SomeTrees a b patternPart n (at .left - 1) (at .i + 1)
-  some-parts en = let v = a-match (g .room) (g .tree .tree) (g .tree .held) (g .kind) in rw (en ∙ sym (v .many)) (record { sheet = g .tree .sheet; trees = v .parts; held = v .held })
+  some-parts en = let v = a-match (g .words) (g .tree .tree) (g .tree .held) (g .kind) in rw (en ∙ sym (v .many)) (record { sheet = g .tree .sheet; trees = v .parts; held = v .held })
 
   -- whether it is optional is a flag
   pub optional-flag : {q : ℕ} → q ≡ cell a b (at .i) matchOptionalAt → q ≤ 1
-  optional-flag eq = rw eq (a-match (g .room) (g .tree .tree) (g .tree .held) (g .kind) .low)
+  optional-flag eq = rw eq (a-match (g .words) (g .tree .tree) (g .tree .held) (g .kind) .low)
 
   module _ {n q k k′ e : ℕ} {m₁ m₂ : Mem}
       (en : n ≡ cell a b (at .i) matchPartsAt) (eq : q ≡ cell a b (at .i) matchOptionalAt)
       (p : LowersParts a b n (at .left - 1) 0 (at .i) e k m m₁) (j : OrSource (joinL q current k) k′ m₁ m₂) where
     match-next : (sheet : Bytes) (t : Tree clause) → Held sheet a b t (at .left) (at .i) → e ≡ at .i + size t
     match-next sheet t hd =
-        let v = a-match (g .room) t hd (g .kind) in
+        let v = a-match (g .words) t hd (g .kind) in
         let p′ : LowersParts a b (v .n) (at .left - 1) 0 (at .i) e k m m₁ = rw (en ∙ sym (v .many)) at p in
         let x = p′ .next sheet (v .parts) (v .held) in
         let y = v .sized in
         omega arith
 
     -- its parts
-    parts-run : (sheet : Bytes) (t : Tree clause) (hd : Held sheet a b t (at .left) (at .i)) (W : Written) (s : State) → Rep sheet a b W s m → BothBlank W (suc (at .i)) (suc e) → Rooted sheet a b W (partsL (a-match (g .room) t hd (g .kind) .parts)) k 0 (suc (at .i + 1)) (suc e) s m m₁
+    parts-run : (sheet : Bytes) (t : Tree clause) (hd : Held sheet a b t (at .left) (at .i)) (W : Written) (s : State) → Rep sheet a b W s m → BothBlank W (suc (at .i)) (suc e) → Rooted sheet a b W (partsL (a-match (g .words) t hd (g .kind) .parts)) k 0 (suc (at .i + 1)) (suc e) s m m₁
     parts-run sheet t hd W s r bl =
-        let v = a-match (g .room) t hd (g .kind) in
+        let v = a-match (g .words) t hd (g .kind) in
         let p′ : LowersParts a b (v .n) (at .left - 1) 0 (at .i) e k m m₁ = rw (en ∙ sym (v .many)) at p in
         p′ .run sheet (v .parts) (v .held) W s r (blank-within (omega arith) (omega arith) (bl .first))
 
     match-run : (sheet : Bytes) (t : Tree clause) → Held sheet a b t (at .left) (at .i) → (W : Written) (s : State) → Rep sheet a b W s m → BothBlank W (suc (at .i)) (suc e) → Leaves sheet a b W (λ s. lowerClause t (beforeOf current) s) (some k′) (suc (at .i)) (suc e) s m m₂
     match-run sheet t hd W s r bl =
-        let v = a-match (g .room) t hd (g .kind) in
+        let v = a-match (g .words) t hd (g .kind) in
         let x = parts-run sheet t hd W s r bl in
         let s₁ : State = partsL (v .parts) s .1 in
         let y = j .run sheet a b _ s₁ (x .to .rep) in

@@ -13,7 +13,8 @@ use Rattle.context.specs.declared.Before.{Before}
 use Rattle.context.specs.declared.Before.the-variants as before
 use Rattle.lower.specs.Rep.{Mem, Moved}
 use Rattle.lower.specs.Chains.{OrSource}
-use Rattle.lower.specs.Clauses.{Ready, Stands}
+use Rattle.lower.specs.Clauses.{Stands}
+use Rattle.projections.specs.Ready.{Ready}
 use Rattle.lower.specs.State.{to-refl}
 use Rattle.clauses.specs.Steps.{Input}
 
@@ -40,7 +41,7 @@ under-stands m (before.Op k) h = h .op k refl
 -- ── behind the operator before, or a source of everything, and then one pass ──
 
 module _ {L : Lowering ℕ} {k i j e : ℕ} {m m₁ m₂ : Mem} (g : Ready i m) (q : OrSource L k m m₁) (p : Moved j e m₁ m₂) (l : i ≤ j) where
-  pub few-sourced : m₂ .ctx .ops ≤ 8 * maxRecords
+  pub few-sourced : m₂ .ctx .ops ≤ 12 * maxRecords
   few-sourced = omega (arith, g .few, q .few, p .few, p .here, p .up)
 
   pub can-number : {place : ℕ} → place ≡ i + 1 → i ≤ maxRecords → CanNumber (m₂ .ctx) place (m₂ .rest)

@@ -14,7 +14,8 @@ use Rattle.words.specs.Words.{maxRecords}
 use Rattle.lower.specs.Rep.{State, Mem, Written, Rep}
 use Rattle.context.specs.Ops.{beforeOf}
 use Rattle.context.specs.declared.Before.the-variants as before
-use Rattle.lower.specs.Clauses.{Ready, BothBlank, bothPasses, Stands, Leaves, LowersClause}
+use Rattle.lower.specs.Clauses.{BothBlank, bothPasses, Stands, Leaves, LowersClause}
+use Rattle.projections.specs.Ready.{Ready}
 use Rattle.lower.specs.State.{to-refl, to-then, to-wider}
 use Rattle.clauses.specs.Turns.{Turn, inTurn, LowersTurn, LowersTurns}
 use Rattle.clauses.specs.Steps.{clauseTurn, armTurn, lowerArm}

@@ -33,7 +33,7 @@ use Rattle.clauses.proofs.Opened.{an-unwind}
 use Rattle.clauses.proofs.Matching.{leaves}
 
 pub some-list : {a b : List ℕ} {at : At} {current : Before} {m : Mem} → ClauseAsked unwindKind a b at current m → SomeTree a b expr (at .left - 1) (at .i + 1)
-some-list g = let v = an-unwind (g .room) (g .tree .tree) (g .tree .held) (g .kind) in record { sheet = g .tree .sheet; tree = v .tree; held = v .held }
+some-list g = let v = an-unwind (g .words) (g .tree .tree) (g .tree .held) (g .kind) in record { sheet = g .tree .sheet; tree = v .tree; held = v .held }
 
 unwind-is : (k k′ x x′ : ℕ) (rs rs′ : Recs) → k ≡ k′ → x ≡ x′ → rs ≡ rs′ → _≡_ {A = Recs} (op ReadOp.Unwind (k′, (x′, tt)) ∷ rs′) (op ReadOp.Unwind (k, (x, tt)) ∷ rs)
 unwind-is k k′ x x′ rs rs′ e e′ e″ = rw (e, e′, e″)
@@ -64,8 +64,8 @@ module _ {a b : List ℕ} {at : At} {current : Before} {k e : ℕ} {c : LowerCtx
     (pu : Pushed (r₃ .ctx) c (m₂ .ops) os (unwindOp (atPlace 0 (at .i + 1) (at .left - 1)) k (r₃ .number))) (lo : length os ≡ length (m₂ .ops)) where
   unwind-run : (sheet : Bytes) (t : Tree clause) → Held sheet a b t (at .left) (at .i) → (W : Written) (s : State) → Rep sheet a b W s m → BothBlank W (suc (at .i)) (suc e) → Leaves sheet a b W (λ s. lowerClause t (beforeOf current) s) (some (r₃ .ctx .ops)) (suc (at .i)) (suc e) s m (mem c os rest₃)
   unwind-run sheet t hd W s r bl =
-      let v = an-unwind (asked .room) t hd (asked .kind) in
-      let sh = asked .shallow in
+      let v = an-unwind (asked .words) t hd (asked .kind) in
+      let sh = asked .depth in
       let o : Option ℕ = beforeOf current in
       let id : ℕ = cell a b (at .i) unwindVarAt in
       let up = x .moved .up in
@@ -105,6 +105,6 @@ module _ {a b : List ℕ} {at : At} {current : Before} {k e : ℕ} {c : LowerCtx
           index = λ z. rw (pu .mapped) (n .index (v .index (rw (sr .mapped, sr .rest) z)));
         };
         stands = omega (arith, pu .count);
-        next = λ t hd. (let w = an-unwind (asked .room) t hd (asked .kind) in let y = x .next sheet (w .tree) (w .held) in let z = w .sized in omega arith);
+        next = λ t hd. (let w = an-unwind (asked .words) t hd (asked .kind) in let y = x .next sheet (w .tree) (w .held) in let z = w .sized in omega arith);
         run = unwind-run sheet;
       }

@@ -18,13 +18,14 @@ use Rattle.context.specs.Tables.{varsOf, varsAt}
 use Rattle.context.specs.IndexLaws.{none-indexed}
 use Rattle.context.specs.declared.LowerCtx.{LowerCtx}
 use Rattle.lower.specs.Rep.{State, Mem, mem, Written, Rep}
-use Rattle.lower.specs.Clauses.{Ready, bothPasses, BothBlank, Leaves}
+use Rattle.lower.specs.Clauses.{bothPasses, BothBlank, Leaves}
+use Rattle.projections.specs.Ready.{maxStart, Ready}
 use Rattle.lower.specs.State.{to-then, to-wider}
 use Rattle.projections.specs.Room.{twice-then}
 use Rattle.projections.specs.Passes.{sub-turns, both-within, both-behind}
 use Rattle.clauses.specs.Turns.{inTurn}
 use Rattle.clauses.specs.Steps.{clauseTurn, armTurn, LowersClauses, LowersArms}
-use Rattle.clauses.specs.Statement.{StatementAsked, LowersFrom, Represented, LowersStatement}
+use Rattle.clauses.specs.Statement.{forget, forgetting, StatementAsked, LowersFrom, Represented, LowersStatement}
 use Rattle.clauses.proofs.Opened.{IsStatement, a-statement}
 use Rattle.clauses.proofs.Turning.{clauses-turns, arms-turns}
 
@@ -35,10 +36,10 @@ whole-def cs arms o s e = rw (clauses-turns cs none s, e, arms-turns arms o (inT
 
 module _ {sheet : Bytes} {a b : List ℕ} {d : ℕ} {m : Mem} (g : StatementAsked sheet a b d m) where
   pub some-clauses : {n : ℕ} → n ≡ cell a b 0 stmtClausesAt → HeldMany sheet a b clause n (d - 1) 1
-  some-clauses en = let v = a-statement (g .room) (g .held .tree) (g .held .is) in rw (en ∙ sym (v .many)) (record { trees = v .clauses; are = v .held-clauses })
+  some-clauses en = let v = a-statement (g .words) (g .held .tree) (g .held .is) in rw (en ∙ sym (v .many)) (record { trees = v .clauses; are = v .held-clauses })
 
   pub deep : 1 ≤ d
-  deep = a-statement (g .room) (g .held .tree) (g .held .is) .deep
+  deep = a-statement (g .words) (g .held .tree) (g .held .is) .deep
 
   module _ {n j : ℕ} {o : Option ℕ} {m₁ : Mem} (en : n ≡ cell a b 0 stmtClausesAt) (cl : LowersClauses sheet a b n (d - 1) 1 j none o m m₁) where
     clauses-as : (t : Tree statement) (v : IsStatement sheet a b d t) → LowersClauses sheet a b (v .n) (d - 1) 1 j none o m m₁
@@ -46,7 +47,7 @@ module _ {sheet : Bytes} {a b : List ℕ} {d : ℕ} {m : Mem} (g : StatementAske
 
     pub some-arms : {n′ : ℕ} → n′ ≡ cell a b 0 stmtArmsAt → HeldMany sheet a b unionArm n′ (d - 1) j
     some-arms en′ =
-        let v = a-statement (g .room) (g .held .tree) (g .held .is) in
+        let v = a-statement (g .words) (g .held .tree) (g .held .is) in
         rw (en′ ∙ sym (v .armed), clauses-as (g .held .tree) v .next (v .clauses) (v .held-clauses)) (record { trees = v .arms; are = v .held-arms })
 
     module _ {n′ e : ℕ} {o′ : Option ℕ} {m₂ : Mem} (en′ : n′ ≡ cell a b 0 stmtArmsAt) (ar : LowersArms sheet a b n′ (d - 1) j e o o′ m₁ m₂) where
@@ -55,7 +56,7 @@ module _ {sheet : Bytes} {a b : List ℕ} {d : ℕ} {m : Mem} (g : StatementAske
 
       from-next : (t : Tree statement) → Held sheet a b t d 0 → e ≡ size t
       from-next t hd =
-          let v = a-statement (g .room) t hd in
+          let v = a-statement (g .words) t hd in
           let x = clauses-as t v .next (v .clauses) (v .held-clauses) in
           let y = arms-as t v .next (v .arms) (rw x (v .held-arms)) in
           let z = v .sized in
@@ -63,7 +64,7 @@ module _ {sheet : Bytes} {a b : List ℕ} {d : ℕ} {m : Mem} (g : StatementAske
 
       from-run : (t : Tree statement) → Held sheet a b t d 0 → (W : Written) (s : State) → Rep sheet a b W s m → BothBlank W (suc 1) (suc e) → Leaves sheet a b W (λ s. Lower.lower t s) o′ (suc 1) (suc e) s m m₂
       from-run t hd W s r bl =
-          let v = a-statement (g .room) t hd in
+          let v = a-statement (g .words) t hd in
           let u = cl .moved .up in
           let u′ = ar .moved .up in
           let x = clauses-as t v .run (v .clauses) (v .held-clauses) W s r (both-within (omega arith) (omega arith) bl) in
@@ -74,13 +75,21 @@ module _ {sheet : Bytes} {a b : List ℕ} {d : ℕ} {m : Mem} (g : StatementAske
       pub from-law : LowersFrom sheet a b d e o′ m m₂
       from-law = record { moved = twice-then (cl .moved) (ar .moved); stands = ar .stands; next = from-next; run = from-run }
 
+-- ── with no variables ──
+
+-- tables that stand for a state stand for it without its variables too, once none is counted
+pub forgets : {sheet : Bytes} {a b : List ℕ} {W : Written} {s : State} {m : Mem} → Rep sheet a b W s m → Rep sheet a b W (forget s) (mem (forgetting (m .ctx)) (m .ops) (m .rest))
+unfolding varsOf
+forgets r = record { count = r .count; state = rw (ap (λ (z : State). z .scope .next) (r .state)); shows = λ k h h′ N A f. r .shows k h h′ N A (record { notes = f .notes; ops = f .ops }) }
+
 -- ── from nothing ──
 
 abbrev pub start : LowerCtx
 start = record { ops = 0; next = 0; mapped = 0 }
 
-pub start-ready : (os rs : List ℕ) → workWords ≤ length os → workWords ≤ length rs → Ready 1 (mem start os rs)
-start-ready os rs lo lr = record { few = omega arith; low = omega arith; met = omega arith; here = omega arith; in-ops = lo; in-rest = lr; index = none-indexed (drop varsAt rs) }
+-- with no variables there is room for a statement, also behind another one
+pub start-ready : (c : LowerCtx) (os rs : List ℕ) → c .ops ≤ maxStart → c .next ≤ maxStart → workWords ≤ length os → workWords ≤ length rs → Ready 1 (mem (forgetting c) os rs)
+start-ready c os rs lc ln lo lr = record { few = omega arith; low = omega arith; met = omega arith; here = omega arith; in-ops = lo; in-rest = lr; index = none-indexed (drop varsAt rs) }
 
 start-rep : (sheet : Bytes) (a b os rs : List ℕ) → Rep sheet a b [] empty (mem start os rs)
 unfolding empty varsOf

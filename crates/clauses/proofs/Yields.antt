@@ -17,7 +17,7 @@ use Rattle.words.specs.Words.{Roomy, cell, fieldsOf, fieldOf, maxRecords}
 use Rattle.words.specs.Held.{Held, HeldOf, size, sizeOf}
 use Rattle.words.specs.Cells.{shown}
 use Rattle.words.specs.Places.{yieldVarAt}
-use Rattle.context.specs.Tables.{Numbers, Indexed, varsAt, maxVars}
+use Rattle.context.specs.Tables.{Numbers, Indexed, varsAt, maxVars, maxCount}
 use Rattle.context.specs.declared.LowerCtx.{LowerCtx}
 use Rattle.context.specs.declared.Numbered.{Numbered}
 use Rattle.lower.specs.Render.{render, recsOver}
@@ -86,7 +86,7 @@ pub record Left (a b : List ℕ) (Done : ℕ → LowerCtx → List ℕ → Type 
   pub some : SomeYields a b k i
   pub fits : i + k ≤ maxRecords
   pub met : c .mapped + k ≤ maxVars
-  pub low : c .next + k ≤ maxVars
+  pub low : c .next + k ≤ maxCount
   pub in-rest : workWords ≤ length rs
   pub index : Indexed (c .mapped) (drop varsAt rs)
   pub rest : (e : ℕ) (c′ : LowerCtx) (rest′ : List ℕ) → ((os : List ℕ) → LowersYields a b k i e (mem c os rs) (mem c′ os rest′)) → Done e c′ rest′

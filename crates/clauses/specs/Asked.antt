@@ -10,47 +10,47 @@ use Rattle.model.specs.Lower.{orSourceAll}
 use Rattle.words.specs.Words.{Roomy, cell, maxRecords}
 use Rattle.words.specs.Places.{writeKind, kindAt}
 use Rattle.words.specs.Held.{HeldSome, HeldMany}
-use Rattle.context.specs.Tables.{varsAt, maxVars, Indexed}
+use Rattle.context.specs.Tables.{varsAt, maxVars, maxCount, Indexed}
 use Rattle.context.specs.Ops.{beforeOf, Under}
 use Rattle.context.specs.declared.At.{At}
 use Rattle.context.specs.declared.Before.{Before}
 use Rattle.context.specs.declared.LowerCtx.{LowerCtx}
 use Rattle.lower.specs.Rep.{Mem, mem}
-use Rattle.lower.specs.Clauses.{Ready}
+use Rattle.projections.specs.Ready.{Ready}
 use Rattle.clauses.specs.Steps.{Input, SomeYields}
 
 -- the clause at a place, which reads, of any kind
 pub record ReadingAsked (sheet : Bytes) (a b : List ℕ) (at : At) (current : Before) (m : Mem) : Type 0 where
-  pub room : Roomy a b
+  pub words : Roomy a b
   pub held : HeldSome sheet a b clause (at .left) (at .i)
   pub reads : (cell a b (at .i) kindAt ≡ writeKind) → ⊥
   pub ready : Ready (at .i) m
-  pub shallow : at .left ≤ maxDepth
+  pub depth : at .left ≤ maxDepth
   pub stands : Under current (m .ctx .ops)
 
 -- the tree of a sort at record i, behind an operator or none
 pub record TurnAsked (s : Sort) (sheet : Bytes) (a b : List ℕ) (d i : ℕ) (current : Before) (m : Mem) : Type 0 where
-  pub room : Roomy a b
+  pub words : Roomy a b
   pub held : HeldSome sheet a b s d i
   pub ready : Ready i m
-  pub shallow : d ≤ maxDepth
+  pub depth : d ≤ maxDepth
   pub stands : Under current (m .ctx .ops)
 
 -- so n trees from record i on
 pub record TurnsAsked (s : Sort) (sheet : Bytes) (a b : List ℕ) (n d i : ℕ) (current : Before) (m : Mem) : Type 0 where
-  pub room : Roomy a b
+  pub words : Roomy a b
   pub held : HeldMany sheet a b s n d i
   pub ready : Ready i m
-  pub shallow : d ≤ maxDepth
+  pub depth : d ≤ maxDepth
   pub stands : Under current (m .ctx .ops)
 
 -- n yields from record i on
 pub record YieldsAsked (a b : List ℕ) (n i : ℕ) (c : LowerCtx) (rest : List ℕ) : Type 0 where
-  pub room : Roomy a b
+  pub words : Roomy a b
   pub some : SomeYields a b n i
   pub fits : i + n ≤ maxRecords
   pub met : c .mapped + n ≤ maxVars
-  pub low : c .next + n ≤ maxVars
+  pub low : c .next + n ≤ maxCount
   pub in-rest : workWords ≤ length rest
   pub index : Indexed (c .mapped) (drop varsAt rest)
 

@@ -1,7 +1,7 @@
 -- What the lowering of a whole statement asks and promises, from any state on and from the empty one. Assumes nothing: these are definitions.
 use mathlib.Core.Path.{_≡_}
 use Prim.Native.Nat.{ℕ, suc, _*_, _≤_}
-use mathlib.Core.List.{List}
+use mathlib.Core.List.{List, []}
 use mathlib.Core.Option.{Option}
 use lib.ListN.{length}
 use Rattle.model.specs.Call.{workWords, maxDepth}
@@ -12,17 +12,29 @@ use Rattle.model.specs.Lower.{lower, lowerStatement}
 use Rattle.words.specs.Words.{Roomy, maxRecords}
 use Rattle.words.specs.Held.{Held, HeldSome, size}
 use Rattle.context.specs.Tables.{maxVars}
+use Rattle.context.specs.declared.LowerCtx.{LowerCtx}
 use Rattle.lower.specs.Rep.{State, Mem, Written, Rep}
-use Rattle.lower.specs.Clauses.{Ready, MovedTwice, BothBlank, Stands, Leaves}
+use Rattle.lower.specs.Clauses.{MovedTwice, BothBlank, Stands, Leaves}
+use Rattle.projections.specs.Ready.{Ready}
+
+-- ── no variables ──
+
+-- the step that forgets the variables: operators and the next number stay
+abbrev pub forget : State → State
+forget s = record { ops = s .ops; scope = record { vars = []; next = s .scope .next } }
+
+-- the same of the counts
+abbrev pub forgetting : LowerCtx → LowerCtx
+forgetting c = record { ops = c .ops; next = c .next; mapped = 0 }
 
 -- ── from any state on ──
 
 -- a statement is held, at most d deep, and there is room
 pub record StatementAsked (sheet : Bytes) (a b : List ℕ) (d : ℕ) (m : Mem) : Type 0 where
-  pub room : Roomy a b
+  pub words : Roomy a b
   pub held : HeldSome sheet a b statement d 0
   pub ready : Ready 1 m
-  pub shallow : d ≤ maxDepth
+  pub depth : d ≤ maxDepth
 
 -- the statement that is held is lowered from whatever state the tables stand for, and leaves an operator or none
 pub record LowersFrom (sheet : Bytes) (a b : List ℕ) (d e : ℕ) (after : Option ℕ) (m m′ : Mem) : Type 0 where

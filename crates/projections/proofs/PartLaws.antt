@@ -156,7 +156,7 @@ module _ {sheet : Bytes} {a b : List ℕ} {n d j e g : ℕ} {m m₁ m₂ : Mem} 
 -- k are left from record i on behind g aggregates, and once they are lowered from here, all is done
 pub record Left (sheet : Bytes) (a b : List ℕ) (n d : ℕ) (Done : ℕ → ℕ → Mem → Type 0) (k i g : ℕ) (m : Mem) : Type 0 where
   pub some : HeldMany sheet a b projection k d i
-  pub good : RoomFor d i m
+  pub room : RoomFor d i m
   pub few : g + k ≤ n
   pub rest : (e h : ℕ) (m′ : Mem) → LowersSplit sheet a b k d i e h m m′ → Done e (g + h) m′
 
@@ -196,7 +196,7 @@ module _ {sheet : Bytes} {a b : List ℕ} {n d : ℕ} {Done : ℕ → ℕ → Me
 
   -- there is room at its expression
   pub child-good : {k i g : ℕ} {m : Mem} → ((k ≡ 0) → ⊥) → Left sheet a b n d Done k i g m → RoomFor (d - 1) (i + 1) m
-  child-good {i = i} h p = let x = child h p in let l = tree-low sheet a b (x .tree) (d - 1) (i + 1) (x .is) in good-from (omega arith) (omega arith) (omega arith) (p .good)
+  child-good {i = i} h p = let x = child h p in let l = tree-low sheet a b (x .tree) (d - 1) (i + 1) (x .is) in good-from (omega arith) (omega arith) (omega arith) (p .room)
 
   less : {k i g : ℕ} {m : Mem} → Left sheet a b n d Done k i g m → Left sheet a b n d Done (suc k - 1) i g m
   less {k} p = let e : suc k - 1 ≡ k = omega arith in rw e p
@@ -205,13 +205,13 @@ module _ {sheet : Bytes} {a b : List ℕ} {n d : ℕ} {Done : ℕ → ℕ → Me
   again {k = zero} agg h p is q = absurd (h refl)
   again {k = suc k} {i} {j} {g} {m} {m₁} agg h p is q = less (record {
     some = behind i (p .some .trees) q (p .some .are);
-    good = good-after (moved-within (omega arith) (le-refl _) (q .moved .here) (q .moved)) (p .good);
+    room = good-after (moved-within (omega arith) (le-refl _) (q .moved .here) (q .moved)) (p .room);
     few = plus-few agg g k n (p .few);
     rest = λ e x m′ r. subst (λ (z : ℕ). Done e z m′) (plus agg g x) (p .rest e (cond agg (suc x) x) m′ (cons-law i agg is q r));
   })
 
   pub done : {k i g : ℕ} {m : Mem} → k ≡ 0 → Left sheet a b n d Done k i g m → Done i g m
-  done {k} {i} {g} {m} h p = subst (λ (z : ℕ). Done i z m) (add-zero g) (p .rest i 0 m (rw h (nil-law sheet a b d i m (p .good .here))))
+  done {k} {i} {g} {m} h p = subst (λ (z : ℕ). Done i z m) (add-zero g) (p .rest i 0 m (rw h (nil-law sheet a b d i m (p .room .here))))
 
   pub done-few : {k i g : ℕ} {m : Mem} → k ≡ 0 → Left sheet a b n d Done k i g m → g ≤ n
   done-few h p = omega (arith, p .few)
@@ -220,4 +220,4 @@ pub few-items : {sheet : Bytes} {a b : List ℕ} {n d i : ℕ} → HeldMany shee
 few-items {sheet} {a} {b} {d = d} {i = i} x l = let f = trees-fits sheet a b (x .trees) d i l (x .are) in omega (arith, f .0, f .1)
 
 pub start : {sheet : Bytes} {a b : List ℕ} {n d i : ℕ} {m : Mem} → HeldMany sheet a b projection n d i → RoomFor d i m → Left sheet a b n d (λ e g m′. LowersSplit sheet a b n d i e g m m′) n i 0 m
-start x g = record { some = x; good = g; few = omega arith; rest = λ e h m′ r. (let z : 0 + h ≡ h = omega arith in rw z r) }
+start x g = record { some = x; room = g; few = omega arith; rest = λ e h m′ r. (let z : 0 + h ≡ h = omega arith in rw z r) }

@@ -111,7 +111,7 @@ module _ {sheet : Bytes} {a b : List ℕ} {of : ReturnItems} {current : Before} 
       (λ e. no-aggregate (S .aggs) k₀ S (splitProjectionsAgg items s₁ .1) (x₁ .counted ∙ e))
       (λ h. an-aggregate (S .aggs) k₀ S (splitProjectionsAgg items s₁ .1) (λ e. h (sym (x₁ .counted) ∙ e)))
       (λ N A f. record {
-        bounded = record { shallow = g .shallow; near = omega arith; low = g .low; far = λ e. absurd (omega arith); flagged = λ e. absurd (omega arith) };
+        bounded = record { shallow = g .depth; near = omega arith; low = g .low; far = λ e. absurd (omega arith); flagged = λ e. absurd (omega arith) };
         shows = shows-aggregate refl (record {
           count = of .n;
           items = items;
@@ -178,7 +178,7 @@ module _ {a b : List ℕ} {of : ReturnItems} {input j x k : ℕ} {c₁ c₂ : Lo
       let x₁ = it .run sheet (itemsC items) (items-held sheet a b items (of .left) (of .i + 1) hd) W s r bl in
       let x₂ = push-to m₁ c₁ o₁ (projectOp (atPlace secondPass (of .i) (of .left)) input) (projected input items s) (x₁ .to .rep) ps
       (λ N A f. record {
-        bounded = record { shallow = g .shallow; near = omega arith; low = g .low; far = λ e. absurd (omega arith); flagged = λ e. absurd (omega arith) };
+        bounded = record { shallow = g .depth; near = omega arith; low = g .low; far = λ e. absurd (omega arith); flagged = λ e. absurd (omega arith) };
         shows = shows-project refl (record {
           count = of .n;
           items = items;

@@ -43,10 +43,10 @@ tail-blank i j p q e l e₁ e₂ h bl = blank-before (omega arith) (blank-behind
 
 module _ {sheet : Bytes} {a b : List ℕ} {at : At} {current : Before} {m : Mem} (g : ReturnAsked sheet a b at current m) where
   pub return-items : {n : ℕ} → n ≡ cell a b (at .i) itemsAt → HeldMany sheet a b projection n (at .left - 1) (at .i + 1)
-  return-items en = let v = a-return (g .asked .room) (g .held .tree) (g .held .is) (g .asked .kind) in rw (en ∙ sym (v .counted)) (record { trees = v .items; are = v .held-items })
+  return-items en = let v = a-return (g .asked .words) (g .held .tree) (g .held .is) (g .asked .kind) in rw (en ∙ sym (v .counted)) (record { trees = v .items; are = v .held-items })
 
   pub return-flag : {x : ℕ} → x ≡ cell a b (at .i) returnDistinctAt → x ≤ 1
-  return-flag ex = rw ex (a-return (g .asked .room) (g .held .tree) (g .held .is) (g .asked .kind) .flag)
+  return-flag ex = rw ex (a-return (g .asked .words) (g .held .tree) (g .held .is) (g .asked .kind) .flag)
 
   module _ {n j k₁ : ℕ} {m₁ : Mem} (en : n ≡ cell a b (at .i) itemsAt) (p : LowersPass sheet a b n (at .left - 1) 0 (at .i + 1) j k₁ (firstL n (beforeOf current)) m m₁) where
     first-as : (x : ℕ) → x ≡ cell a b (at .i) itemsAt → LowersPass sheet a b x (at .left - 1) 0 (at .i + 1) j k₁ (firstL x (beforeOf current)) m m₁
@@ -55,7 +55,7 @@ module _ {sheet : Bytes} {a b : List ℕ} {at : At} {current : Before} {m : Mem}
     first-end : (t : Tree clause) (v : IsReturn sheet a b (at .left) (at .i) t) → j ≡ at .i + 1 + sizeOf (v .items)
     first-end t v = first-as (v .n) (v .counted) .next (v .items) (v .held-items)
 
-    -- there is (g .asked .room) for the second
+    -- there is (g .asked .words) for the second
     pub good-second : {d′ : ℕ} → d′ ≤ maxDepth → RoomFor d′ (at .i + 1) m₁
     good-second l =
         let r = g .asked .ready in
@@ -72,7 +72,7 @@ module _ {sheet : Bytes} {a b : List ℕ} {at : At} {current : Before} {m : Mem}
       second-end t v = second-as (v .n) (v .counted) .next (v .items) (v .held-items)
 
       both-end : j ≡ j₂
-      both-end = let v = a-return (g .asked .room) (g .held .tree) (g .held .is) (g .asked .kind) in first-end (g .held .tree) v ∙ sym (second-end (g .held .tree) v)
+      both-end = let v = a-return (g .asked .words) (g .held .tree) (g .held .is) (g .asked .kind) in first-end (g .held .tree) v ∙ sym (second-end (g .held .tree) v)
 
       pub return-moved : MovedTwice (at .i) j₂ m m₂
       return-moved =
@@ -80,7 +80,7 @@ module _ {sheet : Bytes} {a b : List ℕ} {at : At} {current : Before} {m : Mem}
           record { up = omega (arith, q .up); here = q .here; few = omega (arith, p .few, q .few, p .up); low = omega (arith, p .fresh, q .fresh, p .up); met = omega (arith, p .met, q .met, p .up); in-ops = q .in-ops ∙ p .in-ops; in-rest = q .in-rest ∙ p .in-rest; index = λ z. q .index (p .index z) }
 
       pub return-tail : SomeTail a b (at .left - 1) (at .i) j₂
-      return-tail = let v = a-return (g .asked .room) (g .held .tree) (g .held .is) (g .asked .kind) in rw (second-end (g .held .tree) v) (record { sheet = sheet; tail = v .tail })
+      return-tail = let v = a-return (g .asked .words) (g .held .tree) (g .held .is) (g .asked .kind) in rw (second-end (g .held .tree) v) (record { sheet = sheet; tail = v .tail })
 
       module _ {e k : ℕ} {m₃ : Mem} (tl : LowersTail a b (at .left - 1) k₂ (at .i) j₂ e k m₂ m₃) where
         tail-as : (t : Tree clause) (v : IsReturn sheet a b (at .left) (at .i) t) → LowersTail a b (at .left - 1) k₂ (at .i) (at .i + 1 + sizeOf (v .items)) e k m₂ m₃
@@ -88,14 +88,14 @@ module _ {sheet : Bytes} {a b : List ℕ} {at : At} {current : Before} {m : Mem}
 
         return-next : (t : Tree clause) → Held sheet a b t (at .left) (at .i) → e ≡ (at .i) + size t
         return-next t hd =
-            let v = a-return (g .asked .room) t hd (g .asked .kind) in
+            let v = a-return (g .asked .words) t hd (g .asked .kind) in
             let x = tail-as t v .next sheet (v .tail) in
             let y = v .sized in
             omega arith
 
         return-run : (t : Tree clause) → Held sheet a b t (at .left) (at .i) → (W : Written) (s : State) → Rep sheet a b W s m → BothBlank W (suc (at .i)) (suc e) → Leaves sheet a b W (λ s. lowerClause t (beforeOf current) s) (some k) (suc (at .i)) (suc e) s m m₃
         return-run t hd W s r bl =
-            let v = a-return (g .asked .room) t hd (g .asked .kind) in
+            let v = a-return (g .asked .words) t hd (g .asked .kind) in
             let P : ℕ = at .i + 1 + sizeOf (v .items) in
             let eq = both-end in
             let ep = second-end t v in

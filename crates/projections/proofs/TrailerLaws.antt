@@ -105,7 +105,7 @@ module _ {a b : List ℕ} {n input e : ℕ} {at : At} {c : LowerCtx} {os : List 
       let D = order-def n input ts s nz in
       let z = push-to m₁ c os (orderByOp (atPlace 0 (at .i) (at .left)) input n) (op ReadOp.OrderBy (input, (n, tt)) ∷ lowerC (keysC ts) s .0) (y .to .rep) ps
       (λ N A f. record {
-        bounded = record { shallow = g .shallow; near = omega arith; low = omega arith; far = λ e. absurd (omega arith); flagged = λ e. absurd (omega arith) };
+        bounded = record { shallow = g .depth; near = omega arith; low = omega arith; far = λ e. absurd (omega arith); flagged = λ e. absurd (omega arith) };
         shows = shows-order refl (record {
           keys = ts;
           held = hd;
@@ -177,7 +177,7 @@ module _ {a b : List ℕ} {n input e : ℕ} {at : At} {c : LowerCtx} {os : List 
       let hd₁ = o .held sheet a b (at .left) (at .i) hd in
       let y = ex .run sheet (o .tree) hd₁ W s r bl in
       let D = o .over (headOf x) (inputOf x) s in
-      let z = push-to m₁ c os (trailerOp (atPlace 0 (at .i) (at .left)) x) (headOf x ∷ lowerExpr (o .tree) s .0) (y .to .rep) ps (λ N A f. over-stored x (at .i) (at .left) (o .tree) _ (g .shallow) hd₁ (y .below N A f) (y .shown N A f)) in
+      let z = push-to m₁ c os (trailerOp (atPlace 0 (at .i) (at .left)) x) (headOf x ∷ lowerExpr (o .tree) s .0) (y .to .rep) ps (λ N A f. over-stored x (at .i) (at .left) (o .tree) _ (g .depth) hd₁ (y .below N A f) (y .shown N A f)) in
       record { to = rw D (to-then (y .to) z); root = rw D (y .to .rep .count); low = let w : c .ops ≡ m₁ .ctx .ops + 1 = ps .count in omega arith }
 
   pub over-law : LowersOver a b n (at .left) (at .i) e (m₁ .ctx .ops) (overL n x) m (mem c os (m₁ .rest))

@@ -47,7 +47,7 @@ module _ {a b : List ℕ} {at : At} {current : Before} {m : Mem} (g : ClauseAske
   -- the items
   pub with-items : {n : ℕ} → n ≡ cell a b (at .i) itemsAt → SomeCarried a b n 1 (at .left - 1 - 1) (at .i + 1)
   with-items en =
-      let v = a-with (g .room) (g .tree .tree) (g .tree .held) (g .kind) in
+      let v = a-with (g .words) (g .tree .tree) (g .tree .held) (g .kind) in
       rw (en ∙ sym (v .counted)) (record { sheet = g .tree .sheet; list = itemsC (v .items); held = items-held (g .tree .sheet) a b (v .items) (at .left - 1) (at .i + 1) (v .held-items) })
 
   module _ {n j : ℕ} {m₁ m₂ : Mem} (en : n ≡ cell a b (at .i) itemsAt) (it : LowersExprs a b n 1 (at .left - 1 - 1) 0 (at .i + 1) j m₁ m₂) where
@@ -66,7 +66,7 @@ module _ {a b : List ℕ} {at : At} {current : Before} {m : Mem} (g : ClauseAske
     -- the predicate
     pub with-predicate : {l : ℕ} → l ≡ cell a b (at .i) withFilterAt → SomeCarried a b l 0 (at .left - 1) j
     with-predicate el =
-        let v = a-with (g .room) (g .tree .tree) (g .tree .held) (g .kind) in
+        let v = a-with (g .words) (g .tree .tree) (g .tree .held) (g .kind) in
         rw (el ∙ sym (v .flagged)) (record { sheet = g .tree .sheet; list = plainC (v .predicate); held = plain-held (g .tree .sheet) a b (v .predicate) (at .left - 1) j (predicate-held (g .tree .sheet) (g .tree .tree) v) })
 
     module _ {l p : ℕ} {m₃ : Mem} (el : l ≡ cell a b (at .i) withFilterAt) (pr : LowersExprs a b l 0 (at .left - 1) 0 j p m₂ m₃) where
@@ -83,7 +83,7 @@ module _ {a b : List ℕ} {at : At} {current : Before} {m : Mem} (g : ClauseAske
       -- what trails
       pub with-tail : SomeTail a b (at .left - 1) (at .i) p
       with-tail =
-          let v = a-with (g .room) (g .tree .tree) (g .tree .held) (g .kind) in
+          let v = a-with (g .words) (g .tree .tree) (g .tree .held) (g .kind) in
           rw (predicate-end (g .tree .sheet) (g .tree .tree) v) (record { sheet = g .tree .sheet; tail = v .tail })
 
       module _ {k₀ : ℕ} {c : LowerCtx} {os : List ℕ} (sr : OrSource (orSourceAll (beforeOf current)) k₀ m m₁) (ps : Pushed (m₃ .ctx) c (m₃ .ops) os (withOp (atPlace 0 (at .i) (at .left - 1)) k₀)) (lo : length os ≡ length (m₃ .ops)) where
@@ -105,7 +105,7 @@ module _ {a b : List ℕ} {at : At} {current : Before} {m : Mem} (g : ClauseAske
         module _ {e k : ℕ} {m₅ : Mem} (tl : LowersTail a b (at .left - 1) (m₃ .ctx .ops) (at .i) p e k (mem c os (m₃ .rest)) m₅) where
           with-next : (sheet : Bytes) (t : Tree clause) → Held sheet a b t (at .left) (at .i) → e ≡ (at .i) + size t
           with-next sheet t hd =
-              let v = a-with (g .room) t hd (g .kind) in
+              let v = a-with (g .words) t hd (g .kind) in
               let tl′ : LowersTail a b (at .left - 1) (m₃ .ctx .ops) (at .i) ((at .i) + 1 + sizeOf (v .items) + sizeOf (v .predicate)) e k (mem c os (m₃ .rest)) m₅ = rw (predicate-end sheet t v) at tl in
               let x = tl′ .next sheet (v .tail) in
               let y = v .sized in
@@ -113,7 +113,7 @@ module _ {a b : List ℕ} {at : At} {current : Before} {m : Mem} (g : ClauseAske
 
           with-run : (sheet : Bytes) (t : Tree clause) → Held sheet a b t (at .left) (at .i) → (W : Written) (s : State) → Rep sheet a b W s m → BothBlank W (suc (at .i)) (suc e) → Leaves sheet a b W (λ s. lowerClause t (beforeOf current) s) (some k) (suc (at .i)) (suc e) s m m₅
           with-run sheet t hd W s r bl =
-              let v = a-with (g .room) t hd (g .kind) in
+              let v = a-with (g .words) t hd (g .kind) in
               let P : ℕ = at .i + 1 + sizeOf (v .items) + sizeOf (v .predicate) in
               let ep : p ≡ P = predicate-end sheet t v in
               let tl′ : LowersTail a b (at .left - 1) (m₃ .ctx .ops) (at .i) P e k (mem c os (m₃ .rest)) m₅ = rw ep at tl in
@@ -126,7 +126,7 @@ module _ {a b : List ℕ} {at : At} {current : Before} {m : Mem} (g : ClauseAske
               let x₂ = predicate-as (one (v .filtered)) (v .flagged) .run sheet (plainC (v .predicate)) (plain-held sheet a b (v .predicate) (at .left - 1) j (predicate-held sheet t v)) _ _ (x₁ .to .rep) (blank-behind (le-refl _) (blank-within (omega arith) (omega arith) (bl .first))) in
               let x₃ = push-to m₃ c os (withOp (atPlace 0 (at .i) (at .left - 1)) k₀) (withRecs (v .filtered) (v .items) (v .predicate) k₀ s₁) (x₂ .to .rep) ps
               (λ N A f. record {
-                bounded = record { shallow = omega (arith, g .shallow); near = omega arith; low = tree-low sheet a b t (at .left) (at .i) hd; far = λ e. absurd (omega arith); flagged = λ e. absurd (omega arith) };
+                bounded = record { shallow = omega (arith, g .depth); near = omega arith; low = tree-low sheet a b t (at .left) (at .i) hd; far = λ e. absurd (omega arith); flagged = λ e. absurd (omega arith) };
                 shows = shows-with refl (record {
                   count = v .n;
                   filtered = v .filtered;

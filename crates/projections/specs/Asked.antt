@@ -15,7 +15,7 @@ use Rattle.context.specs.declared.Before.{Before}
 use Rattle.lower.specs.Rep.{Mem, RoomFor}
 use Rattle.lower.specs.Pieces.{SomeTree, SomeCarried}
 use Rattle.lower.specs.Patterns.{SomeTrees}
-use Rattle.lower.specs.Clauses.{Ready}
+use Rattle.projections.specs.Ready.{Ready}
 use Rattle.projections.specs.Promises.{SomeTail}
 use Rattle.projections.specs.declared.passes.ReturnItems.{ReturnItems}
 
@@ -23,11 +23,11 @@ use Rattle.projections.specs.declared.passes.ReturnItems.{ReturnItems}
 
 -- the clause at a place, of kind k, behind the operator that stands before it
 pub record ClauseAsked (k : ℕ) (a b : List ℕ) (at : At) (current : Before) (m : Mem) : Type 0 where
-  pub room : Roomy a b
+  pub words : Roomy a b
   pub tree : SomeTree a b clause (at .left) (at .i)
   pub kind : cell a b (at .i) kindAt ≡ k
   pub ready : Ready (at .i) m
-  pub shallow : at .left ≤ maxDepth
+  pub depth : at .left ≤ maxDepth
   pub stands : Under current (m .ctx .ops)
 
 -- a `return`, of the sheet that is passed
@@ -39,37 +39,37 @@ pub record ReturnAsked (sheet : Bytes) (a b : List ℕ) (at : At) (current : Bef
 
 -- n items or sort keys from a place on, each a record with an expression behind it
 pub record ItemsAsked (a b : List ℕ) (at : At) (n : ℕ) (m : Mem) : Type 0 where
-  pub room : Roomy a b
+  pub words : Roomy a b
   pub items : SomeCarried a b n 1 (at .left - 1) (at .i)
-  pub good : RoomFor (at .left) (at .i) m
-  pub shallow : at .left ≤ maxDepth
+  pub room : RoomFor (at .left) (at .i) m
+  pub depth : at .left ≤ maxDepth
   pub pass : at .base ≤ secondPass
 
 -- n items from a place on, of the sheet that is passed
 pub record SplitAsked (sheet : Bytes) (a b : List ℕ) (at : At) (n : ℕ) (m : Mem) : Type 0 where
-  pub room : Roomy a b
+  pub words : Roomy a b
   pub items : HeldMany sheet a b projection n (at .left) (at .i)
-  pub good : RoomFor (at .left) (at .i) m
-  pub shallow : at .left ≤ maxDepth
+  pub room : RoomFor (at .left) (at .i) m
+  pub depth : at .left ≤ maxDepth
 
 -- the items of a `return`, before its first lowering
 pub record FirstAsked (sheet : Bytes) (a b : List ℕ) (of : ReturnItems) (current : Before) (m : Mem) : Type 0 where
-  pub room : Roomy a b
+  pub words : Roomy a b
   pub counted : of .n ≡ cell a b (of .i) itemsAt
   pub items : HeldMany sheet a b projection (of .n) (of .left) (of .i + 1)
   pub ready : Ready (of .i) m
   pub low : of .i < maxRecords
-  pub shallow : of .left ≤ maxDepth
+  pub depth : of .left ≤ maxDepth
   pub stands : Under current (m .ctx .ops)
 
 -- so before its second one, over operator `input`
 pub record SecondAsked (a b : List ℕ) (of : ReturnItems) (input distinct : ℕ) (m : Mem) : Type 0 where
-  pub room : Roomy a b
+  pub words : Roomy a b
   pub counted : of .n ≡ cell a b (of .i) itemsAt
   pub items : SomeTrees a b projection (of .n) (of .left) (of .i + 1)
-  pub good : RoomFor (of .left) (of .i + 1) m
+  pub room : RoomFor (of .left) (of .i + 1) m
   pub low : of .i < maxRecords
-  pub shallow : of .left ≤ maxDepth
+  pub depth : of .left ≤ maxDepth
   pub small : input < two32
   pub flag : distinct ≤ 1
 
@@ -77,17 +77,17 @@ pub record SecondAsked (a b : List ℕ) (of : ReturnItems) (input distinct : ℕ
 
 -- n trees of a sort from a place on, over operator `input`
 pub record OverAsked (s : Sort) (a b : List ℕ) (at : At) (n input : ℕ) (m : Mem) : Type 0 where
-  pub room : Roomy a b
+  pub words : Roomy a b
   pub trees : SomeTrees a b s n (at .left) (at .i)
   pub ready : Ready (at .i) m
-  pub shallow : at .left ≤ maxDepth
+  pub depth : at .left ≤ maxDepth
   pub stands : input < m .ctx .ops
 
 -- the trailers of the clause at record i, from a place on
 pub record TailAsked (a b : List ℕ) (at : At) (i input : ℕ) (m : Mem) : Type 0 where
-  pub room : Roomy a b
+  pub words : Roomy a b
   pub low : i < maxRecords
   pub tail : SomeTail a b (at .left) i (at .i)
   pub ready : Ready (at .i) m
-  pub shallow : at .left ≤ maxDepth
+  pub depth : at .left ≤ maxDepth
   pub stands : input < m .ctx .ops

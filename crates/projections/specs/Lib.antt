@@ -1,5 +1,6 @@
 pub mod Kinds
 pub mod Items
+pub mod Ready
 pub mod Asked
 pub mod Room
 pub mod Passes

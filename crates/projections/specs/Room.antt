@@ -18,7 +18,8 @@ use Rattle.context.specs.declared.Before.{Before}
 use Rattle.context.specs.declared.op.Op.{Op}
 use Rattle.context.specs.declared.LowerCtx.{LowerCtx}
 use Rattle.lower.specs.Rep.{Mem, mem, atPlace, RoomFor, Moved}
-use Rattle.lower.specs.Clauses.{Ready, MovedTwice}
+use Rattle.lower.specs.Clauses.{MovedTwice}
+use Rattle.projections.specs.Ready.{Ready}
 use Rattle.lower.specs.Patterns.{SomeTrees}
 use Rattle.words.specs.Fits.{trees-fits}
 use Rattle.lower.specs.Pieces.{SomeTree}
@@ -68,7 +69,7 @@ ready-after p g = record { few = omega (arith, p .few, g .few); low = omega (ari
 pub ready-from : {i j : ℕ} {m : Mem} → i ≤ j → j ≤ maxRecords → Ready i m → Ready j m
 ready-from l h g = record { few = omega (arith, g .few); low = omega (arith, g .low); met = omega (arith, g .met); here = h; in-ops = g .in-ops; in-rest = g .in-rest; index = g .index }
 
-pub few : {i : ℕ} {m : Mem} → Ready i m → m .ctx .ops ≤ 4 * maxRecords
+pub few : {i : ℕ} {m : Mem} → Ready i m → m .ctx .ops ≤ 8 * maxRecords
 few g = omega (arith, g .few, g .here)
 
 -- the numbers of a function that lowers a clause
@@ -76,13 +77,13 @@ pub record Bounds (d i ops : ℕ) : Type 0 where
   pub low : i < maxRecords
   pub deep : 1 ≤ d
   pub shallow : d ≤ maxDepth
-  pub few : ops ≤ 4 * maxRecords
+  pub few : ops ≤ 8 * maxRecords
 
 pub bounds-of : {a b : List ℕ} {s : Sort} {d i : ℕ} {m : Mem} → SomeTree a b s d i → Ready i m → d ≤ maxDepth → Bounds d i (m .ctx .ops)
 bounds-of x g h = record { low = low x; deep = deep x; shallow = h; few = few g }
 
 pub bounds : {a b : List ℕ} {k : ℕ} {at : At} {current : Before} {m : Mem} → ClauseAsked k a b at current m → Bounds (at .left) (at .i) (m .ctx .ops)
-bounds g = bounds-of (g .tree) (g .ready) (g .shallow)
+bounds g = bounds-of (g .tree) (g .ready) (g .depth)
 
 -- ── what moves ──
 
@@ -103,7 +104,7 @@ twice-pushed p l q lo = record { up = p .up; here = p .here; few = omega (arith,
 -- ── behind one pass over records that are ready ──
 
 module _ {i j e : ℕ} {m m′ : Mem} (g : Ready i m) (p : Moved j e m m′) (l : i ≤ j) where
-  pub few-after : m′ .ctx .ops ≤ 8 * maxRecords
+  pub few-after : m′ .ctx .ops ≤ 12 * maxRecords
   few-after = let x = g .few in let y = p .few in let h = p .here in let u = p .up in omega arith
 
   pub ops-after : workWords ≤ length (m′ .ops)
@@ -116,7 +117,7 @@ module _ {L : Lowering ℕ} {k i : ℕ} {m m₁ : Mem} (g : Ready i m) (q : OrSo
   good-source d l h ld = record { few = omega (arith, g .few, q .few); low = omega (arith, g .low, q .next); met = omega (arith, g .met, q .mapped); here = h; in-ops = rw (q .in-ops) (g .in-ops); in-rest = rw (q .rest) (g .in-rest); index = rw (q .mapped, q .rest) (g .index) }
 
   -- its number is small
-  pub few-source : k ≤ 4 * maxRecords
+  pub few-source : k ≤ 8 * maxRecords
   few-source = omega (arith, g .few, g .here, q .few, q .low)
 
 pub can-source : {i : ℕ} {m : Mem} → Ready i m → (m .ctx .ops < maxCount) × (workWords ≤ length (m .ops))

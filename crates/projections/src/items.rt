@@ -2,6 +2,7 @@
 ghost use mathlib.Core.Path.{_≡_};
 ghost use mathlib.Core.Bool.{cond};
 ghost use Prim.Native.Nat.{_+_, _-_, _≤_, _<_};
+ghost use Rattle.context.specs.Tables.{maxCount};
 ghost use Rattle.lower.specs.Rep.{mem};
 ghost use Rattle.lower.specs.Pieces.{LowersExprs};
 ghost use Rattle.projections.specs.Asked.{ItemsAsked, SplitAsked};
@@ -44,7 +45,7 @@ pub fn lower_items(
 
 // One more, if there is more.
 fn plus_if(n: usize, more: bool) -> usize
-    requires { ⌜ n < 65536 ⌝ }
+    requires { ⌜ n < maxCount ⌝ }
     ensures { λ r. ⌜ r ≡ cond more (n + 1) n ⌝ }
 {
     if more {

@@ -122,9 +122,10 @@ pub fn second_pass(
     requires { ⌜ SecondAsked (now a) (now b) of input distinct (mem ctx (now ops) (now rest)) ⌝ }
     ensures { λ r. ⌜ ((sheet : List ℕ) → LowersPass sheet (now (a .entry)) (now (b .entry)) (of .n) (of .left) secondPass (of .i + 1) (r .next) (r .op) (secondL (of .n) (eqb distinct 1) input) (mem ctx (now (ops .entry)) (now (rest .entry))) (mem (r .ctx) (now (ops .exit)) (now (rest .exit)))) × (r .op < r .ctx .ops) ⌝ }
 {
+    let first = of.i + 1;
     let below = At {
         base: SECOND_PASS,
-        i: of.i + 1,
+        i: first,
         left: of.left,
     };
     let s = crate::items::lower_items(a, b, ops, rest, ctx, below, of.n);

@@ -8,7 +8,7 @@ use Rattle.clauses.proofs.lower.Tie as tie
 lower-from-requires : tie.Need-lower-from-requires
 lower-from-requires c κs =
     let s : tie.Start = search in
-    record { room = s .pre .0; held = s .pre .1 .0; ready = Whole.start-ready _ _ (s .pre .1 .1 .0) (s .pre .1 .1 .1); shallow = omega arith }
+    record { words = s .pre .0; held = s .pre .1 .0; ready = Whole.start-ready Whole.start _ _ (omega arith) (omega arith) (s .pre .1 .1 .0) (s .pre .1 .1 .1); depth = omega arith }
 
 returns : tie.Need-returns
 returns c =

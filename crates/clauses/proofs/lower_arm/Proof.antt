@@ -37,35 +37,35 @@ ruleset ways = (to-union, to-input-or-source2, to-input-or-source, to-lower-clau
 word-requires : tie.Need-word-requires
 word-requires c κs =
     let s : tie.Start = search ways depth 9 in
-    (Room.low (Room.some-tree (s .pre .held)), (omega arith, s .pre .room))
+    (Room.low (Room.some-tree (s .pre .held)), (omega arith, s .pre .words))
 
 count-requires : tie.Need-count-requires
 count-requires c κs =
     let s : tie.Start = search ways depth 9 in
-    (Room.low (Room.some-tree (s .pre .held)), (omega arith, s .pre .room))
+    (Room.low (Room.some-tree (s .pre .held)), (omega arith, s .pre .words))
 
 add-first : tie.Need-add-first
 add-first c =
     let s : tie.Start = search ways depth 9 in
-    let l = Room.bounds-of (Room.some-tree (s .pre .held)) (s .pre .ready) (s .pre .shallow) in
+    let l = Room.bounds-of (Room.some-tree (s .pre .held)) (s .pre .ready) (s .pre .depth) in
     omega (arith, l .low)
 
 sub-less : tie.Need-sub-less
 sub-less c =
     let s : tie.Start = search ways depth 9 in
-    let l = Room.bounds-of (Room.some-tree (s .pre .held)) (s .pre .ready) (s .pre .shallow) in
+    let l = Room.bounds-of (Room.some-tree (s .pre .held)) (s .pre .ready) (s .pre .depth) in
     l .deep
 
 lower-clauses-requires : tie.Need-lower-clauses-requires
 lower-clauses-requires c κs =
     let n : tie.After-count = search ways depth 9 in
     let s : tie.Start = search ways depth 9 in
-    let l = Room.bounds-of (Room.some-tree (s .pre .held)) (s .pre .ready) (s .pre .shallow) in
+    let l = Room.bounds-of (Room.some-tree (s .pre .held)) (s .pre .ready) (s .pre .depth) in
     record {
-      room = s .pre .room;
-      held = Joining.some-clauses (s .pre .room) (n .count .ensures .0) (s .pre .held);
+      words = s .pre .words;
+      held = Joining.some-clauses (s .pre .words) (n .count .ensures .0) (s .pre .held);
       ready = Room.ready-from (omega arith) (omega (arith, l .low)) (s .pre .ready);
-      shallow = omega (arith, l .shallow);
+      depth = omega (arith, l .shallow);
       stands = under-nothing;
     }
 
@@ -91,7 +91,7 @@ union-requires c κs =
     let q : tie.After-input-or-source = search ways depth 9 in
     let x : tie.After-lower-clauses = search ways depth 9 in
     let s : tie.Start = search ways depth 9 in
-    let l = Room.bounds-of (Room.some-tree (s .pre .held)) (s .pre .ready) (s .pre .shallow) in
+    let l = Room.bounds-of (Room.some-tree (s .pre .held)) (s .pre .ready) (s .pre .depth) in
     let few = Joining.few-below (s .pre .ready) (x .lower-clauses .ensures .moved) (omega arith) in
     let more = q .input-or-source .ensures .input [] .few in
     let more₂ = r .input-or-source2 .ensures .input [] .few in
@@ -134,7 +134,7 @@ returns c =
     let w : tie.After-word = search ways depth 9 in
     let s : tie.Start = search ways depth 9 in
     let pushed = pushed-as (made .union .ensures) (p .push .ensures) in
-    let law = Joining.arm-law _ _ _ (s .pre .room) (n .count .ensures .0) (w .word .ensures) (x .lower-clauses .ensures) in
+    let law = Joining.arm-law _ _ _ (s .pre .words) (n .count .ensures .0) (w .word .ensures) (x .lower-clauses .ensures) in
     law (q .input-or-source .ensures .input _) (r .input-or-source2 .ensures .input _) pushed (p .push .kept .1 .0)
 
 pub lower-arm-spec : {M : Type 1} → statement M

@@ -11,7 +11,7 @@ use Rattle.clauses.proofs.lower_clause.Tie as tie
 word-requires : tie.Need-word-requires
 word-requires c κs =
     let s : tie.Start = search in
-    (Room.low (Room.some-tree (s .pre .held)), (omega arith, s .pre .room))
+    (Room.low (Room.some-tree (s .pre .held)), (omega arith, s .pre .words))
 
 add-t16 : tie.Need-add-t16
 add-t16 c =
@@ -22,7 +22,7 @@ returns : tie.Need-returns
 returns c =
     let w : tie.After-word = search in
     let s : tie.Start = search in
-    Clausing.write-law _ _ _ _ _ (s .pre .room) (sym (w .word .ensures) ∙ c .if1 .taken) (Room.low (Room.some-tree (s .pre .held))) (Inputs.under-stands _ _ (s .pre .stands))
+    Clausing.write-law _ _ _ _ _ (s .pre .words) (sym (w .word .ensures) ∙ c .if1 .taken) (Room.low (Room.some-tree (s .pre .held))) (Inputs.under-stands _ _ (s .pre .stands))
 
 lower-reading-clause-requires : tie.Need-lower-reading-clause-requires
 lower-reading-clause-requires c κs =
@@ -30,11 +30,11 @@ lower-reading-clause-requires c κs =
     let reads : tie.Else1 = search in
     let s : tie.Start = search in
     record {
-      room = s .pre .room;
+      words = s .pre .words;
       held = s .pre .held;
       reads = λ e. reads .if1 .left (w .word .ensures ∙ e);
       ready = s .pre .ready;
-      shallow = s .pre .shallow;
+      depth = s .pre .depth;
       stands = s .pre .stands;
     }
 

@@ -62,7 +62,7 @@ lower-clause-requires c κs =
     let l : here tie.At-loop = search ways depth 9 in
     let s : here tie.Start = search ways depth 9 in
     let left = l .loop .inv .0 in
-    record { room = s .pre .room; held = Turning.child (turn .loop-test .taken) left; ready = left .ready; shallow = s .pre .shallow; stands = Inputs.stands-under _ _ (left .stands) }
+    record { words = s .pre .words; held = Turning.child (turn .loop-test .taken) left; ready = left .ready; depth = s .pre .depth; stands = Inputs.stands-under _ _ (left .stands) }
 
 loop-again : here tie.Need-loop-again
 loop-again c =

@@ -26,12 +26,12 @@ ruleset ways = (to-lower-clauses, to-count2, to-count, to-start)
 count-requires : tie.Need-count-requires
 count-requires c κs =
     let s : tie.Start = search ways depth 9 in
-    (omega arith, (omega arith, s .pre .room))
+    (omega arith, (omega arith, s .pre .words))
 
 count-requires-2 : tie.Need-count-requires-2
 count-requires-2 c κs =
     let s : tie.Start = search ways depth 9 in
-    (omega arith, (omega arith, s .pre .room))
+    (omega arith, (omega arith, s .pre .words))
 
 sub-less : tie.Need-sub-less
 sub-less c =
@@ -42,7 +42,7 @@ lower-clauses-requires : tie.Need-lower-clauses-requires
 lower-clauses-requires c κs =
     let n : tie.After-count = search ways depth 9 in
     let s : tie.Start = search ways depth 9 in
-    record { room = s .pre .room; held = Whole.some-clauses (s .pre) (n .count .ensures .0); ready = s .pre .ready; shallow = omega (arith, s .pre .shallow); stands = under-nothing }
+    record { words = s .pre .words; held = Whole.some-clauses (s .pre) (n .count .ensures .0); ready = s .pre .ready; depth = omega (arith, s .pre .depth); stands = under-nothing }
 
 lower-arms-requires : tie.Need-lower-arms-requires
 lower-arms-requires c κs =
@@ -51,10 +51,10 @@ lower-arms-requires c κs =
     let n : tie.After-count = search ways depth 9 in
     let s : tie.Start = search ways depth 9 in
     record {
-      room = s .pre .room;
+      words = s .pre .words;
       held = Whole.some-arms (s .pre) (n .count .ensures .0) (x .lower-clauses .ensures) (n′ .count2 .ensures .0);
       ready = Room.ready-after (x .lower-clauses .ensures .moved) (s .pre .ready);
-      shallow = omega (arith, s .pre .shallow);
+      depth = omega (arith, s .pre .depth);
       stands = Inputs.stands-under _ _ (x .lower-clauses .ensures .stands);
     }
 

@@ -27,12 +27,12 @@ ruleset ways = (to-second-pass, to-first-pass, to-count2, to-count, to-start)
 count-requires : tie.Need-count-requires
 count-requires c κs =
     let s : tie.Start = search ways depth 9 in
-    (Room.low (s .pre .asked .tree), (omega arith, s .pre .asked .room))
+    (Room.low (s .pre .asked .tree), (omega arith, s .pre .asked .words))
 
 count-requires-2 : tie.Need-count-requires-2
 count-requires-2 c κs =
     let s : tie.Start = search ways depth 9 in
-    (Room.low (s .pre .asked .tree), (omega arith, s .pre .asked .room))
+    (Room.low (s .pre .asked .tree), (omega arith, s .pre .asked .words))
 
 sub-less : tie.Need-sub-less
 sub-less c =
@@ -45,12 +45,12 @@ first-pass-requires c κs =
     let s : tie.Start = search ways depth 9 in
     let l = Room.bounds (s .pre .asked) in
     record {
-      room = s .pre .asked .room;
+      words = s .pre .asked .words;
       counted = n .count .ensures .0;
       items = ReturnLaws.return-items (s .pre) (n .count .ensures .0);
       ready = s .pre .asked .ready;
       low = l .low;
-      shallow = omega (arith, l .shallow);
+      depth = omega (arith, l .shallow);
       stands = s .pre .asked .stands;
     }
 
@@ -62,12 +62,12 @@ second-pass-requires c κs =
     let s : tie.Start = search ways depth 9 in
     let l = Room.bounds (s .pre .asked) in
     record {
-      room = s .pre .asked .room;
+      words = s .pre .asked .words;
       counted = n .count .ensures .0;
       items = Room.some-trees (ReturnLaws.return-items (s .pre) (n .count .ensures .0));
-      good = ReturnLaws.good-second (s .pre) (n .count .ensures .0) (p .first-pass .ensures .0) (omega (arith, l .shallow));
+      room = ReturnLaws.good-second (s .pre) (n .count .ensures .0) (p .first-pass .ensures .0) (omega (arith, l .shallow));
       low = l .low;
-      shallow = omega (arith, l .shallow);
+      depth = omega (arith, l .shallow);
       small = p .first-pass .ensures .1;
       flag = ReturnLaws.return-flag (s .pre) (n₂ .count2 .ensures .0);
     }
@@ -81,11 +81,11 @@ lower-trailers-requires c κs =
     let s : tie.Start = search ways depth 9 in
     let l = Room.bounds (s .pre .asked) in
     record {
-      room = s .pre .asked .room;
+      words = s .pre .asked .words;
       low = l .low;
       tail = ReturnLaws.return-tail (s .pre) (n .count .ensures .0) (p .first-pass .ensures .0) (n₂ .count2 .ensures .0) (q .second-pass .ensures .0 _);
       ready = Room.ready-after (ReturnLaws.return-moved (s .pre) (n .count .ensures .0) (p .first-pass .ensures .0) (n₂ .count2 .ensures .0) (q .second-pass .ensures .0 _)) (s .pre .asked .ready);
-      shallow = omega (arith, l .shallow);
+      depth = omega (arith, l .shallow);
       stands = q .second-pass .ensures .1;
     }
 

@@ -40,12 +40,12 @@ ruleset ways = (to-push, to-with, to-lower-exprs, to-lower-items, to-or-source-a
 count-requires : tie.Need-count-requires
 count-requires c κs =
     let s : tie.Start = search ways depth 9 in
-    (Room.low (s .pre .tree), (omega arith, s .pre .room))
+    (Room.low (s .pre .tree), (omega arith, s .pre .words))
 
 count-requires-2 : tie.Need-count-requires-2
 count-requires-2 c κs =
     let s : tie.Start = search ways depth 9 in
-    (Room.low (s .pre .tree), (omega arith, s .pre .room))
+    (Room.low (s .pre .tree), (omega arith, s .pre .words))
 
 add-first : tie.Need-add-first
 add-first c =
@@ -69,7 +69,7 @@ lower-items-requires c κs =
     let s : tie.Start = search ways depth 9 in
     let l = Room.bounds (s .pre) in
     let good = Room.good-source (s .pre .ready) (q .or-source-all .ensures .1 _) (s .args .at .left - 1) (le-refl _) (omega (arith, l .low)) (omega (arith, l .shallow)) in
-    record { room = s .pre .room; items = WithLaws.with-items (s .pre) (n .count .ensures .0); good = good; shallow = omega (arith, l .shallow); pass = omega arith }
+    record { words = s .pre .words; items = WithLaws.with-items (s .pre) (n .count .ensures .0); room = good; depth = omega (arith, l .shallow); pass = omega arith }
 
 lower-exprs-requires : tie.Need-lower-exprs-requires
 lower-exprs-requires c κs =
@@ -81,7 +81,7 @@ lower-exprs-requires c κs =
     let l = Room.bounds (s .pre) in
     let good = Room.good-source (s .pre .ready) (q .or-source-all .ensures .1 _) (s .args .at .left - 1) (le-refl _) (omega (arith, l .low)) (omega (arith, l .shallow)) in
     let predicate = WithLaws.with-predicate (s .pre) (n .count .ensures .0) (i .lower-items .ensures) (n₂ .count2 .ensures .0) in
-    record { words = s .pre .room; tree = predicate; room = Exprs.good-after (i .lower-items .ensures .moved) good; depth = omega (arith, l .shallow); pass = omega arith }
+    record { words = s .pre .words; tree = predicate; room = Exprs.good-after (i .lower-items .ensures .moved) good; depth = omega (arith, l .shallow); pass = omega arith }
 
 with-requires : tie.Need-with-requires
 with-requires c κs =
@@ -117,11 +117,11 @@ lower-trailers-requires c κs =
     let tail = WithLaws.with-tail (s .pre) (n .count .ensures .0) (i .lower-items .ensures) (n₂ .count2 .ensures .0) (x .lower-exprs .ensures) in
     let moved = WithLaws.with-moved (s .pre) (n .count .ensures .0) (i .lower-items .ensures) (n₂ .count2 .ensures .0) (x .lower-exprs .ensures) (q .or-source-all .ensures .1 _) pushed (p .push .kept .1 .0) in
     record {
-      room = s .pre .room;
+      words = s .pre .words;
       low = l .low;
       tail = tail;
       ready = Room.ready-after moved (s .pre .ready);
-      shallow = omega (arith, l .shallow);
+      depth = omega (arith, l .shallow);
       stands = omega (arith, p .push .ensures .count);
     }
 

@@ -23,7 +23,8 @@ optional-join-requires : tie.Need-optional-join-requires
 optional-join-requires c κs =
     let there : tie.After-current = search in
     let s : tie.Start = search in
-    (omega (arith, s .pre .4), s .pre .3 .op _ (there .current .given .1), omega (arith, s .pre .0, s .pre .2))
+    let small = s .pre .3 .op _ (there .current .given .1) in
+    (omega (arith, s .pre .4), small, omega (arith, s .pre .0, s .pre .2, small))
 
 returns-3 : tie.Need-returns-3
 returns-3 c =

@@ -33,12 +33,12 @@ ruleset ways = (to-procedure-call, to-lower-yields, to-lower-exprs, to-count2, t
 count-requires : tie.Need-count-requires
 count-requires c κs =
     let s : tie.Start = search ways depth 9 in
-    (Room.low (s .pre .tree), (omega arith, s .pre .room))
+    (Room.low (s .pre .tree), (omega arith, s .pre .words))
 
 count-requires-2 : tie.Need-count-requires-2
 count-requires-2 c κs =
     let s : tie.Start = search ways depth 9 in
-    (Room.low (s .pre .tree), (omega arith, s .pre .room))
+    (Room.low (s .pre .tree), (omega arith, s .pre .words))
 
 add-first : tie.Need-add-first
 add-first c =
@@ -56,7 +56,7 @@ lower-exprs-requires c κs =
     let s : tie.Start = search ways depth 9 in
     let l = Room.bounds (s .pre) in
     record {
-      words = s .pre .room;
+      words = s .pre .words;
       tree = Calling.some-args (s .pre) (n .count .ensures .0);
       room = Room.ready-good (s .pre .ready) (omega arith) (omega (arith, l .low)) (omega (arith, l .shallow));
       depth = omega (arith, l .shallow);

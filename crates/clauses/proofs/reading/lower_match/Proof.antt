@@ -26,12 +26,12 @@ ruleset ways = (to-lower-parts, to-count, to-word, to-start)
 word-requires : tie.Need-word-requires
 word-requires c κs =
     let s : tie.Start = search ways depth 9 in
-    (Room.low (s .pre .tree), (omega arith, s .pre .room))
+    (Room.low (s .pre .tree), (omega arith, s .pre .words))
 
 count-requires : tie.Need-count-requires
 count-requires c κs =
     let s : tie.Start = search ways depth 9 in
-    (Room.low (s .pre .tree), (omega arith, s .pre .room))
+    (Room.low (s .pre .tree), (omega arith, s .pre .words))
 
 sub-less : tie.Need-sub-less
 sub-less c =
@@ -45,7 +45,7 @@ lower-parts-requires c κs =
     let l = Room.bounds (s .pre) in
     let parts = Matching.some-parts (s .pre) (n .count .ensures .0) in
     record {
-      words = s .pre .room;
+      words = s .pre .words;
       tree = record { low = l .low; trees = parts };
       room = Room.ready-good (s .pre .ready) (le-refl _) (omega (arith, l .low)) (omega (arith, l .shallow));
       depth = omega (arith, l .shallow);

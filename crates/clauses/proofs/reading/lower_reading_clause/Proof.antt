@@ -10,7 +10,7 @@ use Rattle.clauses.proofs.reading.lower_reading_clause.Tie as tie
 word-requires : tie.Need-word-requires
 word-requires c κs =
     let s : tie.Start = search in
-    (Room.low (Room.some-tree (s .pre .held)), (omega arith, s .pre .room))
+    (Room.low (Room.some-tree (s .pre .held)), (omega arith, s .pre .words))
 
 lower-match-requires : tie.Need-lower-match-requires
 lower-match-requires c κs =

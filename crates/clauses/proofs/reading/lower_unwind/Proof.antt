@@ -33,7 +33,7 @@ ruleset ways = (to-unwind, to-number, to-lower-expr, to-or-source-all, to-word, 
 word-requires : tie.Need-word-requires
 word-requires c κs =
     let s : tie.Start = search ways depth 9 in
-    (Room.low (s .pre .tree), (omega arith, s .pre .room))
+    (Room.low (s .pre .tree), (omega arith, s .pre .words))
 
 add-first : tie.Need-add-first
 add-first c =
@@ -56,7 +56,7 @@ lower-expr-requires c κs =
     let s : tie.Start = search ways depth 9 in
     let l = Room.bounds (s .pre) in
     record {
-      words = s .pre .room;
+      words = s .pre .words;
       tree = Unwinding.some-list (s .pre);
       room = Room.good-source (s .pre .ready) (q .or-source-all .ensures .1 _) _ (omega arith) (omega (arith, l .low)) (omega (arith, l .shallow));
       depth = omega (arith, l .shallow);

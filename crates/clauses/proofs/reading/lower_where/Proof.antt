@@ -39,7 +39,7 @@ lower-expr-requires c κs =
     let s : tie.Start = search ways depth 9 in
     let l = Room.bounds (s .pre) in
     record {
-      words = s .pre .room;
+      words = s .pre .words;
       tree = Filtering.some-predicate (s .pre);
       room = Room.ready-good (s .pre .ready) (omega arith) (omega (arith, l .low)) (omega (arith, l .shallow));
       depth = omega (arith, l .shallow);

@@ -48,7 +48,7 @@ word-requires c κs =
     let l : here tie.At-loop = search ways depth 9 in
     let s : here tie.Start = search ways depth 9 in
     let some = c .loop-test .taken in
-    (omega (arith, l .loop .inv .0 .fits), (omega arith, s .pre .room))
+    (omega (arith, l .loop .inv .0 .fits), (omega arith, s .pre .words))
 
 add-number : here tie.Need-add-number
 add-number c =
@@ -79,7 +79,7 @@ loop-again c =
     let turn : here tie.In-loop = search in
     let w : here tie.After-word = search in
     let n : here tie.After-number = search in
-    (Yields.again (s .pre .room) (turn .loop-test .taken) (l .loop .inv .0) (Yields.numbered (w .word .ensures) (n .number .ensures)) (n .number .kept .1 .0), n .number .kept .1 .0 ∙ l .loop .inv .1)
+    (Yields.again (s .pre .words) (turn .loop-test .taken) (l .loop .inv .0) (Yields.numbered (w .word .ensures) (n .number .ensures)) (n .number .kept .1 .0), n .number .kept .1 .0 ∙ l .loop .inv .1)
 
 same-length : here tie.Need-same-length
 same-length c =

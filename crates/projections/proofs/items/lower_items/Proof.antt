@@ -19,7 +19,7 @@ ruleset ways = (to-else1, to-start)
 returns : tie.Need-returns
 returns c =
     let s : tie.Start = search ways in
-    rw (c .if1 .taken) (Exprs.nil-law _ _ 1 _ _ _ _ (s .pre .good .here))
+    rw (c .if1 .taken) (Exprs.nil-law _ _ 1 _ _ _ _ (s .pre .room .here))
 
 sub-less : tie.Need-sub-less
 sub-less c =
@@ -31,10 +31,10 @@ lower-exprs-requires : tie.Need-lower-exprs-requires
 lower-exprs-requires c κs =
     let s : tie.Start = search ways in
     record {
-      words = s .pre .room;
+      words = s .pre .words;
       tree = s .pre .items;
-      room = Exprs.good-from (omega arith) (le-refl _) (s .pre .good .here) (s .pre .good);
-      depth = omega (arith, s .pre .shallow);
+      room = Exprs.good-from (omega arith) (le-refl _) (s .pre .room .here) (s .pre .room);
+      depth = omega (arith, s .pre .depth);
       pass = s .pre .pass;
     }
 

@@ -37,19 +37,19 @@ ruleset ways = (to-lower-expr, to-is-aggregate, to-in-loop, to-at-loop, to-start
 loop-holds : here tie.Need-loop-holds
 loop-holds c =
     let s : here tie.Start = search ways depth 7 in
-    PartLaws.start (s .pre .items) (s .pre .good)
+    PartLaws.start (s .pre .items) (s .pre .room)
 
 add-i : here tie.Need-add-i
 add-i c =
     let l : here tie.At-loop = search ways depth 7 in
-    omega (arith, l .loop .inv .good .here)
+    omega (arith, l .loop .inv .room .here)
 
 is-aggregate-requires : here tie.Need-is-aggregate-requires
 is-aggregate-requires c κs =
     let turn : here tie.In-loop = search ways depth 7 in
     let l : here tie.At-loop = search ways depth 7 in
     let s : here tie.Start = search ways depth 7 in
-    (s .pre .room, record { depth = _; held = PartLaws.child (turn .loop-test .taken) (l .loop .inv) })
+    (s .pre .words, record { depth = _; held = PartLaws.child (turn .loop-test .taken) (l .loop .inv) })
 
 sub-less : here tie.Need-sub-less
 sub-less c =
@@ -64,13 +64,13 @@ lower-expr-requires c κs =
     let s : here tie.Start = search ways depth 7 in
     let child = PartLaws.some-child (turn .loop-test .taken) (l .loop .inv) in
     let good = PartLaws.child-good (turn .loop-test .taken) (l .loop .inv) in
-    record { words = s .pre .room; tree = child; room = good; depth = omega (arith, s .pre .shallow); pass = omega arith }
+    record { words = s .pre .words; tree = child; room = good; depth = omega (arith, s .pre .depth); pass = omega arith }
 
 plus-if-requires : here tie.Need-plus-if-requires
 plus-if-requires c κs =
     let l : here tie.At-loop = search ways depth 7 in
     let s : here tie.Start = search ways depth 7 in
-    omega (arith, PartLaws.few-items (s .pre .items) (s .pre .good .here), l .loop .inv .few)
+    omega (arith, PartLaws.few-items (s .pre .items) (s .pre .room .here), l .loop .inv .few)
 
 sub-m : here tie.Need-sub-m
 sub-m c =

@@ -35,8 +35,8 @@ split-projections-agg-requires : tie.Need-split-projections-agg-requires
 split-projections-agg-requires c κs =
     let q : tie.After-or-source-all = search ways in
     let s : tie.Start = search ways in
-    let good = Room.good-source (s .pre .ready) (q .or-source-all .ensures .1 _) _ (le-refl _) (omega (arith, s .pre .low)) (s .pre .shallow) in
-    record { room = s .pre .room; items = s .pre .items; good = good; shallow = s .pre .shallow }
+    let good = Room.good-source (s .pre .ready) (q .or-source-all .ensures .1 _) _ (le-refl _) (omega (arith, s .pre .low)) (s .pre .depth) in
+    record { words = s .pre .words; items = s .pre .items; room = good; depth = s .pre .depth }
 
 sub-keys : tie.Need-sub-keys
 sub-keys c =
@@ -48,12 +48,12 @@ aggregate-if-requires c κs =
     let p : tie.After-split-projections-agg = search ways in
     let q : tie.After-or-source-all = search ways in
     let s : tie.Start = search ways in
-    let good = Room.good-source (s .pre .ready) (q .or-source-all .ensures .1 _) _ (le-refl _) (omega (arith, s .pre .low)) (s .pre .shallow) in
+    let good = Room.good-source (s .pre .ready) (q .or-source-all .ensures .1 _) _ (le-refl _) (omega (arith, s .pre .low)) (s .pre .depth) in
     let room = Room.can-push (Exprs.good-after (p .split-projections-agg .ensures .0 .moved) good) in
     let few = PartLaws.few-items (s .pre .items) (omega (arith, s .pre .low)) in
     let aggs = p .split-projections-agg .ensures .1 in
     let input = Room.few-source (s .pre .ready) (q .or-source-all .ensures .1 _) in
-    (room .0, room .1, Room.fits (omega arith) (omega (arith, s .pre .low)) (s .pre .shallow), omega (arith, input), omega (arith, few), omega (arith, few, aggs))
+    (room .0, room .1, Room.fits (omega arith) (omega (arith, s .pre .low)) (s .pre .depth), omega (arith, input), omega (arith, few), omega (arith, few, aggs))
 
 same-length : tie.Need-same-length
 same-length c =
@@ -73,7 +73,7 @@ returns c =
     let p : tie.After-split-projections-agg = search ways in
     let q : tie.After-or-source-all = search ways in
     let s : tie.Start = search ways in
-    let good = Room.good-source (s .pre .ready) (q .or-source-all .ensures .1 _) _ (le-refl _) (omega (arith, s .pre .low)) (s .pre .shallow) in
+    let good = Room.good-source (s .pre .ready) (q .or-source-all .ensures .1 _) _ (le-refl _) (omega (arith, s .pre .low)) (s .pre .depth) in
     let room = Room.can-push (Exprs.good-after (p .split-projections-agg .ensures .0 .moved) good) in
     let law = PassLaws.first-law (s .pre) (q .or-source-all .ensures .1 _) (p .split-projections-agg .ensures .0) (a .aggregate-if .ensures .1) in
     let input = Room.few-source (s .pre .ready) (q .or-source-all .ensures .1 _) in

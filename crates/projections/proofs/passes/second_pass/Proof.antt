@@ -23,26 +23,26 @@ to-start c = search
 
 ruleset ways = (to-push, to-project, to-lower-items, to-start)
 
-add-t15 : tie.Need-add-t15
-add-t15 c =
+add-first : tie.Need-add-first
+add-first c =
     let s : tie.Start = search ways in
     omega (arith, s .pre .low)
 
 lower-items-requires : tie.Need-lower-items-requires
 lower-items-requires c κs =
     let s : tie.Start = search ways in
-    record { room = s .pre .room; items = PassLaws.items-some (s .pre .items); good = s .pre .good; shallow = s .pre .shallow; pass = omega arith }
+    record { words = s .pre .words; items = PassLaws.items-some (s .pre .items); room = s .pre .room; depth = s .pre .depth; pass = omega arith }
 
 project-requires : tie.Need-project-requires
 project-requires c κs =
     let s : tie.Start = search ways in
-    (Room.fits (omega arith) (omega (arith, s .pre .low)) (s .pre .shallow), s .pre .small)
+    (Room.fits (omega arith) (omega (arith, s .pre .low)) (s .pre .depth), s .pre .small)
 
 push-requires : tie.Need-push-requires
 push-requires c κs =
     let i : tie.After-lower-items = search ways in
     let s : tie.Start = search ways in
-    let good = Exprs.good-after (i .lower-items .ensures .moved) (s .pre .good) in
+    let good = Exprs.good-after (i .lower-items .ensures .moved) (s .pre .room) in
     let room = Room.can-push good in
     (omega (arith, room .0), room .1)
 
@@ -51,7 +51,7 @@ distinct-if-requires c κs =
     let p : tie.After-push = search ways in
     let i : tie.After-lower-items = search ways in
     let s : tie.Start = search ways in
-    let good = Exprs.good-after (i .lower-items .ensures .moved) (s .pre .good) in
+    let good = Exprs.good-after (i .lower-items .ensures .moved) (s .pre .room) in
     let room = Room.push-again good (p .push .ensures) (p .push .kept .1 .0) in
     (room .0, room .1, omega (arith, Room.can-push good .0))
 
@@ -83,7 +83,7 @@ pub second-pass-spec : {M : Type 1} → statement M
 second-pass-spec =
     tie.close
     (tie.spec
-    add-t15
+    add-first
     lower-items-requires
     project-requires
     push-requires

@@ -30,24 +30,24 @@ ruleset ways = (to-over-expr, to-order-by, to-count3, to-count2, to-count, to-st
 count-requires : tie.Need-count-requires
 count-requires c κs =
     let s : tie.Start = search ways depth 9 in
-    (s .pre .low, (omega arith, s .pre .room))
+    (s .pre .low, (omega arith, s .pre .words))
 
 count-requires-2 : tie.Need-count-requires-2
 count-requires-2 c κs =
     let s : tie.Start = search ways depth 9 in
-    (s .pre .low, (omega arith, s .pre .room))
+    (s .pre .low, (omega arith, s .pre .words))
 
 count-requires-3 : tie.Need-count-requires-3
 count-requires-3 c κs =
     let s : tie.Start = search ways depth 9 in
-    (s .pre .low, (omega arith, s .pre .room))
+    (s .pre .low, (omega arith, s .pre .words))
 
 order-by-requires : tie.Need-order-by-requires
 order-by-requires c κs =
     let n : tie.After-count = search ways depth 9 in
     let s : tie.Start = search ways depth 9 in
     let trees = TrailerLaws.tail-keys (n .count .ensures .0) (s .pre .tail) in
-    record { room = s .pre .room; trees = trees; ready = s .pre .ready; shallow = s .pre .shallow; stands = s .pre .stands }
+    record { words = s .pre .words; trees = trees; ready = s .pre .ready; depth = s .pre .depth; stands = s .pre .stands }
 
 over-expr-requires : tie.Need-over-expr-requires
 over-expr-requires c κs =
@@ -57,7 +57,7 @@ over-expr-requires c κs =
     let s : tie.Start = search ways depth 9 in
     let ready = Room.ready-after (o .order-by .ensures .moved) (s .pre .ready) in
     let trees = TrailerLaws.skip-some _ _ _ _ (n .count .ensures .0) (o .order-by .ensures) (n₂ .count2 .ensures .0) (s .pre .tail) in
-    (record { room = s .pre .room; trees = trees; ready = ready; shallow = s .pre .shallow; stands = o .order-by .ensures .low }, TrailerLaws.skip-one (n₂ .count2 .ensures .0) (s .pre .tail))
+    (record { words = s .pre .words; trees = trees; ready = ready; depth = s .pre .depth; stands = o .order-by .ensures .low }, TrailerLaws.skip-one (n₂ .count2 .ensures .0) (s .pre .tail))
 
 over-expr-requires-2 : tie.Need-over-expr-requires-2
 over-expr-requires-2 c κs =
@@ -71,7 +71,7 @@ over-expr-requires-2 c κs =
     let next = x .over-expr .ensures .next in
     let trees = TrailerLaws.limit-some _ _ _ _ (n .count .ensures .0) (o .order-by .ensures) (n₂ .count2 .ensures .0) next (n₃ .count3 .ensures .0) (s .pre .tail) in
     let behind = Room.ready-after (x .over-expr .ensures .moved) ready in
-    (record { room = s .pre .room; trees = trees; ready = behind; shallow = s .pre .shallow; stands = x .over-expr .ensures .low }, TrailerLaws.limit-one (n₃ .count3 .ensures .0) (s .pre .tail))
+    (record { words = s .pre .words; trees = trees; ready = behind; depth = s .pre .depth; stands = x .over-expr .ensures .low }, TrailerLaws.limit-one (n₃ .count3 .ensures .0) (s .pre .tail))
 
 same-length : tie.Need-same-length
 same-length c =

@@ -32,20 +32,20 @@ returns c =
 lower-items-requires : tie.Need-lower-items-requires
 lower-items-requires c κs =
     let s : tie.Start = search ways in
-    let good = Room.ready-good (s .pre .ready) (le-refl _) (s .pre .ready .here) (s .pre .shallow) in
-    record { room = s .pre .room; items = TrailerLaws.keys-some (s .pre .trees); good = good; shallow = s .pre .shallow; pass = omega arith }
+    let good = Room.ready-good (s .pre .ready) (le-refl _) (s .pre .ready .here) (s .pre .depth) in
+    record { words = s .pre .words; items = TrailerLaws.keys-some (s .pre .trees); room = good; depth = s .pre .depth; pass = omega arith }
 
 order-by-requires : tie.Need-order-by-requires
 order-by-requires c κs =
     let s : tie.Start = search ways in
     let here = s .pre .ready .here in
-    (Room.fits (omega arith) here (s .pre .shallow), omega (arith, Room.few (s .pre .ready), s .pre .stands), omega (arith, Room.few-trees here (s .pre .trees)))
+    (Room.fits (omega arith) here (s .pre .depth), omega (arith, Room.few (s .pre .ready), s .pre .stands), omega (arith, Room.few-trees here (s .pre .trees)))
 
 push-requires : tie.Need-push-requires
 push-requires c κs =
     let i : tie.After-lower-items = search ways in
     let s : tie.Start = search ways in
-    let good = Room.ready-good (s .pre .ready) (le-refl _) (s .pre .ready .here) (s .pre .shallow) in
+    let good = Room.ready-good (s .pre .ready) (le-refl _) (s .pre .ready .here) (s .pre .depth) in
     let room = Room.can-push (Exprs.good-after (i .lower-items .ensures .moved) good) in
     (omega (arith, room .0), room .1)
 

@@ -37,21 +37,21 @@ lower-expr-requires c κs =
     let some : tie.Else1 = search ways in
     let s : tie.Start = search ways in
     let asked = s .pre .0 in
-    let good = Room.ready-good (asked .ready) (le-refl _) (asked .ready .here) (asked .shallow) in
-    record { words = asked .room; tree = TrailerLaws.expr-some (asked .trees) (s .pre .1) (some .if1 .left); room = good; depth = asked .shallow; pass = omega arith }
+    let good = Room.ready-good (asked .ready) (le-refl _) (asked .ready .here) (asked .depth) in
+    record { words = asked .words; tree = TrailerLaws.expr-some (asked .trees) (s .pre .1) (some .if1 .left); room = good; depth = asked .depth; pass = omega arith }
 
 trailer-op-requires : tie.Need-trailer-op-requires
 trailer-op-requires c κs =
     let s : tie.Start = search ways in
     let asked = s .pre .0 in
-    (Room.fits (omega arith) (asked .ready .here) (asked .shallow), omega (arith, Room.few (asked .ready), asked .stands))
+    (Room.fits (omega arith) (asked .ready .here) (asked .depth), omega (arith, Room.few (asked .ready), asked .stands))
 
 push-requires : tie.Need-push-requires
 push-requires c κs =
     let x : tie.After-lower-expr = search ways in
     let s : tie.Start = search ways in
     let asked = s .pre .0 in
-    let good = Room.ready-good (asked .ready) (le-refl _) (asked .ready .here) (asked .shallow) in
+    let good = Room.ready-good (asked .ready) (le-refl _) (asked .ready .here) (asked .depth) in
     let room = Room.can-push (Exprs.good-after (x .lower-expr .ensures .moved) good) in
     (omega (arith, room .0), room .1)
 
