@@ -8,9 +8,10 @@ use native.Mathlib.Numerals.{add-one}
 use native.Mathlib.Omega.{arith}
 use lib.ListN.{length, take, drop, getD, set, length-set}
 use lib.Seq.{drop-cons, getD-set-same, getD-set-other}
+use Rattle.words.specs.Places.{kindCount, formCount}
 use Rattle.model.specs.Text.{Bytes}
 use Rattle.model.specs.Field.{Form, read, width, both, readFields}
-use Rattle.words.specs.Words.{fieldOf, fieldsOf, piecesOf}
+use Rattle.words.specs.Words.{fieldOf, fieldsOf, piecesOf, recordWords}
 use Rattle.words.specs.Held.{Flag, Flags, Text, Texts}
 use Rattle.words.specs.Table.{codes, codeAt, formOf, formsIn, formsFrom, formsAt}
 use Rattle.words.specs.TableLaws.{code-row}
@@ -87,14 +88,14 @@ module _ (sheet : Bytes) where
 -- ── the loop ──
 
 pub record Filling (n : ℕ) (sheet : Bytes) (p e : ℕ) (ws₀ ws : List ℕ) (at g form : ℕ) : Type 0 where
-  pub low : n < 39
+  pub low : n < kindCount
   pub code : form ≡ codeAt n g
-  pub long : length ws ≡ 16
+  pub long : length ws ≡ recordWords
   pub room : g + length (formsFrom n g) ≤ 6
   pub kept : Kept ws₀ ws
   pub going : Going sheet (formsAt n) (piecesAt sheet p e) (formsFrom n g) (piecesAt sheet at e) ws g
 
-pub fill-start : (n : ℕ) (sheet : Bytes) (p e : ℕ) (ws : List ℕ) → n < 39 → length ws ≡ 16 → (form : ℕ) → form ≡ codeAt n 0 → Filling n sheet p e ws ws p 0 form
+pub fill-start : (n : ℕ) (sheet : Bytes) (p e : ℕ) (ws : List ℕ) → n < kindCount → length ws ≡ recordWords → (form : ℕ) → form ≡ codeAt n 0 → Filling n sheet p e ws ws p 0 form
 unfolding formsAt
 fill-start n sheet p e ws h l form c =
     record {
@@ -110,7 +111,7 @@ module _ (n : ℕ) (sheet : Bytes) (p e : ℕ) (ws₀ ws : List ℕ) (at g form 
   in-row : g < length (getD codes n [])
   in-row = omega (arith, code-row n (f .low) .long, f .room)
 
-  pub fill-code : form < 15
+  pub fill-code : form < formCount
   fill-code = rw (f .code) (code-row n (f .low) .low g (omega (arith, f .room)))
 
   -- ── a form is left ──

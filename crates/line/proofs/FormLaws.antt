@@ -8,7 +8,7 @@ use native.Mathlib.Omega.{arith}
 use lib.ListN.{length, take, drop, length-take}
 use lib.Seq.{slice}
 use Rattle.model.specs.Text.{Bytes}
-use Rattle.model.specs.Field.{Form, num, span, read, width}
+use Rattle.model.specs.Field.{Form, u32, num, span, read, width}
 use Rattle.model.specs.Field
 use Rattle.record.specs.Answer.{isRead}
 use Rattle.record.specs.AnswerLaws.{read-meaning, read-none}
@@ -63,27 +63,27 @@ module _ (sheet : Bytes) (p e r : ℕ) (h : e ≤ length sheet) (f : PieceAt she
     two : piecesAt sheet p e ≡ slice p r sheet ∷ slice (r + 1) t sheet ∷ piecesAt sheet (t + 1) e
     two = all ∙ ap (λ l. slice p r sheet ∷ l) (pieces-from sheet (r + 1) e t h g e (g .to) (omega arith))
 
-    number-in : (q s : ℕ) (w : Words) → ((z : Bytes) → WordsOf (num 4294967295) z (take (s - q) (drop q sheet) ∷ []) w) → read (num 4294967295) (slice q s sheet ∷ []) ≡ wordsValue (num 4294967295) sheet w
+    number-in : (q s : ℕ) (w : Words) → ((z : Bytes) → WordsOf (num u32) z (take (s - q) (drop q sheet) ∷ []) w) → read (num u32) (slice q s sheet ∷ []) ≡ wordsValue (num u32) sheet w
     number-in q s w k = rw part-is at (k sheet .is)
 
-    module _ (w : Words) (k : (z : Bytes) → WordsOf (num 4294967295) z (take (r - p) (drop p sheet) ∷ []) w) where
+    module _ (w : Words) (k : (z : Bytes) → WordsOf (num u32) z (take (r - p) (drop p sheet) ∷ []) w) where
       pub span-start-not : w ≡ Words.Not → FieldAt span sheet p e FieldRead.Not
       unfolding width
-      span-start-not q = record { words = rw two (record { is = span-none _ _ (number-in p r w k ∙ ap (wordsValue (num 4294967295) sheet) q); fit = tt }); behind = tt }
+      span-start-not q = record { words = rw two (record { is = span-none _ _ (number-in p r w k ∙ ap (wordsValue (num u32) sheet) q); fit = tt }); behind = tt }
 
-      module _ (x x₁ : ℕ) (q : w ≡ Words.Is x x₁) (v : Words) (l : (z : Bytes) → WordsOf (num 4294967295) z (take (t - (r + 1)) (drop (r + 1) sheet) ∷ []) v) where
-        start : read (num 4294967295) (slice p r sheet ∷ []) ≡ some x
+      module _ (x x₁ : ℕ) (q : w ≡ Words.Is x x₁) (v : Words) (l : (z : Bytes) → WordsOf (num u32) z (take (t - (r + 1)) (drop (r + 1) sheet) ∷ []) v) where
+        start : read (num u32) (slice p r sheet ∷ []) ≡ some x
         unfolding fieldOf
-        start = number-in p r w k ∙ ap (wordsValue (num 4294967295) sheet) q
+        start = number-in p r w k ∙ ap (wordsValue (num u32) sheet) q
 
         pub span-end-not : v ≡ Words.Not → FieldAt span sheet p e FieldRead.Not
         unfolding width
-        span-end-not s = record { words = rw two (record { is = span-other _ _ (number-in (r + 1) t v l ∙ ap (wordsValue (num 4294967295) sheet) s); fit = tt }); behind = tt }
+        span-end-not s = record { words = rw two (record { is = span-other _ _ (number-in (r + 1) t v l ∙ ap (wordsValue (num u32) sheet) s); fit = tt }); behind = tt }
 
         module _ (y y₁ : ℕ) (s : v ≡ Words.Is y y₁) where
-          finish : read (num 4294967295) (slice (r + 1) t sheet ∷ []) ≡ some y
+          finish : read (num u32) (slice (r + 1) t sheet ∷ []) ≡ some y
           unfolding fieldOf
-          finish = number-in (r + 1) t v l ∙ ap (wordsValue (num 4294967295) sheet) s
+          finish = number-in (r + 1) t v l ∙ ap (wordsValue (num u32) sheet) s
 
           pub span-is : x ≤ y → FieldAt span sheet p e (FieldRead.Is x y (t + 1))
           unfolding width fieldOf

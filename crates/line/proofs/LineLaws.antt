@@ -8,10 +8,11 @@ use native.Mathlib.Omega.{arith}
 use borrow.Author.Tests.{ltb-true}
 use lib.ListN.{length, take, drop, getD, set, length-set}
 use lib.Seq.{slice, getD-set-same, getD-set-other}
+use Rattle.words.specs.Places.{kindCount, sortCount, kindAt, lineStartAt, lineEndAt}
 use Rattle.model.specs.Text.{Bytes, split, tab}
 use Rattle.model.specs.Kind.{Sort, Kind}
 use Rattle.model.specs.Record.{kinds, forms, kindNamed, withFields, readAs, readRec}
-use Rattle.words.specs.Words.{piecesOf, fieldsOf, kindOf, recOf, decode}
+use Rattle.words.specs.Words.{piecesOf, fieldsOf, kindOf, recOf, decode, recordWords}
 use Rattle.words.specs.Table.{sortOf}
 use Rattle.words.specs.TableLaws.{Row, tabled, kind-row}
 use Rattle.line.specs.Kinds.{kindFound, Named}
@@ -30,13 +31,13 @@ by-pieces s l a ms e =
     let more : split tab l .more ≡ ms = cc in
     rw (first, more)
 
-module _ (sheet : Bytes) (p e m r : ℕ) (h : e ≤ length sheet) (l : p ≤ e) (low : m < 11) (f : PieceAt sheet p e r) (w : KindFound) (k : Named (sortOf m) (take (r - p) (drop p sheet)) w) where
+module _ (sheet : Bytes) (p e m r : ℕ) (h : e ≤ length sheet) (l : p ≤ e) (low : m < sortCount) (f : PieceAt sheet p e r) (w : KindFound) (k : Named (sortOf m) (take (r - p) (drop p sheet)) w) where
   line-is : readRec (sortOf m) (slice p e sheet) ≡ readAs (sortOf m) (piecesAt sheet (r + 1) e) (kindFound (sortOf m) w)
   line-is =
       by-pieces (sortOf m) _ _ _ (sym (some-left sheet p e l) ∙ pieces-from sheet p e r h f e (f .to) (omega arith))
       ∙ ap (readAs (sortOf m) (piecesAt sheet (r + 1) e)) (rw part-is at (k .is))
 
-  pub line-unnamed : w ≡ KindFound.Not → (ws : List ℕ) → length ws ≡ 16 → LineRead (sortOf m) sheet p e ws Line.Not
+  pub line-unnamed : w ≡ KindFound.Not → (ws : List ℕ) → length ws ≡ recordWords → LineRead (sortOf m) sheet p e ws Line.Not
   unfolding readAs
   line-unnamed q ws n = record { answer = line-is ∙ ap (λ x. readAs (sortOf m) (piecesAt sheet (r + 1) e) (kindFound (sortOf m) x)) q; long = n }
 
@@ -51,29 +52,29 @@ module _ (sheet : Bytes) (p e m r : ℕ) (h : e ≤ length sheet) (l : p ≤ e) 
     table : Row (sortOf m) n kind
     table = kind-row (sortOf m) (λ i j. Row (sortOf m) i j) (tabled m low .rows) n kind known
 
-    pub line-low : n < 39
-    line-low = ltb-true n 39 (table .low)
+    pub line-low : n < kindCount
+    line-low = ltb-true n kindCount (table .low)
 
     fields-is : readRec (sortOf m) (slice p e sheet) ≡ readAs (sortOf m) (piecesAt sheet (r + 1) e) (some kind)
     fields-is = line-is ∙ ap (λ x. readAs (sortOf m) (piecesAt sheet (r + 1) e) (kindFound (sortOf m) x)) q ∙ ap (readAs (sortOf m) (piecesAt sheet (r + 1) e)) known
 
-    module _ (ws ws₁ : List ℕ) (long : length ws ≡ 16) (t : Bool) (z : FieldsRead n sheet (r + 1) e (set (set (set ws 1 p) 15 (e + 1)) 0 n) ws₁ t) where
+    module _ (ws ws₁ : List ℕ) (long : length ws ≡ recordWords) (t : Bool) (z : FieldsRead n sheet (r + 1) e (set (set (set ws lineStartAt p) lineEndAt (e + 1)) kindAt n) ws₁ t) where
       pub line-not : t ≡ false → LineRead (sortOf m) sheet p e ws₁ Line.Not
       unfolding readAs withFields
       line-not o =
           let no = rw (table .fields) at (rw o at (z .answer)) in
           record { answer = fields-is ∙ ap (withFields (sortOf m) kind) no; long = z .long }
 
-      first-word : getD ws₁ 0 0 ≡ n
-      first-word = z .kept 0 (λ h. absurd (omega arith)) ∙ getD-set-same (set (set ws 1 p) 15 (e + 1)) 0 n 0 (omega (arith, length-set (set ws 1 p) 15 (e + 1), length-set ws 1 p))
+      first-word : getD ws₁ kindAt 0 ≡ n
+      first-word = z .kept kindAt (λ h. absurd (omega arith)) ∙ getD-set-same (set (set ws lineStartAt p) lineEndAt (e + 1)) kindAt n 0 (omega (arith, length-set (set ws lineStartAt p) lineEndAt (e + 1), length-set ws lineStartAt p))
 
-      start-word : getD ws₁ 1 0 ≡ p
+      start-word : getD ws₁ lineStartAt 0 ≡ p
       start-word =
-          z .kept 1 (λ h. absurd (omega arith)) ∙ getD-set-other (set (set ws 1 p) 15 (e + 1)) 0 1 n 0 (omega arith) ∙ getD-set-other (set ws 1 p) 15 1 (e + 1) 0 (omega arith)
-          ∙ getD-set-same ws 1 p 0 (omega arith)
+          z .kept lineStartAt (λ h. absurd (omega arith)) ∙ getD-set-other (set (set ws lineStartAt p) lineEndAt (e + 1)) kindAt lineStartAt n 0 (omega arith) ∙ getD-set-other (set ws lineStartAt p) lineEndAt lineStartAt (e + 1) 0 (omega arith)
+          ∙ getD-set-same ws lineStartAt p 0 (omega arith)
 
-      end-word : getD ws₁ 15 0 ≡ e + 1
-      end-word = z .kept 15 (λ h. omega arith) ∙ getD-set-other (set (set ws 1 p) 15 (e + 1)) 0 15 n 0 (omega arith) ∙ getD-set-same (set ws 1 p) 15 (e + 1) 0 (omega (arith, length-set ws 1 p))
+      end-word : getD ws₁ lineEndAt 0 ≡ e + 1
+      end-word = z .kept lineEndAt (λ h. omega arith) ∙ getD-set-other (set (set ws lineStartAt p) lineEndAt (e + 1)) kindAt lineEndAt n 0 (omega arith) ∙ getD-set-same (set ws lineStartAt p) lineEndAt (e + 1) 0 (omega (arith, length-set ws lineStartAt p))
 
       pub line-got : t ≡ true → LineRead (sortOf m) sheet p e ws₁ (Line.Kind n)
       unfolding readAs withFields decode recOf

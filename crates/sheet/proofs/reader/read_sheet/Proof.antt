@@ -2,6 +2,7 @@ use mathlib.Core.Path.{_≡_}
 use Prim.Native.Nat.{_-_}
 use native.Mathlib.Omega.{arith}
 use lib.ListN.{length}
+use Rattle.words.specs.Words.{maxRecords}
 use Rattle.sheet.specs.Reader.{SoFar, begin}
 use Rattle.sheet.specs.Next.{loop-top, loop-done, next-more-is, next-bad-is, next-big-is}
 use borrow.Author.Needs.{needs}
@@ -13,7 +14,7 @@ Inv-loop sheet a₀ b₀ stack₀ i₀ pos₀ due₀ write₀ a b stack i pos du
     (length a ≡ length a₀) × (length b ≡ length b₀) × (length stack ≡ length stack₀) × SoFar sheet a b stack i pos due write
 
 abbrev μ-loop : tie.MeasureT-loop
-μ-loop sheet a₀ b₀ stack₀ i₀ pos₀ due₀ write₀ a b stack i pos due write = 2048 - i
+μ-loop sheet a₀ b₀ stack₀ i₀ pos₀ due₀ write₀ a b stack i pos due write = maxRecords - i
 
 -- a place or a need, at the loops' invariants and measures
 abbrev here : (tie.InvT-loop → tie.MeasureT-loop → Type 0) → Type 0
