@@ -5,7 +5,7 @@ use mathlib.Core.Bool.{Bool, cond}
 use mathlib.Core.List.{List, [], _++_}
 use mathlib.Core.Option.{Option, none, some}
 use lib.Dec.{eqb}
-use Rattle.model.specs.Lower.{Recs, LowerCtx, Lowering, _>>=_, ret, push, copy, lookup, numbered, mapVar, fresh, upcoming, endpointVar, inOrder, source, pushSourceAll, orSourceAll}
+use Rattle.model.specs.Lower.{Recs, LowerCtx, Lowering, _>>=_, ret, push, copy, lookup, issue, numbered, mapVar, fresh, upcoming, endpointVar, inOrder, source, pushSourceAll, orSourceAll}
 use Rattle.alike.specs.Relation.{Equal, equal, Option~, none~, some~, List~, []~, _∷~_}
 
 module _ (R : ℕ → ℕ → Type 0) where
@@ -15,7 +15,7 @@ module _ (R : ℕ → ℕ → Type 0) where
 
   pub data Ctx~ : LowerCtx → LowerCtx → Type 0 where
     ctx~ : {ops : List Recs} {vs ws : List (ℕ × ℕ)} {next : ℕ} → List~ Var~ vs ws →
-        Ctx~ (record { ops = ops; vars = vs; next = next }) (record { ops = ops; vars = ws; next = next })
+        Ctx~ (record { ops = ops; scope = record { vars = vs; next = next } }) (record { ops = ops; scope = record { vars = ws; next = next } })
 
   -- results that W joins, and states alike
   pub data Ran~ {A : Type 0} (W : A → A → Type 0) : A × LowerCtx → A × LowerCtx → Type 0 where
@@ -62,7 +62,7 @@ module _ (R : ℕ → ℕ → Type 0) where
 
   -- an action alike is one that does alike on the parts of a state
   abbrev Parts~ : {A : Type 0} → (A → A → Type 0) → Lowering A → Lowering A → Type 0
-  Parts~ W m n = (ops : List Recs) (vs ws : List (ℕ × ℕ)) (next : ℕ) → List~ Var~ vs ws → Ran~ W (m (record { ops = ops; vars = vs; next = next })) (n (record { ops = ops; vars = ws; next = next }))
+  Parts~ W m n = (ops : List Recs) (vs ws : List (ℕ × ℕ)) (next : ℕ) → List~ Var~ vs ws → Ran~ W (m (record { ops = ops; scope = record { vars = vs; next = next } })) (n (record { ops = ops; scope = record { vars = ws; next = next } }))
 
   by-parts~ : {A : Type 0} {W : A → A → Type 0} (m n : Lowering A) → Parts~ W m n → Action~ W m n
   by-parts~ {W} m n h = record { run = go }
@@ -79,11 +79,11 @@ module _ (R : ℕ → ℕ → Type 0) where
   copy~ k = by-parts~ _ _ λ ops vs ws next v. ran~ equal (ctx~ v)
 
   pub fresh~ : Does~ fresh fresh
-  unfolding fresh
+  unfolding fresh issue
   fresh~ = by-parts~ _ _ λ ops vs ws next v. ran~ equal (ctx~ v)
 
   upcoming~ : Does~ upcoming upcoming
-  unfolding upcoming
+  unfolding upcoming issue
   upcoming~ = by-parts~ _ _ λ ops vs ws next v. ran~ equal (ctx~ v)
 
   pub pushSourceAll~ : Does~ pushSourceAll pushSourceAll
@@ -111,13 +111,13 @@ module _ (R : ℕ → ℕ → Type 0) where
     lookup~ []~ a b r = equal
     lookup~ (var~ {a = x} {b = y} {n = n} q ∷~ vs) a b r = found~ (eqb x a) (eqb y b) (one x y a b q r) n _ _ (lookup~ vs a b r)
 
-    numbered~ : (a b : ℕ) → R a b → (o p : Option ℕ) → Equal o p → Does~ (numbered a o) (numbered b p)
-    unfolding numbered
+    numbered~ : (a b : ℕ) → R a b → (o p : Option ℕ) → Equal o p → Does~ (issue (λ s. numbered a o s)) (issue (λ s. numbered b p s))
+    unfolding issue numbered
     numbered~ a b r none p equal = by-parts~ _ _ λ ops vs ws next v. ran~ equal (ctx~ (var~ r ∷~ v))
-    numbered~ a b r (some n) p equal = record { run = λ c d e. ran~ equal e }
+    numbered~ a b r (some n) p equal = by-parts~ _ _ λ ops vs ws next v. ran~ equal (ctx~ v)
 
     pub mapVar~ : (a b : ℕ) → R a b → Does~ (mapVar a) (mapVar b)
-    unfolding mapVar
+    unfolding mapVar issue
     mapVar~ a b r = by-parts~ _ _ λ ops vs ws next v. numbered~ a b r (lookup vs a) (lookup ws b) (lookup~ v a b r) .run _ _ (ctx~ v)
 
     pub endpointVar~ : {o p : Option ℕ} → Option~ R o p → Does~ (endpointVar o) (endpointVar p)

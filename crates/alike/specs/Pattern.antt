@@ -7,7 +7,7 @@ use mathlib.Core.Option.{Option, none, some}
 use lib.Dec.{eqb}
 use lib.ListN.{length}
 use Rattle.model.specs.Field.{RelLength}
-use Rattle.model.specs.Lower.{Recs, Lowering, _>>=_, source, filter, orSourceAll, Props, has, lowerProps, NodeStep, RelStep, Step, ofNode, ofRel, lowerRelElement, nodeRecs, filterByProps, Chain, startNode, expandTo, reach, lowerElement, lowerElements, rootOf, bindPath, lowerChain, lowerShortestPathPart, Shape, nodeRelNode, other, shapeOf, lowerShaped, lowerPatternPart, lowerParts, optionalJoin, lowerMatchPattern}
+use Rattle.model.specs.Lower.{Recs, Lowering, _>>=_, source, filter, orSourceAll, Props, has, lowerProps, NodeStep, RelStep, Step, ofNode, ofRel, lowerRelElement, nodeRecs, filterByProps, Chain, startNode, expandTo, reach, lowerElement, lowerElements, rootOf, bindPath, lowerChain, lowerShortestPathPart, Shape, nodeRelNode, other, shapeOf, lowerShaped, lowerPatternPart, furtherPart, lowerFurther, lowerParts, optionalJoin, lowerMatchPattern}
 use Rattle.alike.specs.Relation.{Option~, none~, some~, List~, []~, _∷~_}
 use Rattle.alike.specs.Action.{Action~, Does~, bind~, then~, gives~, ret~, push~, copy~, fresh~, orSourceAll~, mapVar~, endpointVar~}
 
@@ -130,11 +130,15 @@ module _ (R : ℕ → ℕ → Type 0) where
     lowerPatternPart~ n zero ss = lowerChain~ n ss
     lowerPatternPart~ n (suc k) ss = lowerShaped~ n (eqb k 1) ss (shapeOf~ ss)
 
+  lowerFurther~ : {ps qs : List (Lowering ℕ)} (root : ℕ) → List~ (λ m n. Does~ R m n) ps qs → Does~ R (lowerFurther root ps) (lowerFurther root qs)
+  unfolding lowerFurther furtherPart
+  lowerFurther~ root []~ = ret~ R root
+  lowerFurther~ root (p ∷~ ps) = then~ R p λ part. then~ R (ret~ R part) λ both. lowerFurther~ both ps
+
   lowerParts~ : {ps qs : List (Lowering ℕ)} → List~ (λ m n. Does~ R m n) ps qs → Does~ R (lowerParts ps) (lowerParts qs)
   unfolding lowerParts
   lowerParts~ []~ = then~ R (fresh~ R) λ bind. push~ R (source bind [])
-  lowerParts~ (p ∷~ []~) = p
-  lowerParts~ (p ∷~ q ∷~ ps) = then~ R p λ left. lowerParts~ (q ∷~ ps)
+  lowerParts~ (p ∷~ ps) = then~ R p λ root. lowerFurther~ root ps
 
   optionalJoin~ : (optional : Bool) (current : Option ℕ) (root : ℕ) → Does~ R (optionalJoin optional current root) (optionalJoin optional current root)
   unfolding optionalJoin

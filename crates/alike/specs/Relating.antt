@@ -10,7 +10,7 @@ use lib.Dec.{eqb}
 use lib.ListN.{getD}
 use lib.ListN as ListN
 use borrow.Author.Tests.{eqb-true, eqb-false}
-use Rattle.model.specs.Field.{Form, num, flag, var, varOrAbsent, numOrAbsent, int, float, text, alias, span, length, Val, Fields}
+use Rattle.model.specs.Field.{Form, num, flag, var, varOrAbsent, numOrAbsent, number, numberOrAbsent, int, float, text, alias, span, length, Val, Fields}
 use Rattle.model.specs.Kind.{Sort, Kind}
 use Rattle.model.specs.Record.{Rec, rec, forms}
 use Rattle.alike.specs.Statement.{blankVal, blankFields, blank, idsVal, idsFields, ids, Stands}
@@ -40,6 +40,8 @@ module _ (R : ℕ → ℕ → Type 0) where
   val~ varOrAbsent (some v) none s t e h = absurd (Option·some-ne-none _ e)
   val~ varOrAbsent (some v) (some w) s t e h = let x = head~ v w s t h in (some~ (x .0), x .1)
   val~ (numOrAbsent l) v w s t e h = (equally e, h)
+  val~ (number n) v w s t e h = (equally e, h)
+  val~ (numberOrAbsent n) v w s t e h = (equally e, h)
   val~ int v w s t e h = (equally e, h)
   val~ float v w s t e h = (equally e, h)
   val~ text v w s t e h = (equally e, h)

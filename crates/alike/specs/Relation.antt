@@ -2,7 +2,7 @@
 use Prim.Native.Nat.{ℕ, zero, suc}
 use mathlib.Core.List.{List, [], _∷_}
 use mathlib.Core.Option.{Option, none, some}
-use Rattle.model.specs.Field.{Form, num, flag, var, varOrAbsent, numOrAbsent, int, float, text, alias, span, length, Val, Fields}
+use Rattle.model.specs.Field.{Form, num, flag, var, varOrAbsent, numOrAbsent, number, numberOrAbsent, int, float, text, alias, span, length, Val, Fields}
 use Rattle.model.specs.Kind.{Sort, Kind}
 use Rattle.model.specs.Record.{Group, forms, children}
 use Rattle.model.specs.Tree.{Tree, Trees, Forest, node, []ᵗ, _∷ᵗ_, end, _▸_}
@@ -29,6 +29,8 @@ module _ (R : ℕ → ℕ → Type 0) where
   Val~ var a b = R a b
   Val~ varOrAbsent a b = Option~ R a b
   Val~ (numOrAbsent l) a b = Equal a b
+  Val~ (number n) a b = Equal a b
+  Val~ (numberOrAbsent n) a b = Equal a b
   Val~ int a b = Equal a b
   Val~ float a b = Equal a b
   Val~ text a b = Equal a b

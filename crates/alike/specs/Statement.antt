@@ -8,7 +8,7 @@ use mathlib.Core.Option.{Option, none, some}
 use lib.ListN as ListN
 use lib.ListN.{getD, take}
 use Rattle.model.specs.Text.{Bytes}
-use Rattle.model.specs.Field.{Form, num, flag, var, varOrAbsent, numOrAbsent, int, float, text, alias, span, length, Val, Fields}
+use Rattle.model.specs.Field.{Form, num, flag, var, varOrAbsent, numOrAbsent, number, numberOrAbsent, int, float, text, alias, span, length, Val, Fields}
 use Rattle.model.specs.Kind.{Clause, Expr, statement, unionArm, clause, projection, expr, inPlan, plan, mapped}
 use Rattle.model.specs.Record.{Rec, rec, forms, spellRecs}
 use Rattle.model.specs.Tree.{Tree, Trees, node, []ᵗ, _∷ᵗ_, end, _▸_, records}
@@ -29,6 +29,8 @@ blankVal var n = 0
 blankVal varOrAbsent none = none
 blankVal varOrAbsent (some n) = some 0
 blankVal (numOrAbsent l) o = o
+blankVal (number n) k = k
+blankVal (numberOrAbsent n) o = o
 blankVal int z = z
 blankVal float n = n
 blankVal text t = t
@@ -51,6 +53,8 @@ idsVal var n = n ∷ []
 idsVal varOrAbsent none = []
 idsVal varOrAbsent (some n) = n ∷ []
 idsVal (numOrAbsent l) o = []
+idsVal (number n) k = []
+idsVal (numberOrAbsent n) o = []
 idsVal int z = []
 idsVal float n = []
 idsVal text t = []

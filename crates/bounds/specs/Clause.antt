@@ -7,11 +7,11 @@ use mathlib.Core.Option.{Option}
 use Rattle.model.specs.Text.{Bytes}
 use Rattle.model.specs.Kind.{Clause, Expr}
 use Rattle.model.specs.Kind.{statement, unionArm, clause, projection, orderItem, yieldItem, expr}
-use Rattle.model.specs.Record.{Rec}
+use Rattle.model.specs.Record.{Rec, inputs, ofOption}
 use Rattle.model.specs.Tree.{Tree, Trees, node, []ᵗ, _∷ᵗ_, end, _▸_}
 use Rattle.model.specs.Lower.{filter, item, lowerProjections, isAggregateFunc}
 use Rattle.model.specs.Lower.{Split, noSplit, withKey, withAgg, lowerKey, lowerCallItem, lowerItem, splitProjectionsAgg, lowerKeys, orderBy, overExpr, lowerTrailers, lowerYields, distinctIf, aggregateIf, lowerClause, lowerClauses, lowerArms, lower}
-use Rattle.bounds.specs.Earlier.{All, []ᵃ, _∷ᵃ_, all-append, Low, raise, inputs, ofOption}
+use Rattle.bounds.specs.Earlier.{All, []ᵃ, _∷ᵃ_, all-append, Low, raise}
 use Rattle.bounds.specs.Fine.{Post, Fine, Old, Lows, bind✓, within, ret✓, push✓, mapVar✓, Before, nothing, operator, before-raise, orSourceAll✓}
 use Rattle.bounds.specs.Pattern.{lowerMatchPattern✓}
 use Rattle.bounds.specs.Size.{size, sizeOf, sizeOf-pos}
@@ -186,7 +186,7 @@ lowerClause✓ (node clause line Clause.Call (procedure, (args, (yields, (option
     within
     (bind✓ (lowerExprs✓ es) λ rs n₁ le₁ low₁.
     bind✓ (lowerYields✓ ys) λ ss n₂ le₂ low₂.
-    bind✓ (push✓ (call-input (before-raise (le-trans le₁ le₂) before) ∷ᵃ all-append (raise le₂ low₁) low₂)) λ k n₃ le₃ lt₃.
+    bind✓ (push✓ (all-append (call-input (before-raise (le-trans le₁ le₂) before)) []ᵃ ∷ᵃ all-append (raise le₂ low₁) low₂)) λ k n₃ le₃ lt₃.
     ret✓ _ (operator lt₃))
     (omega arith) (omega arith)
 lowerClause✓ (node clause line Clause.Write f kids) before = within (ret✓ _ before) (omega arith) (omega arith)

@@ -9,11 +9,7 @@ use mathlib.Core.Path.{_≡_, refl}
 use lib.Dec.{eqb}
 use lib.ListN.{length}
 use borrow.Author.Tests.{eqb-true}
-use Rattle.model.specs.Field.{Fields}
-use Rattle.model.specs.Kind.{Sort, PlanSort, Kind, PlanKind, ReadOp}
-use Rattle.model.specs.Kind.{statement, unionArm, clause, projection, orderItem, patternPart, patternElement, name, yieldItem, entry, expr, inPlan}
-use Rattle.model.specs.Kind.{plan, readOp, relSpec, nodeSpec, planProjection, aggExpr, orderKey, pathElement, mapped, planEntry, planExpr}
-use Rattle.model.specs.Record.{Rec, forms, planForms, opForms}
+use Rattle.model.specs.Record.{Rec, inputs}
 use Rattle.model.specs.Lower.{Recs, at}
 
 -- every element of a list
@@ -31,60 +27,6 @@ all-map f []ᵃ = []ᵃ
 all-map f (_∷ᵃ_ {a = a} p ps) = f a p ∷ᵃ all-map f ps
 
 -- ── inputs ──
-
-abbrev pub ofOption : Option ℕ → List ℕ
-ofOption none = []
-ofOption (some k) = k ∷ []
-
--- the numbers under input, left and right
-abbrev pub opInputs : (k : ReadOp) → Fields (opForms k) → List ℕ
-opInputs ReadOp.Source f = []
-opInputs ReadOp.Expand (input, _) = input ∷ []
-opInputs ReadOp.Filter (input, _) = input ∷ []
-opInputs ReadOp.Project (input, _) = input ∷ []
-opInputs ReadOp.Aggregate (input, _) = input ∷ []
-opInputs ReadOp.OrderBy (input, _) = input ∷ []
-opInputs ReadOp.Skip (input, _) = input ∷ []
-opInputs ReadOp.Limit (input, _) = input ∷ []
-opInputs ReadOp.Distinct (input, _) = input ∷ []
-opInputs ReadOp.Unwind (input, _) = input ∷ []
-opInputs ReadOp.Union (left, (right, _)) = left ∷ right ∷ []
-opInputs ReadOp.With (input, _) = input ∷ []
-opInputs ReadOp.OptionalJoin (input, _) = input ∷ []
-opInputs ReadOp.ShortestPath (input, _) = input ∷ []
-opInputs ReadOp.BindPath (input, _) = input ∷ []
-opInputs ReadOp.ProcedureCall (input, _) = ofOption input
-
--- a record that is no operator has none
-abbrev pub planInputs : (p : PlanSort) (k : PlanKind p) → Fields (planForms p k) → List ℕ
-planInputs plan k f = []
-planInputs readOp k f = opInputs k f
-planInputs relSpec k f = []
-planInputs nodeSpec k f = []
-planInputs planProjection k f = []
-planInputs aggExpr k f = []
-planInputs orderKey k f = []
-planInputs pathElement k f = []
-planInputs mapped k f = []
-planInputs planEntry k f = []
-planInputs planExpr k f = []
-
-abbrev pub sortInputs : (s : Sort) (k : Kind s) → Fields (forms s k) → List ℕ
-sortInputs statement k f = []
-sortInputs unionArm k f = []
-sortInputs clause k f = []
-sortInputs projection k f = []
-sortInputs orderItem k f = []
-sortInputs patternPart k f = []
-sortInputs patternElement k f = []
-sortInputs name k f = []
-sortInputs yieldItem k f = []
-sortInputs entry k f = []
-sortInputs expr k f = []
-sortInputs (inPlan p) k f = planInputs p k f
-
-abbrev pub inputs : Rec → List ℕ
-inputs r = sortInputs (r .sort) (r .kind) (r .fields)
 
 -- every input in some records is below n. An operator is its records, those of its copies among them.
 abbrev pub Low : ℕ → Recs → Type 0

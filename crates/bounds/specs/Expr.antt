@@ -4,12 +4,12 @@ use native.Mathlib.Omega.{arith}
 use mathlib.Core.Bool.{Bool, true, false}
 use mathlib.Core.List.{List, [], _∷_}
 use Rattle.model.specs.Field.{Fields}
-use Rattle.model.specs.Kind.{Sort, Kind, PatternElement, Expr}
+use Rattle.model.specs.Kind.{Sort, Kind, PatternElement, Same, Expr, PlanExpr}
 use Rattle.model.specs.Kind.{statement, unionArm, clause, projection, orderItem, patternPart, patternElement, name, yieldItem, entry, expr, inPlan}
-use Rattle.model.specs.Record.{Rec, Group, one, forms, exprForms, elementForms, children, exprChildren, elementChildren, arity}
+use Rattle.model.specs.Record.{Rec, Group, one, forms, sameForms, exprForms, elementForms, children, exprChildren, elementChildren, arity, inputs}
 use Rattle.model.specs.Tree.{Tree, Trees, Forest, node, []ᵗ, _∷ᵗ_, end, _▸_, Many, toList, Results, fold, foldOf, foldIn}
-use Rattle.model.specs.Lower.{Recs, Lowering, inOrder, propsOf, Lowered, over, exprStep, elementStep, made, lowerExpr, lowerExprs, lowerPattern}
-use Rattle.bounds.specs.Earlier.{All, []ᵃ, _∷ᵃ_, all-append, Low, raise, inputs}
+use Rattle.model.specs.Lower.{Recs, Lowering, inOrder, planned, propsOf, Lowered, over, exprStep, elementStep, made, lowerExpr, lowerExprs, lowerPattern}
+use Rattle.bounds.specs.Earlier.{All, []ᵃ, _∷ᵃ_, all-append, Low, raise}
 use Rattle.bounds.specs.Fine.{Fine, Old, Lows, bind✓, within, ret✓, copy✓, mapVar✓, nothing}
 use Rattle.bounds.specs.Pattern.{Cheap, cheaper, Each, []ˢ, each, more, PropsOf, without, with, StepOf, isNode, isRel, lowerPatternPart✓, lowerMatchPattern✓}
 use Rattle.bounds.specs.Size.{size, sizeOf, sizeIn}
@@ -48,9 +48,27 @@ pub over✓ : {n w : ℕ} (r : Rec) (i : ℕ) (es : Many (Lowering Recs) i) → 
 unfolding over
 over✓ {n} r i es low h = within (bind✓ (inOrder✓ n h) λ rs n′ le low′. ret✓ _ (all-append (raise (omega arith) (low ∷ᵃ []ᵃ)) low′)) (omega arith) (omega arith)
 
+-- an expression that is the same record in both sheets names no operator
+same-inputs : (h : Same) (f : Fields (sameForms h)) → All (λ k. k < 0) (inputs (planned (PlanExpr.Over h) f))
+same-inputs Same.Null f = []ᵃ
+same-inputs Same.Bool f = []ᵃ
+same-inputs Same.Int f = []ᵃ
+same-inputs Same.Float f = []ᵃ
+same-inputs Same.String f = []ᵃ
+same-inputs Same.Param f = []ᵃ
+same-inputs Same.Prop f = []ᵃ
+same-inputs Same.Index f = []ᵃ
+same-inputs Same.Slice f = []ᵃ
+same-inputs Same.List f = []ᵃ
+same-inputs Same.BinOp f = []ᵃ
+same-inputs Same.UnaryOp f = []ᵃ
+same-inputs Same.Case f = []ᵃ
+same-inputs Same.IsNull f = []ᵃ
+same-inputs Same.InList f = []ᵃ
+
 pub exprStep✓ : (k : Expr) (f : Fields (exprForms k)) (r : Results Lowered (exprChildren k f)) (w : ℕ) → MadeIn (exprChildren k f) w r → Cheap Lows (suc w) (exprStep k f r)
 unfolding exprStep
-exprStep✓ (Expr.Over same) f (es, _) w h = record { from = λ n. within (over✓ _ (arity same f) es []ᵃ (h .3)) (omega (arith, h .2)) (omega (arith, h .2)) }
+exprStep✓ (Expr.Over same) f (es, _) w h = record { from = λ n. within (over✓ _ (arity same f) es (same-inputs same f) (h .3)) (omega (arith, h .2)) (omega (arith, h .2)) }
 exprStep✓ Expr.Var (id, _) r w h = record { from = λ n. within (bind✓ (mapVar✓ id) λ b n′ le _. ret✓ _ ([]ᵃ ∷ᵃ []ᵃ)) (omega arith) (omega arith) }
 exprStep✓ Expr.Map (i, _) (es, _) w h = record { from = λ n. within (over✓ _ i es []ᵃ (h .3)) (omega (arith, h .2)) (omega (arith, h .2)) }
 exprStep✓ Expr.Call (func, (i, _)) (es, _) w h = record { from = λ n. within (over✓ _ i es []ᵃ (h .3)) (omega (arith, h .2)) (omega (arith, h .2)) }

@@ -6,7 +6,7 @@ use mathlib.Core.List.{List, [], _∷_}
 use mathlib.Core.Option.{Option, none, some}
 use mathlib.Core.Path.{_≡_, refl, subst}
 use lib.ListN.{length}
-use Rattle.model.specs.Lower.{Recs, LowerCtx, Lowering, _>>=_, ret, push, copy, lookup, numbered, mapVar, fresh, upcoming, endpointVar, source, pushSourceAll, orSourceAll}
+use Rattle.model.specs.Lower.{Recs, LowerCtx, Lowering, _>>=_, ret, push, copy, lookup, issue, numbered, mapVar, fresh, upcoming, endpointVar, source, pushSourceAll, orSourceAll}
 use Rattle.bounds.specs.Earlier.{[]ᵃ, _∷ᵃ_, Low, Earlier, _∷ᵉ_, copy-low}
 
 -- mapped variables, the newest first: each number is below the one before it, and the first below a bound
@@ -21,13 +21,13 @@ falling-raise le (lt ∷ᶠ vs) = lt-of-lt-of-le lt le ∷ᶠ vs
 
 pub record Good (c : LowerCtx) : Type 0 where
   pub earlier : Earlier (c .ops)
-  pub falling : Falling (c .next) (c .vars)
+  pub falling : Falling (c .scope .next) (c .scope .vars)
 
 -- between two states: no operator is lost, at most k are added, and at most j numbers issued
 pub record Spent (k j : ℕ) (c d : LowerCtx) : Type 0 where
   pub kept : length (c .ops) ≤ length (d .ops)
   pub added : length (d .ops) ≤ length (c .ops) + k
-  pub issued : d .next ≤ c .next + j
+  pub issued : d .scope .next ≤ c .scope .next + j
 
 -- a result with the number of operators behind it
 abbrev pub Post : Type 0 → Type 1
@@ -85,21 +85,21 @@ pub copy✓ : {n : ℕ} (k : ℕ) → Fine n Lows 0 0 (copy k)
 unfolding copy
 copy✓ k = record { run = λ c e good. record { good = good; spent = still c; post = copy-low (good .earlier) k } }
 
-pub numbered✓ : {n : ℕ} (id : ℕ) (o : Option ℕ) → Fine n Any 0 1 (numbered id o)
-unfolding numbered
+pub numbered✓ : {n : ℕ} (id : ℕ) (o : Option ℕ) → Fine n Any 0 1 (issue (λ s. numbered id o s))
+unfolding issue numbered
 numbered✓ id none = record { run = λ c e good. record { good = record { earlier = good .earlier; falling = le-refl _ ∷ᶠ good .falling }; spent = record { kept = omega arith; added = omega arith; issued = omega arith }; post = tt } }
 numbered✓ id (some k) = record { run = λ c e good. record { good = good; spent = record { kept = omega arith; added = omega arith; issued = omega arith }; post = tt } }
 
 pub mapVar✓ : {n : ℕ} (id : ℕ) → Fine n Any 0 1 (mapVar id)
-unfolding mapVar
-mapVar✓ id = record { run = λ c e good. numbered✓ id (lookup (c .vars) id) .run c e good }
+unfolding mapVar issue
+mapVar✓ id = record { run = λ c e good. numbered✓ id (lookup (c .scope .vars) id) .run c e good }
 
 pub fresh✓ : {n : ℕ} → Fine n Any 0 1 fresh
-unfolding fresh
+unfolding fresh issue
 fresh✓ = record { run = λ c e good. record { good = record { earlier = good .earlier; falling = falling-raise (omega arith) (good .falling) }; spent = record { kept = omega arith; added = omega arith; issued = omega arith }; post = tt } }
 
 pub upcoming✓ : {n : ℕ} → Fine n Any 0 0 upcoming
-unfolding upcoming
+unfolding upcoming issue
 upcoming✓ = record { run = λ c e good. record { good = good; spent = still c; post = tt } }
 
 pub endpointVar✓ : {n : ℕ} (o : Option ℕ) → Fine n Any 0 1 (endpointVar o)

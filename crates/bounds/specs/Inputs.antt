@@ -4,7 +4,8 @@ use mathlib.Core.Path.{refl}
 use Rattle.model.specs.Kind.{statement}
 use Rattle.model.specs.Tree.{Tree}
 use Rattle.model.specs.Lower.{at, empty, lowerStatement}
-use Rattle.bounds.specs.Earlier.{All, Earlier, []ᵉ, inputs, at-low}
+use Rattle.model.specs.Record.{inputs}
+use Rattle.bounds.specs.Earlier.{All, Earlier, []ᵉ, at-low}
 use Rattle.bounds.specs.Fine.{Good, []ᶠ}
 use Rattle.bounds.specs.Clause.{lower✓}
 

@@ -7,7 +7,7 @@ use mathlib.Core.List.{List, [], _∷_}
 use mathlib.Core.Option.{Option, none, some}
 use lib.Dec.{eqb}
 use Rattle.model.specs.Lower.{Recs, Lowering, source, filter}
-use Rattle.model.specs.Lower.{Props, lowerProps, NodeStep, RelStep, Step, ofNode, ofRel, lowerRelElement, nodeRecs, filterByProps, Chain, startNode, expandTo, reach, lowerElement, lowerElements, rootOf, pathElements, bindPath, lowerChain, lowerShortestPathPart, shapeOf, lowerShaped, lowerPatternPart, lowerParts, optionalJoin, lowerMatchPattern}
+use Rattle.model.specs.Lower.{Props, lowerProps, NodeStep, RelStep, Step, ofNode, ofRel, lowerRelElement, nodeRecs, filterByProps, Chain, startNode, expandTo, reach, lowerElement, lowerElements, rootOf, pathElements, bindPath, lowerChain, lowerShortestPathPart, shapeOf, lowerShaped, lowerPatternPart, furtherPart, lowerFurther, lowerParts, optionalJoin, lowerMatchPattern}
 use Rattle.bounds.specs.Earlier.{[]ᵃ, _∷ᵃ_, all-append, Low, raise}
 use Rattle.bounds.specs.Fine.{Post, Fine, Old, Lows, bind✓, within, ret✓, push✓, copy✓, mapVar✓, fresh✓, endpointVar✓, Before, nothing, operator, before-raise, orSourceAll✓}
 
@@ -176,11 +176,15 @@ lowerPatternPart✓ o (suc k) steps = lowerShaped✓ o (eqb k 1) steps
 -- ── the parts of a match ──
 
 -- with no parts the record around them pays for the source
+lowerFurther✓ : {w n root : ℕ} {l : List (Lowering ℕ)} → root < n → Each (λ u m. Cheap Old u m) w l → Fine n Old (2 * w) w (lowerFurther root l)
+unfolding lowerFurther furtherPart
+lowerFurther✓ lt []ˢ = within (ret✓ _ lt) (omega arith) (omega arith)
+lowerFurther✓ {n = n} lt (each l p ps) = within (bind✓ (p .from n) λ part n₁ le₁ lt₁. bind✓ (ret✓ part lt₁) λ both n₂ le₂ lt₂. lowerFurther✓ lt₂ ps) (omega arith) (omega arith)
+
 pub lowerParts✓ : {w : ℕ} {l : List (Lowering ℕ)} (n : ℕ) → Each (λ u m. Cheap Old u m) w l → Fine n Old (2 * w + 1) (w + 1) (lowerParts l)
 unfolding lowerParts source
 lowerParts✓ n []ˢ = within (bind✓ fresh✓ λ b n′ le _. push✓ ([]ᵃ ∷ᵃ []ᵃ)) (omega arith) (omega arith)
-lowerParts✓ n (each l p []ˢ) = within (p .from n) (omega arith) (omega arith)
-lowerParts✓ n (each l p (each k q r)) = within (bind✓ (p .from n) λ left n′ le _. lowerParts✓ n′ (each k q r)) (omega arith) (omega arith)
+lowerParts✓ n (each l p ps) = within (bind✓ (p .from n) λ root n′ le lt. lowerFurther✓ lt ps) (omega arith) (omega arith)
 
 pub optionalJoin✓ : {n root : ℕ} {o : Option ℕ} (optional : Bool) → Before n o → root < n → Fine n Old 1 0 (optionalJoin optional o root)
 unfolding optionalJoin

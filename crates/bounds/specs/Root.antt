@@ -11,7 +11,7 @@ use Rattle.model.specs.Kind.{PatternElement, ReadOp, patternPart, patternElemen
 use Rattle.model.specs.Record.{Rec, one, opForms}
 use Rattle.model.specs.Tree.{Tree, Trees, node, []ᵗ, _∷ᵗ_, end, _▸_, Many, toList, fold, foldOf}
 use Rattle.model.specs.Lower.{Recs, LowerCtx, Lowering, op, _>>=_, ret, push, source, filter, pushSourceAll, orSourceAll}
-use Rattle.model.specs.Lower.{Props, NodeStep, RelStep, ofNode, ofRel, propsOf, filterByProps, Chain, startNode, expandTo, reach, lowerElement, lowerElements, rootOf, bindPath, lowerChain, lowerShortestPathPart, shapeOf, lowerShaped, lowerPatternPart, lowerParts, Lowered, elementStep, made, lowerPattern}
+use Rattle.model.specs.Lower.{Props, NodeStep, RelStep, ofNode, ofRel, propsOf, filterByProps, Chain, startNode, expandTo, reach, lowerElement, lowerElements, rootOf, bindPath, lowerChain, lowerShortestPathPart, shapeOf, lowerShaped, lowerPatternPart, furtherPart, lowerFurther, lowerParts, Lowered, elementStep, made, lowerPattern}
 use Rattle.bounds.specs.Ends.{Ending, endingOf, started, chainBehind, chainEnd, elementKinds, nodeRelNode, special, namedEnd, partEnd, matchEnd}
 
 -- the number is that of the last operator, and its first record is such an ending
@@ -206,8 +206,12 @@ pub part-ends : (p : Tree patternPart) → Leads Always (λ n ops. Newest (partE
 unfolding partEnd fold made
 part-ends (node patternPart line k (o, (shortest, _)) (es ▸ end)) = shortness-ends o shortest es
 
+further-ends : {i : ℕ} (p : Tree patternPart) (ps : Trees patternPart i) (root : ℕ) → Leads (λ ops. Newest (partEnd p) root ops) (λ n ops. Newest (matchEnd (p ∷ᵗ ps)) n ops) (lowerFurther root (lowerPattern ps))
+unfolding matchEnd lowerPattern lowerFurther furtherPart
+further-ends p []ᵗ root = gives root
+further-ends p (q ∷ᵗ ps) root = given λ ops h. then (part-ends q) λ part. then (gives part) λ both. further-ends q ps both
+
 pub parts-ends : {i : ℕ} (ps : Trees patternPart i) → Leads Always (λ n ops. Newest (matchEnd ps) n ops) (lowerParts (lowerPattern ps))
 unfolding matchEnd lowerPattern lowerParts source
 parts-ends []ᵗ = then any λ b. pushes ReadOp.Source _ _
-parts-ends (p ∷ᵗ []ᵗ) = part-ends p
-parts-ends (p ∷ᵗ q ∷ᵗ ps) = then any λ left. parts-ends (q ∷ᵗ ps)
+parts-ends (p ∷ᵗ ps) = then (part-ends p) λ root. further-ends p ps root

@@ -14,7 +14,8 @@ use Rattle.model.specs.Tree.{Tree, Trees, []ᵗ, _∷ᵗ_}
 use Rattle.model.specs.Lower.{Recs, _>>=_, ret, push, op, lowerExpr, lowerExprs, lowerYields, lowerClause}
 use Rattle.words.specs.Words.{Roomy, cell, optionOf}
 use Rattle.words.specs.Held.{Held, sizeOf}
-use Rattle.context.specs.Tables.{Op, Pushed}
+use Rattle.context.specs.Tables.{Pushed}
+use Rattle.context.specs.declared.op.Op.{Op}
 use Rattle.context.specs.declared.LowerCtx.{LowerCtx}
 use Rattle.lower.specs.Shows.{shift, Sane, shows-call}
 use Rattle.lower.specs.Rep.{State, Mem, mem, Written, Sub, Rep, Indexes}

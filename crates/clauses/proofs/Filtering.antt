@@ -11,7 +11,8 @@ use Rattle.model.specs.Tree.{Tree}
 use Rattle.model.specs.Lower.{Recs, _>>=_, ret, push, op, filter, orSourceAll, lowerExpr, lowerClause}
 use Rattle.words.specs.Words.{Roomy, cell}
 use Rattle.words.specs.Held.{Held}
-use Rattle.context.specs.Tables.{Op, Pushed}
+use Rattle.context.specs.Tables.{Pushed}
+use Rattle.context.specs.declared.op.Op.{Op}
 use Rattle.context.specs.declared.LowerCtx.{LowerCtx}
 use Rattle.lower.specs.Shows.{shift, shows-filter}
 use Rattle.lower.specs.Rep.{State, Mem, mem, Written, Rep}

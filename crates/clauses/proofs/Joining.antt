@@ -12,7 +12,8 @@ use Rattle.model.specs.Tree.{Tree, Trees}
 use Rattle.model.specs.Lower.{Recs, _>>=_, ret, push, op, orSourceAll, lowerClauses}
 use Rattle.words.specs.Words.{Roomy, cell}
 use Rattle.words.specs.Held.{Held, HeldSome, HeldMany}
-use Rattle.context.specs.Tables.{Op, Pushed}
+use Rattle.context.specs.Tables.{Pushed}
+use Rattle.context.specs.declared.op.Op.{Op}
 use Rattle.context.specs.declared.LowerCtx.{LowerCtx}
 use Rattle.lower.specs.Shows.{Sane, shows-union}
 use Rattle.lower.specs.Rep.{State, Mem, mem, Written, Rep}

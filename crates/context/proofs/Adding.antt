@@ -7,13 +7,13 @@ use native.Mathlib.Numerals.{add-one}
 use native.Mathlib.Omega.{arith}
 use lib.ListN.{length, getD, set, length-set}
 use lib.Seq.{getD-set-same, getD-set-other}
-use Rattle.model.specs.Lower.{lookup, mapVar, numbered}
-use Rattle.context.specs.Tables.{varsOf, foundOf, Linked, Issued}
+use Rattle.model.specs.Lower.{lookup, issue, mapVar, numbered}
+use Rattle.context.specs.Tables.{varsOf, foundOf, Entered, Issued, varWords, maxVars}
 use Rattle.context.specs.declared.LowerCtx.{LowerCtx}
 use Rattle.context.specs.declared.index.Found.the-variants.{Nothing}
 use Rattle.context.proofs.Laws.{vars-same, found-none}
 
-module _ (c : LowerCtx) (vs vs₁ : List ℕ) (id : ℕ) (h : c .mapped < 4352) (l : 11776 ≤ length vs) (d : Linked (c .mapped) id vs vs₁) where
+module _ (c : LowerCtx) (vs vs₁ : List ℕ) (id : ℕ) (h : c .mapped < maxVars) (l : varWords ≤ length vs) (d : Entered (c .mapped) id vs vs₁) where
   abbrev vs′ : List ℕ
   vs′ = set (set vs₁ (c .mapped * 2) id) (c .mapped * 2 + 1) (c .next)
 
@@ -33,7 +33,7 @@ module _ (c : LowerCtx) (vs vs₁ : List ℕ) (id : ℕ) (h : c .mapped < 4352) 
   below q g = other q (omega arith) (omega arith) ∙ d .vars q (omega arith)
 
   pub new-var : foundOf (lookup (varsOf n vs) id) ≡ Nothing → Issued (mapVar id) c vs vs′ (record { number = c .next; ctx = record { ops = c .ops; next = c .next + 1; mapped = c .mapped + 1 } })
-  unfolding mapVar numbered varsOf
+  unfolding mapVar issue numbered varsOf
   new-var f =
       let e : lookup (varsOf n vs) id ≡ none = found-none _ f in
       let z : varsOf n vs′ ≡ varsOf n vs = vars-same n vs vs′ below in

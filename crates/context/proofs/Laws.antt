@@ -9,13 +9,17 @@ use lib.ListN.{length, take, drop, getD, set, length-set}
 use lib.Seq.{take-all, getD-set-same, getD-set-other, drop-set-lt, drop-at, length-take-le, getD-take}
 use lib.ListN.{List·getD-append, length-drop, drop-of-length-le}
 use borrow.Author.Tests.{eq-eqb, ne-eqb}
-use Rattle.model.specs.Lower.{lookup, mapVar, numbered, fresh, endpointVar}
+use Rattle.model.specs.Lower.{lookup, issue, mapVar, numbered, fresh, endpointVar}
 use Rattle.words.specs.Words.{optionOf}
-use Rattle.context.specs.Tables.{varsOf, foundOf, Op, opAt, Indexed, Issued, Notes, Numbers, Pushed}
+use Rattle.context.specs.Tables.{varsOf, foundOf, Op, opAt, maxStored, opWords, Indexed, Issued, NoteWritten, Numbers, Pushed, varsAt}
+use Rattle.context.specs.Ops.{bindOf}
+use Rattle.context.specs.declared.Bind.{Bind}
+use Rattle.context.specs.declared.Bind.the-variants as bind
 use Rattle.context.specs.declared.LowerCtx.{LowerCtx}
 use Rattle.context.specs.declared.Numbered.{Numbered}
 use Rattle.context.specs.declared.index.Found.{Found}
 use Rattle.context.specs.declared.index.Found.the-variants.{At, Nothing}
+use Rattle.model.specs.Call.{workWords}
 
 -- ── looking up ──
 
@@ -72,48 +76,43 @@ found-some none n e = absurd (subst Told (sym e) tt)
 found-some (some k) n e = ap some (ap told e)
 
 pub old-var : (c : LowerCtx) (vs : List ℕ) (id n : ℕ) {r : Found} → r ≡ foundOf (lookup (varsOf (c .mapped) vs) id) → r ≡ At n → Issued (mapVar id) c vs vs (record { number = n; ctx = c })
-unfolding mapVar numbered
+unfolding mapVar issue numbered
 old-var c vs id n h e = record { is = λ ops. rw (found-some _ n (sym h ∙ e)); ops = refl; low = omega arith; met = omega arith; index = λ x. x }
 
 -- ── notes ──
 
-pub notes : (rest : List ℕ) (place v : ℕ) → place < 4608 → 16384 ≤ length rest → Notes place v rest (set rest place v)
-notes rest place v h l = record { noted = record { here = getD-set-same rest place v 0 (omega arith); other = λ q _ e. getD-set-other rest place q v 0 e }; vars = drop-set-lt 4608 rest place v h }
+pub notes : (rest : List ℕ) (place v : ℕ) → place < varsAt → workWords ≤ length rest → NoteWritten place v rest (set rest place v)
+notes rest place v h l = record { noted = record { here = getD-set-same rest place v 0 (omega arith); other = λ q _ e. getD-set-other rest place q v 0 e }; vars = drop-set-lt varsAt rest place v h }
 
 -- the variables' words, as a part behind the notes
-module _ (rest : List ℕ) (vs′ : List ℕ) (l : 16384 ≤ length rest) where
-  pub part-drop : drop 4608 (take 4608 rest ++ vs′) ≡ vs′
-  part-drop = drop-at (take 4608 rest) vs′ 4608 (length-take-le 4608 rest (omega arith))
+module _ (rest : List ℕ) (vs′ : List ℕ) (l : workWords ≤ length rest) where
+  pub part-drop : drop varsAt (take varsAt rest ++ vs′) ≡ vs′
+  part-drop = drop-at (take varsAt rest) vs′ varsAt (length-take-le varsAt rest (omega arith))
 
-  pub part-note : (q : ℕ) → q < 4608 → getD (take 4608 rest ++ vs′) q 0 ≡ getD rest q 0
-  part-note q h = List·getD-append (take 4608 rest) vs′ 0 q (rw (length-take-le 4608 rest (omega arith)) h) ∙ getD-take 4608 rest q 0 h
+  pub part-note : (q : ℕ) → q < varsAt → getD (take varsAt rest ++ vs′) q 0 ≡ getD rest q 0
+  part-note q h = List·getD-append (take varsAt rest) vs′ 0 q (rw (length-take-le varsAt rest (omega arith)) h) ∙ getD-take varsAt rest q 0 h
 
-pub index-part : (m n : ℕ) (rest : List ℕ) → n ≡ length rest - 4608 → Indexed m (drop 4608 rest) → Indexed m (take n (drop 4608 rest))
-index-part m n rest en x = rw (take-all n (drop 4608 rest) (rw (length-drop, en) (omega arith))) x
+pub index-part : (m n : ℕ) (rest : List ℕ) → n ≡ length rest - varsAt → Indexed m (drop varsAt rest) → Indexed m (take n (drop varsAt rest))
+index-part m n rest en x = rw (take-all n (drop varsAt rest) (rw (length-drop, en) (omega arith))) x
 
-pub number-law : (id place n : ℕ) (c : LowerCtx) (rest vs′ rest′ : List ℕ) (r : Numbered) → 16384 ≤ length rest → n ≡ length rest - 4608 → Issued (mapVar id) c (take n (drop 4608 rest)) vs′ r → Notes place (r .number) (take 4608 rest ++ (vs′ ++ drop n (drop 4608 rest))) rest′ → Numbers (mapVar id) place c rest rest′ r
+pub number-law : (id place n : ℕ) (c : LowerCtx) (rest vs′ rest′ : List ℕ) (r : Numbered) → workWords ≤ length rest → n ≡ length rest - varsAt → Issued (mapVar id) c (take n (drop varsAt rest)) vs′ r → NoteWritten place (r .number) (take varsAt rest ++ (vs′ ++ drop n (drop varsAt rest))) rest′ → Numbers (mapVar id) place c rest rest′ r
 number-law id place n c rest vs′ rest′ r l en i k =
-    let h : length (drop 4608 rest) ≤ n = rw (length-drop, en) (omega arith) in
-    let e₁ : take n (drop 4608 rest) ≡ drop 4608 rest = take-all n (drop 4608 rest) h in
-    let e₂ : vs′ ++ drop n (drop 4608 rest) ≡ vs′ = rw (drop-of-length-le (drop 4608 rest) h) (append-nil vs′) in
-    let k′ : Notes place (r .number) (take 4608 rest ++ vs′) rest′ = rw e₂ at k in
-    let i′ : Issued (mapVar id) c (drop 4608 rest) vs′ r = rw e₁ at i in
-    let e : drop 4608 rest′ ≡ vs′ = k′ .vars ∙ part-drop rest vs′ l in
+    let h : length (drop varsAt rest) ≤ n = rw (length-drop, en) (omega arith) in
+    let e₁ : take n (drop varsAt rest) ≡ drop varsAt rest = take-all n (drop varsAt rest) h in
+    let e₂ : vs′ ++ drop n (drop varsAt rest) ≡ vs′ = rw (drop-of-length-le (drop varsAt rest) h) (append-nil vs′) in
+    let k′ : NoteWritten place (r .number) (take varsAt rest ++ vs′) rest′ = rw e₂ at k in
+    let i′ : Issued (mapVar id) c (drop varsAt rest) vs′ r = rw e₁ at i in
+    let e : drop varsAt rest′ ≡ vs′ = k′ .vars ∙ part-drop rest vs′ l in
     record { issued = rw e i′; noted = record { here = k′ .noted .here; other = λ q h x. k′ .noted .other q h x ∙ part-note rest vs′ l q h } }
 
-pub unnamed-law : (named id place : ℕ) (c : LowerCtx) (rest rest′ : List ℕ) (r : Numbered) → named ≡ 0 → (r .number ≡ c .next) × (r .ctx .ops ≡ c .ops) × (r .ctx .next ≡ c .next + 1) × (r .ctx .mapped ≡ c .mapped) → Notes place (r .number) rest rest′ → Numbers (endpointVar (optionOf named id)) place c rest rest′ r
-unfolding endpointVar optionOf fresh
-unnamed-law named id place c rest rest′ r z f n =
-    record { issued = record { is = λ ops. rw (z, n .vars, f .0, f .2, f .3, add-one); ops = f .1; low = omega (arith, f .2); met = omega (arith, f .3); index = λ x. rw (n .vars, f .3) x }; noted = n .noted }
+pub unnamed-law : (b : Bind) (place : ℕ) (c : LowerCtx) (rest rest′ : List ℕ) (r : Numbered) → b ≡ bind.Unnamed → (r .number ≡ c .next) × (r .ctx .ops ≡ c .ops) × (r .ctx .next ≡ c .next + 1) × (r .ctx .mapped ≡ c .mapped) → NoteWritten place (r .number) rest rest′ → Numbers (endpointVar (bindOf b)) place c rest rest′ r
+unfolding endpointVar fresh issue
+unnamed-law b place c rest rest′ r z f n =
+    rw z (record { issued = record { is = λ ops. rw (n .vars, f .0, f .2, f .3, add-one); ops = f .1; low = omega (arith, f .2); met = omega (arith, f .3); index = λ x. rw (n .vars, f .3) x }; noted = n .noted })
 
-named-by : (named id : ℕ) → ((named ≡ 0) → ⊥) → optionOf named id ≡ some id
-unfolding optionOf
-named-by zero id h = absurd (h refl)
-named-by (suc n) id h = refl
-
-pub named-law : (named id place : ℕ) (c : LowerCtx) (rest rest′ : List ℕ) (r : Numbered) → ((named ≡ 0) → ⊥) → Numbers (mapVar id) place c rest rest′ r → Numbers (endpointVar (optionOf named id)) place c rest rest′ r
+pub named-law : (b : Bind) (id place : ℕ) (c : LowerCtx) (rest rest′ : List ℕ) (r : Numbered) → b ≡ bind.Var id → Numbers (mapVar id) place c rest rest′ r → Numbers (endpointVar (bindOf b)) place c rest rest′ r
 unfolding endpointVar
-named-law named id place c rest rest′ r z n = rw (named-by named id z) n
+named-law b id place c rest rest′ r z n = rw z n
 
 -- ── operators ──
 
@@ -136,11 +135,20 @@ run-at o b j (x ∷ xs) (suc p) h l =
     let g : b + suc j + length xs ≤ length (set o (b + j) x) = rw length-set (omega arith) in
     rw e (run-at (set o (b + j) x) b (suc j) xs p (omega arith) g)
 
-pub stored : (c : LowerCtx) (o : List ℕ) (a i n x y l z : ℕ) → c .ops < 2048 → 16384 ≤ length o → Pushed c (record { ops = c .ops + 1; next = c .next; mapped = c .mapped }) o (set (set (set (set (set (set (set o (c .ops * 8 + 1) a) (c .ops * 8 + 2) i) (c .ops * 8 + 3) n) (c .ops * 8 + 4) x) (c .ops * 8 + 5) y) (c .ops * 8 + 6) l) (c .ops * 8 + 7) z) (record { kind = a; idx = i; input = n; x = x; y = y; left = l; base = z })
+-- the words of an operator, one after another
+abbrev wordsOf : Op → List ℕ
+wordsOf op = op .kind ∷ op .idx ∷ op .input ∷ op .x ∷ op .y ∷ op .left ∷ op .base ∷ []
+
+pub stored : (c : LowerCtx) (o : List ℕ) (op : Op) → c .ops < maxStored → workWords ≤ length o → Pushed c (record {
+  ops = c .ops + 1;
+  next = c .next;
+  mapped = c .mapped;
+}) o (set (set (set (set (set (set (set o (c .ops * opWords + 1) (op .kind)) (c .ops * opWords + 2) (op .idx)) (c .ops * opWords + 3) (op .input))
+    (c .ops * opWords + 4) (op .x)) (c .ops * opWords + 5) (op .y)) (c .ops * opWords + 6) (op .left)) (c .ops * opWords + 7) (op .base)) op
 unfolding run opAt
-stored c o a i n x y l z h g =
-    let B : ℕ = c .ops * 8 in
-    let xs : List ℕ = a ∷ i ∷ n ∷ x ∷ y ∷ l ∷ z ∷ [] in
+stored c o op h g =
+    let B : ℕ = c .ops * opWords in
+    let xs : List ℕ = wordsOf op in
     let f : (p j : ℕ) → p < 7 → j ≡ 1 + p → getD (run o B 1 xs) (B + j) 0 ≡ getD xs p 0 = λ p j h′ e. (let e′ : B + j ≡ B + 1 + p = omega arith in rw e′ (run-at o B 1 xs p h′ (omega arith))) in
     record {
       count = refl;
@@ -148,9 +156,9 @@ stored c o a i n x y l z h g =
       mapped = refl;
       here = λ _. rw (f 0 1 (omega arith) refl, f 1 2 (omega arith) refl, f 2 3 (omega arith) refl, f 3 4 (omega arith) refl, f 4 5 (omega arith) refl, f 5 6 (omega arith) refl, f 6 7 (omega arith) refl);
       other = λ k l′ l″.
-          let r : (j : ℕ) → j < 8 → getD (run o B 1 xs) (k * 8 + j) 0 ≡ getD o (k * 8 + j) 0 = λ j h′. run-other o B 1 xs (k * 8 + j) (omega arith) in
+          let r : (j : ℕ) → j < 8 → getD (run o B 1 xs) (k * opWords + j) 0 ≡ getD o (k * opWords + j) 0 = λ j h′. run-other o B 1 xs (k * opWords + j) (omega arith) in
           rw (r 1 (omega arith), r 2 (omega arith), r 3 (omega arith), r 4 (omega arith), r 5 (omega arith), r 6 (omega arith), r 7 (omega arith));
     }
 
-pub not-stored : (c : LowerCtx) (o : List ℕ) (x : Op) → 2048 ≤ c .ops → Pushed c (record { ops = c .ops + 1; next = c .next; mapped = c .mapped }) o o x
+pub not-stored : (c : LowerCtx) (o : List ℕ) (x : Op) → maxStored ≤ c .ops → Pushed c (record { ops = c .ops + 1; next = c .next; mapped = c .mapped }) o o x
 not-stored c o x h = record { count = refl; next = refl; mapped = refl; here = λ l. absurd (omega arith); other = λ k l l′. refl }

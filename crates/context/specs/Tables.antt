@@ -1,4 +1,4 @@
--- How the work slices hold the state of the lowering: eight words an operator in one slice, of which the last seven are used; in the other the notes, and from word 4,608 on the named variables, two words each, then the index of the first of them, a word of links for each. Assumes nothing: these are definitions.
+-- How the work slices hold the state of the lowering: eight words an operator in one slice, of which the last seven are used; in the other the notes, and from word varsAt on the named variables, two words each, then the index of the first of them, a word of links for each. Assumes nothing: these are definitions.
 use mathlib.Core.Path.{_≡_}
 use Prim.Native.Nat.{ℕ, zero, suc, _+_, _*_, _-_, _/_, _%_, _≤_, _<_}
 use mathlib.Core.List.{List, [], _∷_}
@@ -6,6 +6,7 @@ use mathlib.Core.Bool.{cond}
 use lib.Dec.{eqb}
 use mathlib.Core.Option.{Option, none, some}
 use lib.ListN.{length, getD, drop, set}
+use Rattle.model.specs.Call.{workWords}
 use Rattle.model.specs.Lower.{Recs, Lowering}
 use Rattle.model.specs.Lower
 use Rattle.context.specs.declared.LowerCtx.{LowerCtx}
@@ -34,6 +35,14 @@ maxVars = 4352
 abbrev pub secondPass : ℕ
 secondPass = 2048
 
+-- operators and numbers are fewer, so that one more fits into a word
+abbrev pub maxCount : ℕ
+maxCount = 65536
+
+-- so many words at least stand behind the notes
+abbrev pub varWords : ℕ
+varWords = 11776
+
 -- the first n variables, the newest first
 unfoldable pub varsOf : ℕ → List ℕ → List (ℕ × ℕ)
 varsOf zero vs = []
@@ -49,31 +58,35 @@ maxIndexed = 2048
 abbrev pub linksAt : ℕ
 linksAt = 8704
 
+-- a word of links has two halves, each below this
+abbrev pub halfWord : ℕ
+halfWord = 65536
+
 -- the id of a variable
 abbrev pub idOf : List ℕ → ℕ → ℕ
 idOf vs j = getD vs (j * 2) 0
 
--- The half of a word of links that the last bit of `rest` names: the lower half for 0, the upper one for 1.
+-- The half of a word of links that the last bit of `bits` names: the lower half for 0, the upper one for 1.
 unfoldable pub half : ℕ → ℕ → ℕ
-half w rest = cond (eqb (rest % 2) 0) (w % 65536) (w / 65536)
+half w bits = cond (eqb (bits % 2) 0) (w % halfWord) (w / halfWord)
 
 -- a word of links of which that half, until now 0, is l
 unfoldable pub withHalf : ℕ → ℕ → ℕ → ℕ
-withHalf w rest l = cond (eqb (rest % 2) 0) (w + l) (w + l * 65536)
+withHalf w bits l = cond (eqb (bits % 2) 0) (w + l) (w + l * halfWord)
 
--- the child of variable p on the side that `rest` names, its place and one; 0 where there is none
+-- the child of variable p on the side that `bits` names, its place and one; 0 where there is none
 abbrev pub childOf : List ℕ → ℕ → ℕ → ℕ
-childOf vs p rest = half (getD vs (linksAt + p) 0) rest
+childOf vs p bits = half (getD vs (linksAt + p) 0) bits
 
--- The way down from variable p, for an id whose bits in `rest` are still to come, ends at variable j, the first one met that has the id.
+-- The way down from variable p, for an id whose bits in `bits` are still to come, ends at variable j, the first one met that has the id.
 pub data Leads (vs : List ℕ) (id : ℕ) : ℕ → ℕ → ℕ → Type 0 where
-  here : {rest p j : ℕ} → p ≡ j → idOf vs j ≡ id → Leads vs id rest p j
-  on : {rest p q j : ℕ} → ((idOf vs p ≡ id) → ⊥) → childOf vs p rest ≡ suc q → Leads vs id (rest / 2) q j → Leads vs id rest p j
+  here : {bits p j : ℕ} → p ≡ j → idOf vs j ≡ id → Leads vs id bits p j
+  on : {bits p q j : ℕ} → ((idOf vs p ≡ id) → ⊥) → childOf vs p bits ≡ suc q → Leads vs id (bits / 2) q j → Leads vs id bits p j
 
 -- The first n variables are a digital search tree: variable 0 is its root, the way down for a variable's id leads to it, and a child is a later variable. The words behind these do not matter, so that none need to be cleared before the first variable.
 pub record Treed (n : ℕ) (vs : List ℕ) : Type 0 where
   pub leads : (j : ℕ) → j < n → Leads vs (idOf vs j) (idOf vs j) 0 j
-  pub later : (j rest q : ℕ) → j < n → childOf vs j rest ≡ suc q → (j < q) × (q < n)
+  pub later : (j bits q : ℕ) → j < n → childOf vs j bits ≡ suc q → (j < q) × (q < n)
 
 -- the index is right for those of n variables that it has room for
 abbrev pub Indexed : ℕ → List ℕ → Type 0
@@ -82,26 +95,26 @@ Indexed n vs = Treed (n - (n - maxIndexed)) vs
 -- the first n variables keep their ids, and every child that one of them has
 pub record Kept (n : ℕ) (vs vs′ : List ℕ) : Type 0 where
   pub ids : (j : ℕ) → j < n → idOf vs′ j ≡ idOf vs j
-  pub children : (j rest q : ℕ) → j < n → childOf vs j rest ≡ suc q → childOf vs′ j rest ≡ suc q
+  pub children : (j bits q : ℕ) → j < n → childOf vs j bits ≡ suc q → childOf vs′ j bits ≡ suc q
 
--- The way down from the root for an id has come to variable p, with the bits in `rest` still to come: from p it leads to every variable that has the id, and what it leads to from p in a tree that keeps this one, it leads to from the root.
-pub record Descends (vs : List ℕ) (n id p rest : ℕ) : Type 0 where
+-- The way down from the root for an id has come to variable p, with the bits in `bits` still to come: from p it leads to every variable that has the id, and what it leads to from p in a tree that keeps this one, it leads to from the root.
+pub record Descends (vs : List ℕ) (n id p bits : ℕ) : Type 0 where
   pub low : p < n
-  pub all : (j : ℕ) → j < n → idOf vs j ≡ id → Leads vs id rest p j
-  pub back : (vs′ : List ℕ) (j : ℕ) → Kept n vs vs′ → Leads vs′ id rest p j → Leads vs′ id id 0 j
+  pub all : (j : ℕ) → j < n → idOf vs j ≡ id → Leads vs id bits p j
+  pub back : (vs′ : List ℕ) (j : ℕ) → Kept n vs vs′ → Leads vs′ id bits p j → Leads vs′ id id 0 j
 
 -- the way down has come to its end: to a variable that has the id, or to one that has no child on the side
-pub record Descended (vs : List ℕ) (n id p rest : ℕ) : Type 0 where
-  pub way : Descends vs n id p rest
-  pub end : ((idOf vs p ≡ id) → ⊥) → childOf vs p rest ≡ 0
+pub record Descended (vs : List ℕ) (n id p bits : ℕ) : Type 0 where
+  pub way : Descends vs n id p bits
+  pub end : ((idOf vs p ≡ id) → ⊥) → childOf vs p bits ≡ 0
 
 -- variable k is the root, or the child at the end of the way down for its id
 pub data Joined (k id : ℕ) (vs vs′ : List ℕ) : Type 0 where
   root : k ≡ 0 → vs′ ≡ vs → Joined k id vs vs′
-  child : (p rest : ℕ) → Descends vs k id p rest → childOf vs p rest ≡ 0 → vs′ ≡ set vs (linksAt + p) (withHalf (getD vs (linksAt + p) 0) rest (k + 1)) → Joined k id vs vs′
+  child : (p bits : ℕ) → Descends vs k id p bits → childOf vs p bits ≡ 0 → vs′ ≡ set vs (linksAt + p) (withHalf (getD vs (linksAt + p) 0) bits (k + 1)) → Joined k id vs vs′
 
 -- The words of the index for one more variable. Once the variable's own words are written too, the index is right for it.
-pub record Linked (k id : ℕ) (vs vs′ : List ℕ) : Type 0 where
+pub record Entered (k id : ℕ) (vs vs′ : List ℕ) : Type 0 where
   pub long : length vs′ ≡ length vs
   pub vars : (q : ℕ) → q < linksAt → getD vs′ q 0 ≡ getD vs q 0
   pub index : (vs″ : List ℕ) → ((j : ℕ) → j < k → idOf vs″ j ≡ idOf vs j) → idOf vs″ k ≡ id → ((q : ℕ) → linksAt ≤ q → getD vs″ q 0 ≡ getD vs′ q 0) → Indexed (k + 1) vs″
@@ -112,7 +125,7 @@ foundOf (some n) = At n
 
 -- a state of the definition, by its operators, the counts and the variables' words
 abbrev pub stateOf : List Recs → LowerCtx → List ℕ → Lower.LowerCtx
-stateOf ops c vs = record { ops = ops; vars = varsOf (c .mapped) vs; next = c .next }
+stateOf ops c vs = record { ops = ops; scope = record { vars = varsOf (c .mapped) vs; next = c .next } }
 
 -- an operator as it is stored, by the words of the operators' slice
 unfoldable pub opAt : List ℕ → ℕ → Op
@@ -137,9 +150,17 @@ pub record Numbers (step : Lowering ℕ) (place : ℕ) (c : LowerCtx) (rest rest
   pub noted : Noted place (r .number) rest rest′
 
 -- a note that is no variable's number
-pub record Notes (place v : ℕ) (rest rest′ : List ℕ) : Type 0 where
+pub record NoteWritten (place v : ℕ) (rest rest′ : List ℕ) : Type 0 where
   pub noted : Noted place v rest rest′
   pub vars : drop varsAt rest′ ≡ drop varsAt rest
+
+-- a number can be issued and noted at a place
+pub record CanNumber (c : LowerCtx) (place : ℕ) (rest : List ℕ) : Type 0 where
+  pub met : c .mapped < maxVars
+  pub low : c .next < maxCount
+  pub noted : place < varsAt
+  pub long : workWords ≤ length rest
+  pub index : Indexed (c .mapped) (drop varsAt rest)
 
 -- one more operator, stored if the table has room
 pub record Pushed (c r : LowerCtx) (o o′ : List ℕ) (x : Op) : Type 0 where

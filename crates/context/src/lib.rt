@@ -1,11 +1,13 @@
 // The state of the lowering, by value, over tables in lent slices: numbers are issued, noted and looked up, and operators pushed.
 ghost use mathlib.Core.Path.{_≡_};
-ghost use Prim.Native.Nat.{_+_, _*_, _<_, _≤_};
-ghost use lib.ListN.{length, drop};
+ghost use Prim.Native.Nat.{_+_, _<_, _≤_};
+ghost use lib.ListN.{length};
+ghost use Rattle.model.specs.Call.{workWords};
 ghost use Rattle.model.specs.Lower.{lookup, mapVar, endpointVar};
-ghost use Rattle.words.specs.Words.{optionOf};
-ghost use Rattle.context.specs.Tables.{varsOf, foundOf, Indexed, Issued, Numbers, Notes, Pushed};
+ghost use Rattle.context.specs.Ops.{bindOf};
+ghost use Rattle.context.specs.Tables.{varsAt, maxVars, maxCount, varWords, varsOf, foundOf, Indexed, Issued, CanNumber, Numbers, NoteWritten, Pushed};
 use crate::index::Found;
+use crate::op::Op;
 
 pub mod index;
 pub mod op;
@@ -29,11 +31,33 @@ pub const MAX_INDEXED: usize = 2048;
 
 pub const LINKS_AT: usize = 8704;
 
+// A word of links has two halves, each below this.
+pub const HALF_WORD: u32 = 65536;
+
 // How many operators, variable numbers and named variables there are. The operators' count goes on beyond their table.
 pub struct LowerCtx {
     pub ops: usize,
     pub next: u32,
     pub mapped: usize,
+}
+
+// Where something is lowered: the records from i on, how deep their trees may be, and where the notes of the pass begin.
+pub struct At {
+    pub base: usize,
+    pub i: usize,
+    pub left: usize,
+}
+
+// The operator that stands before, if there is one.
+pub enum Before {
+    Nothing,
+    Op(usize),
+}
+
+// The variable of a node, a rel or a part, if it has one.
+pub enum Bind {
+    Unnamed,
+    Var(u32),
 }
 
 // A number issued, and the state behind it.
@@ -44,8 +68,8 @@ pub struct Numbered {
 
 // A note at a place.
 pub fn note(rest: &mut [u32], place: usize, v: u32)
-    requires { ⌜ (place < 4608) × (16384 ≤ length (now rest)) ⌝ }
-    ensures { λ _. ⌜ Notes place v (now (rest .entry)) (now (rest .exit)) ⌝ }
+    requires { ⌜ (place < varsAt) × (workWords ≤ length (now rest)) ⌝ }
+    ensures { λ _. ⌜ NoteWritten place v (now (rest .entry)) (now (rest .exit)) ⌝ }
 {
     rest[place] = v;
 }
@@ -53,7 +77,7 @@ pub fn note(rest: &mut [u32], place: usize, v: u32)
 impl LowerCtx {
     // A variable that has no number yet gets the next one.
     fn new_var(self, vars: &mut [u32], id: u32) -> Numbered
-        requires { ⌜ (self .mapped < 4352) × (self .next < 65536) × (11776 ≤ length (now vars)) × Indexed (self .mapped) (now vars) ⌝ }
+        requires { ⌜ (self .mapped < maxVars) × (self .next < maxCount) × (varWords ≤ length (now vars)) × Indexed (self .mapped) (now vars) ⌝ }
         requires { ⌜ foundOf (lookup (varsOf (self .mapped) (now vars)) id) ≡ Found.Nothing ⌝ }
         ensures { λ r. ⌜ Issued (mapVar id) self (now (vars .entry)) (now (vars .exit)) r ⌝ }
     {
@@ -72,7 +96,7 @@ impl LowerCtx {
     }
 
     fn map_var(self, vars: &mut [u32], id: u32) -> Numbered
-        requires { ⌜ (self .mapped < 4352) × (self .next < 65536) × (11776 ≤ length (now vars)) × Indexed (self .mapped) (now vars) ⌝ }
+        requires { ⌜ (self .mapped < maxVars) × (self .next < maxCount) × (varWords ≤ length (now vars)) × Indexed (self .mapped) (now vars) ⌝ }
         ensures { λ r. ⌜ Issued (mapVar id) self (now (vars .entry)) (now (vars .exit)) r ⌝ }
     {
         match index::find(vars, self.mapped, id) {
@@ -86,7 +110,7 @@ impl LowerCtx {
 
     // The number of a named variable, noted at a place.
     pub fn number(self, rest: &mut [u32], id: u32, place: usize) -> Numbered
-        requires { ⌜ (self .mapped < 4352) × (self .next < 65536) × (place < 4608) × (16384 ≤ length (now rest)) × Indexed (self .mapped) (drop 4608 (now rest)) ⌝ }
+        requires { ⌜ CanNumber self place (now rest) ⌝ }
         ensures { λ r. ⌜ Numbers (mapVar id) place self (now (rest .entry)) (now (rest .exit)) r ⌝ }
     {
         let r = self.map_var(&mut rest[VARS_AT..], id);
@@ -96,7 +120,7 @@ impl LowerCtx {
 
     // The next number, for something unnamed.
     pub fn fresh(self) -> Numbered
-        requires { ⌜ self .next < 65536 ⌝ }
+        requires { ⌜ self .next < maxCount ⌝ }
         ensures { λ r. ⌜ (r .number ≡ self .next) × (r .ctx .ops ≡ self .ops) × (r .ctx .next ≡ self .next + 1) × (r .ctx .mapped ≡ self .mapped) ⌝ }
     {
         Numbered {
@@ -110,32 +134,24 @@ impl LowerCtx {
     }
 
     // The number of a node or a rel, by its id or, unnamed, the next one; noted at a place.
-    pub fn endpoint_var(self, rest: &mut [u32], named: u32, id: u32, place: usize) -> Numbered
-        requires { ⌜ (self .mapped < 4352) × (self .next < 65536) × (place < 4608) × (16384 ≤ length (now rest)) × Indexed (self .mapped) (drop 4608 (now rest)) ⌝ }
-        ensures { λ r. ⌜ Numbers (endpointVar (optionOf named id)) place self (now (rest .entry)) (now (rest .exit)) r ⌝ }
+    pub fn endpoint_var(self, rest: &mut [u32], bind: Bind, place: usize) -> Numbered
+        requires { ⌜ CanNumber self place (now rest) ⌝ }
+        ensures { λ r. ⌜ Numbers (endpointVar (bindOf bind)) place self (now (rest .entry)) (now (rest .exit)) r ⌝ }
     {
-        if named == 0 {
-            let r = self.fresh();
-            note(rest, place, r.number);
-            return r;
+        match bind {
+            Bind::Var(id) => self.number(rest, id, place),
+            Bind::Unnamed => {
+                let r = self.fresh();
+                note(rest, place, r.number);
+                r
+            }
         }
-        self.number(rest, id, place)
     }
 
     // One more operator, stored if the table has room.
-    pub fn push(
-        self,
-        ops: &mut [u32],
-        kind: u32,
-        idx: u32,
-        input: u32,
-        x: u32,
-        y: u32,
-        left: u32,
-        base: u32,
-    ) -> LowerCtx
-        requires { ⌜ (self .ops < 65536) × (16384 ≤ length (now ops)) ⌝ }
-        ensures { λ r. ⌜ Pushed self r (now (ops .entry)) (now (ops .exit)) (record { kind = kind; idx = idx; input = input; x = x; y = y; left = left; base = base }) ⌝ }
+    pub fn push(self, ops: &mut [u32], op: Op) -> LowerCtx
+        requires { ⌜ (self .ops < maxCount) × (workWords ≤ length (now ops)) ⌝ }
+        ensures { λ r. ⌜ Pushed self r (now (ops .entry)) (now (ops .exit)) op ⌝ }
     {
         let k = self.ops;
         let more = LowerCtx {
@@ -147,13 +163,13 @@ impl LowerCtx {
             return more;
         }
         let at = k * OP_WORDS;
-        ops[at + 1] = kind;
-        ops[at + 2] = idx;
-        ops[at + 3] = input;
-        ops[at + 4] = x;
-        ops[at + 5] = y;
-        ops[at + 6] = left;
-        ops[at + 7] = base;
+        ops[at + 1] = op.kind;
+        ops[at + 2] = op.idx;
+        ops[at + 3] = op.input;
+        ops[at + 4] = op.x;
+        ops[at + 5] = op.y;
+        ops[at + 6] = op.left;
+        ops[at + 7] = op.base;
         more
     }
 }

@@ -11,7 +11,7 @@ use lib.ListN as ListN
 use lib.Seq.{take-at, drop-at}
 use borrow.Author.Tests.{leb-true}
 use Rattle.model.specs.Text.{Bytes, bytesFrom, bytes, same, sameBy, decimal}
-use Rattle.model.specs.Field.{Form, num, flag, var, varOrAbsent, numOrAbsent, int, float, text, alias, span, length, u32, u64, Val, Span, RelLength, Single, Variable, width, spellFlag, spellOption, spellAlias, spellLength, spell, fitsOption, fitsLength, fits, optionValue, aliasValue, lengthValue, piece, meaning, read, Fields, spellFields, both, readFields}
+use Rattle.model.specs.Field.{Form, num, flag, var, varOrAbsent, numOrAbsent, number, numberOrAbsent, int, float, text, alias, span, length, u32, u64, Val, Span, RelLength, Single, Variable, width, spellFlag, spellOption, spellAlias, spellLength, spell, fitsOption, fitsLength, fits, optionValue, aliasValue, lengthValue, piece, meaning, read, Fields, spellFields, both, readFields}
 use Rattle.laws.specs.TextLaws.{and-left, and-right, pieces-sound, pieces-refl, Each, each[], _each∷_, each-append, every, Free, above-free, Separator, separator-low}
 use Rattle.laws.specs.NumberLaws.{decimal-value, decimal-free, signed-value, signed-free, hex-value, hex-free, unescape-escape, escape-free}
 
@@ -22,6 +22,8 @@ limited flag = true
 limited var = true
 limited varOrAbsent = true
 limited (numOrAbsent l) = leb l u64
+limited (number n) = true
+limited (numberOrAbsent n) = true
 limited int = true
 limited float = true
 limited text = true
@@ -38,6 +40,8 @@ spell-width flag v = refl
 spell-width var v = refl
 spell-width varOrAbsent v = refl
 spell-width (numOrAbsent l) v = refl
+spell-width (number n) v = refl
+spell-width (numberOrAbsent n) v = refl
 spell-width int v = refl
 spell-width float v = refl
 spell-width text v = refl
@@ -74,6 +78,8 @@ meaning-spell flag b true h = refl
 meaning-spell var b n h = decimal-value n (omega (arith, leb-true n u32 h))
 meaning-spell varOrAbsent b o h = option-value u32 (omega arith) o h
 meaning-spell (numOrAbsent l) b o h = option-value l (leb-true l u64 b) o h
+meaning-spell (number n) b k h = decimal-value k (omega (arith, leb-true k u32 h))
+meaning-spell (numberOrAbsent n) b o h = option-value u32 (omega arith) o h
 meaning-spell int b z h = signed-value z h
 meaning-spell float b n h = hex-value n (leb-true n u64 h)
 meaning-spell text b t h = unescape-escape t
@@ -125,6 +131,8 @@ spell-free {sep} q flag b = flag-free sep (separator-low q) b each∷ each[]
 spell-free {sep} q var n = decimal-free sep (omega (arith, separator-low q)) n each∷ each[]
 spell-free {sep} q varOrAbsent o = option-free sep (separator-low q) o each∷ each[]
 spell-free {sep} q (numOrAbsent l) o = option-free sep (separator-low q) o each∷ each[]
+spell-free {sep} q (number n) k = decimal-free sep (omega (arith, separator-low q)) k each∷ each[]
+spell-free {sep} q (numberOrAbsent n) o = option-free sep (separator-low q) o each∷ each[]
 spell-free {sep} q int z = signed-free sep (separator-low q) z each∷ each[]
 spell-free {sep} q float n = hex-free sep (omega (arith, separator-low q)) 16 n each∷ each[]
 spell-free q text t = escape-free q t each∷ each[]

@@ -7,11 +7,11 @@ use borrow.Author.Tests.{le-ltb}
 use lib.ListN.{length, getD, take, drop}
 use lib.Seq.{slice}
 use Rattle.model.specs.Text.{Bytes}
-use Rattle.model.specs.Field.{Form, num, flag, var, varOrAbsent, numOrAbsent, int, float, text, alias, span, width}
+use Rattle.model.specs.Field.{Form, num, flag, var, varOrAbsent, numOrAbsent, number, numberOrAbsent, int, float, text, alias, span, width}
 use Rattle.model.specs.Field
 use Rattle.record.specs.AnswerLaws.{var-is}
 use Rattle.words.specs.Words.{fieldOf}
-use Rattle.line.specs.Table.{limits, otherForms, formOf}
+use Rattle.words.specs.Table.{limits, otherForms, formOf}
 use Rattle.line.specs.Place.{PieceAt}
 use Rattle.line.specs.FieldRead.{WordsOf, FieldAt}
 use Rattle.line.specs.declared.field.Words.{Words}
@@ -96,6 +96,8 @@ width-up flag = omega arith
 width-up var = omega arith
 width-up varOrAbsent = omega arith
 width-up (numOrAbsent l) = omega arith
+width-up (number n) = omega arith
+width-up (numberOrAbsent n) = omega arith
 width-up int = omega arith
 width-up float = omega arith
 width-up text = omega arith

@@ -5,7 +5,7 @@ use mathlib.Core.List.{List}
 use native.Mathlib.Omega.{arith}
 use borrow.Author.Tests.{lt-ltb, le-ltb}
 use Rattle.words.specs.Words.{part, cell}
-use Rattle.line.specs.Table.{countOf}
+use Rattle.words.specs.Table.{countOf}
 use Rattle.line.specs.GroupLaws.{part-cell}
 
 module _ (a b : List ℕ) (i c s : ℕ) (e : c ≡ s) where

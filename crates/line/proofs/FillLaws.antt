@@ -12,8 +12,8 @@ use Rattle.model.specs.Text.{Bytes}
 use Rattle.model.specs.Field.{Form, read, width, both, readFields}
 use Rattle.words.specs.Words.{fieldOf, fieldsOf, piecesOf}
 use Rattle.words.specs.Held.{Flag, Flags, Text, Texts}
-use Rattle.line.specs.Table.{codes, codeAt, formOf, formsIn, formsFrom, formsAt}
-use Rattle.line.specs.TableLaws.{code-row}
+use Rattle.words.specs.Table.{codes, codeAt, formOf, formsIn, formsFrom, formsAt}
+use Rattle.words.specs.TableLaws.{code-row}
 use Rattle.line.specs.Place.{piecesAt}
 use Rattle.line.specs.FieldRead.{FieldAt}
 use Rattle.line.specs.LineRead.{FieldsRead}

@@ -11,4 +11,3 @@ pub mod FillLaws
 pub mod LineLaws
 pub mod IntoLaws
 pub mod CountLaws
-pub mod DigitLaws

@@ -12,8 +12,8 @@ use Rattle.model.specs.Text.{Bytes, split, tab}
 use Rattle.model.specs.Kind.{Sort, Kind}
 use Rattle.model.specs.Record.{kinds, forms, kindNamed, withFields, readAs, readRec}
 use Rattle.words.specs.Words.{piecesOf, fieldsOf, kindOf, recOf, decode}
-use Rattle.line.specs.Table.{sortOf}
-use Rattle.line.specs.TableLaws.{Row, tabled, kind-row}
+use Rattle.words.specs.Table.{sortOf}
+use Rattle.words.specs.TableLaws.{Row, tabled, kind-row}
 use Rattle.line.specs.Kinds.{kindFound, Named}
 use Rattle.line.specs.Place.{piecesAt, PieceAt}
 use Rattle.line.specs.LineRead.{FieldsRead, LineRead}

@@ -12,8 +12,8 @@ use lib.ListN.{length, take, getD}
 use lib.Seq.{take-suc, take-all}
 use Rattle.model.specs.Text.{Bytes, same}
 use Rattle.laws.specs.TextLaws.{and-left, and-right, same-sound, same-refl}
-use Rattle.line.specs.Table.{packOn, packed}
-use Rattle.line.specs.TableLaws.{eachBelow, short}
+use Rattle.words.specs.Table.{packOn, packed}
+use Rattle.words.specs.TableLaws.{eachBelow, short}
 use Rattle.line.specs.Kinds.{Packed}
 
 -- ── unpacking ──

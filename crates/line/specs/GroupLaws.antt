@@ -16,8 +16,8 @@ use Rattle.model.specs.Record.{Group, one, forms, kinds, sames, children}
 use Rattle.laws.specs.TextLaws.{and-left, and-right}
 use Rattle.words.specs.Words.{part, cell, firstKind, kindOf, fieldOf, fieldsOf}
 use Rattle.words.specs.Held.{Flags}
-use Rattle.line.specs.Table.{sorts, sortOf, groupSort, groupSource, groupsFrom, groupsOf}
-use Rattle.line.specs.TableLaws.{passesTo, passes-at, Rows, done, _▸_, kind-row}
+use Rattle.words.specs.Table.{sorts, sortOf, groupSort, groupSource, groupsFrom, groupsOf}
+use Rattle.words.specs.TableLaws.{passesTo, passes-at, Rows, done, _▸_, kind-row}
 
 -- ── entries of the table ──
 

@@ -1,15 +1,16 @@
 -- What a keyword names, as the number of a kind. Assumes nothing: these are definitions.
 use mathlib.Core.Path.{_≡_}
-use Prim.Native.Nat.{ℕ}
-use mathlib.Core.Bool.{true}
+use Prim.Native.Nat.{ℕ, zero, suc, _+_, _-_}
+use mathlib.Core.Bool.{true, cond}
 use mathlib.Core.Option.{Option, none, some}
 use lib.Dec.{eqb}
+use lib.ListN.{getD}
 use Rattle.model.specs.Text.{Bytes, same}
 use Rattle.model.specs.Kind.{Sort, Kind}
 use Rattle.model.specs.Record.{kinds, kindNamed}
 use Rattle.words.specs.Words.{kindOf}
-use Rattle.line.specs.Table.{packed}
-use Rattle.line.specs.TableLaws.{short}
+use Rattle.words.specs.Table.{packed, first, keys}
+use Rattle.words.specs.TableLaws.{short}
 use Rattle.line.specs.declared.kind.KindFound.{KindFound}
 use Rattle.line.specs.declared.kind.KindFound.the-variants.{Is, Not}
 
@@ -31,3 +32,14 @@ Known Not s = Unit {0}
 pub record Named (s : Sort) (w : Bytes) (r : KindFound) : Type 0 where
   pub is : kindNamed s w (kinds s) ≡ kindFound s r
   pub known : Known r s
+
+-- ── by the number of a keyword ──
+
+-- the first of n kinds from kind k on whose keyword has a number
+unfoldable pub keyedFrom : (x k n : ℕ) → KindFound
+keyedFrom x k zero = Not
+keyedFrom x k (suc n) = cond (eqb (getD keys k 0) x) (Is k) (keyedFrom x (k + 1) n)
+
+-- among those of a sort
+unfoldable pub keyed : (sort x : ℕ) → KindFound
+keyed sort x = keyedFrom x (getD first sort 0) (getD first (sort + 1) 0 - getD first sort 0)

@@ -6,7 +6,9 @@ ghost use Prim.Native.Nat.{_+_, _/_, _%_, _<_, _≤_};
 ghost use lib.ListN.{length};
 ghost use lib.Seq.{slice};
 ghost use Rattle.model.specs.Text.{Bytes};
-ghost use Rattle.model.specs.Field.{Form};
+ghost use Rattle.model.specs.Field.{Form, u32};
+ghost use Rattle.model.specs.Call.{maxBytes};
+ghost use Rattle.words.specs.Words.{two32};
 ghost use Rattle.line.specs.FieldRead.{WordsOf, wordsValue};
 use record::Alias;
 use record::Decimal;
@@ -21,7 +23,7 @@ pub enum Words {
 
 // A number of at most `limit`.
 pub fn number(s: &[u8], limit: u64) -> Words
-    requires { ⌜ limit ≤ 4294967295 ⌝ }
+    requires { ⌜ limit ≤ u32 ⌝ }
     ensures { λ r. ⌜ ((sheet : Bytes) → WordsOf (Form.num limit) sheet (now (s .entry) ∷ []) r) ⌝ }
 {
     match record::number::decimal(s, limit) {
@@ -34,7 +36,7 @@ pub fn number(s: &[u8], limit: u64) -> Words
 pub fn variable(s: &[u8]) -> Words
     ensures { λ r. ⌜ ((sheet : Bytes) → WordsOf Form.varOrAbsent sheet (now (s .entry) ∷ []) r) ⌝ }
 {
-    match record::number::decimal_or_absent(s, 4294967295) {
+    match record::number::decimal_or_absent(s, words::MAX_U32) {
         OptDecimal::Is(n) => Words::Is(1, n as u32),
         OptDecimal::Absent => Words::Is(0, 0),
         OptDecimal::Not => Words::Not,
@@ -53,11 +55,11 @@ pub fn flag(s: &[u8]) -> Words
 
 // A number of 64 bits in two halves, and a number added to the high one.
 fn halves(n: u64, top: u32) -> Words
-    requires { ⌜ n / 4294967296 + top < 4294967296 ⌝ }
-    ensures { λ r. ⌜ r ≡ Words.Is (n % 4294967296) (n / 4294967296 + top) ⌝ }
+    requires { ⌜ n / two32 + top < two32 ⌝ }
+    ensures { λ r. ⌜ r ≡ Words.Is (n % two32) (n / two32 + top) ⌝ }
 {
-    let low = n % 4294967296;
-    let high = n / 4294967296;
+    let low = n % words::TWO_32;
+    let high = n / words::TWO_32;
     Words::Is(low as u32, high as u32 + top)
 }
 
@@ -77,7 +79,7 @@ fn signed_words(v: i64) -> Words
 {
     if v < 0 {
         let m = -1 - v;
-        return halves(m as u64, 2147483648);
+        return halves(m as u64, words::TOP_BIT);
     }
     halves(v as u64, 0)
 }
@@ -95,7 +97,7 @@ pub fn int(s: &[u8]) -> Words
 // A name, from p up to r.
 pub fn text(sheet: &[u8], p: usize, r: usize) -> Words
     requires { ⌜ (p ≤ r) × (r ≤ length (now sheet)) ⌝ }
-    requires { ⌜ length (now sheet) ≤ 32768 ⌝ }
+    requires { ⌜ length (now sheet) ≤ maxBytes ⌝ }
     ensures { λ w. ⌜ WordsOf Form.text (now (sheet .entry)) (slice p r (now (sheet .entry)) ∷ []) w ⌝ }
 {
     if record::name::text(&sheet[p..r]) {
@@ -108,7 +110,7 @@ pub fn text(sheet: &[u8], p: usize, r: usize) -> Words
 // A dash, or an equals sign and a name, from p up to r.
 pub fn alias(sheet: &[u8], p: usize, r: usize) -> Words
     requires { ⌜ (p ≤ r) × (r ≤ length (now sheet)) ⌝ }
-    requires { ⌜ length (now sheet) ≤ 32768 ⌝ }
+    requires { ⌜ length (now sheet) ≤ maxBytes ⌝ }
     ensures { λ w. ⌜ WordsOf Form.alias (now (sheet .entry)) (slice p r (now (sheet .entry)) ∷ []) w ⌝ }
 {
     match record::name::alias(&sheet[p..r]) {

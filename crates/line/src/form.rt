@@ -5,9 +5,11 @@ ghost use mathlib.Core.List.{[], _∷_};
 ghost use lib.ListN.{length};
 ghost use lib.Seq.{slice};
 ghost use Rattle.model.specs.Field.{Form};
+ghost use Rattle.model.specs.Call.{maxBytes};
+ghost use Rattle.words.specs.Places.{spanForm, lengthForm, formCount};
 ghost use Rattle.line.specs.Place.{PieceAt};
 ghost use Rattle.line.specs.FieldRead.{FieldAt, WordsOf};
-ghost use Rattle.line.specs.Table.{formOf};
+ghost use Rattle.words.specs.Table.{formOf};
 use crate::field::Words;
 use crate::field::alias;
 use crate::field::flag;
@@ -17,7 +19,8 @@ use crate::field::number;
 use crate::field::text;
 use crate::field::variable;
 use crate::piece::piece_to;
-use crate::table::limit;
+use words::form;
+use words::table::limit;
 
 // A field's words and the place of the next piece, or none.
 pub enum FieldRead {
@@ -36,10 +39,10 @@ fn span(sheet: &[u8], p: usize, r: usize, e: usize) -> FieldRead
     }
     let q = r + 1;
     let t = piece_to(sheet, q, e);
-    let Words::Is(x, _) = number(&sheet[p..r], 4294967295) else {
+    let Words::Is(x, _) = number(&sheet[p..r], words::MAX_U32) else {
         return FieldRead::Not;
     };
-    let Words::Is(y, _) = number(&sheet[q..t], 4294967295) else {
+    let Words::Is(y, _) = number(&sheet[q..t], words::MAX_U32) else {
         return FieldRead::Not;
     };
     if x <= y {
@@ -50,7 +53,7 @@ fn span(sheet: &[u8], p: usize, r: usize, e: usize) -> FieldRead
 
 // The length of a pattern's relationship: three pieces, held as their place. The first is that from p up to r.
 fn hops(sheet: &[u8], p: usize, r: usize, e: usize) -> FieldRead
-    requires { ⌜ (e ≤ length (now sheet)) × (length (now sheet) ≤ 32768) ⌝ }
+    requires { ⌜ (e ≤ length (now sheet)) × (length (now sheet) ≤ maxBytes) ⌝ }
     requires { ⌜ PieceAt (now sheet) p e r ⌝ }
     ensures { λ w. ⌜ FieldAt Form.length (now (sheet .entry)) p e w ⌝ }
 {
@@ -70,54 +73,54 @@ fn hops(sheet: &[u8], p: usize, r: usize, e: usize) -> FieldRead
     FieldRead::Not
 }
 
-// A field of one piece, that from p up to r, by a code below 8.
+// A field of one piece, that from p up to r, by a code below that of a span.
 fn plain(sheet: &[u8], p: usize, r: usize, form: u32) -> Words
     requires { ⌜ (p ≤ r) × (r ≤ length (now sheet)) ⌝ }
-    requires { ⌜ length (now sheet) ≤ 32768 ⌝ }
-    requires { ⌜ (0 < form) × (form < 8) ⌝ }
+    requires { ⌜ length (now sheet) ≤ maxBytes ⌝ }
+    requires { ⌜ (0 < form) × (form < spanForm) ⌝ }
     ensures { λ w. ⌜ WordsOf (formOf form) (now (sheet .entry)) (slice p r (now (sheet .entry)) ∷ []) w ⌝ }
 {
     let s = &sheet[p..r];
     match form {
-        1 => flag(s),
-        2 => number(s, 4294967295),
-        3 => variable(s),
-        4 => int(s),
-        5 => float(s),
-        6 => text(sheet, p, r),
+        form::FLAG => flag(s),
+        form::VAR => number(s, words::MAX_U32),
+        form::VAR_OR_ABSENT => variable(s),
+        form::INT => int(s),
+        form::FLOAT => float(s),
+        form::TEXT => text(sheet, p, r),
         _ => alias(sheet, p, r),
     }
 }
 
-// A field of one piece, by its code: from 10 on a number with the table's limit.
+// A field of one piece, by its code: a number with the table's limit from that of a number on.
 fn single(sheet: &[u8], p: usize, r: usize, form: u32) -> Words
     requires { ⌜ (p ≤ r) × (r ≤ length (now sheet)) ⌝ }
-    requires { ⌜ length (now sheet) ≤ 32768 ⌝ }
-    requires { ⌜ (0 < form) × (form < 15) ⌝ }
-    requires { ⌜ ((form ≡ 8 → ⊥) × (form ≡ 9 → ⊥)) ⌝ }
+    requires { ⌜ length (now sheet) ≤ maxBytes ⌝ }
+    requires { ⌜ (0 < form) × (form < formCount) ⌝ }
+    requires { ⌜ ((form ≡ spanForm → ⊥) × (form ≡ lengthForm → ⊥)) ⌝ }
     ensures { λ w. ⌜ WordsOf (formOf form) (now (sheet .entry)) (slice p r (now (sheet .entry)) ∷ []) w ⌝ }
 {
-    if form < 8 {
+    if form < form::SPAN {
         return plain(sheet, p, r, form);
     }
-    let most = limit(form - 10);
+    let most = limit(form - form::NUMBER);
     number(&sheet[p..r], most)
 }
 
 // The field that begins at p, of the line that ends before e. If p is behind e, no piece is left.
 pub fn read_form(sheet: &[u8], p: usize, e: usize, form: u32) -> FieldRead
-    requires { ⌜ (e ≤ length (now sheet)) × (length (now sheet) ≤ 32768) ⌝ }
-    requires { ⌜ (0 < form) × (form < 15) ⌝ }
+    requires { ⌜ (e ≤ length (now sheet)) × (length (now sheet) ≤ maxBytes) ⌝ }
+    requires { ⌜ (0 < form) × (form < formCount) ⌝ }
     ensures { λ w. ⌜ FieldAt (formOf form) (now (sheet .entry)) p e w ⌝ }
 {
     if e < p {
         return FieldRead::Not;
     }
     let r = piece_to(sheet, p, e);
-    if form == 8 {
+    if form == form::SPAN {
         return span(sheet, p, r, e);
     }
-    if form == 9 {
+    if form == form::LENGTH {
         return hops(sheet, p, r, e);
     }
     match single(sheet, p, r, form) {

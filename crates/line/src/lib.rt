@@ -5,4 +5,3 @@ pub mod group;
 pub mod kind;
 pub mod piece;
 pub mod read;
-pub mod table;

@@ -9,5 +9,5 @@ pub fn piece_to(sheet: &[u8], p: usize, e: usize) -> usize
     ensures { λ r. ⌜ PieceAt (now (sheet .entry)) p e r ⌝ }
 {
     let line = &sheet[..e];
-    record::piece::piece_end(line, p, 9)
+    record::piece::piece_end(line, p, b'\t')
 }

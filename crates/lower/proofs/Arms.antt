@@ -11,11 +11,10 @@ use Rattle.model.specs.Kind.{Same, Expr, PlanExpr, expr}
 use Rattle.model.specs.Record.{Rec, exprForms}
 use Rattle.model.specs.Tree.{Tree, node, end, _▸_, fold}
 use Rattle.model.specs.Lower.{Recs, made, _>>=_, ret, over, exprStep, planned, lowerExpr, at}
-use Rattle.words.specs.Words.{Roomy, cell}
+use Rattle.words.specs.Words.{Roomy, cell, maxRecords}
 use Rattle.words.specs.Held.{Held, RecordAt, size}
-use Rattle.context.specs.Tables.{Notes}
 use Rattle.words.specs.Cells.{shown}
-use Rattle.lower.specs.Count.{countAt}
+use Rattle.words.specs.Count.{countAt}
 use Rattle.lower.specs.Render.{Ops, render, renderOf, recsOver, exprRecs, Below, belowIn, copiesBelow}
 use Rattle.lower.specs.Render
 use Rattle.lower.specs.Shows.{shift}
@@ -23,13 +22,14 @@ use Rattle.lower.specs.Rep.{State, Mem, Written, Sub, Ran}
 use Rattle.lower.specs.Pieces.{exprPiece, Carried, []ᶜ, lowerC, renderC, BelowC, sizeC, HeldC, carriedPiece, SomeTree, SomeCarried, LowersExpr, LowersExprs}
 use Rattle.lower.specs.State.{sub-more, sub-within, blank-within, to-wider}
 use Rattle.words.specs.Numbers.{exprNumber, sameNumber}
-use Rattle.lower.proofs.Counting.{innerNumber, inner-number, counted}
+use Rattle.words.proofs.Counting.{innerNumber, inner-number, counted}
 use Rattle.lower.specs.Exprs.{moved-within, narrow}
 use Rattle.lower.specs.Carry.{plainC, plain-lower, plain-size, plain-held, plain-render, plain-below, entriesC, entries-lower, entries-size, entries-held, entries-render, entries-below}
+use Rattle.words.specs.Places.{kindAt, varKind, mapKind, patKind, listPredicateKind}
 
 -- ── the number of the kind ──
 
-pub number-at : {sheet : Bytes} {a b : List ℕ} {i : ℕ} {k : Expr} {f : Fields (exprForms k)} → Roomy a b → RecordAt sheet a b i expr k f → cell a b i 0 ≡ exprNumber k
+pub number-at : {sheet : Bytes} {a b : List ℕ} {i : ℕ} {k : Expr} {f : Fields (exprForms k)} → Roomy a b → RecordAt sheet a b i expr k f → cell a b i kindAt ≡ exprNumber k
 unfolding innerNumber
 number-at {k = k} room h = inner-number expr tt _ k (shown room h .kind)
 
@@ -66,7 +66,7 @@ pub record Headed (sheet : Bytes) (a b : List ℕ) (gap d i : ℕ) (t : Tree exp
   pub below : (N : Render.Notes) (k : ℕ) → BelowC N k list → Below N k t
 
 module _ {sheet : Bytes} {a b : List ℕ} {d i : ℕ} (room : Roomy a b) where
-  pub plainly : (t : Tree expr) → Held sheet a b t d i → ((cell a b i 0 ≡ 32) → ⊥) → ((cell a b i 0 ≡ 33) → ⊥) → ((cell a b i 0 ≡ 35) → ⊥) → ((cell a b i 0 ≡ 36) → ⊥) → Headed sheet a b 0 d i t
+  pub plainly : (t : Tree expr) → Held sheet a b t d i → ((cell a b i kindAt ≡ varKind) → ⊥) → ((cell a b i kindAt ≡ mapKind) → ⊥) → ((cell a b i kindAt ≡ patKind) → ⊥) → ((cell a b i kindAt ≡ listPredicateKind) → ⊥) → Headed sheet a b 0 d i t
   unfolding Held size exprNumber lowerExpr fold made exprStep over _>>=_ ret render recsOver exprRecs Below belowIn copiesBelow lowerC renderC sizeC HeldC
   plainly (node expr line (Expr.Over h) f (ts ▸ end)) hd n32 n33 n35 n36 = record {
     n = _;
@@ -97,7 +97,7 @@ module _ {sheet : Bytes} {a b : List ℕ} {d i : ℕ} (room : Roomy a b) where
   plainly (node expr line Expr.Unresolved f end) hd n32 n33 n35 n36 = record { n = 0; list = []ᶜ; total = counted room tt (hd .1); held = tt; sized = refl; head = planned (PlanExpr.Over Same.Null) tt; lower = λ s. refl; shown = λ N A. refl; below = λ N k b. tt }
   plainly (node expr line Expr.Undesugared f end) hd n32 n33 n35 n36 = record { n = 0; list = []ᶜ; total = counted room tt (hd .1); held = tt; sized = refl; head = planned (PlanExpr.Over Same.Null) tt; lower = λ s. refl; shown = λ N A. refl; below = λ N k b. tt }
 
-  pub mapped : (t : Tree expr) → Held sheet a b t d i → cell a b i 0 ≡ 33 → Headed sheet a b 1 d i t
+  pub mapped : (t : Tree expr) → Held sheet a b t d i → cell a b i kindAt ≡ mapKind → Headed sheet a b 1 d i t
   unfolding Held size exprNumber lowerExpr fold made exprStep over _>>=_ ret render recsOver exprRecs Below belowIn copiesBelow
   mapped (node expr line (Expr.Over h) f kids) hd e = let z = number-at room (hd .1) in let l = same-low h in absurd (omega arith)
   mapped (node expr line Expr.Var f kids) hd e = let z = number-at room (hd .1) in absurd (omega arith)
@@ -129,7 +129,7 @@ headed-run {base = base} {i = i} {e = e} t o W s p =
     }
 
 -- what follows from lowering the expressions behind a record, if every tree there is a record over them
-pub headed-law : {a b : List ℕ} {n gap d base i e : ℕ} {m m′ : Mem} → ((sheet : Bytes) (t : Tree expr) → Held sheet a b t d i → Headed sheet a b gap d i t) → n ≡ countAt a b i → i + 1 ≤ 2048 → LowersExprs a b n gap (d - 1) base (i + 1) e m m′ → LowersExpr a b d base i e m m′
+pub headed-law : {a b : List ℕ} {n gap d base i e : ℕ} {m m′ : Mem} → ((sheet : Bytes) (t : Tree expr) → Held sheet a b t d i → Headed sheet a b gap d i t) → n ≡ countAt a b i → i + 1 ≤ maxRecords → LowersExprs a b n gap (d - 1) base (i + 1) e m m′ → LowersExpr a b d base i e m m′
 headed-law {a} {b} {n} {gap} {d} {base} {i} {e} {m} {m′} see en l p = record {
   moved = moved-within (omega arith) (le-refl _) (p .moved .here) (p .moved);
   next = λ sheet t hd.

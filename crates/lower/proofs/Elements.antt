@@ -21,8 +21,9 @@ use Rattle.lower.specs.Rep.{State}
 use Rattle.lower.specs.Pieces.{lowerC}
 use Rattle.lower.specs.Chains.{stepOf}
 use Rattle.words.specs.Numbers.{elementNumber}
-use Rattle.lower.proofs.Counting.{innerNumber, inner-number, flag-one}
+use Rattle.words.proofs.Counting.{innerNumber, inner-number, flag-one}
 use Rattle.lower.specs.Carry.{plainC}
+use Rattle.words.specs.Places.{kindAt, nodeKind, relKind, elementNamedAt, elementVarAt, nodeLabelsAt, nodePropsAt, relPropsAt}
 
 -- ── names ──
 
@@ -61,7 +62,7 @@ pub record IsElement (flag : ℕ) (sheet : Bytes) (a b : List ℕ) (d i : ℕ) (
   pub names : Trees name n
   pub p : Bool
   pub props : Trees expr (one p)
-  pub many : n ≡ cell a b i 4
+  pub many : n ≡ cell a b i nodeLabelsAt
   pub flagged : one p ≡ cell a b i flag
   pub held-names : HeldOf sheet a b names (d - 1) (i + 1)
   pub held-props : HeldOf sheet a b props (d - 1) (i + 1 + n)
@@ -72,17 +73,17 @@ pub record IsElement (flag : ℕ) (sheet : Bytes) (a b : List ℕ) (d i : ℕ) (
 
 pub record IsNode (sheet : Bytes) (a b : List ℕ) (d i : ℕ) (t : Tree patternElement) : Type 0 where
   pub el : IsElement 6 sheet a b d i t
-  pub step : stepOf t ≡ ofNode (record { bind = optionOf (cell a b i 2) (cell a b i 3); labels = toList (el .n) (foldOf Lowered made (el .names)); props = propsOf (el .p) (foldOf Lowered made (el .props)) })
+  pub step : stepOf t ≡ ofNode (record { bind = optionOf (cell a b i elementNamedAt) (cell a b i elementVarAt); labels = toList (el .n) (foldOf Lowered made (el .names)); props = propsOf (el .p) (foldOf Lowered made (el .props)) })
   pub head : el .head ≡ rec (inPlan nodeSpec) tt (el .n, (el .p, tt))
 
 pub record IsRel (sheet : Bytes) (a b : List ℕ) (d i : ℕ) (t : Tree patternElement) : Type 0 where
   pub el : IsElement 10 sheet a b d i t
   pub direction : ℕ
   pub length : RelLength
-  pub step : stepOf t ≡ ofRel (record { bind = optionOf (cell a b i 2) (cell a b i 3); types = toList (el .n) (foldOf Lowered made (el .names)); direction = direction; length = length; props = propsOf (el .p) (foldOf Lowered made (el .props)) })
+  pub step : stepOf t ≡ ofRel (record { bind = optionOf (cell a b i elementNamedAt) (cell a b i elementVarAt); types = toList (el .n) (foldOf Lowered made (el .names)); direction = direction; length = length; props = propsOf (el .p) (foldOf Lowered made (el .props)) })
   pub head : el .head ≡ rec (inPlan relSpec) tt (el .n, (direction, (length, (el .p, tt))))
 
-pub element-number : {sheet : Bytes} {a b : List ℕ} {i : ℕ} {k : PatternElement} {f : Fields (elementForms k)} → Roomy a b → RecordAt sheet a b i patternElement k f → cell a b i 0 ≡ elementNumber k
+pub element-number : {sheet : Bytes} {a b : List ℕ} {i : ℕ} {k : PatternElement} {f : Fields (elementForms k)} → Roomy a b → RecordAt sheet a b i patternElement k f → cell a b i kindAt ≡ elementNumber k
 unfolding innerNumber
 element-number {k = k} room h = inner-number patternElement tt _ k (shown room h .kind)
 
@@ -95,13 +96,13 @@ flag-of : (p : Bool) (x : ℕ) → p ≡ eqb x 1 → x ≤ 1 → one p ≡ x
 flag-of p x e h = rw e (flag-one x h)
 
 module _ {sheet : Bytes} {a b : List ℕ} {d i : ℕ} (room : Roomy a b) where
-  pub a-node : (t : Tree patternElement) → Held sheet a b t d i → cell a b i 0 ≡ 12 → IsNode sheet a b d i t
+  pub a-node : (t : Tree patternElement) → Held sheet a b t d i → cell a b i kindAt ≡ nodeKind → IsNode sheet a b d i t
   unfolding Held size elementNumber fold made elementStep specRecs specRec render KidsBelow Below fieldsOf fieldOf
   a-node (node patternElement line PatternElement.Node (bind, (n, (p, (span, u)))) (names ▸ props ▸ end)) hd e =
       let w = shown room (hd .1) in
-      let eb : bind ≡ optionOf (cell a b i 2) (cell a b i 3) = ap (λ (x : Fields (elementForms PatternElement.Node)). x .0) (w .fields) in
-      let en : n ≡ cell a b i 4 = ap (λ (x : Fields (elementForms PatternElement.Node)). x .1 .0) (w .fields) in
-      let ep : p ≡ eqb (cell a b i 6) 1 = ap (λ (x : Fields (elementForms PatternElement.Node)). x .1 .1 .0) (w .fields) in
+      let eb : bind ≡ optionOf (cell a b i elementNamedAt) (cell a b i elementVarAt) = ap (λ (x : Fields (elementForms PatternElement.Node)). x .0) (w .fields) in
+      let en : n ≡ cell a b i nodeLabelsAt = ap (λ (x : Fields (elementForms PatternElement.Node)). x .1 .0) (w .fields) in
+      let ep : p ≡ eqb (cell a b i nodePropsAt) 1 = ap (λ (x : Fields (elementForms PatternElement.Node)). x .1 .1 .0) (w .fields) in
       let z : sizeOf names ≡ n = names-size names in
       record {
         el = record {
@@ -110,7 +111,7 @@ module _ {sheet : Bytes} {a b : List ℕ} {d i : ℕ} (room : Roomy a b) where
           p = p;
           props = props;
           many = en;
-          flagged = flag-of p (cell a b i 6) ep (w .flags .1 .1 .0);
+          flagged = flag-of p (cell a b i nodePropsAt) ep (w .flags .1 .1 .0);
           held-names = hd .3 .0;
           held-props = rw z at (hd .3 .1 .0);
           sized = omega arith;
@@ -123,14 +124,14 @@ module _ {sheet : Bytes} {a b : List ℕ} {d i : ℕ} (room : Roomy a b) where
       }
   a-node (node patternElement line PatternElement.Rel f kids) hd e = let z = element-number room (hd .1) in absurd (omega arith)
 
-  pub a-rel : (t : Tree patternElement) → Held sheet a b t d i → cell a b i 0 ≡ 13 → IsRel sheet a b d i t
+  pub a-rel : (t : Tree patternElement) → Held sheet a b t d i → cell a b i kindAt ≡ relKind → IsRel sheet a b d i t
   unfolding Held size elementNumber fold made elementStep specRecs specRec render KidsBelow Below fieldsOf fieldOf
   a-rel (node patternElement line PatternElement.Node f kids) hd e = let z = element-number room (hd .1) in absurd (omega arith)
   a-rel (node patternElement line PatternElement.Rel (bind, (n, (direction, (length, (p, (span, u)))))) (names ▸ props ▸ end)) hd e =
       let w = shown room (hd .1) in
-      let eb : bind ≡ optionOf (cell a b i 2) (cell a b i 3) = ap (λ (x : Fields (elementForms PatternElement.Rel)). x .0) (w .fields) in
-      let en : n ≡ cell a b i 4 = ap (λ (x : Fields (elementForms PatternElement.Rel)). x .1 .0) (w .fields) in
-      let ep : p ≡ eqb (cell a b i 10) 1 = ap (λ (x : Fields (elementForms PatternElement.Rel)). x .1 .1 .1 .1 .0) (w .fields) in
+      let eb : bind ≡ optionOf (cell a b i elementNamedAt) (cell a b i elementVarAt) = ap (λ (x : Fields (elementForms PatternElement.Rel)). x .0) (w .fields) in
+      let en : n ≡ cell a b i nodeLabelsAt = ap (λ (x : Fields (elementForms PatternElement.Rel)). x .1 .0) (w .fields) in
+      let ep : p ≡ eqb (cell a b i relPropsAt) 1 = ap (λ (x : Fields (elementForms PatternElement.Rel)). x .1 .1 .1 .1 .0) (w .fields) in
       let z : sizeOf names ≡ n = names-size names in
       record {
         el = record {
@@ -139,7 +140,7 @@ module _ {sheet : Bytes} {a b : List ℕ} {d i : ℕ} (room : Roomy a b) where
           p = p;
           props = props;
           many = en;
-          flagged = flag-of p (cell a b i 10) ep (w .flags .1 .1 .1 .1 .0);
+          flagged = flag-of p (cell a b i relPropsAt) ep (w .flags .1 .1 .1 .1 .0);
           held-names = hd .3 .0;
           held-props = rw z at (hd .3 .1 .0);
           sized = omega arith;
@@ -154,7 +155,7 @@ module _ {sheet : Bytes} {a b : List ℕ} {d i : ℕ} (room : Roomy a b) where
       }
 
 -- an element is the one or the other
-pub other-element : {a b : List ℕ} (room : Roomy a b) (sheet : Bytes) (d i : ℕ) (t : Tree patternElement) → Held sheet a b t d i → ((cell a b i 0 ≡ 12) → ⊥) → cell a b i 0 ≡ 13
+pub other-element : {a b : List ℕ} (room : Roomy a b) (sheet : Bytes) (d i : ℕ) (t : Tree patternElement) → Held sheet a b t d i → ((cell a b i kindAt ≡ nodeKind) → ⊥) → cell a b i kindAt ≡ relKind
 unfolding Held elementNumber
 other-element room sheet d i (node patternElement line PatternElement.Node f kids) hd h = absurd (h (element-number room (hd .1)))
 other-element room sheet d i (node patternElement line PatternElement.Rel f kids) hd h = element-number room (hd .1)

@@ -1,4 +1,3 @@
-pub mod Counting
 pub mod Arms
 pub mod Named
 pub mod Elements
@@ -11,4 +10,6 @@ pub mod Chaining
 pub mod Shortest
 pub mod Special
 pub mod Part
+pub mod Reading
 pub mod Room
+pub mod Asking

@@ -13,25 +13,32 @@ use Rattle.model.specs.Kind.{PatternElement, patternElement}
 use Rattle.model.specs.Tree.{Tree, Trees, node, _∷ᵗ_, end, _▸_, toList, fold, foldOf}
 use Rattle.model.specs.Lower.{Lowering, Lowered, made, _>>=_, ret, endpointVar, startNode, reach, lowerElement, elementStep, NodeStep, RelStep, ofNode, ofRel, at}
 use Rattle.model.specs.Lower
-use Rattle.words.specs.Words.{Roomy, cell, optionOf}
-use Rattle.words.specs.Held.{Held}
-use Rattle.context.specs.Tables.{Pushed, Numbers}
+use Rattle.words.specs.Words.{Roomy, cell, optionOf, maxRecords}
+use Rattle.words.specs.Held.{Held, size}
+use Rattle.context.specs.Tables.{Pushed, Numbers, secondPass, varsAt}
 use Rattle.context.specs.declared.LowerCtx.{LowerCtx}
 use Rattle.context.specs.declared.Numbered.{Numbered}
-use Rattle.lower.specs.Count.{Ends}
+use Rattle.context.specs.Ops.{expandOp}
+use Rattle.words.specs.Count.{Ends}
 use Rattle.lower.specs.Render.{Notes, keptRel, keptFrom}
 use Rattle.lower.specs.Shows.{shift}
-use Rattle.lower.specs.Rep.{State, Mem, mem, notes, Written, Sub, Blank, Rep, Moved}
+use Rattle.lower.specs.Rep.{atPlace, State, Mem, mem, notes, Written, Sub, Blank, Rep, Moved}
 use Rattle.lower.specs.Pieces.{SomeTree, LowersExprs}
-use Rattle.lower.specs.Chains.{givenIf, seenIf, stepOf, Waiting, no-rel, a-rel, Linked, Sturdy, Anchored, Chained, LowersElement, startL, LowersStart, Starts}
+use Rattle.lower.specs.Chains.{lastOf, hasLast, pendingLine, fromOf, from, LastUnder, stepOf, Waiting, no-rel, a-rel, SameChain, ChainInBounds, Anchored, Chained, LowersElement, startL, LowersStart, StartsAnew}
+use Rattle.lower.specs.declared.Last.{Last}
+use Rattle.lower.specs.declared.Last.the-variants as last
+use Rattle.lower.specs.declared.Pending.{Pending}
+use Rattle.lower.specs.declared.Pending.the-variants as pending
 use Rattle.lower.specs.declared.Chain.{Chain}
 use Rattle.lower.specs.State.{sub-more, sub-within, blank-within, blank-behind, back, to-refl, to-then, to-wider, Given, number-to}
-use Rattle.lower.specs.Fits.{tree-fits}
+use Rattle.words.specs.Fits.{tree-fits}
 use Rattle.words.specs.Numbers.{elementNumber}
 use Rattle.lower.specs.Exprs.{moved-refl, moved-within, narrow}
 use Rattle.lower.proofs.Elements.{a-node, element-number}
 use Rattle.lower.proofs.Elements
-use Rattle.lower.proofs.Expand.{expandOp, expand-run, far-end, rel-end}
+use Rattle.lower.proofs.Expand.{expand-run, far-end, rel-end}
+use Rattle.words.specs.Places.{kindAt, nodeKind, relKind, elementNamedAt, elementVarAt, nodePropsAt, relTypesAt, relPropsAt, nodeLabelsAt}
+use Rattle.model.specs.Call.{maxDepth}
 
 IsNodeStep : Lower.Step → Type 0
 IsNodeStep (ofNode n) = Unit {0}
@@ -44,12 +51,12 @@ step-apart e = subst IsNodeStep e tt
 -- ── what an element adds to the path ──
 
 module _ {a b : List ℕ} (room : Roomy a b) (sheet : Bytes) (d i : ℕ) (N : Notes) (seen : Bool) (w : Option ℕ) {n : ℕ} (ts : Trees patternElement n) where
-  kept-rel : (t : Tree patternElement) → Held sheet a b t d i → cell a b i 0 ≡ 13 → keptFrom N seen w (t ∷ᵗ ts) ≡ keptFrom N seen (some (suc i)) ts
+  kept-rel : (t : Tree patternElement) → Held sheet a b t d i → cell a b i kindAt ≡ relKind → keptFrom N seen w (t ∷ᵗ ts) ≡ keptFrom N seen (some (suc i)) ts
   unfolding Held keptFrom elementNumber
   kept-rel (node patternElement line PatternElement.Node f kids) hd e = let z = element-number room (hd .1) in absurd (omega arith)
   kept-rel (node patternElement line PatternElement.Rel f kids) hd e = rw (hd .0)
 
-  kept-node : (t : Tree patternElement) → Held sheet a b t d i → cell a b i 0 ≡ 12 → keptFrom N seen w (t ∷ᵗ ts) ≡ keptRel N seen w ++ (N (suc i) ∷ keptFrom N true none ts)
+  kept-node : (t : Tree patternElement) → Held sheet a b t d i → cell a b i kindAt ≡ nodeKind → keptFrom N seen w (t ∷ᵗ ts) ≡ keptRel N seen w ++ (N (suc i) ∷ keptFrom N true none ts)
   unfolding Held keptFrom elementNumber
   kept-node (node patternElement line PatternElement.Node f kids) hd e = rw (hd .0)
   kept-node (node patternElement line PatternElement.Rel f kids) hd e = let z = element-number room (hd .1) in absurd (omega arith)
@@ -57,21 +64,21 @@ module _ {a b : List ℕ} (room : Roomy a b) (sheet : Bytes) (d i : ℕ) (N : No
 -- ── a rel ──
 
 abbrev pub relChain : Chain → ℕ → Chain
-relChain ch stop = record { next = stop; ctx = ch .ctx; has = ch .has; last = ch .last; origin = ch .origin; waits = 1; from = ch .next; kept = ch .kept }
+relChain ch stop = record { next = stop; ctx = ch .ctx; last = ch .last; pending = pending.Rel (ch .next); kept = ch .kept }
 
-module _ {a b : List ℕ} (d base : ℕ) (ch : Chain) (stop : ℕ) (os rs : List ℕ) (room : Roomy a b) (st : Sturdy ch) (k13 : cell a b (ch .next) 0 ≡ 13) (en : Ends a b (ch .next) stop) where
-  rel-linked : (sheet : Bytes) (t : Tree patternElement) → Held sheet a b t d (ch .next) → (c : Lower.Chain) → Linked sheet a b d ch c → (r : RelStep) → stepOf t ≡ ofRel r → Linked sheet a b d (relChain ch stop) (record { last = c .last; pending = some r; path = c .path })
-  rel-linked sheet t hd c l r e = record { last = l .last; waiting = a-rel refl t r hd e (en .each sheet patternElement d t tt hd) refl; kept = l .kept }
+module _ {a b : List ℕ} (d base : ℕ) (ch : Chain) (stop : ℕ) (os rs : List ℕ) (room : Roomy a b) (st : ChainInBounds ch) (k13 : cell a b (ch .next) kindAt ≡ relKind) (en : Ends a b (ch .next) stop) where
+  rel-same : (sheet : Bytes) (t : Tree patternElement) → Held sheet a b t d (ch .next) → (c : Lower.Chain) → SameChain sheet a b d ch c → (r : RelStep) → stepOf t ≡ ofRel r → SameChain sheet a b d (relChain ch stop) (record { last = c .last; pending = some r; path = c .path })
+  rel-same sheet t hd c l r e = record { last = l .last; waiting = a-rel (ch .next) refl t r hd e (en .each sheet patternElement d t tt hd) refl; kept = l .kept }
 
-  rel-run : (sheet : Bytes) (t : Tree patternElement) → Held sheet a b t d (ch .next) → (W : Written) (s : State) (c : Lower.Chain) → Rep sheet a b W s (mem (ch .ctx) os rs) → Linked sheet a b d ch c → Chained sheet a b W d base ch (relChain ch stop) t (stepOf t) c s (mem (ch .ctx) os rs) (mem (ch .ctx) os rs)
-  unfolding lowerElement ret optionOf
+  rel-run : (sheet : Bytes) (t : Tree patternElement) → Held sheet a b t d (ch .next) → (W : Written) (s : State) (c : Lower.Chain) → Rep sheet a b W s (mem (ch .ctx) os rs) → SameChain sheet a b d ch c → Chained sheet a b W d base ch (relChain ch stop) t (stepOf t) c s (mem (ch .ctx) os rs) (mem (ch .ctx) os rs)
+  unfolding lowerElement ret
   rel-run sheet t hd W s c r l =
       let v = Elements.a-rel room t hd k13 in
       subst (λ (x : Lower.Step). Chained sheet a b W d base ch (relChain ch stop) t x c s (mem (ch .ctx) os rs) (mem (ch .ctx) os rs)) (sym (v .step))
       (record {
-        to = to-wider (sub-more (base + suc (ch .from), base + suc (ch .next)) W) (to-refl r);
-        linked = rel-linked sheet t hd c l _ (v .step);
-        path = λ N A f ts. ap (λ (x : List ℕ). c .path ++ x) (sym (kept-rel room sheet d (ch .next) (shift N base) (seenIf (ch .has)) (optionOf (ch .waits) (suc (ch .from))) ts t hd k13));
+        to = to-wider (sub-more (base + suc (from ch), base + suc (ch .next)) W) (to-refl r);
+        same = rel-same sheet t hd c l _ (v .step);
+        path = λ N A f ts. ap (λ (x : List ℕ). c .path ++ x) (sym (kept-rel room sheet d (ch .next) (shift N base) (hasLast (ch .last)) (pendingLine (ch .pending)) ts t hd k13));
       })
 
   pub rel-law : SomeTree a b patternElement d (ch .next) → LowersElement a b d base ch (relChain ch stop) os os rs rs
@@ -81,8 +88,8 @@ module _ {a b : List ℕ} (d base : ℕ) (ch : Chain) (stop : ℕ) (os rs : List
       let k = st .kept in
       record {
         moved = moved-within (le-refl _) (st .from) (st .next) (moved-refl (let q = st .from in let q′ = st .next in omega arith));
-        sturdy = record { has = st .has; waits = omega arith; from = omega arith; next = omega arith; last = st .last; below = st .below; kept = omega arith };
-        anchored = record { sheet = x .sheet; pending = some _; waiting = a-rel refl (x .tree) _ (x .held) (Elements.a-rel room (x .tree) (x .held) k13 .step) z refl };
+        bounded = record { from = omega arith; next = omega arith; last = st .last; kept = omega arith };
+        anchored = record { sheet = x .sheet; pending = some _; waiting = a-rel (ch .next) refl (x .tree) _ (x .held) (Elements.a-rel room (x .tree) (x .held) k13 .step) z refl };
         ahead = omega arith;
         next = λ sheet t hd. en .each sheet patternElement d t tt hd;
         run = λ sheet t hd W s c r l bl. rel-run sheet t hd W s c r l;
@@ -90,27 +97,55 @@ module _ {a b : List ℕ} (d base : ℕ) (ch : Chain) (stop : ℕ) (os rs : List
 
 -- ── a node that starts ──
 
-abbrev pub nodeChain : Chain → (next : ℕ) → LowerCtx → (last origin more : ℕ) → Chain
-nodeChain ch next c last origin more = record { next = next; ctx = c; has = 1; last = last; origin = origin; waits = 0; from = next; kept = ch .kept + more }
+abbrev pub nodeChain : Chain → (next : ℕ) → LowerCtx → (k origin more : ℕ) → Chain
+nodeChain ch next c k origin more = record { next = next; ctx = c; last = last.Op k origin; pending = pending.Nothing; kept = ch .kept + more }
+
+pending-apart : {i : ℕ} → pending.Nothing ≡ pending.Rel i → ⊥
+pending-apart {i} e = let z : suc i ≡ i = ap (λ (p : Pending). fromOf p (suc i)) e in absurd (omega arith)
+
+same-rel : {i j : ℕ} → pending.Rel i ≡ pending.Rel j → i ≡ j
+same-rel e = ap (λ (p : Pending). fromOf p 0) e
+
+opOr : Last → ℕ
+opOr last.Nothing = 0
+opOr (last.Op k n) = k
+
+-- the operator of a node
+op-under : {k n m : ℕ} → k < m → LastUnder (last.Op k n) m
+unfolding opOr
+op-under {k} l = record { op = λ j o e. (let z : k ≡ j = ap opOr e in omega arith) }
+
+-- the rel that waits, at its record
+pub record RelWaits (sheet : Bytes) (a b : List ℕ) (d : ℕ) (ch : Chain) (rel : ℕ) (o : Option RelStep) : Type 0 where
+  pub tree : Tree patternElement
+  pub step : RelStep
+  pub held : Held sheet a b tree d rel
+  pub is : stepOf tree ≡ ofRel step
+  pub ends : ch .next ≡ rel + size tree
+  pub there : o ≡ some step
+
+pub rel-waits : {sheet : Bytes} {a b : List ℕ} {d : ℕ} {ch : Chain} {rel : ℕ} {o : Option RelStep} → ch .pending ≡ pending.Rel rel → Waiting sheet a b d ch o → RelWaits sheet a b d ch rel o
+rel-waits h (no-rel w e) = absurd (pending-apart (sym w ∙ h))
+rel-waits h (a-rel i w t r hd st nx e) = let z = same-rel (sym w ∙ h) in record { tree = t; step = r; held = rw z at hd; is = st; ends = rw z at nx; there = e }
 
 no-last : (c : Lower.Chain) (n : NodeStep) (k : ℕ) (o : Option RelStep) → reach c n k o none ≡ startNode c n k
 unfolding reach
 no-last c n k none = refl
 no-last c n k (some r) = refl
 
-nothing-waits : {sheet : Bytes} {a b : List ℕ} {d : ℕ} {ch : Chain} {o : Option RelStep} → ch .waits ≡ 0 → Waiting sheet a b d ch o → o ≡ none
-nothing-waits h (no-rel w f e) = e
-nothing-waits h (a-rel w t r hd st nx e) = absurd (omega arith)
+nothing-waits : {sheet : Bytes} {a b : List ℕ} {d : ℕ} {ch : Chain} {o : Option RelStep} → ch .pending ≡ pending.Nothing → Waiting sheet a b d ch o → o ≡ none
+nothing-waits h (no-rel w e) = e
+nothing-waits h (a-rel i w t r hd st nx e) = absurd (pending-apart (sym h ∙ w))
 
-starts-def : {sheet : Bytes} {a b : List ℕ} {d : ℕ} {ch : Chain} (c : Lower.Chain) (n : NodeStep) (k : ℕ) → Starts ch → Linked sheet a b d ch c → reach c n k (c .pending) (c .last) ≡ startNode c n k
-unfolding reach givenIf
+starts-def : {sheet : Bytes} {a b : List ℕ} {d : ℕ} {ch : Chain} (c : Lower.Chain) (n : NodeStep) (k : ℕ) → StartsAnew ch → SameChain sheet a b d ch c → reach c n k (c .pending) (c .last) ≡ startNode c n k
+unfolding reach
 starts-def c n k (inl h) l = ap (λ (o : Option RelStep). reach c n k o (c .last)) (nothing-waits h (l .waiting))
-starts-def {ch = ch} c n k (inr h) l = ap (λ (o : Option (ℕ × ℕ)). reach c n k (c .pending) o) (l .last ∙ ap (λ (x : ℕ). givenIf x (ch .last, ch .origin)) h) ∙ no-last c n k (c .pending)
+starts-def {ch = ch} c n k (inr h) l = ap (λ (o : Option (ℕ × ℕ)). reach c n k (c .pending) o) (l .last ∙ ap lastOf h) ∙ no-last c n k (c .pending)
 
-starts-path : (N : Notes) (ch : Chain) → Starts ch → keptRel N (seenIf (ch .has)) (optionOf (ch .waits) (suc (ch .from))) ≡ []
-unfolding keptRel optionOf seenIf
+starts-path : (N : Notes) (ch : Chain) → StartsAnew ch → keptRel N (hasLast (ch .last)) (pendingLine (ch .pending)) ≡ []
+unfolding keptRel
 starts-path N ch (inl h) = rw h
-starts-path N ch (inr h) = rw h (none-kept N (optionOf (ch .waits) (suc (ch .from))))
+starts-path N ch (inr h) = rw h (none-kept N (pendingLine (ch .pending)))
   where
     none-kept : (N : Notes) (o : Option ℕ) → keptRel N false o ≡ []
     none-kept N none = refl
@@ -126,9 +161,9 @@ path-one p cp rest K kr x y ep eK ek ey = rw (ep, eK, ek, ey) (append-assoc cp (
 path-two : (p cp rest K kr : List ℕ) (x x′ y y′ : ℕ) → p ≡ cp ++ (x ∷ y ∷ []) → K ≡ kr ++ (y′ ∷ rest) → kr ≡ x′ ∷ [] → x′ ≡ x → y′ ≡ y → p ++ rest ≡ cp ++ K
 path-two p cp rest K kr x x′ y y′ ep eK ek ex ey = rw (ep, eK, ek, ex, ey) (append-assoc cp (x ∷ y ∷ []) rest)
 
-kept-one : (N : Notes) (h w line : ℕ) → h ≡ 1 → w ≡ 1 → keptRel N (seenIf h) (optionOf w line) ≡ N line ∷ []
-unfolding keptRel seenIf optionOf
-kept-one N h w line eh ew = rw (eh, ew)
+kept-one : (N : Notes) (l : Last) (p : Pending) (k n rel : ℕ) → l ≡ last.Op k n → p ≡ pending.Rel rel → keptRel N (hasLast l) (pendingLine p) ≡ N (suc rel) ∷ []
+unfolding keptRel
+kept-one N l p k n rel el ep = rw (el, ep)
 
 abbrev started : Lower.Chain → ℕ → ℕ → Lower.Chain
 started c k x = record { last = some (k, x); pending = none; path = c .path ++ (x ∷ []) }
@@ -136,27 +171,29 @@ started c k x = record { last = some (k, x); pending = none; path = c .path ++ (
 start-same : (c : Lower.Chain) (n : NodeStep) (s : State) (x x′ k : ℕ) → x ≡ x′ → startL x′ n s .0 ≡ k → _≡_ {A = Lower.Chain × State} (started c (startL x n s .0) x, startL x n s .1) (started c k x′, startL x′ n s .1)
 start-same c n s x x′ k ex ek = rw (ex, ek)
 
-module _ {a b : List ℕ} (d base : ℕ) (ch : Chain) {e k place : ℕ} {os rest rest₁ : List ℕ} {r : Numbered} {m₂ : Mem} (room : Roomy a b) (lb : base ≤ 2048) (st : Sturdy ch) (k12 : cell a b (ch .next) 0 ≡ 12) (starts : Starts ch) (ep : place ≡ base + (ch .next + 1)) (nm : Numbers (endpointVar (optionOf (cell a b (ch .next) 2) (cell a b (ch .next) 3))) place (ch .ctx) rest rest₁ r) (lr : length rest₁ ≡ length rest) (ls : LowersStart a b d base (ch .next) (r .number) e k (mem (r .ctx) os rest₁) m₂) where
+module _ {a b : List ℕ} (d base : ℕ) (ch : Chain) {e k place : ℕ} {os rest rest₁ : List ℕ} {r : Numbered} {m₂ : Mem} (room : Roomy a b) (lb : base ≤ secondPass) (st : ChainInBounds ch)
+    (k12 : cell a b (ch .next) kindAt ≡ nodeKind) (starts : StartsAnew ch) (ep : place ≡ base + (ch .next + 1)) (nm : Numbers (endpointVar (optionOf (cell a b (ch .next) elementNamedAt)
+    (cell a b (ch .next) elementVarAt))) place (ch .ctx) rest rest₁ r) (lr : length rest₁ ≡ length rest) (ls : LowersStart a b d base (ch .next) (r .number) e k (mem (r .ctx) os rest₁) m₂) where
   abbrev ch′ : Chain
   ch′ = nodeChain ch e (m₂ .ctx) k (r .number) 1
 
   pub record StartPlaces : Type 0 where
     pub place-is : place ≡ base + suc (ch .next)
-    pub fn : base + suc (ch .from) ≤ base + suc (ch .next)
+    pub fn : base + suc (from ch) ≤ base + suc (ch .next)
     pub ne : base + suc (ch .next) + 1 ≤ base + suc e
     pub n1 : base + suc (ch .next) + 1 ≤ base + suc (ch .next + 1)
-    pub fn1 : base + suc (ch .from) ≤ base + suc (ch .next + 1)
-    pub low : base + suc (ch .next) < 4608
+    pub fn1 : base + suc (from ch) ≤ base + suc (ch .next + 1)
+    pub low : base + suc (ch .next) < varsAt
     pub here : (base + suc (ch .next) ≤ base + suc (ch .next)) × (base + suc (ch .next) < base + suc (ch .next) + 1)
 
-  start-places : ch .next < e → e ≤ 2048 → StartPlaces
+  start-places : ch .next < e → e ≤ maxRecords → StartPlaces
   start-places l h = let q = st .from in record { place-is = omega arith; fn = omega arith; ne = omega arith; n1 = omega arith; fn1 = omega arith; low = omega arith; here = (omega arith, omega arith) }
 
-  start-run : (sheet : Bytes) (t : Tree patternElement) → Held sheet a b t d (ch .next) → (W : Written) (s : State) (c : Lower.Chain) → Rep sheet a b W s (mem (ch .ctx) os rest) → Linked sheet a b d ch c → Blank W (base + suc (ch .from)) (base + suc e) → Chained sheet a b W d base ch ch′ t (stepOf t) c s (mem (ch .ctx) os rest) m₂
-  unfolding lowerElement _>>=_ seenIf optionOf givenIf
+  start-run : (sheet : Bytes) (t : Tree patternElement) → Held sheet a b t d (ch .next) → (W : Written) (s : State) (c : Lower.Chain) → Rep sheet a b W s (mem (ch .ctx) os rest) → SameChain sheet a b d ch c → Blank W (base + suc (from ch)) (base + suc e) → Chained sheet a b W d base ch ch′ t (stepOf t) c s (mem (ch .ctx) os rest) m₂
+  unfolding lowerElement _>>=_
   start-run sheet t hd W s c rp l bl =
       let v = a-node room t hd k12 in
-      let bn : Option ℕ = optionOf (cell a b (ch .next) 2) (cell a b (ch .next) 3) in
+      let bn : Option ℕ = optionOf (cell a b (ch .next) elementNamedAt) (cell a b (ch .next) elementVarAt) in
       let n : NodeStep = record { bind = bn; labels = toList (v .el .n) (foldOf Lowered made (v .el .names)); props = Lower.propsOf (v .el .p) (foldOf Lowered made (v .el .props)) } in
       let f = tree-fits sheet a b t d (ch .next) hd in
       let E = ls .next sheet t hd in
@@ -166,15 +203,17 @@ module _ {a b : List ℕ} (d base : ℕ) (ch : Chain) {e k place : ℕ} {os rest
       let s₁ : State = endpointVar bn s .1 in
       let y = ls .run sheet t n hd (v .step) W₁ s₁ (g .to .rep) (blank-behind (P .n1) (blank-within (P .fn1) (le-refl _) bl)) in
       let D : lowerElement c (ofNode n) s ≡ (started c k (r .number), startL (r .number) n s₁ .1) = ap (λ (z : Lowering Lower.Chain). z s₁) (starts-def c n (endpointVar bn s .0) starts l) ∙ start-def c n (endpointVar bn s .0) s₁ ∙ start-same c n s₁ _ _ _ (sym (g .number)) (sym (y .root)) in
-      let u : Sub ((base + suc (ch .next + 1), base + suc e) ∷ W₁) ((base + suc (ch .from), base + suc e) ∷ W) = sub-within (P .fn1) (le-refl _) (sub-within (P .fn) (P .ne) (sub-more (base + suc (ch .from), base + suc e) W)) in
+      let u : Sub ((base + suc (ch .next + 1), base + suc e) ∷ W₁) ((base + suc (from ch), base + suc e) ∷ W) = sub-within (P .fn1) (le-refl _) (sub-within (P .fn) (P .ne) (sub-more (base + suc (from ch), base + suc e) W)) in
       subst (λ (x : Lower.Step). Chained sheet a b W d base ch ch′ t x c s (mem (ch .ctx) os rest) m₂) (sym (v .step))
       (record {
         to = rw D (to-wider u (to-then (g .to) (y .to)));
-        linked = rw D (record { last = refl; waiting = no-rel refl refl refl; kept = length-append (c .path) (r .number ∷ []) ∙ ap (λ (x : ℕ). x + 1) (l .kept) });
-        path = λ N A fu ts. (let z : N (base + suc (ch .next)) ≡ r .number = back (y .to) (narrow u (rw D at fu)) .notes .at (base + suc (ch .next)) (P .low) (inl (P .here)) ∙ g .noted in path-one _ (c .path) _ _ _ _ _ (ap (λ (x : Lower.Chain × State). x .0 .path) D) (kept-node room sheet d (ch .next) (shift N base) (seenIf (ch .has)) (optionOf (ch .waits) (suc (ch .from))) ts t hd k12) (starts-path (shift N base) ch starts) z);
+        same = rw D (record { last = refl; waiting = no-rel refl refl; kept = length-append (c .path) (r .number ∷ []) ∙ ap (λ (x : ℕ). x + 1) (l .kept) });
+        path = λ N A fu ts. (let z : N (base + suc (ch .next)) ≡ r .number = back (y .to) (narrow u (rw D at fu)) .notes .at (base + suc (ch .next)) (P .low)
+            (inl (P .here)) ∙ g .noted in path-one _ (c .path) _ _ _ _ _ (ap (λ (x : Lower.Chain × State). x .0 .path) D) (kept-node room sheet d (ch .next) (shift N base)
+            (hasLast (ch .last)) (pendingLine (ch .pending)) ts t hd k12) (starts-path (shift N base) ch starts) z);
       })
 
-  start-moved : Moved (ch .from) e (mem (ch .ctx) os rest) m₂
+  start-moved : Moved (from ch) e (mem (ch .ctx) os rest) m₂
   start-moved =
       let v = ls .moved in
       let n = nm .issued in
@@ -196,8 +235,8 @@ module _ {a b : List ℕ} (d base : ℕ) (ch : Chain) {e k place : ℕ} {os rest
       let n = nm .issued in
       record {
         moved = start-moved;
-        sturdy = record { has = omega arith; waits = omega arith; from = omega arith; next = v .here; last = let q = ls .low in omega arith; below = λ h. ls .low; kept = let q = st .kept in omega arith };
-        anchored = record { sheet = x .sheet; pending = none; waiting = no-rel refl refl refl };
+        bounded = record { from = le-refl _; next = v .here; last = op-under (ls .low); kept = let q = st .kept in omega arith };
+        anchored = record { sheet = x .sheet; pending = none; waiting = no-rel refl refl };
         ahead = omega arith;
         next = λ sheet t hd. ls .next sheet t hd;
         run = λ sheet t hd W s c r l bl. start-run sheet t hd W s c r l bl;
@@ -205,30 +244,40 @@ module _ {a b : List ℕ} (d base : ℕ) (ch : Chain) {e k place : ℕ} {os rest
 
 -- ── a node behind a rel ──
 
-pub rel-kind : {a b : List ℕ} (room : Roomy a b) (sheet : Bytes) (d i : ℕ) (t : Tree patternElement) (r : RelStep) → Held sheet a b t d i → stepOf t ≡ ofRel r → cell a b i 0 ≡ 13
+pub rel-kind : {a b : List ℕ} (room : Roomy a b) (sheet : Bytes) (d i : ℕ) (t : Tree patternElement) (r : RelStep) → Held sheet a b t d i → stepOf t ≡ ofRel r → cell a b i kindAt ≡ relKind
 unfolding Held elementNumber fold made elementStep
 rel-kind room sheet d i (node patternElement line PatternElement.Node (bind, (n, (p, (span, u)))) (names ▸ props ▸ end)) r hd e = absurd (step-apart e)
 rel-kind room sheet d i (node patternElement line PatternElement.Rel f kids) r hd e = element-number room (hd .1)
 
-module _ {a b : List ℕ} (d base : ℕ) (ch : Chain) {e₁ e₂ n₁ n₂ p₁ p₂ : ℕ} {os rest rest₁ rest₂ : List ℕ} {r₁ r₂ : Numbered} {m₃ m₄ : Mem} {c₅ : LowerCtx} {os₅ : List ℕ} (room : Roomy a b) (lb : base ≤ 2048) (sh : d ≤ 64) (st : Sturdy ch) (w1 : ch .waits ≡ 1) (h1 : ch .has ≡ 1) (k12 : cell a b (ch .next) 0 ≡ 12) (la : ch .next < 2048) (ep₁ : p₁ ≡ base + (ch .next + 1)) (nm₁ : Numbers (endpointVar (optionOf (cell a b (ch .next) 2) (cell a b (ch .next) 3))) p₁ (ch .ctx) rest rest₁ r₁) (lr₁ : length rest₁ ≡ length rest) (ep₂ : p₂ ≡ base + (ch .from + 1)) (nm₂ : Numbers (endpointVar (optionOf (cell a b (ch .from) 2) (cell a b (ch .from) 3))) p₂ (r₁ .ctx) rest₁ rest₂ r₂) (lr₂ : length rest₂ ≡ length rest₁) (en₁ : n₁ ≡ cell a b (ch .from) 10) (x₁ : LowersExprs a b n₁ 0 (d - 1) base (ch .from + 1 + cell a b (ch .from) 4) e₁ (mem (r₂ .ctx) os rest₂) m₃) (en₂ : n₂ ≡ cell a b (ch .next) 6) (x₂ : LowersExprs a b n₂ 0 (d - 1) base (ch .next + 1 + cell a b (ch .next) 4) e₂ m₃ m₄) (pe : Pushed (m₄ .ctx) c₅ (m₄ .ops) os₅ (expandOp (ch .from) (ch .last) (ch .origin) (ch .next) d base)) (lo : length os₅ ≡ length (m₄ .ops)) where
+module _ {a b : List ℕ} (d base : ℕ) (ch : Chain) {rel input origin e₁ e₂ n₁ n₂ p₁ p₂ : ℕ} {os rest rest₁ rest₂ : List ℕ} {r₁ r₂ : Numbered} {m₃ m₄ : Mem} {c₅ : LowerCtx} {os₅ : List ℕ}
+    (room : Roomy a b) (lb : base ≤ secondPass) (sh : d ≤ maxDepth) (st : ChainInBounds ch) (w1 : ch .pending ≡ pending.Rel rel) (h1 : ch .last ≡ last.Op input origin)
+    (k12 : cell a b (ch .next) kindAt ≡ nodeKind) (la : ch .next < maxRecords) (ep₁ : p₁ ≡ base + (ch .next + 1)) (nm₁ : Numbers (endpointVar (optionOf (cell a b (ch .next) elementNamedAt)
+    (cell a b (ch .next) elementVarAt))) p₁ (ch .ctx) rest rest₁ r₁) (lr₁ : length rest₁ ≡ length rest) (ep₂ : p₂ ≡ base + (rel + 1))
+    (nm₂ : Numbers (endpointVar (optionOf (cell a b rel elementNamedAt) (cell a b rel elementVarAt))) p₂ (r₁ .ctx) rest₁ rest₂ r₂) (lr₂ : length rest₂ ≡ length rest₁)
+    (en₁ : n₁ ≡ cell a b rel relPropsAt) (x₁ : LowersExprs a b n₁ 0 (d - 1) base (rel + 1 + cell a b rel relTypesAt) e₁ (mem (r₂ .ctx) os rest₂) m₃)
+    (en₂ : n₂ ≡ cell a b (ch .next) nodePropsAt) (x₂ : LowersExprs a b n₂ 0 (d - 1) base (ch .next + 1 + cell a b (ch .next) nodeLabelsAt) e₂ m₃ m₄)
+    (pe : Pushed (m₄ .ctx) c₅ (m₄ .ops) os₅ (expandOp (atPlace base rel d) input origin (ch .next))) (lo : length os₅ ≡ length (m₄ .ops)) where
   abbrev ch″ : Chain
   ch″ = nodeChain ch e₂ c₅ (m₄ .ctx .ops) (r₁ .number) 2
 
+  -- nothing from the rel on is lowered yet
+  from-is : from ch ≡ rel
+  from-is = ap (λ (p : Pending). fromOf p (ch .next)) w1
+
   -- the rel that waits is a rel
-  waiting-kind : {sheet : Bytes} {o : Option RelStep} → Waiting sheet a b d ch o → cell a b (ch .from) 0 ≡ 13
-  waiting-kind (no-rel w f e) = absurd (omega arith)
-  waiting-kind {sheet} (a-rel w t r hd sr nx e) = rel-kind room sheet d (ch .from) t r hd sr
+  waiting-kind : {sheet : Bytes} {o : Option RelStep} → RelWaits sheet a b d ch rel o → cell a b rel kindAt ≡ relKind
+  waiting-kind {sheet} w = rel-kind room sheet d rel (w .tree) (w .step) (w .held) (w .is)
 
-  expand-end : {sheet : Bytes} {o : Option RelStep} → Waiting sheet a b d ch o → e₁ ≡ ch .next
-  expand-end (no-rel w f e) = absurd (omega arith)
-  expand-end {sheet} (a-rel w t r hd sr nx e) = rel-end d base (ch .next) (ch .from) room k12 (rel-kind room sheet d (ch .from) t r hd sr) lb sh la ep₁ nm₁ ep₂ nm₂ en₁ x₁ en₂ x₂ pe sheet t hd ∙ sym nx
+  expand-end : {sheet : Bytes} {o : Option RelStep} → RelWaits sheet a b d ch rel o → e₁ ≡ ch .next
+  expand-end {sheet} w = rel-end d base (ch .next) rel room k12 (waiting-kind w) lb sh la ep₁ nm₁ ep₂ nm₂ en₁ x₁ en₂ x₂ pe sheet (w .tree) (w .held) ∙ sym (w .ends)
 
-  expand-moved : e₁ ≡ ch .next → Moved (ch .from) e₂ (mem (ch .ctx) os rest) (mem c₅ os₅ (m₄ .rest))
+  expand-moved : e₁ ≡ ch .next → Moved (from ch) e₂ (mem (ch .ctx) os rest) (mem c₅ os₅ (m₄ .rest))
   expand-moved E =
       let i₁ = nm₁ .issued in
       let i₂ = nm₂ .issued in
       let v₁ = x₁ .moved in
       let v₂ = x₂ .moved in
+      let fr = from-is in
       record {
         up = omega (arith, v₁ .up, v₂ .up);
         here = v₂ .here;
@@ -240,31 +289,37 @@ module _ {a b : List ℕ} (d base : ℕ) (ch : Chain) {e₁ e₂ n₁ n₂ p₁ 
         index = λ x. rw (pe .mapped) (v₂ .index (v₁ .index (i₂ .index (i₁ .index x))));
       }
 
-  expanded-run : (sheet : Bytes) (t : Tree patternElement) → Held sheet a b t d (ch .next) → (W : Written) (s : State) (c : Lower.Chain) → Rep sheet a b W s (mem (ch .ctx) os rest) → Linked sheet a b d ch c → Waiting sheet a b d ch (c .pending) → Blank W (base + suc (ch .from)) (base + suc e₂) → Chained sheet a b W d base ch ch″ t (stepOf t) c s (mem (ch .ctx) os rest) (mem c₅ os₅ (m₄ .rest))
-  unfolding seenIf optionOf givenIf keptRel
-  expanded-run sheet t hd W s c rp l (no-rel w f e) bl = absurd (omega arith)
-  expanded-run sheet t hd W s c rp l (a-rel w tr r hr sr nx e) bl =
+  expanded-run : (sheet : Bytes) (t : Tree patternElement) → Held sheet a b t d (ch .next) → (W : Written) (s : State) (c : Lower.Chain) → Rep sheet a b W s (mem (ch .ctx) os rest) →
+      SameChain sheet a b d ch c → RelWaits sheet a b d ch rel (c .pending) → Blank W (base + suc (from ch)) (base + suc e₂) →
+      Chained sheet a b W d base ch ch″ t (stepOf t) c s (mem (ch .ctx) os rest) (mem c₅ os₅ (m₄ .rest))
+  unfolding keptRel
+  expanded-run sheet t hd W s c rp l w bl =
       let v = a-node room t hd k12 in
-      let k13 = rel-kind room sheet d (ch .from) tr r hr sr in
-      let x = expand-run d base (ch .next) (ch .from) room k12 k13 lb sh la ep₁ nm₁ ep₂ nm₂ en₁ x₁ en₂ x₂ pe sheet t tr _ r hd hr (v .step) sr nx W s c e (l .last ∙ ap (λ (z : ℕ). givenIf z (ch .last, ch .origin)) h1) rp bl in
+      let fr = from-is in
+      let x =
+      expand-run d base (ch .next) rel room k12 (waiting-kind w) lb sh la ep₁ nm₁ ep₂ nm₂ en₁ x₁ en₂ x₂ pe sheet t (w .tree) _ (w .step) hd (w .held) (v .step) (w .is) (w .ends) W s c (w .there) (l .last ∙ ap lastOf h1) rp (rw fr at bl)
+      in
       subst (λ (z : Lower.Step). Chained sheet a b W d base ch ch″ t z c s (mem (ch .ctx) os rest) (mem c₅ os₅ (m₄ .rest))) (sym (v .step))
       (record {
-        to = x .to;
-        linked = rw (x .is) (record { last = ap (λ (z : ℕ). some (m₄ .ctx .ops, z)) (sym (x .number)); waiting = no-rel refl refl refl; kept = length-append (c .path) (x .bindRel ∷ x .bindTo ∷ []) ∙ ap (λ (z : ℕ). z + 2) (l .kept) });
-        path = λ N A f ts. path-two _ (c .path) _ _ _ _ _ _ _ (ap (λ (z : Lower.Chain). z .path) (x .is)) (kept-node room sheet d (ch .next) (shift N base) (seenIf (ch .has)) (optionOf (ch .waits) (suc (ch .from))) ts t hd k12) (kept-one (shift N base) (ch .has) (ch .waits) (suc (ch .from)) h1 w1) (x .notes N A f .0) (x .notes N A f .1);
+        to = rw fr (x .to);
+        same = rw (x .is) (record { last = ap (λ (z : ℕ). some (m₄ .ctx .ops, z)) (sym (x .number)); waiting = no-rel refl refl; kept = length-append (c .path) (x .bindRel ∷ x .bindTo ∷ []) ∙ ap (λ (z : ℕ). z + 2) (l .kept) });
+        path = λ N A f ts.
+            (let y = x .notes N A (rw fr at f) in
+            path-two _ (c .path) _ _ _ _ _ _ _ (ap (λ (z : Lower.Chain). z .path) (x .is)) (kept-node room sheet d (ch .next) (shift N base) (hasLast (ch .last)) (pendingLine (ch .pending)) ts t hd k12) (kept-one (shift N base) (ch .last) (ch .pending) input origin rel h1 w1) (y .0) (y .1));
       })
 
   pub expand-law : SomeTree a b patternElement d (ch .next) → Anchored a b d ch → LowersElement a b d base ch ch″ os os₅ rest (m₄ .rest)
   expand-law x y =
-      let E = expand-end (y .waiting) in
+      let w = rel-waits w1 (y .waiting) in
+      let E = expand-end w in
       let mv = expand-moved E in
       let u₁ = x₁ .moved .up in
       let u₂ = x₂ .moved .up in
       record {
         moved = mv;
-        sturdy = record { has = omega arith; waits = omega arith; from = omega arith; next = mv .here; last = omega (arith, pe .count); below = λ h. omega (arith, pe .count); kept = let q = st .kept in omega arith };
-        anchored = record { sheet = x .sheet; pending = none; waiting = no-rel refl refl refl };
+        bounded = record { from = le-refl _; next = mv .here; last = op-under (omega (arith, pe .count)); kept = let q = st .kept in omega arith };
+        anchored = record { sheet = x .sheet; pending = none; waiting = no-rel refl refl };
         ahead = omega arith;
-        next = λ sheet t hd. far-end d base (ch .next) (ch .from) room k12 (waiting-kind (y .waiting)) lb sh la ep₁ nm₁ ep₂ nm₂ en₁ x₁ en₂ x₂ pe sheet t hd;
-        run = λ sheet t hd W s c r l bl. expanded-run sheet t hd W s c r l (l .waiting) bl;
+        next = λ sheet t hd. far-end d base (ch .next) rel room k12 (waiting-kind w) lb sh la ep₁ nm₁ ep₂ nm₂ en₁ x₁ en₂ x₂ pe sheet t hd;
+        run = λ sheet t hd W s c r l bl. expanded-run sheet t hd W s c r l (rel-waits w1 (l .waiting)) bl;
       }

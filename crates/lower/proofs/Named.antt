@@ -12,13 +12,13 @@ use Rattle.model.specs.Kind.{Expr, PlanExpr, expr, patternPart}
 use Rattle.model.specs.Record.{Rec, exprForms}
 use Rattle.model.specs.Tree.{Tree, Trees, node, end, _▸_, fold}
 use Rattle.model.specs.Lower.{Recs, made, _>>=_, ret, mapVar, over, exprStep, planned, lowerExpr, lowerMatchPattern, optionalJoin, copy, at}
-use Rattle.words.specs.Words.{Roomy, cell, fieldsOf, fieldOf}
+use Rattle.words.specs.Words.{Roomy, cell, fieldsOf, fieldOf, maxRecords}
 use Rattle.words.specs.Held.{Held, HeldOf, size, sizeOf}
-use Rattle.context.specs.Tables.{Numbers, Notes}
+use Rattle.context.specs.Tables.{Numbers, NoteWritten, secondPass}
 use Rattle.context.specs.declared.LowerCtx.{LowerCtx}
 use Rattle.context.specs.declared.Numbered.{Numbered}
 use Rattle.words.specs.Cells.{shown}
-use Rattle.lower.specs.Count.{countAt, countBy}
+use Rattle.words.specs.Count.{countAt, countBy}
 use Rattle.lower.specs.Render.{Ops, render, renderOf, recsOver, exprRecs, Below, belowIn, copiesBelow}
 use Rattle.lower.specs.Render
 use Rattle.lower.specs.Shows.{shift}
@@ -27,10 +27,11 @@ use Rattle.lower.specs.Pieces.{exprPiece, Carried, []ᶜ, lowerC, render
 use Rattle.lower.specs.Patterns.{partsL, SomeTrees, LowersParts}
 use Rattle.lower.specs.State.{sub-more, sub-within, blank-within, blank-before, blank-behind, back, to-then, to-wider, Given, number-to, note-to}
 use Rattle.words.specs.Numbers.{exprNumber}
-use Rattle.lower.proofs.Counting.{counted}
+use Rattle.words.proofs.Counting.{counted}
 use Rattle.lower.specs.Exprs.{narrow}
 use Rattle.lower.specs.Carry.{plainC, plain-lower, plain-size, plain-held, plain-render, plain-below}
 use Rattle.lower.proofs.Arms.{number-at, same-low}
+use Rattle.words.specs.Places.{kindAt, varKind, patKind, listPredicateKind, varIdAt, patPartsAt, listPredicateVarAt}
 
 -- ── a variable that is numbered at the record, before the expressions behind it ──
 
@@ -46,11 +47,11 @@ pub record Naming (sheet : Bytes) (a b : List ℕ) (d i id : ℕ) (t : Tree expr
   pub below : (N : Render.Notes) (k : ℕ) → BelowC N k list → Below N k t
 
 module _ {sheet : Bytes} {a b : List ℕ} {d i : ℕ} (room : Roomy a b) where
-  pub variable : (t : Tree expr) → Held sheet a b t d i → cell a b i 0 ≡ 32 → Naming sheet a b d i (cell a b i 2) t
+  pub variable : (t : Tree expr) → Held sheet a b t d i → cell a b i kindAt ≡ varKind → Naming sheet a b d i (cell a b i varIdAt) t
   unfolding Held size exprNumber lowerExpr fold made exprStep _>>=_ ret render recsOver exprRecs Below belowIn copiesBelow lowerC renderC sizeC HeldC fieldsOf fieldOf
   variable (node expr line (Expr.Over h) f kids) hd e = let z = number-at room (hd .1) in let l = same-low h in absurd (omega arith)
   variable (node expr line Expr.Var (id, t) end) hd e =
-      let ei : id ≡ cell a b i 2 = ap (λ (x : Fields (exprForms Expr.Var)). x .0) (shown room (hd .1) .fields) in
+      let ei : id ≡ cell a b i varIdAt = ap (λ (x : Fields (exprForms Expr.Var)). x .0) (shown room (hd .1) .fields) in
       record { n = 0; list = []ᶜ; total = counted room tt (hd .1); held = tt; sized = refl; head = λ x. planned PlanExpr.Var (x, tt); lower = λ s. rw ei; shown = λ N A. rw (hd .0); below = λ N k b. tt }
   variable (node expr line Expr.Map f kids) hd e = let z = number-at room (hd .1) in absurd (omega arith)
   variable (node expr line Expr.Call f kids) hd e = let z = number-at room (hd .1) in absurd (omega arith)
@@ -59,7 +60,7 @@ module _ {sheet : Bytes} {a b : List ℕ} {d i : ℕ} (room : Roomy a b) where
   variable (node expr line Expr.Unresolved f kids) hd e = let z = number-at room (hd .1) in absurd (omega arith)
   variable (node expr line Expr.Undesugared f kids) hd e = let z = number-at room (hd .1) in absurd (omega arith)
 
-  pub predicate : (t : Tree expr) → Held sheet a b t d i → cell a b i 0 ≡ 36 → Naming sheet a b d i (cell a b i 4) t
+  pub predicate : (t : Tree expr) → Held sheet a b t d i → cell a b i kindAt ≡ listPredicateKind → Naming sheet a b d i (cell a b i listPredicateVarAt) t
   unfolding Held size exprNumber lowerExpr fold made exprStep over _>>=_ ret render recsOver exprRecs Below belowIn copiesBelow fieldsOf fieldOf
   predicate (node expr line (Expr.Over h) f kids) hd e = let z = number-at room (hd .1) in let l = same-low h in absurd (omega arith)
   predicate (node expr line Expr.Var f kids) hd e = let z = number-at room (hd .1) in absurd (omega arith)
@@ -67,7 +68,7 @@ module _ {sheet : Bytes} {a b : List ℕ} {d i : ℕ} (room : Roomy a b) where
   predicate (node expr line Expr.Call f kids) hd e = let z = number-at room (hd .1) in absurd (omega arith)
   predicate (node expr line Expr.PatternPredicate f kids) hd e = let z = number-at room (hd .1) in absurd (omega arith)
   predicate (node expr line Expr.ListPredicate (kind, (id, (pred, t))) (ts ▸ end)) hd e =
-      let ei : id ≡ cell a b i 4 = ap (λ (x : Fields (exprForms Expr.ListPredicate)). x .1 .0) (shown room (hd .1) .fields) in
+      let ei : id ≡ cell a b i listPredicateVarAt = ap (λ (x : Fields (exprForms Expr.ListPredicate)). x .1 .0) (shown room (hd .1) .fields) in
       record {
         n = _;
         list = plainC ts;
@@ -75,14 +76,16 @@ module _ {sheet : Bytes} {a b : List ℕ} {d i : ℕ} (room : Roomy a b) where
         held = plain-held sheet a b ts (d - 1) (i + 1) (hd .3 .0);
         sized = let e = plain-size ts in omega arith;
         head = λ x. planned PlanExpr.ListPredicate (kind, (x, (pred, tt)));
-        lower = λ s. rw (ei, plain-lower ts (mapVar (cell a b i 4) s .1));
+        lower = λ s. rw (ei, plain-lower ts (mapVar (cell a b i listPredicateVarAt) s .1));
         shown = λ N A. rw (hd .0) (ap (λ (x : Recs). planned PlanExpr.ListPredicate (kind, (N (suc i), (pred, tt))) ∷ x) (append-nil (renderOf N A ts) ∙ plain-render N A ts));
         below = λ N k b. (plain-below N k ts b, tt);
       }
   predicate (node expr line Expr.Unresolved f kids) hd e = let z = number-at room (hd .1) in absurd (omega arith)
   predicate (node expr line Expr.Undesugared f kids) hd e = let z = number-at room (hd .1) in absurd (omega arith)
 
-naming-run : {sheet : Bytes} {a b : List ℕ} {d base i e id : ℕ} {m m′ : Mem} (t : Tree expr) (o : Naming sheet a b d i id t) (W : Written) (s : State) (rest′ : List ℕ) (r : Numbered) → base ≤ 2048 → i < 2048 → i + 1 ≤ e → Given sheet a b W s (mapVar id) (base + suc i) m rest′ r → Ran sheet a b ((base + suc i, base + suc i + 1) ∷ W) (carriedPiece (o .list)) base (suc (i + 1)) (suc e) (mapVar id s .1) (mem (r .ctx) (m .ops) rest′) m′ → Ran sheet a b W (exprPiece t) base (suc i) (suc e) s m m′
+naming-run : {sheet : Bytes} {a b : List ℕ} {d base i e id : ℕ} {m m′ : Mem} (t : Tree expr) (o : Naming sheet a b d i id t) (W : Written) (s : State) (rest′ : List ℕ) (r : Numbered) →
+    base ≤ secondPass → i < maxRecords → i + 1 ≤ e → Given sheet a b W s (mapVar id) (base + suc i) m rest′ r → Ran sheet a b ((base + suc i, base + suc i + 1) ∷ W)
+    (carriedPiece (o .list)) base (suc (i + 1)) (suc e) (mapVar id s .1) (mem (r .ctx) (m .ops) rest′) m′ → Ran sheet a b W (exprPiece t) base (suc i) (suc e) s m m′
 naming-run {base = base} {i = i} {e = e} {id = id} {m = m} t o W s rest′ r lb li le g p =
     let u : Sub ((base + suc (i + 1), base + suc e) ∷ (base + suc i, base + suc i + 1) ∷ W) ((base + suc i, base + suc e) ∷ W) = sub-within (omega arith) (le-refl _) (sub-within (le-refl _) (omega arith) (sub-more (base + suc i, base + suc e) W)) in
     record {
@@ -94,7 +97,9 @@ naming-run {base = base} {i = i} {e = e} {id = id} {m = m} t o W s rest′ r lb 
       below = λ N A f. o .below (shift N base) _ (p .below N A (narrow u (rw (o .lower s) at f)));
     }
 
-module _ {a b : List ℕ} {n d base i e id place : ℕ} {c : LowerCtx} {os rest rest′ : List ℕ} {r : Numbered} {m′ : Mem} (see : (sheet : Bytes) (t : Tree expr) → Held sheet a b t d i → Naming sheet a b d i id t) (en : n ≡ countAt a b i) (lb : base ≤ 2048) (li : i < 2048) (ep : place ≡ base + (i + 1)) (nm : Numbers (mapVar id) place c rest rest′ r) (lr : length rest′ ≡ length rest) (p : LowersExprs a b n 0 (d - 1) base (i + 1) e (mem (r .ctx) os rest′) m′) where
+module _ {a b : List ℕ} {n d base i e id place : ℕ} {c : LowerCtx} {os rest rest′ : List ℕ} {r : Numbered} {m′ : Mem} (see : (sheet : Bytes) (t : Tree expr) → Held sheet a b t d i →
+    Naming sheet a b d i id t) (en : n ≡ countAt a b i) (lb : base ≤ secondPass) (li : i < maxRecords) (ep : place ≡ base + (i + 1)) (nm : Numbers (mapVar id) place c rest rest′ r)
+    (lr : length rest′ ≡ length rest) (p : LowersExprs a b n 0 (d - 1) base (i + 1) e (mem (r .ctx) os rest′) m′) where
   naming-next : (sheet : Bytes) (t : Tree expr) → Held sheet a b t d i → e ≡ i + size t
   naming-next sheet t hd =
       let o = see sheet t hd in
@@ -127,7 +132,7 @@ naming-some see en x = let o = see (x .sheet) (x .tree) (x .held) in rw (en ∙ 
 pub record Matched (sheet : Bytes) (a b : List ℕ) (d i : ℕ) (t : Tree expr) : Type 0 where
   pub n : ℕ
   pub parts : Trees patternPart n
-  pub total : cell a b i 2 ≡ n
+  pub total : cell a b i patPartsAt ≡ n
   pub held : HeldOf sheet a b parts (d - 1) (i + 1)
   pub sized : size t ≡ suc (sizeOf parts)
   pub lower : (s : State) → lowerExpr t s ≡ (planned PlanExpr.Exists tt ∷ at (partsL parts s .1 .ops) (partsL parts s .0), partsL parts s .1)
@@ -135,7 +140,7 @@ pub record Matched (sheet : Bytes) (a b : List ℕ) (d i : ℕ) (t : Tree expr) 
   pub below : (N : Render.Notes) (k : ℕ) → N (suc i) < k → Below N k t
 
 module _ {sheet : Bytes} {a b : List ℕ} {d i : ℕ} (room : Roomy a b) where
-  pub pattern : (t : Tree expr) → Held sheet a b t d i → cell a b i 0 ≡ 35 → Matched sheet a b d i t
+  pub pattern : (t : Tree expr) → Held sheet a b t d i → cell a b i kindAt ≡ patKind → Matched sheet a b d i t
   unfolding Held size exprNumber lowerExpr fold made exprStep lowerMatchPattern optionalJoin copy _>>=_ ret render recsOver exprRecs Below belowIn copiesBelow fieldsOf fieldOf
   pattern (node expr line (Expr.Over h) f kids) hd e = let z = number-at room (hd .1) in let l = same-low h in absurd (omega arith)
   pattern (node expr line Expr.Var f kids) hd e = let z = number-at room (hd .1) in absurd (omega arith)
@@ -155,7 +160,9 @@ module _ {sheet : Bytes} {a b : List ℕ} {d i : ℕ} (room : Roomy a b) where
   pattern (node expr line Expr.Unresolved f kids) hd e = let z = number-at room (hd .1) in absurd (omega arith)
   pattern (node expr line Expr.Undesugared f kids) hd e = let z = number-at room (hd .1) in absurd (omega arith)
 
-module _ {a b : List ℕ} {n d base i e k place : ℕ} {rest′ : List ℕ} {m m₁ : Mem} (see : (sheet : Bytes) (t : Tree expr) → Held sheet a b t d i → Matched sheet a b d i t) (en : n ≡ cell a b i 2) (lb : base ≤ 2048) (li : i < 2048) (ep : place ≡ base + (i + 1)) (p : LowersParts a b n (d - 1) base i e k m m₁) (nt : Notes place k (m₁ .rest) rest′) (lr : length rest′ ≡ length (m₁ .rest)) where
+module _ {a b : List ℕ} {n d base i e k place : ℕ} {rest′ : List ℕ} {m m₁ : Mem} (see : (sheet : Bytes) (t : Tree expr) → Held sheet a b t d i → Matched sheet a b d i t)
+    (en : n ≡ cell a b i patPartsAt) (lb : base ≤ secondPass) (li : i < maxRecords) (ep : place ≡ base + (i + 1)) (p : LowersParts a b n (d - 1) base i e k m m₁)
+    (nt : NoteWritten place k (m₁ .rest) rest′) (lr : length rest′ ≡ length (m₁ .rest)) where
   pattern-next : (sheet : Bytes) (t : Tree expr) → Held sheet a b t d i → e ≡ i + size t
   pattern-next sheet t hd =
       let o = see sheet t hd in
@@ -171,7 +178,7 @@ module _ {a b : List ℕ} {n d base i e k place : ℕ} {rest′ : List ℕ} {m m
       let p′ : LowersParts a b (o .n) (d - 1) base i e k m m₁ = rw (en ∙ o .total) at p in
       let v′ = p′ .next sheet (o .parts) (o .held) in
       let ep′ : place ≡ base + suc i = omega arith in
-      let nt′ : Notes (base + suc i) k (m₁ .rest) rest′ = rw ep′ at nt in
+      let nt′ : NoteWritten (base + suc i) k (m₁ .rest) rest′ = rw ep′ at nt in
       let g = p′ .run sheet (o .parts) (o .held) W s q (blank-within (omega arith) (le-refl _) bl) in
       let h = note-to (base + suc i) k m₁ rest′ (g .to .rep) nt′ (blank-before (omega arith) (blank-within (le-refl _) (omega arith) bl)) in
       let u : Sub ((base + suc i, base + suc i + 1) ∷ (base + suc (i + 1), base + suc e) ∷ W) ((base + suc i, base + suc e) ∷ W) = sub-within (le-refl _) (omega arith) (sub-within (omega arith) (le-refl _) (sub-more (base + suc i, base + suc e) W)) in
@@ -191,9 +198,13 @@ module _ {a b : List ℕ} {n d base i e k place : ℕ} {rest′ : List ℕ} {m m
     run = pattern-run;
   }
 
-pub pattern-some : {a b : List ℕ} {n d i : ℕ} → ((sheet : Bytes) (t : Tree expr) → Held sheet a b t d i → Matched sheet a b d i t) → n ≡ cell a b i 2 → SomeTree a b expr d i → SomeTrees a b patternPart n (d - 1) (i + 1)
+pub pattern-some : {a b : List ℕ} {n d i : ℕ} → ((sheet : Bytes) (t : Tree expr) → Held sheet a b t d i → Matched sheet a b d i t) → n ≡ cell a b i patPartsAt → SomeTree a b expr d i → SomeTrees a b patternPart n (d - 1) (i + 1)
 pattern-some see en x = let o = see (x .sheet) (x .tree) (x .held) in rw (en ∙ o .total) (record { sheet = x .sheet; trees = o .parts; held = o .held })
 
-pub count-none : (a b : List ℕ) (i : ℕ) → cell a b i 0 ≡ 32 → 0 ≡ countAt a b i
+pub count-none : (a b : List ℕ) (i : ℕ) → cell a b i kindAt ≡ varKind → 0 ≡ countAt a b i
 unfolding countBy
 count-none a b i e = rw e
+
+pub count-parts : (a b : List ℕ) (i : ℕ) → cell a b i kindAt ≡ patKind → countAt a b i ≡ cell a b i patPartsAt
+unfolding countBy
+count-parts a b i e = rw e

@@ -7,30 +7,36 @@ use mathlib.Core.List.{List, [], _∷_}
 use lib.ListN.{length}
 use Rattle.model.specs.Text.{Bytes}
 use Rattle.model.specs.Kind.{patternPart}
-use Rattle.model.specs.Tree.{Tree, Trees, []ᵗ, _∷ᵗ_, toList, fold}
-use Rattle.model.specs.Lower.{Lowering, _>>=_, ret, push, source, lowerParts}
+use Rattle.model.specs.Tree.{Tree, Trees, []ᵗ, _∷ᵗ_, toList, fold, foldOf}
+use Rattle.model.specs.Lower.{Lowering, Lowered, made, _>>=_, ret, push, source, furtherPart, lowerFurther, lowerParts}
 use Rattle.model.specs.Lower
 use Rattle.words.specs.Held.{Held, HeldOf, size, sizeOf}
 use Rattle.context.specs.Tables.{Pushed}
 use Rattle.context.specs.declared.op.Op.{Op}
 use Rattle.context.specs.declared.LowerCtx.{LowerCtx}
 use Rattle.context.specs.declared.Numbered.{Numbered}
-use Rattle.lower.specs.Shows.{Sane, shows-all}
-use Rattle.lower.specs.Rep.{State, Mem, mem, Written, Blank, Rep, Rooted, Good, Moved}
+use Rattle.context.specs.Ops.{sourceAllOp}
+use Rattle.lower.specs.Shows.{InBounds, shows-all}
+use Rattle.lower.specs.Rep.{State, Mem, mem, Written, Blank, Rep, Rooted, RoomFor, Moved}
 use Rattle.lower.specs.Pieces.{SomeTree}
 use Rattle.lower.specs.Patterns.{partsL, partL, SomeTrees, LowersParts, LowersPart}
 use Rattle.lower.specs.State.{sub-more, sub-within, blank-within, blank-behind, to-refl, to-then, to-wider, push-to, fresh-to, fresh-number}
 use Rattle.lower.specs.Exprs.{moved-refl, moved-then, moved-within, good-after}
+use Rattle.words.specs.Words.{maxRecords}
 
 -- parts behind a part whose root is k
 unfoldable pub fromL : ℕ → {n : ℕ} → Trees patternPart n → Lowering ℕ
 fromL k []ᵗ = ret k
 fromL k (t ∷ᵗ ts) = λ s. fromL (partL t s .0) ts (partL t s .1)
 
+further-def : {n : ℕ} (k : ℕ) (ts : Trees patternPart n) (s : State) → lowerFurther k (toList n (foldOf Lowered made ts)) s ≡ fromL k ts s
+unfolding fromL lowerFurther furtherPart toList fold _>>=_ ret
+further-def k []ᵗ s = refl
+further-def k (t ∷ᵗ ts) s = further-def (partL t s .0) ts (partL t s .1)
+
 parts-def : {n : ℕ} (t : Tree patternPart) (ts : Trees patternPart n) (s : State) → partsL (t ∷ᵗ ts) s ≡ fromL (partL t s .0) ts (partL t s .1)
-unfolding fromL lowerParts toList fold _>>=_ ret
-parts-def t []ᵗ s = refl
-parts-def t (u ∷ᵗ ts) s = parts-def u ts (partL t s .1)
+unfolding lowerParts toList fold _>>=_
+parts-def t ts s = further-def (partL t s .0) ts (partL t s .1)
 
 pub record LowersFrom (a b : List ℕ) (n d base i e k₀ k : ℕ) (m m′ : Mem) : Type 0 where
   pub moved : Moved i e m m′
@@ -46,7 +52,7 @@ none-run : {sheet : Bytes} {a b : List ℕ} (base i k : ℕ) (m : Mem) (ts : Tre
 unfolding fromL ret
 none-run base i k m []ᵗ W s l r = record { to = to-wider (sub-more (base + suc i, base + suc i) W) (to-refl r); root = refl; low = l }
 
-pub from-nil : (a b : List ℕ) (d base i k : ℕ) (m : Mem) → i ≤ 2048 → k < m .ctx .ops → LowersFrom a b 0 d base i i k k m m
+pub from-nil : (a b : List ℕ) (d base i k : ℕ) (m : Mem) → i ≤ maxRecords → k < m .ctx .ops → LowersFrom a b 0 d base i i k k m m
 from-nil a b d base i k m h l = record { moved = moved-refl h; low = l; next = λ sheet ts hd. none-size i ts; run = λ sheet ts hd W s r bl. none-run base i k m ts W s l r }
 
 module _ {a b : List ℕ} {n d base i j e k₁ k : ℕ} {m m₁ m₂ : Mem} (p : LowersPart a b d base i j k₁ m m₁) (q : LowersFrom a b n d base j e k₁ k m₁ m₂) where
@@ -89,19 +95,16 @@ first-law i p q = record { moved = moved-within (omega arith) (le-refl _) (q .mo
 
 -- ── no parts ──
 
-abbrev pub allOp : ℕ → Op
-allOp number = record { kind = 0; idx = 0; input = 0; x = number; y = 0; left = 0; base = 0 }
+pub all-bounded : (number : ℕ) → InBounds (sourceAllOp number)
+all-bounded number = record { shallow = omega arith; near = omega arith; low = omega arith; far = λ e. absurd (omega arith); flagged = λ e. absurd (omega arith) }
 
-pub all-sane : (number : ℕ) → Sane (allOp number)
-all-sane number = record { shallow = omega arith; near = omega arith; low = omega arith; far = λ e. absurd (omega arith); flagged = λ e. absurd (omega arith) }
-
-module _ {a b : List ℕ} (d base i : ℕ) (m : Mem) (f : Numbered) (c : LowerCtx) (os : List ℕ) (li : i < 2048) (fr : (f .number ≡ m .ctx .next) × (f .ctx .ops ≡ m .ctx .ops) × (f .ctx .next ≡ m .ctx .next + 1) × (f .ctx .mapped ≡ m .ctx .mapped)) (ps : Pushed (f .ctx) c (m .ops) os (allOp (f .number))) (lo : length os ≡ length (m .ops)) where
+module _ {a b : List ℕ} (d base i : ℕ) (m : Mem) (f : Numbered) (c : LowerCtx) (os : List ℕ) (li : i < maxRecords) (fr : (f .number ≡ m .ctx .next) × (f .ctx .ops ≡ m .ctx .ops) × (f .ctx .next ≡ m .ctx .next + 1) × (f .ctx .mapped ≡ m .ctx .mapped)) (ps : Pushed (f .ctx) c (m .ops) os (sourceAllOp (f .number))) (lo : length os ≡ length (m .ops)) where
   no-run : (sheet : Bytes) (ts : Trees patternPart 0) (W : Written) (s : State) → Rep sheet a b W s m → Rooted sheet a b W (partsL ts) (m .ctx .ops) base (suc (i + 1)) (suc (i + 1)) s m (mem c os (m .rest))
   unfolding lowerParts toList fold _>>=_ push
   no-run sheet []ᵗ W s r =
       let x = fresh-to m (f .ctx) r (fr .1) (fr .2) (fr .3) in
       let n : f .number ≡ Lower.fresh s .0 = fr .0 ∙ fresh-number m r in
-      let y = push-to (mem (f .ctx) (m .ops) (m .rest)) c os (allOp (f .number)) (source (Lower.fresh s .0) []) (x .rep) ps (λ N A z. record { sane = all-sane (f .number); shows = shows-all refl (ap (λ (q : ℕ). source q []) (sym n)) }) in
+      let y = push-to (mem (f .ctx) (m .ops) (m .rest)) c os (sourceAllOp (f .number)) (source (Lower.fresh s .0) []) (x .rep) ps (λ N A z. record { bounded = all-bounded (f .number); shows = shows-all refl (ap (λ (q : ℕ). source q []) (sym n)) }) in
       record { to = to-wider (sub-more (base + suc (i + 1), base + suc (i + 1)) W) (to-then x y); root = sym (fr .1) ∙ x .rep .count; low = let e : c .ops ≡ f .ctx .ops + 1 = ps .count in let e′ = fr .1 in omega arith }
 
   pub no-law : LowersParts a b 0 d base i (i + 1) (m .ctx .ops) m (mem c os (m .rest))
@@ -121,7 +124,7 @@ module _ {a b : List ℕ} (d base i : ℕ) (m : Mem) (f : Numbered) (c : LowerCt
 -- k parts are left behind one whose root is `root`, and once they are lowered from here, all is done
 pub record Left (a b : List ℕ) (d base : ℕ) (Done : ℕ → ℕ → Mem → Type 0) (k i root : ℕ) (m : Mem) : Type 0 where
   pub some : SomeTrees a b patternPart k d i
-  pub good : Good d i m
+  pub good : RoomFor d i m
   pub low : root < m .ctx .ops
   pub rest : (e root′ : ℕ) (m′ : Mem) → LowersFrom a b k d base i e root root′ m m′ → Done e root′ m′
 
@@ -157,5 +160,5 @@ pub first-done : {a b : List ℕ} {n d base j e k₁ k : ℕ} {m m₁ m₂ : Mem
 first-done {n = zero} i h p q = absurd (h refl)
 first-done {n = suc n} i h p q = let z : suc n - 1 ≡ n = omega arith in first-law i p (rw z at q)
 
-pub from-left : {a b : List ℕ} {n d base j k₁ : ℕ} {m m₁ : Mem} (i : ℕ) → ((n ≡ 0) → ⊥) → SomeTrees a b patternPart n d (i + 1) → Good d (i + 1) m → LowersPart a b d base (i + 1) j k₁ m m₁ → Left a b d base (λ e k m′. LowersFrom a b (n - 1) d base j e k₁ k m₁ m′) (n - 1) j k₁ m₁
+pub from-left : {a b : List ℕ} {n d base j k₁ : ℕ} {m m₁ : Mem} (i : ℕ) → ((n ≡ 0) → ⊥) → SomeTrees a b patternPart n d (i + 1) → RoomFor d (i + 1) m → LowersPart a b d base (i + 1) j k₁ m m₁ → Left a b d base (λ e k m′. LowersFrom a b (n - 1) d base j e k₁ k m₁ m′) (n - 1) j k₁ m₁
 from-left i h x g p = record { some = some-behind h x p; good = good-after (p .moved) g; low = p .low; rest = λ e k m′ q. q }

@@ -1,6 +1,6 @@
 -- What the room that there is allows: an operator more, a number more, and the calls below. Assumes nothing.
 use mathlib.Core.Path.{_≡_, refl, sym, ap, _∙_}
-use Prim.Native.Nat.{ℕ, _+_, _-_, _≤_, _<_}
+use Prim.Native.Nat.{ℕ, _+_, _*_, _-_, _≤_, _<_}
 use native.Mathlib.Omega.{arith}
 use mathlib.Core.List.{List}
 use lib.ListN.{length, drop}
@@ -10,92 +10,130 @@ use mathlib.Core.Bool.{Bool, true, false}
 use mathlib.Core.Logic.{_⊎_, inl, inr}
 use lib.Dec.{eqb}
 use borrow.Author.Tests.{eqb-true, eqb-false}
-use Rattle.lower.specs.Fits.{tree-fits}
+use Rattle.words.specs.Fits.{tree-fits}
 use Rattle.lower.specs.Carry.{plainC, plain-held, plain-size}
 use Rattle.lower.proofs.Elements.{a-node, other-element}
 use Rattle.lower.proofs.Elements
-use Rattle.lower.proofs.Linking.{rel-kind}
+use Rattle.lower.proofs.Linking.{rel-kind, rel-waits}
+use Rattle.lower.specs.declared.Pending.{Pending}
+use Rattle.lower.specs.declared.Pending.the-variants as pending
 use mathlib.Core.Option.{Option}
 use Rattle.model.specs.Lower.{RelStep}
 use Rattle.model.specs.Record.{one}
-use Rattle.lower.specs.Count.{Ends}
-use Rattle.lower.specs.Chains.{LowersRel, LowersStart, OrSource, Waiting, no-rel, a-rel, Anchored}
+use Rattle.words.specs.Count.{Ends}
+use Rattle.lower.specs.Chains.{fromOf, from, LowersRel, LowersStart, OrSource, Anchored}
 use Rattle.lower.specs.declared.Chain.{Chain}
 use Rattle.model.specs.Tree.{Tree, node}
 use Rattle.words.specs.Words.{cell, Roomy, optionOf}
 use Rattle.words.specs.Held.{Held, size}
-use Rattle.context.specs.Tables.{Pushed, Issued, Numbers, Indexed, varsAt}
+use Rattle.context.specs.Tables.{Pushed, Issued, CanNumber, Numbers, varsAt, maxVars, maxCount}
 use Rattle.context.specs.declared.op.Op.{Op}
 use Rattle.context.specs.declared.LowerCtx.{LowerCtx}
 use Rattle.context.specs.declared.Numbered.{Numbered}
 use Rattle.model.specs.Lower.{Lowering, endpointVar}
-use Rattle.lower.specs.Rep.{Mem, mem, Good}
+use Rattle.context.specs.Ops.{Fits}
+use Rattle.lower.specs.Rep.{atPlace, Mem, mem, RoomFor, maxBefore}
+use Rattle.model.specs.Call.{maxDepth, workWords}
+use Rattle.words.specs.Words.{maxRecords}
+use Rattle.context.specs.Tables.{secondPass}
+use Rattle.context.specs.declared.At.{At}
+use Rattle.lower.specs.Asked.{Asked, SomeElement, TreeAsked, ElementAsked, ChainAsked}
 use Rattle.lower.specs.Pieces.{SomeTree, SomeCarried, LowersExprs}
+use Rattle.words.specs.Places.{kindAt, nodeKind, relKind, elementNamedAt, elementVarAt, nodeLabelsAt, nodePropsAt, relTypesAt, relPropsAt}
 
-deep-by : {s : Sort} (sheet : List ℕ) (a b : List ℕ) (t : Tree s) (d i : ℕ) → Held sheet a b t d i → (i < 2048) × (1 ≤ d)
+deep-by : {s : Sort} (sheet : List ℕ) (a b : List ℕ) (t : Tree s) (d i : ℕ) → Held sheet a b t d i → (i < maxRecords) × (1 ≤ d)
 unfolding Held
 deep-by sheet a b (node s line k f kids) d i h = (h .1 .low, h .2)
 
-pub low : {a b : List ℕ} {s : Sort} {d i : ℕ} → SomeTree a b s d i → i < 2048
+pub low : {a b : List ℕ} {s : Sort} {d i : ℕ} → SomeTree a b s d i → i < maxRecords
 low {a} {b} {d = d} {i = i} x = deep-by (x .sheet) a b (x .tree) d i (x .held) .0
 
 pub deep : {a b : List ℕ} {s : Sort} {d i : ℕ} → SomeTree a b s d i → 1 ≤ d
 deep {a} {b} {d = d} {i = i} x = deep-by (x .sheet) a b (x .tree) d i (x .held) .1
 
-module _ {d i : ℕ} {c : LowerCtx} {os rs : List ℕ} (g : Good d i (mem c os rs)) where
-  pub can-push : (c .ops < 65536) × (16384 ≤ length os)
+-- the numbers of a place
+pub record Bounds (at : At) : Type 0 where
+  pub low : at .i < maxRecords
+  pub deep : 1 ≤ at .left
+  pub shallow : at .left ≤ maxDepth
+  pub near : at .base ≤ secondPass
+
+pub bounds : {s : Sort} {a b : List ℕ} {at : At} {m : Mem} → TreeAsked s a b at m → Bounds at
+bounds g = record { low = low (g .tree); deep = deep (g .tree); shallow = g .depth; near = g .pass }
+
+pub element-bounds : {kind : ℕ} {a b : List ℕ} {at : At} {m : Mem} → ElementAsked kind a b at m → Bounds at
+element-bounds g = record { low = low (g .tree .tree); deep = deep (g .tree .tree); shallow = g .depth; near = g .pass }
+
+pub chain-bounds : {a b : List ℕ} {base left : ℕ} {ch : Chain} {os rs : List ℕ} → ChainAsked a b base left ch os rs → Bounds (atPlace base (ch .next) left)
+chain-bounds g = record { low = low (g .tree); deep = deep (g .tree); shallow = g .depth; near = g .pass }
+
+-- what is asked for a part of what stands at a place
+pub asked-on : {T T′ : Type 0} {a b : List ℕ} {at : At} {d : ℕ} {m m′ : Mem} (i d′ e : ℕ) → Asked T a b at d m → d′ ≤ at .left → T′ → RoomFor e i m′ → Asked T′ a b (atPlace (at .base) i d′) e m′
+asked-on i d′ e g l t r = record { words = g .words; tree = t; room = r; depth = (let h = g .depth in omega arith); pass = g .pass }
+
+module _ {d i : ℕ} {c : LowerCtx} {os rs : List ℕ} (g : RoomFor d i (mem c os rs)) where
+  pub can-push : (c .ops < maxCount) × (workWords ≤ length os)
   can-push = (let x = g .few in let y = g .here in omega arith, g .in-ops)
 
-  pub can-number : (base place j : ℕ) → base ≤ 2048 → j ≤ 2048 → place ≡ base + j → (c .mapped < 4352) × (c .next < 65536) × (place < 4608) × (16384 ≤ length rs) × Indexed (c .mapped) (drop 4608 rs)
-  can-number base place j lb lj e = (let x = g .met in let y = g .here in omega arith, let x = g .low in let y = g .here in omega arith, omega arith, g .in-rest, g .index)
+  pub can-number : (base place j : ℕ) → base ≤ secondPass → j ≤ maxRecords → place ≡ base + j → CanNumber c place rs
+  can-number base place j lb lj e = record { met = omega (arith, g .met, g .here); low = omega (arith, g .low, g .here); noted = omega arith; long = g .in-rest; index = g .index }
 
   -- behind a number
-  pub numbered : {step : Lowering ℕ} {rs′ : List ℕ} {r : Numbered} → Issued step c (drop varsAt rs) (drop varsAt rs′) r → length rs′ ≡ length rs → 1 ≤ d → Good (d - 1) i (mem (r .ctx) os rs′)
+  pub numbered : {step : Lowering ℕ} {rs′ : List ℕ} {r : Numbered} → Issued step c (drop varsAt rs) (drop varsAt rs′) r → length rs′ ≡ length rs → 1 ≤ d → RoomFor (d - 1) i (mem (r .ctx) os rs′)
   numbered n l h = record { few = let x = g .few in let y = n .ops in omega arith; low = let x = g .low in let y = n .low in omega arith; met = let x = g .met in let y = n .met in omega arith; here = g .here; in-ops = g .in-ops; in-rest = rw l (g .in-rest); index = n .index (g .index) }
 
   -- a number at the record itself, and then what is behind it
-  pub numbered-on : {step : Lowering ℕ} {rs′ : List ℕ} {r : Numbered} (d′ j : ℕ) → Issued step c (drop varsAt rs) (drop varsAt rs′) r → length rs′ ≡ length rs → d′ ≤ d → i + 1 ≤ j → j ≤ 2048 → Good d′ j (mem (r .ctx) os rs′)
+  pub numbered-on : {step : Lowering ℕ} {rs′ : List ℕ} {r : Numbered} (d′ j : ℕ) → Issued step c (drop varsAt rs) (drop varsAt rs′) r → length rs′ ≡ length rs → d′ ≤ d → i + 1 ≤ j → j ≤ maxRecords → RoomFor d′ j (mem (r .ctx) os rs′)
   numbered-on d′ j n l ld lj h = record { few = let x = g .few in let y = n .ops in omega arith; low = let x = g .low in let y = n .low in omega arith; met = let x = g .met in let y = n .met in omega arith; here = h; in-ops = g .in-ops; in-rest = rw l (g .in-rest); index = n .index (g .index) }
 
   -- an operator, and then what is behind the record
-  pub pushed-on : {x : Op} {c′ : LowerCtx} {os′ : List ℕ} (d′ j : ℕ) → Pushed c c′ os os′ x → length os′ ≡ length os → d′ ≤ d → i + 1 ≤ j → j ≤ 2048 → Good d′ j (mem c′ os′ rs)
+  pub pushed-on : {x : Op} {c′ : LowerCtx} {os′ : List ℕ} (d′ j : ℕ) → Pushed c c′ os os′ x → length os′ ≡ length os → d′ ≤ d → i + 1 ≤ j → j ≤ maxRecords → RoomFor d′ j (mem c′ os′ rs)
   pushed-on d′ j p l ld lj h = record { few = let x = g .few in let y = p .count in omega arith; low = let x = g .low in let y = p .next in omega arith; met = let x = g .met in let y = p .mapped in omega arith; here = h; in-ops = rw l (g .in-ops); in-rest = g .in-rest; index = rw (p .mapped) (g .index) }
 
-pub few-ops : {d i : ℕ} {m : Mem} → Good d i m → m .ctx .ops < 40000
+pub good-at : {d i j : ℕ} {m : Mem} → i ≡ j → RoomFor d i m → RoomFor d j m
+good-at e g = rw e at g
+
+-- a place's numbers fit into words
+pub fits : {base i d : ℕ} → base ≤ secondPass → i ≤ maxRecords → d ≤ maxDepth → Fits (atPlace base i d)
+fits lb li ld = record { base = omega arith; i = omega arith; left = omega arith }
+
+pub few-ops : {d i : ℕ} {m : Mem} → RoomFor d i m → m .ctx .ops ≤ maxBefore + 2 * maxRecords
 few-ops g = let x = g .few in let y = g .here in omega arith
 
-pub prop-some : {a b : List ℕ} {d i : ℕ} → Roomy a b → SomeTree a b patternElement d i → cell a b i 0 ≡ 13 → (n j : ℕ) → n ≡ cell a b i 10 → j ≡ i + 1 + cell a b i 4 → SomeCarried a b n 0 (d - 1) j
+pub prop-some : {a b : List ℕ} {d i : ℕ} → Roomy a b → SomeTree a b patternElement d i → cell a b i kindAt ≡ relKind → (n j : ℕ) → n ≡ cell a b i relPropsAt → j ≡ i + 1 + cell a b i relTypesAt → SomeCarried a b n 0 (d - 1) j
 prop-some {a} {b} {d} {i} room x k n j en ej =
     let v = Elements.a-rel room (x .tree) (x .held) k .el in
     rw (en ∙ sym (v .flagged), ej ∙ ap (λ (z : ℕ). i + 1 + z) (sym (v .many))) (record { sheet = x .sheet; list = plainC (v .props); held = plain-held (x .sheet) a b (v .props) (d - 1) _ (v .held-props) })
 
-pub node-some : {a b : List ℕ} {d i : ℕ} → Roomy a b → SomeTree a b patternElement d i → cell a b i 0 ≡ 12 → (n j : ℕ) → n ≡ cell a b i 6 → j ≡ i + 1 + cell a b i 4 → SomeCarried a b n 0 (d - 1) j
+pub node-some : {a b : List ℕ} {d i : ℕ} → Roomy a b → SomeTree a b patternElement d i → cell a b i kindAt ≡ nodeKind → (n j : ℕ) → n ≡ cell a b i nodePropsAt → j ≡ i + 1 + cell a b i nodeLabelsAt → SomeCarried a b n 0 (d - 1) j
 node-some {a} {b} {d} {i} room x k n j en ej =
     let v = a-node room (x .tree) (x .held) k .el in
     rw (en ∙ sym (v .flagged), ej ∙ ap (λ (z : ℕ). i + 1 + z) (sym (v .many))) (record { sheet = x .sheet; list = plainC (v .props); held = plain-held (x .sheet) a b (v .props) (d - 1) _ (v .held-props) })
 
-names-by : {a b : List ℕ} (sheet : Bytes) (room : Roomy a b) (d i : ℕ) (t : Tree patternElement) → Held sheet a b t d i → i + 1 + cell a b i 4 ≤ 2048
-names-by {a} {b} sheet room d i t hd = names-fit (tree-fits sheet a b t d i hd .1) (ltb-kind (eqb (cell a b i 0) 12) refl)
+names-by : {a b : List ℕ} (sheet : Bytes) (room : Roomy a b) (d i : ℕ) (t : Tree patternElement) → Held sheet a b t d i → i + 1 + cell a b i nodeLabelsAt ≤ maxRecords
+names-by {a} {b} sheet room d i t hd = names-fit (tree-fits sheet a b t d i hd .1) (ltb-kind (eqb (cell a b i kindAt) nodeKind) refl)
   where
-    names-fit : i + size t ≤ 2048 → (cell a b i 0 ≡ 12) ⊎ ((cell a b i 0 ≡ 12) → ⊥) → i + 1 + cell a b i 4 ≤ 2048
+    names-fit : i + size t ≤ maxRecords → (cell a b i kindAt ≡ nodeKind) ⊎ ((cell a b i kindAt ≡ nodeKind) → ⊥) → i + 1 + cell a b i nodeLabelsAt ≤ maxRecords
     names-fit f (inl k) = let v = a-node room t hd k .el in let z = v .sized in let y = v .many in omega arith
     names-fit f (inr k) = let v = Elements.a-rel room t hd (other-element room sheet d i t hd k) .el in let z = v .sized in let y = v .many in omega arith
 
-    ltb-kind : (q : Bool) → eqb (cell a b i 0) 12 ≡ q → (cell a b i 0 ≡ 12) ⊎ ((cell a b i 0 ≡ 12) → ⊥)
+    ltb-kind : (q : Bool) → eqb (cell a b i kindAt) nodeKind ≡ q → (cell a b i kindAt ≡ nodeKind) ⊎ ((cell a b i kindAt ≡ nodeKind) → ⊥)
     ltb-kind true e = inl (eqb-true _ _ e)
     ltb-kind false e = inr (eqb-false _ _ e)
 
-pub names-low : {a b : List ℕ} {d i : ℕ} → Roomy a b → SomeTree a b patternElement d i → i + 1 + cell a b i 4 ≤ 2048
+pub names-low : {a b : List ℕ} {d i : ℕ} → Roomy a b → SomeTree a b patternElement d i → i + 1 + cell a b i nodeLabelsAt ≤ maxRecords
 names-low {a} {b} {d} {i} room x = names-by (x .sheet) room d i (x .tree) (x .held)
 
-pub rel-done : {a b : List ℕ} {d base i e n j : ℕ} {c : LowerCtx} {os rest rest₁ : List ℕ} {r : Numbered} {m′ : Mem} (place : ℕ) → place ≡ base + (i + 1) → Numbers (endpointVar (optionOf (cell a b i 2) (cell a b i 3))) place c rest rest₁ r → length rest₁ ≡ length rest → n ≡ cell a b i 10 → j ≡ i + 1 + cell a b i 4 → LowersExprs a b n 0 (d - 1) base j e (mem (r .ctx) os rest₁) m′ → LowersRel a b d base i e c os rest m′
+pub rel-done : {a b : List ℕ} {d base i e n j : ℕ} {c : LowerCtx} {os rest rest₁ : List ℕ} {r : Numbered} {m′ : Mem} (place : ℕ) → place ≡ base + (i + 1) →
+    Numbers (endpointVar (optionOf (cell a b i elementNamedAt) (cell a b i elementVarAt))) place c rest rest₁ r → length rest₁ ≡ length rest → n ≡ cell a b i relPropsAt →
+    j ≡ i + 1 + cell a b i relTypesAt → LowersExprs a b n 0 (d - 1) base j e (mem (r .ctx) os rest₁) m′ → LowersRel a b d base i e c os rest m′
 rel-done {rest₁ = rest₁} {r = r} place ep nm l en ej p = record { named = r; between = rest₁; noted = rw ep at nm; kept = l; props = rw (en, ej) at p }
 
 -- a rel's end
-pub rel-end : {a b : List ℕ} (room : Roomy a b) (d i : ℕ) {base e : ℕ} {c : LowerCtx} {os rest : List ℕ} {m′ : Mem} → cell a b i 0 ≡ 13 → LowersRel a b d base i e c os rest m′ → (sheet : Bytes) (t : Tree patternElement) → Held sheet a b t d i → e ≡ i + size t
+pub rel-end : {a b : List ℕ} (room : Roomy a b) (d i : ℕ) {base e : ℕ} {c : LowerCtx} {os rest : List ℕ} {m′ : Mem} → cell a b i kindAt ≡ relKind → LowersRel a b d base i e c os rest m′ → (sheet : Bytes) (t : Tree patternElement) → Held sheet a b t d i → e ≡ i + size t
 rel-end {a} {b} room d i {base} {e} {c} {os} {rest} {m′} k p sheet t hd =
     let v = Elements.a-rel room t hd k .el in
-    let x′ : LowersExprs a b (one (v .p)) 0 (d - 1) base (i + 1 + cell a b i 4) e (mem (p .named .ctx) os (p .between)) m′ = rw (sym (v .flagged)) at (p .props) in
+    let x′ : LowersExprs a b (one (v .p)) 0 (d - 1) base (i + 1 + cell a b i nodeLabelsAt) e (mem (p .named .ctx) os (p .between)) m′ = rw (sym (v .flagged)) at (p .props) in
     let q = x′ .next sheet (plainC (v .props)) (plain-held sheet a b (v .props) (d - 1) _ (rw (v .many) at (v .held-props))) in
     let z = plain-size (v .props) in
     let y = v .sized in
@@ -103,38 +141,31 @@ rel-end {a} {b} room d i {base} {e} {c} {os} {rest} {m′} k p sheet t hd =
     omega arith
 
 -- behind a source of everything, if there is one
-module _ {L : Lowering ℕ} {k d i : ℕ} {c c′ : LowerCtx} {os os′ rs : List ℕ} (g : Good d i (mem c os rs)) (q : OrSource L k (mem c os rs) (mem c′ os′ rs)) where
-  pub source-number : (base place j : ℕ) → base ≤ 2048 → j ≤ 2048 → place ≡ base + j → (c′ .mapped < 4352) × (c′ .next < 65536) × (place < 4608) × (16384 ≤ length rs) × Indexed (c′ .mapped) (drop 4608 rs)
-  source-number base place j lb lj e = (let x = g .met in let y = g .here in let z = q .mapped in omega arith, let x = g .low in let y = g .here in let z = q .next in omega arith, omega arith, g .in-rest, rw (q .mapped) (g .index))
+module _ {L : Lowering ℕ} {k d i : ℕ} {c c′ : LowerCtx} {os os′ rs : List ℕ} (g : RoomFor d i (mem c os rs)) (q : OrSource L k (mem c os rs) (mem c′ os′ rs)) where
+  pub source-number : (base place j : ℕ) → base ≤ secondPass → j ≤ maxRecords → place ≡ base + j → CanNumber c′ place rs
+  source-number base place j lb lj e = record { met = omega (arith, g .met, g .here, q .mapped); low = omega (arith, g .low, g .here, q .next); noted = omega arith; long = g .in-rest; index = rw (q .mapped) (g .index) }
 
-  pub source-few : (c′ .ops < 40000) × (k < 40000)
+  pub source-few : (c′ .ops ≤ maxBefore + 2 * maxRecords + 1) × (k ≤ maxBefore + 2 * maxRecords)
   source-few = (let x = g .few in let y = g .here in let z = q .few in omega arith, let x = g .few in let y = g .here in let z = q .few in let w = q .low in omega arith)
 
 -- the rel that waits
-module _ {a b : List ℕ} {d : ℕ} {ch : Chain} (room : Roomy a b) (w1 : ch .waits ≡ 1) where
-  rel-by : {sheet : Bytes} {o : Option RelStep} → Waiting sheet a b d ch o → SomeTree a b patternElement d (ch .from)
-  rel-by (no-rel w f e) = absurd (omega arith)
-  rel-by {sheet} (a-rel w t r hd st nx e) = record { sheet = sheet; tree = t; held = hd }
+module _ {a b : List ℕ} {d : ℕ} {ch : Chain} {rel : ℕ} (room : Roomy a b) (w1 : ch .pending ≡ pending.Rel rel) (x : Anchored a b d ch) where
+  pub waiting-rel : SomeElement a b relKind d rel
+  waiting-rel =
+      let w = rel-waits w1 (x .waiting) in
+      record { tree = record { sheet = x .sheet; tree = w .tree; held = w .held }; is = rel-kind room (x .sheet) d rel (w .tree) (w .step) (w .held) (w .is) }
 
-  kind-by : {sheet : Bytes} {o : Option RelStep} → Waiting sheet a b d ch o → cell a b (ch .from) 0 ≡ 13
-  kind-by (no-rel w f e) = absurd (omega arith)
-  kind-by {sheet} (a-rel w t r hd st nx e) = rel-kind room sheet d (ch .from) t r hd st
+  pub waiting-end : {base e : ℕ} {c : LowerCtx} {os rest : List ℕ} {m′ : Mem} → LowersRel a b d base rel e c os rest m′ → e ≡ ch .next
+  waiting-end p =
+      let w = rel-waits w1 (x .waiting) in
+      rel-end room d rel (waiting-rel .is) p (x .sheet) (w .tree) (w .held) ∙ sym (w .ends)
 
-  end-by : {sheet : Bytes} {o : Option RelStep} {base e : ℕ} {c : LowerCtx} {os rest : List ℕ} {m′ : Mem} → Waiting sheet a b d ch o → LowersRel a b d base (ch .from) e c os rest m′ → e ≡ ch .next
-  end-by (no-rel w f e) p = absurd (omega arith)
-  end-by {sheet} (a-rel w t r hd st nx e) p = rel-end room d (ch .from) (rel-kind room sheet d (ch .from) t r hd st) p sheet t hd ∙ sym nx
-
-  pub waiting-rel : Anchored a b d ch → SomeTree a b patternElement d (ch .from)
-  waiting-rel x = rel-by (x .waiting)
-
-  pub waiting-kind : Anchored a b d ch → cell a b (ch .from) 0 ≡ 13
-  waiting-kind x = kind-by (x .waiting)
-
-  pub waiting-end : {base e : ℕ} {c : LowerCtx} {os rest : List ℕ} {m′ : Mem} → Anchored a b d ch → LowersRel a b d base (ch .from) e c os rest m′ → e ≡ ch .next
-  waiting-end x p = end-by (x .waiting) p
+-- the record from which on nothing is lowered, where a rel waits
+pub from-rel : (ch : Chain) {rel : ℕ} → ch .pending ≡ pending.Rel rel → from ch ≡ rel
+from-rel ch e = ap (λ (p : Pending). fromOf p (ch .next)) e
 
 -- behind a rel
-pub after-rel : {a b : List ℕ} {d base i e : ℕ} {c : LowerCtx} {os rest : List ℕ} {m′ : Mem} (j : ℕ) → Good (d - 1) i (mem c os rest) → LowersRel a b d base i e c os rest m′ → e ≤ j → j ≤ 2048 → Good (d - 1) j m′
+pub after-rel : {a b : List ℕ} {d base i e : ℕ} {c : LowerCtx} {os rest : List ℕ} {m′ : Mem} (j : ℕ) → RoomFor (d - 1) i (mem c os rest) → LowersRel a b d base i e c os rest m′ → e ≤ j → j ≤ maxRecords → RoomFor (d - 1) j m′
 after-rel j g p le lj =
     let n = p .noted .issued in
     let v = p .props .moved in
@@ -143,13 +174,13 @@ after-rel j g p le lj =
 pub start-ends : {a b : List ℕ} {d base i number e k r : ℕ} {m m′ : Mem} → SomeTree a b patternElement d i → LowersStart a b d base i number e k m m′ → Ends a b i r → e ≡ r
 start-ends {d = d} x p n = p .next (x .sheet) (x .tree) (x .held) ∙ sym (n .each (x .sheet) patternElement d (x .tree) tt (x .held))
 
-pub rel-ends : {a b : List ℕ} {d base i e r : ℕ} {c : LowerCtx} {os rest : List ℕ} {m′ : Mem} → Roomy a b → cell a b i 0 ≡ 13 → SomeTree a b patternElement d i → LowersRel a b d base i e c os rest m′ → Ends a b i r → e ≡ r
+pub rel-ends : {a b : List ℕ} {d base i e r : ℕ} {c : LowerCtx} {os rest : List ℕ} {m′ : Mem} → Roomy a b → cell a b i kindAt ≡ relKind → SomeTree a b patternElement d i → LowersRel a b d base i e c os rest m′ → Ends a b i r → e ≡ r
 rel-ends {d = d} {i = i} room k x p n = rel-end room d i k p (x .sheet) (x .tree) (x .held) ∙ sym (n .each (x .sheet) patternElement d (x .tree) tt (x .held))
 
 -- two numbers running, and an operator behind them
-module _ {d i : ℕ} {c : LowerCtx} {os rs : List ℕ} (g : Good d i (mem c os rs)) {step : Lowering ℕ} {vs′ : List ℕ} {r : Numbered} (n : Issued step c (drop varsAt rs) vs′ r) where
-  pub can-again : {len : ℕ} → len ≡ length rs → (base place j : ℕ) → base ≤ 2048 → j ≤ 2048 → place ≡ base + j → (r .ctx .mapped < 4352) × (r .ctx .next < 65536) × (place < 4608) × (16384 ≤ len) × Indexed (r .ctx .mapped) vs′
-  can-again l base place j lb lj e = (let x = g .met in let y = g .here in let z = n .met in omega arith, let x = g .low in let y = g .here in let z = n .low in omega arith, omega arith, rw l (g .in-rest), n .index (g .index))
+module _ {d i : ℕ} {c : LowerCtx} {os rs : List ℕ} (g : RoomFor d i (mem c os rs)) {step : Lowering ℕ} {rs′ : List ℕ} {r : Numbered} (n : Issued step c (drop varsAt rs) (drop varsAt rs′) r) where
+  pub can-again : length rs′ ≡ length rs → (base place j : ℕ) → base ≤ secondPass → j ≤ maxRecords → place ≡ base + j → CanNumber (r .ctx) place rs′
+  can-again l base place j lb lj e = record { met = omega (arith, g .met, g .here, n .met); low = omega (arith, g .low, g .here, n .low); noted = omega arith; long = rw l (g .in-rest); index = n .index (g .index) }
 
-  pub push-again : {step₂ : Lowering ℕ} {ws ws′ : List ℕ} {r₂ : Numbered} → Issued step₂ (r .ctx) ws ws′ r₂ → (r₂ .ctx .ops < 65536) × (16384 ≤ length os)
-  push-again n₂ = (let x = g .few in let y = g .here in let z = n .ops in let w = n₂ .ops in omega arith, g .in-ops)
+pub push-again : {d i : ℕ} {c : LowerCtx} {os rs : List ℕ} {step step₂ : Lowering ℕ} {vs vs′ ws ws′ : List ℕ} {r r₂ : Numbered} → RoomFor d i (mem c os rs) → Issued step c vs vs′ r → Issued step₂ (r .ctx) ws ws′ r₂ → (r₂ .ctx .ops < maxCount) × (workWords ≤ length os)
+push-again g n n₂ = (omega (arith, g .few, g .here, n .ops, n₂ .ops), g .in-ops)

@@ -22,9 +22,8 @@ use Rattle.lower.specs.Chains.{stepOf, stepsOf, startL}
 use Rattle.lower.specs.Carry.{plainC, plain-render}
 use Rattle.lower.proofs.Elements.{names-render, names-count, props-lower, props-has}
 use Rattle.lower.proofs.Elements
-
-abbrev pub shortOp : (i input rel far d base : ℕ) → Op
-shortOp i input rel far d base = record { kind = 4; idx = i; input = input; x = rel; y = far; left = d; base = base }
+use Rattle.words.specs.Words.{maxRecords}
+use Rattle.context.specs.Tables.{varsAt}
 
 -- what the definition's steps make of it
 module _ (o br bt : Option ℕ) (n b : NodeStep) {k : ℕ} (types : Trees name k) (p : Bool) (props : Trees expr (one p)) (r : RelStep) (er : r ≡ record { bind = br; types = toList k (foldOf Lowered made types); direction = r .direction; length = r .length; props = propsOf p (foldOf Lowered made props) }) (eb : b .bind ≡ bt) (s : State) where
@@ -135,11 +134,11 @@ pub record Spots (B i j rel far e nt : ℕ) : Type 0 where
   pub i1j1 : B + suc i + 1 ≤ B + suc (j + 1)
   pub i1j : B + suc i + 1 ≤ B + suc j
   pub i1e : B + suc i + 1 ≤ B + suc e
-  pub low-i : B + suc i < 4608
-  pub low-j : B + suc j < 4608
-  pub low-f : B + suc far < 4608
+  pub low-i : B + suc i < varsAt
+  pub low-j : B + suc j < varsAt
+  pub low-f : B + suc far < varsAt
 
-pub spots : (B i j rel far e nt : ℕ) → j ≡ i + 1 → j < rel → rel + 1 + nt ≤ far → far < e → e ≤ 2048 → B ≤ 2048 → Spots B i j rel far e nt
+pub spots : (B i j rel far e nt : ℕ) → j ≡ i + 1 → j < rel → rel + 1 + nt ≤ far → far < e → e ≤ maxRecords → B ≤ maxRecords → Spots B i j rel far e nt
 spots B i j rel far e nt a b c d f g = record {
   ij = omega arith;
   j1e = omega arith;
@@ -176,5 +175,7 @@ at-place p = (omega arith, omega arith)
 pub place-at : (p B i : ℕ) → p ≡ B + (i + 1) → p ≡ B + suc i
 place-at p B i e = omega arith
 
-pub short-is : (N : Notes) (A : Ops) (tr : Tree patternElement) {n : ℕ} (types : Trees name n) (p : Bool) (props : Trees expr (one p)) (h : Rec) (input input′ x x′ y y′ z z′ : ℕ) (all : Bool) (q : Recs) → input′ ≡ input → x ≡ x′ → y ≡ y′ → z ≡ z′ → specRecs N A tr ≡ h ∷ (renderOf N A types ++ renderOf N A props) → renderC N A (plainC props) ≡ q → op ReadOp.ShortestPath (input, (x′, (y′, (z′, (all, tt))))) ∷ (h ∷ (toList n (foldOf Lowered made types) ++ q)) ≡ op ReadOp.ShortestPath (input′, (x, (y, (z, (all, tt))))) ∷ specRecs N A tr
+pub short-is : (N : Notes) (A : Ops) (tr : Tree patternElement) {n : ℕ} (types : Trees name n) (p : Bool) (props : Trees expr (one p)) (h : Rec) (input input′ x x′ y y′ z z′ : ℕ)
+    (all : Bool) (q : Recs) → input′ ≡ input → x ≡ x′ → y ≡ y′ → z ≡ z′ → specRecs N A tr ≡ h ∷ (renderOf N A types ++ renderOf N A props) → renderC N A (plainC props) ≡ q →
+    op ReadOp.ShortestPath (input, (x′, (y′, (z′, (all, tt))))) ∷ (h ∷ (toList n (foldOf Lowered made types) ++ q)) ≡ op ReadOp.ShortestPath (input′, (x, (y, (z, (all, tt))))) ∷ specRecs N A tr
 short-is N A tr types p props h input input′ x x′ y y′ z z′ all q ei ex ey ez es eq = rw (ei, ex, ey, ez, es, plain-render N A props, eq, names-render N A types)

@@ -10,27 +10,24 @@ use Rattle.model.specs.Text.{Bytes}
 use Rattle.model.specs.Kind.{ReadOp, patternElement, expr}
 use Rattle.model.specs.Tree.{Tree, toList, foldOf}
 use Rattle.model.specs.Lower.{Recs, Lowered, made, _>>=_, ret, push, op, source, filter, filterByProps, propsOf, lowerExpr, NodeStep, ofNode, at}
-use Rattle.words.specs.Words.{Roomy, cell, optionOf}
+use Rattle.words.specs.Words.{Roomy, cell, optionOf, maxRecords}
 use Rattle.words.specs.Held.{Held}
-use Rattle.context.specs.Tables.{Pushed}
+use Rattle.context.specs.Tables.{Pushed, secondPass}
 use Rattle.context.specs.declared.op.Op.{Op}
 use Rattle.context.specs.declared.LowerCtx.{LowerCtx}
+use Rattle.context.specs.Ops.{filterOp, sourceOp}
 use Rattle.lower.specs.Shows.{shift, shows-source, shows-filter}
-use Rattle.lower.specs.Rep.{State, Mem, mem, Written, Blank, Rep, To, Rooted}
+use Rattle.lower.specs.Rep.{atPlace, State, Mem, mem, Written, Blank, Rep, To, Rooted}
 use Rattle.lower.specs.Pieces.{SomeTree, LowersExpr}
 use Rattle.lower.specs.Chains.{stepOf, startL, LowersStart}
 use Rattle.lower.specs.State.{sub-more, sub-within, blank-within, to-then, to-wider, push-to}
-use Rattle.lower.specs.Fits.{tree-fits, tree-low}
+use Rattle.words.specs.Fits.{tree-fits, tree-low}
 use Rattle.lower.proofs.Elements.{names-render, a-node, OneProp, one-prop, no-prop, same-node}
+use Rattle.words.specs.Places.{kindAt, nodeKind, elementNamedAt, elementVarAt, nodeLabelsAt, nodePropsAt}
+use Rattle.model.specs.Call.{maxDepth}
 
-abbrev pub sourceOp : (i number d base : ℕ) → Op
-sourceOp i number d base = record { kind = 1; idx = i; input = 0; x = number; y = 0; left = d - 1; base = base }
-
-abbrev pub filterOp : (i input d base : ℕ) → Op
-filterOp i input d base = record { kind = 2; idx = i; input = input; x = 0; y = 0; left = d - 1; base = base }
-
-module _ {a b : List ℕ} (d i : ℕ) (room : Roomy a b) (k12 : cell a b i 0 ≡ 12) where
-  pub some-end : SomeTree a b patternElement d i → i + 1 + cell a b i 4 ≤ 2048
+module _ {a b : List ℕ} (d i : ℕ) (room : Roomy a b) (k12 : cell a b i kindAt ≡ nodeKind) where
+  pub some-end : SomeTree a b patternElement d i → i + 1 + cell a b i nodeLabelsAt ≤ maxRecords
   some-end x =
       let v = a-node room (x .tree) (x .held) k12 .el in
       let f = tree-fits (x .sheet) a b (x .tree) d i (x .held) in
@@ -39,14 +36,14 @@ module _ {a b : List ℕ} (d i : ℕ) (room : Roomy a b) (k12 : cell a b i 0 ≡
       omega arith
 
   -- the expression behind the names
-  pub some-prop : SomeTree a b patternElement d i → ((cell a b i 6 ≡ 0) → ⊥) → SomeTree a b expr (d - 1) (i + 1 + cell a b i 4)
+  pub some-prop : SomeTree a b patternElement d i → ((cell a b i nodePropsAt ≡ 0) → ⊥) → SomeTree a b expr (d - 1) (i + 1 + cell a b i nodeLabelsAt)
   some-prop x h =
       let v = a-node room (x .tree) (x .held) k12 .el in
       let o = one-prop (v .p) (v .props) (λ e. h (sym (v .flagged) ∙ e)) in
       record { sheet = x .sheet; tree = o .tree; held = o .held (x .sheet) a b (d - 1) _ (rw (v .many) at (v .held-props)) }
 
 -- its props
-props-of : {a b : List ℕ} (d i : ℕ) (room : Roomy a b) (k12 : cell a b i 0 ≡ 12) (sheet : Bytes) (t : Tree patternElement) (n : NodeStep) (hd : Held sheet a b t d i) → stepOf t ≡ ofNode n → n .props ≡ propsOf (a-node room t hd k12 .el .p) (foldOf Lowered made (a-node room t hd k12 .el .props))
+props-of : {a b : List ℕ} (d i : ℕ) (room : Roomy a b) (k12 : cell a b i kindAt ≡ nodeKind) (sheet : Bytes) (t : Tree patternElement) (n : NodeStep) (hd : Held sheet a b t d i) → stepOf t ≡ ofNode n → n .props ≡ propsOf (a-node room t hd k12 .el .p) (foldOf Lowered made (a-node room t hd k12 .el .props))
 props-of d i room k12 sheet t n hd st = ap (λ (x : NodeStep). x .props) (same-node (sym st ∙ a-node room t hd k12 .step))
 
 bare-root : (number k : ℕ) (n : NodeStep) (s : State) → n .props ≡ none → k ≡ length (s .ops) → (startL number n s .1 ≡ push (source number (n .labels)) s .1) × (k ≡ startL number n s .0)
@@ -65,15 +62,15 @@ filter-is : (k k′ : ℕ) (rs rs′ : Recs) → k ≡ k′ → rs ≡ rs′ →
 unfolding filter
 filter-is k k′ rs rs′ e e′ = rw (e, e′)
 
-module _ {a b : List ℕ} {base number : ℕ} {c : LowerCtx} {os′ : List ℕ} {m : Mem} (d i : ℕ) (room : Roomy a b) (k12 : cell a b i 0 ≡ 12) (sh : (d ≤ 64) × (base ≤ 2048)) (ps : Pushed (m .ctx) c (m .ops) os′ (sourceOp i number d base)) (lo : length os′ ≡ length (m .ops)) where
+module _ {a b : List ℕ} {base number : ℕ} {c : LowerCtx} {os′ : List ℕ} {m : Mem} (d i : ℕ) (room : Roomy a b) (k12 : cell a b i kindAt ≡ nodeKind) (sh : (d ≤ maxDepth) × (base ≤ secondPass)) (ps : Pushed (m .ctx) c (m .ops) os′ (sourceOp (atPlace base i (d - 1)) number)) (lo : length os′ ≡ length (m .ops)) where
   -- the source
   source-to : (sheet : Bytes) (t : Tree patternElement) (n : NodeStep) → Held sheet a b t d i → stepOf t ≡ ofNode n → (W : Written) (s : State) → Rep sheet a b W s m → To sheet a b W W s (push (source number (n .labels)) s .1) m (mem c os′ (m .rest))
   source-to sheet t n hd st W s r =
       let v = a-node room t hd k12 in
-      let e : n ≡ record { bind = optionOf (cell a b i 2) (cell a b i 3); labels = toList (v .el .n) (foldOf Lowered made (v .el .names)); props = propsOf (v .el .p) (foldOf Lowered made (v .el .props)) } = same-node (sym st ∙ v .step) in
-      push-to m c os′ (sourceOp i number d base) (source number (n .labels)) r ps
+      let e : n ≡ record { bind = optionOf (cell a b i elementNamedAt) (cell a b i elementVarAt); labels = toList (v .el .n) (foldOf Lowered made (v .el .names)); props = propsOf (v .el .p) (foldOf Lowered made (v .el .props)) } = same-node (sym st ∙ v .step) in
+      push-to m c os′ (sourceOp (atPlace base i (d - 1)) number) (source number (n .labels)) r ps
       (λ N A f. record {
-        sane = record { shallow = let z = sh .0 in omega arith; near = sh .1; low = tree-low sheet a b t d i hd; far = λ e. absurd (omega arith); flagged = λ e. absurd (omega arith) };
+        bounded = record { shallow = let z = sh .0 in omega arith; near = sh .1; low = tree-low sheet a b t d i hd; far = λ e. absurd (omega arith); flagged = λ e. absurd (omega arith) };
         shows = shows-source refl (record {
           count = v .el .n;
           labels = v .el .names;
@@ -83,18 +80,18 @@ module _ {a b : List ℕ} {base number : ℕ} {c : LowerCtx} {os′ : List ℕ} 
         });
       })
 
-  module _ (k6 : cell a b i 6 ≡ 0) where
-    bare-run : (sheet : Bytes) (t : Tree patternElement) (n : NodeStep) → Held sheet a b t d i → stepOf t ≡ ofNode n → (W : Written) (s : State) → Rep sheet a b W s m → Rooted sheet a b W (startL number n) (m .ctx .ops) base (suc (i + 1)) (suc (i + 1 + cell a b i 4)) s m (mem c os′ (m .rest))
+  module _ (k6 : cell a b i nodePropsAt ≡ 0) where
+    bare-run : (sheet : Bytes) (t : Tree patternElement) (n : NodeStep) → Held sheet a b t d i → stepOf t ≡ ofNode n → (W : Written) (s : State) → Rep sheet a b W s m → Rooted sheet a b W (startL number n) (m .ctx .ops) base (suc (i + 1)) (suc (i + 1 + cell a b i nodeLabelsAt)) s m (mem c os′ (m .rest))
     bare-run sheet t n hd st W s r =
         let v = a-node room t hd k12 .el in
         let z = bare-root number (m .ctx .ops) n s (props-of d i room k12 sheet t n hd st ∙ no-prop (v .p) (v .props) (v .flagged ∙ k6) .0) (r .count) in
         record {
-          to = rw (z .0) (to-wider (sub-more (base + suc (i + 1), base + suc (i + 1 + cell a b i 4)) W) (source-to sheet t n hd st W s r));
+          to = rw (z .0) (to-wider (sub-more (base + suc (i + 1), base + suc (i + 1 + cell a b i nodeLabelsAt)) W) (source-to sheet t n hd st W s r));
           root = z .1;
           low = let e : c .ops ≡ m .ctx .ops + 1 = ps .count in omega arith;
         }
 
-    pub bare-law : SomeTree a b patternElement d i → LowersStart a b d base i number (i + 1 + cell a b i 4) (m .ctx .ops) m (mem c os′ (m .rest))
+    pub bare-law : SomeTree a b patternElement d i → LowersStart a b d base i number (i + 1 + cell a b i nodeLabelsAt) (m .ctx .ops) m (mem c os′ (m .rest))
     bare-law x =
         let l = some-end d i room k12 x in
         record {
@@ -106,26 +103,28 @@ module _ {a b : List ℕ} {base number : ℕ} {c : LowerCtx} {os′ : List ℕ} 
           run = λ sheet t n hd st W s r bl. bare-run sheet t n hd st W s r;
         }
 
-  module _ {e : ℕ} {c₃ : LowerCtx} {os₃ : List ℕ} {m₂ : Mem} (k6 : (cell a b i 6 ≡ 0) → ⊥) (ex : LowersExpr a b (d - 1) base (i + 1 + cell a b i 4) e (mem c os′ (m .rest)) m₂) (pf : Pushed (m₂ .ctx) c₃ (m₂ .ops) os₃ (filterOp (i + 1 + cell a b i 4) (m .ctx .ops) d base)) (lo₃ : length os₃ ≡ length (m₂ .ops)) where
+  module _ {e : ℕ} {c₃ : LowerCtx} {os₃ : List ℕ} {m₂ : Mem} (k6 : (cell a b i nodePropsAt ≡ 0) → ⊥)
+      (ex : LowersExpr a b (d - 1) base (i + 1 + cell a b i nodeLabelsAt) e (mem c os′ (m .rest)) m₂)
+      (pf : Pushed (m₂ .ctx) c₃ (m₂ .ops) os₃ (filterOp (atPlace base (i + 1 + cell a b i nodeLabelsAt) (d - 1)) (m .ctx .ops))) (lo₃ : length os₃ ≡ length (m₂ .ops)) where
     prop-at : (sheet : Bytes) (t : Tree patternElement) (hd : Held sheet a b t d i) → OneProp (a-node room t hd k12 .el .p) (a-node room t hd k12 .el .props)
     prop-at sheet t hd = let v = a-node room t hd k12 .el in one-prop (v .p) (v .props) (λ z. k6 (sym (v .flagged) ∙ z))
 
-    prop-held : (sheet : Bytes) (t : Tree patternElement) (hd : Held sheet a b t d i) → Held sheet a b (prop-at sheet t hd .tree) (d - 1) (i + 1 + cell a b i 4)
+    prop-held : (sheet : Bytes) (t : Tree patternElement) (hd : Held sheet a b t d i) → Held sheet a b (prop-at sheet t hd .tree) (d - 1) (i + 1 + cell a b i nodeLabelsAt)
     prop-held sheet t hd = let v = a-node room t hd k12 .el in prop-at sheet t hd .held sheet a b (d - 1) _ (rw (v .many) at (v .held-props))
 
     filtered-run : (sheet : Bytes) (t : Tree patternElement) (n : NodeStep) → Held sheet a b t d i → stepOf t ≡ ofNode n → (W : Written) (s : State) → Rep sheet a b W s m → Blank W (base + suc (i + 1)) (base + suc e) → Rooted sheet a b W (startL number n) (m₂ .ctx .ops) base (suc (i + 1)) (suc e) s m (mem c₃ os₃ (m₂ .rest))
     unfolding push
     filtered-run sheet t n hd st W s r bl =
         let u = ex .moved .up in
-        let j : ℕ = i + 1 + cell a b i 4 in
+        let j : ℕ = i + 1 + cell a b i nodeLabelsAt in
         let o = prop-at sheet t hd in
         let z = filter-root number n (o .tree) s (props-of d i room k12 sheet t n hd st ∙ o .is) in
         let a₁ = source-to sheet t n hd st W s r in
         let a₂ = ex .run sheet (o .tree) (prop-held sheet t hd) W (sourced number n s) (a₁ .rep) (blank-within (omega arith) (le-refl _) bl) in
         let s₂ : State = lowerExpr (o .tree) (sourced number n s) .1 in
-        let a₃ = push-to m₂ c₃ os₃ (filterOp j (m .ctx .ops) d base) (filter (length (s .ops)) (lowerExpr (o .tree) (sourced number n s) .0)) (a₂ .to .rep) pf
+        let a₃ = push-to m₂ c₃ os₃ (filterOp (atPlace base j (d - 1)) (m .ctx .ops)) (filter (length (s .ops)) (lowerExpr (o .tree) (sourced number n s) .0)) (a₂ .to .rep) pf
         (λ N A f. record {
-          sane = record { shallow = let y = sh .0 in omega arith; near = sh .1; low = tree-low sheet a b (o .tree) (d - 1) j (prop-held sheet t hd); far = λ e. absurd (omega arith); flagged = λ e. absurd (omega arith) };
+          bounded = record { shallow = let y = sh .0 in omega arith; near = sh .1; low = tree-low sheet a b (o .tree) (d - 1) j (prop-held sheet t hd); far = λ e. absurd (omega arith); flagged = λ e. absurd (omega arith) };
           shows = shows-filter refl (record {
             tree = o .tree;
             held = prop-held sheet t hd;
@@ -150,3 +149,16 @@ module _ {a b : List ℕ} {base number : ℕ} {c : LowerCtx} {os′ : List ℕ} 
           next = λ sheet t hd. (let w = a-node room t hd k12 .el in let q = ex .next sheet (prop-at sheet t hd .tree) (prop-held sheet t hd) in let y = w .sized in let x = w .many in let z = prop-at sheet t hd .sized in omega arith);
           run = filtered-run;
         }
+
+-- the same, with the record behind the labels as it was read
+module _ {a b : List ℕ} {base number : ℕ} {c : LowerCtx} {os′ : List ℕ} {m : Mem} (d i j : ℕ) (room : Roomy a b) (k12 : cell a b i kindAt ≡ nodeKind) (sh : (d ≤ maxDepth) × (base ≤ secondPass))
+    (ej : j ≡ i + 1 + cell a b i nodeLabelsAt) (ps : Pushed (m .ctx) c (m .ops) os′ (sourceOp (atPlace base i (d - 1)) number)) (lo : length os′ ≡ length (m .ops)) where
+  pub bare-read : cell a b i nodePropsAt ≡ 0 → SomeTree a b patternElement d i → LowersStart a b d base i number j (m .ctx .ops) m (mem c os′ (m .rest))
+  bare-read k6 x = rw ej (bare-law d i room k12 sh ps lo k6 x)
+
+  pub filtered-read : {e : ℕ} {c₃ : LowerCtx} {os₃ : List ℕ} {m₂ : Mem} → ((cell a b i nodePropsAt ≡ 0) → ⊥) → LowersExpr a b (d - 1) base j e (mem c os′ (m .rest)) m₂ →
+      Pushed (m₂ .ctx) c₃ (m₂ .ops) os₃ (filterOp (atPlace base j (d - 1)) (m .ctx .ops)) → length os₃ ≡ length (m₂ .ops) → LowersStart a b d base i number e (m₂ .ctx .ops) m (mem c₃ os₃ (m₂ .rest))
+  filtered-read k6 ex pf lo₃ = filtered-law d i room k12 sh ps lo k6 (rw ej at ex) (rw ej at pf) lo₃
+
+pub prop-read : {a b : List ℕ} (d i j : ℕ) (room : Roomy a b) (k12 : cell a b i kindAt ≡ nodeKind) → j ≡ i + 1 + cell a b i nodeLabelsAt → SomeTree a b patternElement d i → ((cell a b i nodePropsAt ≡ 0) → ⊥) → SomeTree a b expr (d - 1) j
+prop-read d i j room k12 ej x h = rw ej (some-prop d i room k12 x h)

@@ -5,14 +5,14 @@ use mathlib.Core.Bool.{Bool, true, false, cond}
 use mathlib.Core.List.{List, _∷_, _++_}
 use mathlib.Core.Option.{Option, none, some}
 use mathlib.Core.Logic.{_⊎_}
-use Rattle.lower.specs.Count.{Ends}
+use Rattle.words.specs.Count.{Ends}
 use lib.ListN.{length}
 use Rattle.model.specs.Text.{Bytes}
 use Rattle.model.specs.Kind.{patternPart, patternElement}
 use Rattle.model.specs.Tree.{Tree, Trees, node, _∷ᵗ_, end, _▸_, toList, fold, foldOf}
 use Rattle.model.specs.Lower.{Lowering, Lowered, made, _>>=_, push, source, filterByProps, Step, RelStep, NodeStep, ofNode, ofRel, lowerElement, lowerElements, lowerChain, endpointVar}
 use Rattle.model.specs.Lower
-use Rattle.words.specs.Words.{cell, optionOf}
+use Rattle.words.specs.Words.{cell, optionOf, maxRecords}
 use Rattle.words.specs.Held.{Held, HeldOf, size, sizeOf}
 use Rattle.lower.specs.Render.{Notes, Ops, keptFrom}
 use Rattle.lower.specs.Shows.{shift}
@@ -22,40 +22,63 @@ use Rattle.context.specs.Tables.{Numbers}
 use Rattle.context.specs.declared.LowerCtx.{LowerCtx}
 use Rattle.context.specs.declared.Numbered.{Numbered}
 use Rattle.lower.specs.declared.Chain.{Chain}
+use Rattle.lower.specs.declared.Last.{Last}
+use Rattle.lower.specs.declared.Last.the-variants as last
+use Rattle.lower.specs.declared.Pending.{Pending}
+use Rattle.lower.specs.declared.Pending.the-variants as pending
 use Rattle.lower.specs.declared.Element.{Element}
-use Rattle.lower.specs.declared.Element.the-variants.{Node, Rel}
+use Rattle.lower.specs.declared.Element.the-variants as element
+use Rattle.lower.specs.declared.Read.{Read}
+use Rattle.context.specs.Ops.{bindOf}
 use lib.Dec.{eqb}
+use Rattle.words.specs.Places.{kindAt, nodeKind, relKind, elementNamedAt, elementVarAt, relTypesAt, relPropsAt, partShortestAt, partElementsAt, nodeLabelsAt, nodePropsAt}
 
--- something, by a word that is 0 for nothing
-unfoldable pub givenIf : {A : Type 0} → ℕ → A → Option A
-givenIf zero x = none
-givenIf (suc n) x = some x
+-- the last operator and its node's number, as the definition has them
+abbrev pub lastOf : Last → Option (ℕ × ℕ)
+lastOf last.Nothing = none
+lastOf (last.Op k n) = some (k, n)
 
-unfoldable pub seenIf : ℕ → Bool
-seenIf zero = false
-seenIf (suc n) = true
+-- whether a node stands before
+abbrev pub hasLast : Last → Bool
+hasLast last.Nothing = false
+hasLast (last.Op k n) = true
+
+-- the line of the rel that waits
+abbrev pub pendingLine : Pending → Option ℕ
+pendingLine pending.Nothing = none
+pendingLine (pending.Rel i) = some (suc i)
+
+abbrev pub fromOf : Pending → ℕ → ℕ
+fromOf pending.Nothing next = next
+fromOf (pending.Rel i) next = i
+
+-- the record from which on nothing is lowered yet
+abbrev pub from : Chain → ℕ
+from ch = fromOf (ch .pending) (ch .next)
 
 abbrev pub stepOf : Tree patternElement → Step
 stepOf t = fold Lowered made t
 
 -- the rel that waits, whose records end where the next element stands
 pub data Waiting (sheet : Bytes) (a b : List ℕ) (d : ℕ) (ch : Chain) (o : Option RelStep) : Type 0 where
-  no-rel : ch .waits ≡ 0 → ch .from ≡ ch .next → o ≡ none → Waiting sheet a b d ch o
-  a-rel : ch .waits ≡ 1 → (t : Tree patternElement) (r : RelStep) → Held sheet a b t d (ch .from) → stepOf t ≡ ofRel r → ch .next ≡ ch .from + size t → o ≡ some r → Waiting sheet a b d ch o
+  no-rel : ch .pending ≡ pending.Nothing → o ≡ none → Waiting sheet a b d ch o
+  a-rel : (rel : ℕ) → ch .pending ≡ pending.Rel rel → (t : Tree patternElement) (r : RelStep) → Held sheet a b t d rel → stepOf t ≡ ofRel r → ch .next ≡ rel + size t → o ≡ some r → Waiting sheet a b d ch o
 
-pub record Linked (sheet : Bytes) (a b : List ℕ) (d : ℕ) (ch : Chain) (c : Lower.Chain) : Type 0 where
-  pub last : c .last ≡ givenIf (ch .has) (ch .last, ch .origin)
+-- the chain as the code has it is the one that the definition has
+pub record SameChain (sheet : Bytes) (a b : List ℕ) (d : ℕ) (ch : Chain) (c : Lower.Chain) : Type 0 where
+  pub last : c .last ≡ lastOf (ch .last)
   pub waiting : Waiting sheet a b d ch (c .pending)
   pub kept : length (c .path) ≡ ch .kept
 
+-- the last operator, if there is one, is below n
+pub record LastUnder (l : Last) (n : ℕ) : Type 0 where
+  pub op : (k origin : ℕ) → l ≡ last.Op k origin → k < n
+
 -- what a chain has whatever the state
-pub record Sturdy (ch : Chain) : Type 0 where
-  pub has : ch .has ≤ 1
-  pub waits : ch .waits ≤ 1
-  pub from : ch .from ≤ ch .next
-  pub next : ch .next ≤ 2048
-  pub last : ch .last ≤ ch .ctx .ops
-  pub below : ((ch .has ≡ 0) → ⊥) → ch .last < ch .ctx .ops
+pub record ChainInBounds (ch : Chain) : Type 0 where
+  pub from : from ch ≤ ch .next
+  pub next : ch .next ≤ maxRecords
+  pub last : LastUnder (ch .last) (ch .ctx .ops)
   pub kept : ch .kept ≤ 2 * ch .next
 
 -- some rel waits, or none
@@ -66,21 +89,21 @@ pub record Anchored (a b : List ℕ) (d : ℕ) (ch : Chain) : Type 0 where
 
 -- the written notes behind a chain
 abbrev pub passed : ℕ → Chain → Chain → Written → Written
-passed base ch ch′ W = (base + suc (ch .from), base + suc (ch′ .from)) ∷ W
+passed base ch ch′ W = (base + suc (from ch), base + suc (from ch′)) ∷ W
 
 -- one more element, of which the definition has made a step
 pub record Chained (sheet : Bytes) (a b : List ℕ) (W : Written) (d base : ℕ) (ch ch′ : Chain) (t : Tree patternElement) (x : Step) (c : Lower.Chain) (s : State) (m m′ : Mem) : Type 0 where
   pub to : To sheet a b W (passed base ch ch′ W) s (lowerElement c x s .1) m m′
-  pub linked : Linked sheet a b d ch′ (lowerElement c x s .0)
-  pub path : (N : Notes) (A : Ops) → Future (passed base ch ch′ W) (lowerElement c x s .1) m′ N A → {n : ℕ} (ts : Trees patternElement n) → lowerElement c x s .0 .path ++ keptFrom (shift N base) (seenIf (ch′ .has)) (optionOf (ch′ .waits) (suc (ch′ .from))) ts ≡ c .path ++ keptFrom (shift N base) (seenIf (ch .has)) (optionOf (ch .waits) (suc (ch .from))) (t ∷ᵗ ts)
+  pub same : SameChain sheet a b d ch′ (lowerElement c x s .0)
+  pub path : (N : Notes) (A : Ops) → Future (passed base ch ch′ W) (lowerElement c x s .1) m′ N A → {n : ℕ} (ts : Trees patternElement n) → lowerElement c x s .0 .path ++ keptFrom (shift N base) (hasLast (ch′ .last)) (pendingLine (ch′ .pending)) ts ≡ c .path ++ keptFrom (shift N base) (hasLast (ch .last)) (pendingLine (ch .pending)) (t ∷ᵗ ts)
 
 pub record LowersElement (a b : List ℕ) (d base : ℕ) (ch ch′ : Chain) (os os′ rs rs′ : List ℕ) : Type 0 where
-  pub moved : Moved (ch .from) (ch′ .from) (mem (ch .ctx) os rs) (mem (ch′ .ctx) os′ rs′)
-  pub sturdy : Sturdy ch′
+  pub moved : Moved (from ch) (from ch′) (mem (ch .ctx) os rs) (mem (ch′ .ctx) os′ rs′)
+  pub bounded : ChainInBounds ch′
   pub anchored : Anchored a b d ch′
   pub ahead : ch .next ≤ ch′ .next
   pub next : (sheet : Bytes) (t : Tree patternElement) → Held sheet a b t d (ch .next) → ch′ .next ≡ ch .next + size t
-  pub run : (sheet : Bytes) (t : Tree patternElement) → Held sheet a b t d (ch .next) → (W : Written) (s : State) (c : Lower.Chain) → Rep sheet a b W s (mem (ch .ctx) os rs) → Linked sheet a b d ch c → Blank W (base + suc (ch .from)) (base + suc (ch′ .next)) → Chained sheet a b W d base ch ch′ t (stepOf t) c s (mem (ch .ctx) os rs) (mem (ch′ .ctx) os′ rs′)
+  pub run : (sheet : Bytes) (t : Tree patternElement) → Held sheet a b t d (ch .next) → (W : Written) (s : State) (c : Lower.Chain) → Rep sheet a b W s (mem (ch .ctx) os rs) → SameChain sheet a b d ch c → Blank W (base + suc (from ch)) (base + suc (ch′ .next)) → Chained sheet a b W d base ch ch′ t (stepOf t) c s (mem (ch .ctx) os rs) (mem (ch′ .ctx) os′ rs′)
 
 abbrev pub stepsOf : {n : ℕ} → Trees patternElement n → List Step
 stepsOf {n} ts = toList n (foldOf Lowered made ts)
@@ -88,16 +111,16 @@ stepsOf {n} ts = toList n (foldOf Lowered made ts)
 -- n more elements
 pub record ChainedAll (sheet : Bytes) (a b : List ℕ) (W : Written) (d base : ℕ) (ch ch′ : Chain) {n : ℕ} (ts : Trees patternElement n) (c : Lower.Chain) (s : State) (m m′ : Mem) : Type 0 where
   pub to : To sheet a b W (passed base ch ch′ W) s (lowerElements c (stepsOf ts) s .1) m m′
-  pub linked : Linked sheet a b d ch′ (lowerElements c (stepsOf ts) s .0)
-  pub path : (N : Notes) (A : Ops) → Future (passed base ch ch′ W) (lowerElements c (stepsOf ts) s .1) m′ N A → lowerElements c (stepsOf ts) s .0 .path ≡ c .path ++ keptFrom (shift N base) (seenIf (ch .has)) (optionOf (ch .waits) (suc (ch .from))) ts
+  pub same : SameChain sheet a b d ch′ (lowerElements c (stepsOf ts) s .0)
+  pub path : (N : Notes) (A : Ops) → Future (passed base ch ch′ W) (lowerElements c (stepsOf ts) s .1) m′ N A → lowerElements c (stepsOf ts) s .0 .path ≡ c .path ++ keptFrom (shift N base) (hasLast (ch .last)) (pendingLine (ch .pending)) ts
 
 pub record LowersElements (a b : List ℕ) (n d base : ℕ) (ch ch′ : Chain) (os os′ rs rs′ : List ℕ) : Type 0 where
-  pub moved : Moved (ch .from) (ch′ .from) (mem (ch .ctx) os rs) (mem (ch′ .ctx) os′ rs′)
-  pub sturdy : Sturdy ch′
+  pub moved : Moved (from ch) (from ch′) (mem (ch .ctx) os rs) (mem (ch′ .ctx) os′ rs′)
+  pub bounded : ChainInBounds ch′
   pub anchored : Anchored a b d ch′
   pub ahead : ch .next ≤ ch′ .next
   pub next : (sheet : Bytes) (ts : Trees patternElement n) → HeldOf sheet a b ts d (ch .next) → ch′ .next ≡ ch .next + sizeOf ts
-  pub run : (sheet : Bytes) (ts : Trees patternElement n) → HeldOf sheet a b ts d (ch .next) → (W : Written) (s : State) (c : Lower.Chain) → Rep sheet a b W s (mem (ch .ctx) os rs) → Linked sheet a b d ch c → Blank W (base + suc (ch .from)) (base + suc (ch′ .next)) → ChainedAll sheet a b W d base ch ch′ ts c s (mem (ch .ctx) os rs) (mem (ch′ .ctx) os′ rs′)
+  pub run : (sheet : Bytes) (ts : Trees patternElement n) → HeldOf sheet a b ts d (ch .next) → (W : Written) (s : State) (c : Lower.Chain) → Rep sheet a b W s (mem (ch .ctx) os rs) → SameChain sheet a b d ch c → Blank W (base + suc (from ch)) (base + suc (ch′ .next)) → ChainedAll sheet a b W d base ch ch′ ts c s (mem (ch .ctx) os rs) (mem (ch′ .ctx) os′ rs′)
 
 -- the operators of a node that is numbered, at record i: a source, and a filter by its props
 abbrev pub startL : ℕ → NodeStep → Lowering ℕ
@@ -142,28 +165,35 @@ pub record LowersChain (a b : List ℕ) (d base i e k : ℕ) (m m′ : Mem) : Ty
 pub record LowersRel (a b : List ℕ) (d base i e : ℕ) (c : LowerCtx) (os rest : List ℕ) (m′ : Mem) : Type 0 where
   pub named : Numbered
   pub between : List ℕ
-  pub noted : Numbers (endpointVar (optionOf (cell a b i 2) (cell a b i 3))) (base + (i + 1)) c rest between named
+  pub noted : Numbers (endpointVar (optionOf (cell a b i elementNamedAt) (cell a b i elementVarAt))) (base + (i + 1)) c rest between named
   pub kept : length between ≡ length rest
-  pub props : LowersExprs a b (cell a b i 10) 0 (d - 1) base (i + 1 + cell a b i 4) e (mem (named .ctx) os between) m′
+  pub props : LowersExprs a b (cell a b i relPropsAt) 0 (d - 1) base (i + 1 + cell a b i relTypesAt) e (mem (named .ctx) os between) m′
 
--- an element, by the number of its kind
-abbrev pub elementOf : ℕ → ℕ → Element
-elementOf kind i = cond (eqb kind 12) (Node i) (Rel i)
+-- what is read of the element at record i, whose props are counted by word c
+pub record ReadAt (a b : List ℕ) (i c : ℕ) (x : Read) : Type 0 where
+  pub bind : bindOf (x .bind) ≡ optionOf (cell a b i elementNamedAt) (cell a b i elementVarAt)
+  pub first : x .first ≡ i + 1 + cell a b i nodeLabelsAt
+  pub props : x .props ≡ cell a b i c
+
+-- the element at record i
+pub data ElementAt (a b : List ℕ) (i : ℕ) (r : Element) : Type 0 where
+  node-at : (x : Read) → r ≡ element.Node x → cell a b i kindAt ≡ nodeKind → ReadAt a b i nodePropsAt x → ElementAt a b i r
+  rel-at : (x : Read) → r ≡ element.Rel x → ((cell a b i kindAt ≡ nodeKind) → ⊥) → ReadAt a b i relPropsAt x → ElementAt a b i r
 
 -- no element yet, of the part at record i
 abbrev pub startChain : ℕ → LowerCtx → Chain
-startChain i c = record { next = i + 1; ctx = c; has = 0; last = 0; origin = 0; waits = 0; from = i + 1; kept = 0 }
+startChain i c = record { next = i + 1; ctx = c; last = last.Nothing; pending = pending.Nothing; kept = 0 }
 
 -- no rel waits, or there is no operator before
-abbrev pub Starts : Chain → Type 0
-Starts ch = (ch .waits ≡ 0) ⊎ (ch .has ≡ 0)
+abbrev pub StartsAnew : Chain → Type 0
+StartsAnew ch = (ch .pending ≡ pending.Nothing) ⊎ (ch .last ≡ last.Nothing)
 
 -- a shortest part of exactly node, rel, node
 pub record Special (a b : List ℕ) (i rel far : ℕ) : Type 0 where
-  pub shortest : (cell a b i 4 ≡ 0) → ⊥
-  pub three : cell a b i 6 ≡ 3
-  pub first : cell a b (i + 1) 0 ≡ 12
-  pub second : cell a b rel 0 ≡ 13
-  pub third : cell a b far 0 ≡ 12
+  pub shortest : (cell a b i partShortestAt ≡ 0) → ⊥
+  pub three : cell a b i partElementsAt ≡ 3
+  pub first : cell a b (i + 1) kindAt ≡ nodeKind
+  pub second : cell a b rel kindAt ≡ relKind
+  pub third : cell a b far kindAt ≡ nodeKind
   pub first-end : Ends a b (i + 1) rel
   pub second-end : Ends a b rel far

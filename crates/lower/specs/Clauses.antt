@@ -1,4 +1,4 @@
--- What the lowering of a clause promises: the operator that it leaves, the notes of both passes over its records, and the room that it takes. Assumes nothing: these are definitions.
+-- What the lowering of a clause promises: the operator that it leaves, the notes of both passes over its records (those of the second pass over a `return` from secondPass on, those of the first, and of all else, from 0 on), and the room that it takes. Assumes nothing: these are definitions.
 use mathlib.Core.Path.{_≡_}
 use Prim.Native.Nat.{ℕ, suc, _+_, _*_, _≤_, _<_}
 use mathlib.Core.List.{List, _∷_}
@@ -10,25 +10,24 @@ use Rattle.model.specs.Tree.{Tree}
 use Rattle.model.specs.Lower.{Lowering, lowerClause}
 use Rattle.words.specs.Held.{Held, size}
 use Rattle.lower.specs.Rep.{State, Mem, Written, Blank, Rep, To, Indexes}
-
--- the notes of the second pass over a `return` begin here; those of the first, and of all else, at 0
-abbrev pub secondPass : ℕ
-secondPass = 2048
+use Rattle.words.specs.Words.{maxRecords}
+use Rattle.context.specs.Tables.{secondPass}
+use Rattle.model.specs.Call.{workWords}
 
 -- there is room at record i, where a clause may begin
 pub record Ready (i : ℕ) (m : Mem) : Type 0 where
   pub few : m .ctx .ops ≤ 4 * i
   pub low : m .ctx .next ≤ 2 * i
   pub met : m .ctx .mapped ≤ 2 * i
-  pub here : i ≤ 2048
-  pub in-ops : 16384 ≤ length (m .ops)
-  pub in-rest : 16384 ≤ length (m .rest)
+  pub here : i ≤ maxRecords
+  pub in-ops : workWords ≤ length (m .ops)
+  pub in-rest : workWords ≤ length (m .rest)
   pub index : Indexes m
 
 -- what the lowering of clauses from record i to e does, whatever the state
 pub record MovedTwice (i e : ℕ) (m m′ : Mem) : Type 0 where
   pub up : i ≤ e
-  pub here : e ≤ 2048
+  pub here : e ≤ maxRecords
   pub few : m′ .ctx .ops + 4 * i ≤ m .ctx .ops + 4 * e
   pub low : m′ .ctx .next + 2 * i ≤ m .ctx .next + 2 * e
   pub met : m′ .ctx .mapped + 2 * i ≤ m .ctx .mapped + 2 * e

@@ -11,27 +11,28 @@ use Rattle.model.specs.Lower.{Recs, _>>=_, ret, lowerExpr}
 use Rattle.words.specs.Held.{size}
 use Rattle.lower.specs.Render.{Notes, Ops}
 use Rattle.lower.specs.Shows.{shift}
-use Rattle.lower.specs.Rep.{State, Mem, Written, Sub, Blank, Future, Rep, Ran, Good, Moved}
+use Rattle.lower.specs.Rep.{State, Mem, Written, Sub, Blank, Future, Rep, Ran, RoomFor, Moved}
 use Rattle.lower.specs.Pieces.{exprPiece, Carried, []ᶜ, _∷ᶜ_, lowerC, renderC, BelowC, sizeC, HeldC, carriedPiece, SomeTree, SomeCarried, LowersExpr, LowersExprs}
 use Rattle.lower.specs.State.{sub-more, sub-within, blank-within, blank-behind, back, to-refl, to-then, to-wider}
 use Rattle.lower.specs.Below.{below-more}
+use Rattle.words.specs.Words.{maxRecords}
 
 -- ── what moves ──
 
-pub moved-refl : {i : ℕ} {m : Mem} → i ≤ 2048 → Moved i i m m
+pub moved-refl : {i : ℕ} {m : Mem} → i ≤ maxRecords → Moved i i m m
 moved-refl h = record { up = omega arith; here = h; few = omega arith; low = omega arith; met = omega arith; in-ops = refl; in-rest = refl; index = λ x. x }
 
 pub moved-then : {i j e : ℕ} {m m₁ m₂ : Mem} → Moved i j m m₁ → Moved j e m₁ m₂ → Moved i e m m₂
 moved-then p q = record { up = omega (arith, p .up, q .up); here = q .here; few = omega (arith, p .few, q .few); low = omega (arith, p .low, q .low); met = omega (arith, p .met, q .met); in-ops = q .in-ops ∙ p .in-ops; in-rest = q .in-rest ∙ p .in-rest; index = λ x. q .index (p .index x) }
 
 -- from an earlier record, to a later one
-pub moved-within : {i j e f : ℕ} {m m′ : Mem} → i ≤ j → e ≤ f → f ≤ 2048 → Moved j e m m′ → Moved i f m m′
+pub moved-within : {i j e f : ℕ} {m m′ : Mem} → i ≤ j → e ≤ f → f ≤ maxRecords → Moved j e m m′ → Moved i f m m′
 moved-within l l′ h p = record { up = omega (arith, p .up); here = h; few = omega (arith, p .few); low = omega (arith, p .low); met = omega (arith, p .met); in-ops = p .in-ops; in-rest = p .in-rest; index = p .index }
 
-pub good-after : {d i j : ℕ} {m m₁ : Mem} → Moved i j m m₁ → Good d i m → Good d j m₁
+pub good-after : {d i j : ℕ} {m m₁ : Mem} → Moved i j m m₁ → RoomFor d i m → RoomFor d j m₁
 good-after p g = record { few = omega (arith, p .few, g .few); low = omega (arith, p .low, g .low); met = omega (arith, p .met, g .met); here = p .here; in-ops = rw (p .in-ops) (g .in-ops); in-rest = rw (p .in-rest) (g .in-rest); index = p .index (g .index) }
 
-pub good-from : {d d′ i j : ℕ} {m : Mem} → d′ ≤ d → i ≤ j → j ≤ 2048 → Good d i m → Good d′ j m
+pub good-from : {d d′ i j : ℕ} {m : Mem} → d′ ≤ d → i ≤ j → j ≤ maxRecords → RoomFor d i m → RoomFor d′ j m
 good-from ld l h g = record { few = omega (arith, g .few); low = omega (arith, g .low); met = omega (arith, g .met); here = h; in-ops = g .in-ops; in-rest = g .in-rest; index = g .index }
 
 -- what holds where more is written holds where less is
@@ -48,10 +49,12 @@ nil-run : {sheet : Bytes} {a b : List ℕ} (base i : ℕ) (m : Mem) (cs : Carrie
 unfolding lowerC renderC BelowC ret
 nil-run base i m []ᶜ W s r = record { to = to-wider (sub-more (base + suc i, base + suc i) W) (to-refl r); shown = λ N A f. refl; below = λ N A f. tt }
 
-pub nil-law : (a b : List ℕ) (gap d base i : ℕ) (m : Mem) → i ≤ 2048 → LowersExprs a b 0 gap d base i i m m
+pub nil-law : (a b : List ℕ) (gap d base i : ℕ) (m : Mem) → i ≤ maxRecords → LowersExprs a b 0 gap d base i i m m
 nil-law a b gap d base i m h = record { moved = moved-refl h; next = λ sheet cs hd. nil-next gap i cs; run = λ sheet cs hd W s r bl. nil-run base i m cs W s r }
 
-both-run : {sheet : Bytes} {a b : List ℕ} (base o i j e : ℕ) (m m₁ m₂ : Mem) {n : ℕ} (c : Recs × Tree expr) (cs : Carried n) (W : Written) (s : State) → o ≤ i → i ≤ j → j ≤ e → Ran sheet a b W (exprPiece (c .1)) base (suc i) (suc j) s m m₁ → Ran sheet a b ((base + suc i, base + suc j) ∷ W) (carriedPiece cs) base (suc j) (suc e) (lowerExpr (c .1) s .1) m₁ m₂ → Ran sheet a b W (carriedPiece (c ∷ᶜ cs)) base (suc o) (suc e) s m m₂
+both-run : {sheet : Bytes} {a b : List ℕ} (base o i j e : ℕ) (m m₁ m₂ : Mem) {n : ℕ} (c : Recs × Tree expr) (cs : Carried n) (W : Written) (s : State) → o ≤ i → i ≤ j → j ≤ e →
+    Ran sheet a b W (exprPiece (c .1)) base (suc i) (suc j) s m m₁ → Ran sheet a b ((base + suc i, base + suc j) ∷ W) (carriedPiece cs) base (suc j) (suc e) (lowerExpr (c .1) s .1) m₁ m₂ →
+    Ran sheet a b W (carriedPiece (c ∷ᶜ cs)) base (suc o) (suc e) s m m₂
 unfolding lowerC renderC BelowC _>>=_ ret
 both-run base o i j e m m₁ m₂ c cs W s lo l l′ p q =
     let u : Sub ((base + suc j, base + suc e) ∷ (base + suc i, base + suc j) ∷ W) ((base + suc o, base + suc e) ∷ W) = sub-within (omega arith) (le-refl _) (sub-within (omega arith) (omega arith) (sub-more (base + suc o, base + suc e) W)) in
@@ -86,7 +89,7 @@ module _ {a b : List ℕ} {n d base j e : ℕ} {m m₁ m₂ : Mem} (gap i : ℕ)
 -- k are left from record i on, and once they are lowered from here, all is done
 pub record Left (a b : List ℕ) (gap d base : ℕ) (Done : ℕ → Mem → Type 0) (k i : ℕ) (m : Mem) : Type 0 where
   pub some : SomeCarried a b k gap d i
-  pub good : Good d i m
+  pub good : RoomFor d i m
   pub rest : (e : ℕ) (m′ : Mem) → LowersExprs a b k gap d base i e m m′ → Done e m′
 
 child-by : {a b : List ℕ} {d : ℕ} (gap i : ℕ) (sheet : Bytes) {k : ℕ} (cs : Carried k) → ((k ≡ 0) → ⊥) → HeldC sheet a b gap cs d i → SomeTree a b expr d (i + gap)

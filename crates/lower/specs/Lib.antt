@@ -1,11 +1,10 @@
-pub mod Count
 pub mod Render
 pub mod Shows
 pub mod Rep
 pub mod Pieces
 pub mod Patterns
 pub mod Chains
-pub mod Fits
+pub mod Asked
 pub mod Below
 pub mod State
 pub mod Exprs

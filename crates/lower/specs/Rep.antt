@@ -5,10 +5,13 @@ use mathlib.Core.List.{List, [], _∷_}
 use mathlib.Core.Logic.{_⊎_}
 use lib.ListN.{length, getD, drop}
 use Rattle.model.specs.Text.{Bytes}
+use Rattle.model.specs.Call.{workWords, maxDepth}
 use Rattle.model.specs.Lower.{Recs, Lowering, at}
 use Rattle.model.specs.Lower
+use Rattle.words.specs.Words.{maxRecords}
 use Rattle.context.specs.Tables.{stateOf, opAt, varsAt, maxStored, Indexed}
 use Rattle.context.specs.declared.LowerCtx.{LowerCtx}
+use Rattle.context.specs.declared.At.{At}
 use Rattle.lower.specs.Render.{Notes, Ops}
 use Rattle.lower.specs.Shows.{Stored, shift}
 
@@ -23,6 +26,10 @@ pub record Mem : Type 0 where
 
 abbrev pub mem : LowerCtx → List ℕ → List ℕ → Mem
 mem c os rs = record { ctx = c; ops = os; rest = rs }
+
+-- where something is lowered
+abbrev pub atPlace : (base i left : ℕ) → At
+atPlace base i left = record { base = base; i = i; left = left }
 
 abbrev pub notes : Mem → Notes
 notes m q = getD (m .rest) q 0
@@ -93,20 +100,28 @@ pub record Rooted (sheet : Bytes) (a b : List ℕ) (W : Written) (L : Lowering �
 abbrev pub Indexes : Mem → Type 0
 Indexes m = Indexed (m .ctx .mapped) (drop varsAt (m .rest))
 
--- there is room at record i, for what is at most d deep
-pub record Good (d i : ℕ) (m : Mem) : Type 0 where
-  pub few : m .ctx .ops + d ≤ 30000 + 2 * i
-  pub low : m .ctx .next + d ≤ 30000 + i
-  pub met : m .ctx .mapped + d ≤ 2200 + i
-  pub here : i ≤ 2048
-  pub in-ops : 16384 ≤ length (m .ops)
-  pub in-rest : 16384 ≤ length (m .rest)
+-- Operators and numbers that a lowering may find: those of two sheets with four operators to a record are fewer, and with what one more sheet adds they stay below maxCount.
+abbrev pub maxBefore : ℕ
+maxBefore = 30000
+
+-- Variables that a lowering may find at record i, beside one for each record before it: those of a first pass over the same records, and one for each level of a tree that is under way.
+abbrev pub maxMet : ℕ
+maxMet = maxRecords + maxDepth
+
+-- there is room at record i, for what is at most d deep: two operators and one number for each record, and one for each level
+pub record RoomFor (d i : ℕ) (m : Mem) : Type 0 where
+  pub few : m .ctx .ops + d ≤ maxBefore + 2 * i
+  pub low : m .ctx .next + d ≤ maxBefore + i
+  pub met : m .ctx .mapped + d ≤ maxMet + i
+  pub here : i ≤ maxRecords
+  pub in-ops : workWords ≤ length (m .ops)
+  pub in-rest : workWords ≤ length (m .rest)
   pub index : Indexes m
 
 -- what the lowering of records i to e does whatever the state
 pub record Moved (i e : ℕ) (m m′ : Mem) : Type 0 where
   pub up : i ≤ e
-  pub here : e ≤ 2048
+  pub here : e ≤ maxRecords
   pub few : m′ .ctx .ops + 2 * i ≤ m .ctx .ops + 2 * e
   pub low : m′ .ctx .next + i ≤ m .ctx .next + e
   pub met : m′ .ctx .mapped + i ≤ m .ctx .mapped + e

@@ -11,22 +11,26 @@ use Rattle.model.specs.Kind.{Clause, ReadOp, clause, projection, orderItem, pat
 use Rattle.model.specs.Record.{Rec, one, forms}
 use Rattle.model.specs.Tree.{Tree, Trees}
 use Rattle.model.specs.Lower.{Recs, op, source, pathElements}
-use Rattle.words.specs.Words.{cell, optionOf}
+use Rattle.words.specs.Words.{cell, optionOf, maxRecords}
 use Rattle.words.specs.Held.{Held, HeldOf, RecordAt, sizeOf}
 use Rattle.context.specs.declared.op.Op.{Op}
+use Rattle.context.specs.Ops.{sourceAllKind, sourceKind, filterKind, expandKind, shortestPathKind, bindPathKind, optionalJoinKind, withKind, projectKind, aggregateKind, orderByKind, skipKind, limitKind, distinctKind, unwindKind, unionKind, procedureCallKind}
 use Rattle.lower.specs.Render.{Notes, Ops, render, renderOf, Below, BelowOf, specRecs, KidsBelow, keptFrom, keyRecs, aggRecs}
+use Rattle.words.specs.Places.{kindAt, nodeKind, relKind, nodeLabelsAt, partShortestAt, partElementsAt, itemsAt, withFilterAt}
+use Rattle.model.specs.Call.{maxDepth}
+use Rattle.context.specs.Tables.{secondPass}
 
 -- the notes of a pass stand from b on
 abbrev pub shift : Notes → ℕ → Notes
 shift N b line = N (b + line)
 
 -- what the words of every operator keep to: the depth left, the pass, and the records
-pub record Sane (o : Op) : Type 0 where
-  pub shallow : o .left ≤ 64
-  pub near : o .base ≤ 2048
-  pub low : o .idx < 2048
-  pub far : o .kind ≡ 4 → o .y < 2048
-  pub flagged : o .kind ≡ 15 → o .y ≤ 1
+pub record InBounds (o : Op) : Type 0 where
+  pub shallow : o .left ≤ maxDepth
+  pub near : o .base ≤ secondPass
+  pub low : o .idx < maxRecords
+  pub far : o .kind ≡ shortestPathKind → o .y < maxRecords
+  pub flagged : o .kind ≡ unionKind → o .y ≤ 1
 
 module _ (sheet : Bytes) (a b : List ℕ) (N : Notes) (A : Ops) (k : ℕ) (o : Op) where
   -- a record over one expression
@@ -40,7 +44,7 @@ module _ (sheet : Bytes) (a b : List ℕ) (N : Notes) (A : Ops) (k : ℕ) (o : O
   pub record ByLabels (recs : Recs) : Type 0 where
     pub count : ℕ
     pub labels : Trees name count
-    pub counted : count ≡ cell a b (o .idx) 4
+    pub counted : count ≡ cell a b (o .idx) nodeLabelsAt
     pub held : HeldOf sheet a b labels (o .left) (o .idx + 1)
     pub is : recs ≡ source (o .x) (renderOf (shift N (o .base)) A labels)
 
@@ -50,8 +54,8 @@ module _ (sheet : Bytes) (a b : List ℕ) (N : Notes) (A : Ops) (k : ℕ) (o : O
     pub far : Tree patternElement
     pub held-rel : Held sheet a b rel (o .left) (o .idx)
     pub held-far : Held sheet a b far (o .left) (o .y)
-    pub is-rel : cell a b (o .idx) 0 ≡ 13
-    pub is-far : cell a b (o .y) 0 ≡ 12
+    pub is-rel : cell a b (o .idx) kindAt ≡ relKind
+    pub is-far : cell a b (o .y) kindAt ≡ nodeKind
     pub below-rel : KidsBelow (shift N (o .base)) k rel
     pub below-far : KidsBelow (shift N (o .base)) k far
     pub is : recs ≡ op ReadOp.Expand (o .input, (o .x, (N (o .base + suc (o .idx)), (N (o .base + suc (o .y)), tt)))) ∷ (specRecs (shift N (o .base)) A rel ++ specRecs (shift N (o .base)) A far)
@@ -60,7 +64,7 @@ module _ (sheet : Bytes) (a b : List ℕ) (N : Notes) (A : Ops) (k : ℕ) (o : O
   pub record ByPath (recs : Recs) : Type 0 where
     pub count : ℕ
     pub elements : Trees patternElement count
-    pub counted : count ≡ cell a b (o .idx) 6
+    pub counted : count ≡ cell a b (o .idx) partElementsAt
     pub held : HeldOf sheet a b elements (o .left) (o .idx + 1)
     pub is : recs ≡ op ReadOp.BindPath (o .input, (o .y, (o .x, tt))) ∷ pathElements (keptFrom (shift N (o .base)) false none elements)
 
@@ -68,10 +72,10 @@ module _ (sheet : Bytes) (a b : List ℕ) (N : Notes) (A : Ops) (k : ℕ) (o : O
   pub record ByShortest (recs : Recs) : Type 0 where
     pub rel : Tree patternElement
     pub held-rel : Held sheet a b rel (o .left) (o .x)
-    pub is-rel : cell a b (o .x) 0 ≡ 13
+    pub is-rel : cell a b (o .x) kindAt ≡ relKind
     pub below-rel : KidsBelow (shift N (o .base)) k rel
     pub all : Bool
-    pub is-all : all ≡ eqb (cell a b (o .idx) 4) 2
+    pub is-all : all ≡ eqb (cell a b (o .idx) partShortestAt) 2
     pub is : recs ≡ op ReadOp.ShortestPath (o .input, (N (o .base + suc (o .idx + 1)), (N (o .base + suc (o .y)), (N (o .base + suc (o .idx)), (all, tt))))) ∷ specRecs (shift N (o .base)) A rel
 
   -- a `with`, at its clause: its items, and its predicate if it has one
@@ -80,8 +84,8 @@ module _ (sheet : Bytes) (a b : List ℕ) (N : Notes) (A : Ops) (k : ℕ) (o : O
     pub filtered : Bool
     pub items : Trees projection count
     pub predicate : Trees expr (one filtered)
-    pub counted : count ≡ cell a b (o .idx) 2
-    pub flagged : one filtered ≡ cell a b (o .idx) 4
+    pub counted : count ≡ cell a b (o .idx) itemsAt
+    pub flagged : one filtered ≡ cell a b (o .idx) withFilterAt
     pub held-items : HeldOf sheet a b items (o .left) (o .idx + 1)
     pub held-predicate : HeldOf sheet a b predicate (o .left) (o .idx + 1 + sizeOf items)
     pub below-items : BelowOf (shift N (o .base)) k items
@@ -92,7 +96,7 @@ module _ (sheet : Bytes) (a b : List ℕ) (N : Notes) (A : Ops) (k : ℕ) (o : O
   pub record ByItems (recs : Recs) : Type 0 where
     pub count : ℕ
     pub items : Trees projection count
-    pub counted : count ≡ cell a b (o .idx) 2
+    pub counted : count ≡ cell a b (o .idx) itemsAt
     pub held : HeldOf sheet a b items (o .left) (o .idx + 1)
     pub below : BelowOf (shift N (o .base)) k items
     pub is : recs ≡ op ReadOp.Project (o .input, (count, tt)) ∷ renderOf (shift N (o .base)) A items
@@ -101,7 +105,7 @@ module _ (sheet : Bytes) (a b : List ℕ) (N : Notes) (A : Ops) (k : ℕ) (o : O
   pub record ByParted (recs : Recs) : Type 0 where
     pub count : ℕ
     pub items : Trees projection count
-    pub counted : count ≡ cell a b (o .idx) 2
+    pub counted : count ≡ cell a b (o .idx) itemsAt
     pub held : HeldOf sheet a b items (o .left) (o .idx + 1)
     pub below : BelowOf (shift N (o .base)) k items
     pub is : recs ≡ op ReadOp.Aggregate (o .input, (o .x, (o .y, tt))) ∷ (keyRecs (shift N (o .base)) A items ++ aggRecs (shift N (o .base)) A items)
@@ -126,25 +130,25 @@ module _ (sheet : Bytes) (a b : List ℕ) (N : Notes) (A : Ops) (k : ℕ) (o : O
 
   -- operator k
   pub data Shows (recs : Recs) : Type 0 where
-    shows-all : o .kind ≡ 0 → recs ≡ source (o .x) [] → Shows recs
-    shows-source : o .kind ≡ 1 → ByLabels recs → Shows recs
-    shows-filter : o .kind ≡ 2 → OverExpr (op ReadOp.Filter (o .input, tt)) recs → Shows recs
-    shows-expand : o .kind ≡ 3 → ByRel recs → Shows recs
-    shows-short : o .kind ≡ 4 → ByShortest recs → Shows recs
-    shows-path : o .kind ≡ 5 → ByPath recs → Shows recs
-    shows-optional : o .kind ≡ 6 → o .x < k → recs ≡ op ReadOp.OptionalJoin (o .input, tt) ∷ A (o .x) → Shows recs
-    shows-with : o .kind ≡ 7 → ByWith recs → Shows recs
-    shows-project : o .kind ≡ 8 → ByItems recs → Shows recs
-    shows-aggregate : o .kind ≡ 9 → ByParted recs → Shows recs
-    shows-order : o .kind ≡ 10 → ByKeys recs → Shows recs
-    shows-skip : o .kind ≡ 11 → OverExpr (op ReadOp.Skip (o .input, tt)) recs → Shows recs
-    shows-limit : o .kind ≡ 12 → OverExpr (op ReadOp.Limit (o .input, tt)) recs → Shows recs
-    shows-distinct : o .kind ≡ 13 → recs ≡ op ReadOp.Distinct (o .input, tt) ∷ [] → Shows recs
-    shows-unwind : o .kind ≡ 14 → OverExpr (op ReadOp.Unwind (o .input, (o .x, tt))) recs → Shows recs
-    shows-union : o .kind ≡ 15 → recs ≡ op ReadOp.Union (o .input, (o .x, (eqb (o .y) 1, tt))) ∷ [] → Shows recs
-    shows-call : o .kind ≡ 16 → ByCall recs → Shows recs
+    shows-all : o .kind ≡ sourceAllKind → recs ≡ source (o .x) [] → Shows recs
+    shows-source : o .kind ≡ sourceKind → ByLabels recs → Shows recs
+    shows-filter : o .kind ≡ filterKind → OverExpr (op ReadOp.Filter (o .input, tt)) recs → Shows recs
+    shows-expand : o .kind ≡ expandKind → ByRel recs → Shows recs
+    shows-short : o .kind ≡ shortestPathKind → ByShortest recs → Shows recs
+    shows-path : o .kind ≡ bindPathKind → ByPath recs → Shows recs
+    shows-optional : o .kind ≡ optionalJoinKind → o .x < k → recs ≡ op ReadOp.OptionalJoin (o .input, tt) ∷ A (o .x) → Shows recs
+    shows-with : o .kind ≡ withKind → ByWith recs → Shows recs
+    shows-project : o .kind ≡ projectKind → ByItems recs → Shows recs
+    shows-aggregate : o .kind ≡ aggregateKind → ByParted recs → Shows recs
+    shows-order : o .kind ≡ orderByKind → ByKeys recs → Shows recs
+    shows-skip : o .kind ≡ skipKind → OverExpr (op ReadOp.Skip (o .input, tt)) recs → Shows recs
+    shows-limit : o .kind ≡ limitKind → OverExpr (op ReadOp.Limit (o .input, tt)) recs → Shows recs
+    shows-distinct : o .kind ≡ distinctKind → recs ≡ op ReadOp.Distinct (o .input, tt) ∷ [] → Shows recs
+    shows-unwind : o .kind ≡ unwindKind → OverExpr (op ReadOp.Unwind (o .input, (o .x, tt))) recs → Shows recs
+    shows-union : o .kind ≡ unionKind → recs ≡ op ReadOp.Union (o .input, (o .x, (eqb (o .y) 1, tt))) ∷ [] → Shows recs
+    shows-call : o .kind ≡ procedureCallKind → ByCall recs → Shows recs
 
   -- operator k, as it is stored
   pub record Stored (recs : Recs) : Type 0 where
-    pub sane : Sane o
+    pub bounded : InBounds o
     pub shows : Shows recs

@@ -13,7 +13,7 @@ use borrow.Author.Tests.{eq-eqb, ne-eqb, ltb-true, ltb-false}
 use Rattle.model.specs.Text.{Bytes}
 use Rattle.model.specs.Lower.{Recs, Lowering, at, push}
 use Rattle.model.specs.Lower
-use Rattle.context.specs.Tables.{stateOf, Noted, Notes, Numbers, Pushed, varsAt}
+use Rattle.context.specs.Tables.{stateOf, Noted, NoteWritten, Numbers, Pushed, varsAt}
 use Rattle.context.specs.declared.op.Op.{Op}
 use Rattle.context.specs.declared.LowerCtx.{LowerCtx}
 use Rattle.context.specs.declared.Numbered.{Numbered}
@@ -21,6 +21,7 @@ use Rattle.lower.specs.Render.{Ops}
 use Rattle.lower.specs.Render
 use Rattle.lower.specs.Shows.{Stored}
 use Rattle.lower.specs.Rep.{State, Mem, mem, notes, Written, In, Sub, Blank, Future, Rep, To}
+use Rattle.words.specs.Words.{maxRecords}
 
 -- ── ranges ──
 
@@ -114,11 +115,11 @@ module _ {sheet : Bytes} {a b : List ℕ} {W : Written} {s : State} where
       record {
         rep = record {
           count = let z : m .ctx .ops ≡ length (s .ops) = r .count in omega arith;
-          state = rw (p .next, p .mapped) (ap (λ (z : State). record { ops = recs ∷ s .ops; vars = z .vars; next = z .next }) (r .state));
+          state = rw (p .next, p .mapped) (ap (λ (z : State). record { ops = recs ∷ s .ops; scope = z .scope }) (r .state));
           shows = λ k h l N A f.
               ⊎-elim
               (λ (g : k < m .ctx .ops). rw (p .other k g l, same k g) (r .shows k g l N A (early N A f)))
-              (λ (g : k ≡ m .ctx .ops). (let l′ : m .ctx .ops < 2048 = omega arith in rw (g, p .here l′, new-at recs (s .ops) (m .ctx .ops) (r .count)) (sx N A (early N A f))))
+              (λ (g : k ≡ m .ctx .ops). (let l′ : m .ctx .ops < maxRecords = omega arith in rw (g, p .here l′, new-at recs (s .ops) (m .ctx .ops) (r .count)) (sx N A (early N A f))))
               (split-by k (m .ctx .ops) (ltb k (m .ctx .ops)) refl (rw (p .count) at h));
         };
         sub = sub-refl W;
@@ -151,7 +152,7 @@ module _ {sheet : Bytes} {a b : List ℕ} {W : Written} {s : State} where
       }
 
   -- a note
-  pub note-to : (place v : ℕ) (m : Mem) (rest′ : List ℕ) → Rep sheet a b W s m → Notes place v (m .rest) rest′ → Blank W place (place + 1) → To sheet a b W ((place, place + 1) ∷ W) s s m (mem (m .ctx) (m .ops) rest′)
+  pub note-to : (place v : ℕ) (m : Mem) (rest′ : List ℕ) → Rep sheet a b W s m → NoteWritten place v (m .rest) rest′ → Blank W place (place + 1) → To sheet a b W ((place, place + 1) ∷ W) s s m (mem (m .ctx) (m .ops) rest′)
   note-to place v m rest′ p n bl =
       let ag = same-written m place v rest′ (n .noted) bl in
       record {
@@ -168,13 +169,13 @@ module _ {sheet : Bytes} {a b : List ℕ} {W : Written} {s : State} where
 
   -- a number for something unnamed, which is not noted
   pub fresh-to : (m : Mem) (c : LowerCtx) → Rep sheet a b W s m → c .ops ≡ m .ctx .ops → c .next ≡ m .ctx .next + 1 → c .mapped ≡ m .ctx .mapped → To sheet a b W W s (Lower.fresh s .1) m (mem c (m .ops) (m .rest))
-  unfolding Lower.fresh
+  unfolding Lower.fresh Lower.issue
   fresh-to m c r eo en em =
-      let z : suc (m .ctx .next) ≡ suc (s .next) = ap (λ (x : State). suc (x .next)) (r .state) in
+      let z : suc (m .ctx .next) ≡ suc (s .scope .next) = ap (λ (x : State). suc (x .scope .next)) (r .state) in
       record {
         rep = record {
           count = eo ∙ r .count;
-          state = rw (em, en, add-one (m .ctx .next)) (ap (λ (x : State). record { ops = s .ops; vars = x .vars; next = suc (x .next) }) (r .state));
+          state = rw (em, en, add-one (m .ctx .next)) (ap (λ (x : State). record { ops = s .ops; scope = record { vars = x .scope .vars; next = suc (x .scope .next) } }) (r .state));
           shows = λ k h l N A f. r .shows k (rw eo at h) l N A (record { notes = f .notes; ops = λ j g. f .ops j (rw eo g) });
         };
         sub = sub-refl W;
@@ -184,8 +185,8 @@ module _ {sheet : Bytes} {a b : List ℕ} {W : Written} {s : State} where
       }
 
   pub fresh-number : (m : Mem) → Rep sheet a b W s m → m .ctx .next ≡ Lower.fresh s .0
-  unfolding Lower.fresh
-  fresh-number m r = ap (λ (x : State). x .next) (r .state)
+  unfolding Lower.fresh Lower.issue
+  fresh-number m r = ap (λ (x : State). x .scope .next) (r .state)
 
-  pub upcoming-number : (m : Mem) → Rep sheet a b W s m → m .ctx .next ≡ s .next
-  upcoming-number m r = ap (λ (x : State). x .next) (r .state)
+  pub upcoming-number : (m : Mem) → Rep sheet a b W s m → m .ctx .next ≡ s .scope .next
+  upcoming-number m r = ap (λ (x : State). x .scope .next) (r .state)

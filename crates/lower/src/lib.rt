@@ -1,39 +1,81 @@
-// The lowering of a statement that the words hold: operators, notes and variables into the tables. a and b hold the records, ops the operators, rest the notes and the variables; base is where the pass's notes begin, left how deep a tree may be.
+// The lowering of a statement that the words hold: operators, notes and variables into the tables. a and b hold the records, ops the operators, rest the notes and the variables; a place says at which record, how deep a tree may be, and where the pass's notes begin.
 ghost use mathlib.Core.Path.{_≡_};
 ghost use Prim.Native.Nat.{ℕ, _+_, _-_, _≤_, _<_};
 ghost use mathlib.Core.List.{List};
 ghost use lib.ListN.{length};
+ghost use Rattle.model.specs.Call.{workWords};
 ghost use Rattle.model.specs.Kind.{expr, patternPart, patternElement};
-ghost use Rattle.model.specs.Lower.{orSourceAll};
-ghost use Rattle.words.specs.Words.{Roomy, cell};
-ghost use Rattle.lower.specs.Rep.{mem, Good};
-ghost use Rattle.lower.specs.Pieces.{SomeTree, SomeCarried, LowersExpr, LowersExprs};
-ghost use Rattle.lower.specs.Patterns.{SomeTrees, LowersPart, LowersParts};
-ghost use Rattle.lower.specs.Chains.{givenIf, Sturdy, Anchored, LowersElement, LowersElements, LowersStart, LowersRel, OrSource, LowersChain, elementOf, startChain, Special, Starts};
+ghost use Rattle.model.specs.Lower.{orSourceAll, rootOf};
+ghost use Rattle.words.specs.Words.{Roomy, cell, maxRecords, recordWords, optionOf};
+ghost use Rattle.words.specs.Places.{elementNamedAt, elementVarAt};
+ghost use Rattle.lower.specs.Rep.{mem};
+ghost use Rattle.lower.specs.Pieces.{LowersExpr, LowersExprs};
+ghost use Rattle.lower.specs.Patterns.{LowersPart, LowersParts};
+ghost use Rattle.lower.specs.Chains.{lastOf, LowersElement, LowersElements, LowersStart, LowersRel, OrSource, LowersChain, ReadAt, ElementAt, startChain};
+ghost use Rattle.lower.specs.Asked.{TreeAsked, ExprsAsked, BehindAsked, NodeAsked, RelAsked, SpecialAsked, ChainAsked, StartAsked, ExpandAsked};
+ghost use Rattle.context.specs.Tables.{maxCount};
+ghost use Rattle.context.specs.Ops.{beforeOf, bindOf, Under};
+use context::At;
+use context::Before;
+use context::Bind;
 use context::LowerCtx;
+use context::op;
+use words::field;
+use words::kind;
+use words::records;
 
-pub mod records;
-
-// Elements of a part, so far: the next one's record; whether there is an operator, the last one and its node's number; whether a rel waits for its far node; the record from which nothing is lowered yet, which is the rel that waits; how many numbers the path has.
-pub struct Chain {
-    pub next: usize,
-    pub ctx: LowerCtx,
-    pub has: u32,
-    pub last: usize,
-    pub origin: u32,
-    pub waits: u32,
-    pub from: usize,
-    pub kept: u32,
+// The last operator of a chain and its node's number, if there is one.
+pub enum Last {
+    Nothing,
+    Op(usize, u32),
 }
 
-// An element of a part, at its record.
-pub enum Element {
-    Node(usize),
+// The rel that waits for its far node, at its record, if one does.
+pub enum Pending {
+    Nothing,
     Rel(usize),
 }
 
+// Elements of a part, so far: the next one's record; the last operator; the rel that waits, from which on nothing is lowered yet; how many numbers the path has.
+pub struct Chain {
+    pub next: usize,
+    pub ctx: LowerCtx,
+    pub last: Last,
+    pub pending: Pending,
+    pub kept: u32,
+}
+
+// A node behind a rel: what is read of it, the rel's record, the operator before and its node's number.
+pub struct Link {
+    pub node: Read,
+    pub rel: usize,
+    pub input: usize,
+    pub origin: u32,
+}
+
+// What is read of an element: its variable, the record behind its names, and how many props it has there, one or none.
+pub struct Read {
+    pub bind: Bind,
+    pub first: usize,
+    pub props: usize,
+}
+
+// An element of a part.
+pub enum Element {
+    Node(Read),
+    Rel(Read),
+}
+
+// The elements of a special part: what is read of its near node and of its far one, and the records of the rel and of the far node.
+pub struct Ends {
+    pub near: Read,
+    pub rel: usize,
+    pub far: usize,
+    pub to: Read,
+}
+
 // The record behind what is lowered, and the state.
-pub struct Step {
+pub struct Reached {
     pub next: usize,
     pub ctx: LowerCtx,
 }
@@ -45,266 +87,319 @@ pub struct Root {
     pub ctx: LowerCtx,
 }
 
+// The variable of the part or the element at record i.
+fn read_bind(a: &[u32], b: &[u32], i: usize) -> Bind
+    requires { ⌜ Roomy (now a) (now b) ⌝ }
+    requires { ⌜ i < maxRecords ⌝ }
+    ensures { λ r. ⌜ bindOf r ≡ optionOf (cell (now (a .entry)) (now (b .entry)) i elementNamedAt) (cell (now (a .entry)) (now (b .entry)) i elementVarAt) ⌝ }
+{
+    let named = words::word(a, b, i, field::ELEMENT_NAMED);
+    if named == 0 {
+        return Bind::Unnamed;
+    }
+    let id = words::word(a, b, i, field::ELEMENT_VAR);
+    Bind::Var(id)
+}
+
+// The element at record i, whose props are counted by word c.
+fn read_at(a: &[u32], b: &[u32], i: usize, c: usize) -> Read
+    requires { ⌜ Roomy (now a) (now b) ⌝ }
+    requires { ⌜ (i < maxRecords) × (c < recordWords) ⌝ }
+    ensures { λ r. ⌜ ReadAt (now (a .entry)) (now (b .entry)) i c r ⌝ }
+{
+    let bind = read_bind(a, b, i);
+    let names = records::count(a, b, i, field::NODE_LABELS);
+    let props = records::count(a, b, i, c);
+    let first = i + 1 + names;
+    Read { bind, first, props }
+}
+
 fn read_element(a: &[u32], b: &[u32], i: usize) -> Element
     requires { ⌜ Roomy (now a) (now b) ⌝ }
-    requires { ⌜ i < 2048 ⌝ }
-    ensures { λ r. ⌜ r ≡ elementOf (cell (now (a .entry)) (now (b .entry)) i 0) i ⌝ }
+    requires { ⌜ i < maxRecords ⌝ }
+    ensures { λ r. ⌜ ElementAt (now (a .entry)) (now (b .entry)) i r ⌝ }
 {
-    let kind = words::word(a, b, i, 0);
-    if kind == 12 {
-        return Element::Node(i);
+    let kind = words::word(a, b, i, field::KIND);
+    if kind == kind::NODE {
+        return Element::Node(read_at(a, b, i, field::NODE_PROPS));
     }
-    Element::Rel(i)
+    Element::Rel(read_at(a, b, i, field::REL_PROPS))
 }
 
 // The operator before, or a source of everything, which names the next number and does not take it.
-pub fn or_source_all(ops: &mut [u32], ctx: LowerCtx, has: u32, last: usize, next: usize) -> Root
-    requires { ⌜ (ctx .ops < 65535) × (16384 ≤ length (now ops)) ⌝ }
-    requires { ⌜ ((has ≡ 0 → ⊥) → last < ctx .ops) ⌝ }
-    ensures { λ r. ⌜ (r .next ≡ next) × ((rest : List ℕ) → OrSource (orSourceAll (givenIf has last)) (r .op) (mem ctx (now (ops .entry)) rest) (mem (r .ctx) (now (ops .exit)) rest)) ⌝ }
+pub fn or_source_all(ops: &mut [u32], ctx: LowerCtx, current: Before, next: usize) -> Root
+    requires { ⌜ (ctx .ops < maxCount) × (workWords ≤ length (now ops)) ⌝ }
+    requires { ⌜ Under current (ctx .ops) ⌝ }
+    ensures { λ r. ⌜ (r .next ≡ next) × ((rest : List ℕ) → OrSource (orSourceAll (beforeOf current)) (r .op) (mem ctx (now (ops .entry)) rest) (mem (r .ctx) (now (ops .exit)) rest)) ⌝ }
 {
-    if has != 0 {
-        return Root {
-            next,
-            op: last,
-            ctx,
-        };
-    }
-    let k = ctx.ops;
-    let n = ctx.next;
-    let c = ctx.push(ops, 0, 0, 0, n, 0, 0, 0);
-    Root {
-        next,
-        op: k,
-        ctx: c,
+    match current {
+        Before::Op(k) => Root { next, op: k, ctx },
+        Before::Nothing => {
+            let k = ctx.ops;
+            let c = ctx.push(ops, op::source_all(ctx.next));
+            Root {
+                next,
+                op: k,
+                ctx: c,
+            }
+        }
     }
 }
 
-// A pattern of no parts: a source that does take a number.
-fn lower_no_parts(ops: &mut [u32], ctx: LowerCtx, next: usize) -> Root
-    requires { ⌜ (ctx .ops < 65535) × (ctx .next < 65535) × (16384 ≤ length (now ops)) × (next < 2048) ⌝ }
-    ensures { λ r. ⌜ (r .next ≡ next + 1) × ((a b : List ℕ) (d base : ℕ) (rest : List ℕ) → LowersParts a b 0 d base next (r .next) (r .op) (mem ctx (now (ops .entry)) rest) (mem (r .ctx) (now (ops .exit)) rest)) ⌝ }
+// The root of a chain so far, if it has one.
+fn root_of(last: Last) -> Before
+    ensures { λ r. ⌜ beforeOf r ≡ rootOf (lastOf last) ⌝ }
+{
+    match last {
+        Last::Op(k, n) => Before::Op(k),
+        Last::Nothing => Before::Nothing,
+    }
+}
+
+// A pattern of no parts, at record i: a source that does take a number.
+fn lower_no_parts(ops: &mut [u32], ctx: LowerCtx, i: usize) -> Root
+    requires { ⌜ (ctx .ops < maxCount) × (ctx .next < maxCount) × (workWords ≤ length (now ops)) × (i < maxRecords) ⌝ }
+    ensures { λ r. ⌜ (r .next ≡ i + 1) × ((a b : List ℕ) (d base : ℕ) (rest : List ℕ) → LowersParts a b 0 d base i (r .next) (r .op) (mem ctx (now (ops .entry)) rest) (mem (r .ctx) (now (ops .exit)) rest)) ⌝ }
 {
     let k = ctx.ops;
     let f = ctx.fresh();
     let c = f.ctx;
-    let z = c.push(ops, 0, 0, 0, f.number, 0, 0, 0);
+    let z = c.push(ops, op::source_all(f.number));
     Root {
-        next: next + 1,
+        next: i + 1,
         op: k,
         ctx: z,
     }
 }
 
-// The expression at record i.
+// The expression at a place.
 pub fn lower_expr(
     a: &[u32],
     b: &[u32],
     ops: &mut [u32],
     rest: &mut [u32],
     ctx: LowerCtx,
-    base: usize,
-    i: usize,
-    left: usize,
-) -> Step
-    requires { ⌜ Roomy (now a) (now b) ⌝ }
-    requires { ⌜ SomeTree (now a) (now b) expr left i ⌝ }
-    requires { ⌜ Good left i (mem ctx (now ops) (now rest)) × (left ≤ 64) × (base ≤ 2048) ⌝ }
-    ensures { λ r. ⌜ LowersExpr (now (a .entry)) (now (b .entry)) left base i (r .next) (mem ctx (now (ops .entry)) (now (rest .entry))) (mem (r .ctx) (now (ops .exit)) (now (rest .exit))) ⌝ }
+    at: At,
+) -> Reached
+    requires { ⌜ TreeAsked expr (now a) (now b) at (mem ctx (now ops) (now rest)) ⌝ }
+    ensures { λ r. ⌜ LowersExpr (now (a .entry)) (now (b .entry)) (at .left) (at .base) (at .i) (r .next) (mem ctx (now (ops .entry)) (now (rest .entry))) (mem (r .ctx) (now (ops .exit)) (now (rest .exit))) ⌝ }
 {
-    let kind = words::word(a, b, i, 0);
-    let n = records::children(a, b, i);
+    let i = at.i;
+    let kind = words::word(a, b, i, field::KIND);
+    let n = records::children_of(a, b, i, kind);
     let first = i + 1;
-    let less = left - 1;
+    let place = at.base + first;
+    let less = at.left - 1;
+    let below = At {
+        base: at.base,
+        i: first,
+        left: less,
+    };
     match kind {
-        32 => {
-            let id = words::word(a, b, i, 2);
-            let m = ctx.number(rest, id, base + first);
+        kind::VAR => {
+            let id = words::word(a, b, i, field::VAR_ID);
+            let m = ctx.number(rest, id, place);
             let c = m.ctx;
-            Step {
+            Reached {
                 next: first,
                 ctx: c,
             }
         }
-        33 => lower_exprs(a, b, ops, rest, ctx, base, first, n, 1, less),
-        35 => {
-            let parts = records::count(a, b, i, 2);
-            let r = lower_parts(a, b, ops, rest, ctx, base, i, parts, less);
-            context::note(rest, base + first, r.op as u32);
+        kind::MAP => lower_exprs(a, b, ops, rest, ctx, below, n, 1),
+        kind::PAT => {
+            let here = At {
+                base: at.base,
+                i,
+                left: less,
+            };
+            let r = lower_parts(a, b, ops, rest, ctx, here, n);
+            context::note(rest, place, r.op as u32);
             let c = r.ctx;
-            Step {
+            Reached {
                 next: r.next,
                 ctx: c,
             }
         }
-        36 => {
-            let id = words::word(a, b, i, 4);
-            let m = ctx.number(rest, id, base + first);
+        kind::LIST_PREDICATE => {
+            let id = words::word(a, b, i, field::LIST_PREDICATE_VAR);
+            let m = ctx.number(rest, id, place);
             let c = m.ctx;
-            lower_exprs(a, b, ops, rest, c, base, first, n, 0, less)
+            lower_exprs(a, b, ops, rest, c, below, n, 0)
         }
-        _ => lower_exprs(a, b, ops, rest, ctx, base, first, n, 0, less),
+        _ => lower_exprs(a, b, ops, rest, ctx, below, n, 0),
     }
 }
 
-// n expressions from record i on, each so many records behind the one before it.
+// n expressions from a place on, each so many records behind the one before it.
 pub fn lower_exprs(
     a: &[u32],
     b: &[u32],
     ops: &mut [u32],
     rest: &mut [u32],
     ctx: LowerCtx,
-    base: usize,
-    i: usize,
+    at: At,
     n: usize,
     gap: usize,
-    left: usize,
-) -> Step
-    requires { ⌜ Roomy (now a) (now b) ⌝ }
-    requires { ⌜ SomeCarried (now a) (now b) n gap left i ⌝ }
-    requires { ⌜ Good left i (mem ctx (now ops) (now rest)) × (left ≤ 64) × (base ≤ 2048) × (gap ≤ 1) ⌝ }
-    ensures { λ r. ⌜ LowersExprs (now (a .entry)) (now (b .entry)) n gap left base i (r .next) (mem ctx (now (ops .entry)) (now (rest .entry))) (mem (r .ctx) (now (ops .exit)) (now (rest .exit))) ⌝ }
+) -> Reached
+    requires { ⌜ ExprsAsked (now a) (now b) n gap at (mem ctx (now ops) (now rest)) ⌝ }
+    ensures { λ r. ⌜ LowersExprs (now (a .entry)) (now (b .entry)) n gap (at .left) (at .base) (at .i) (r .next) (mem ctx (now (ops .entry)) (now (rest .entry))) (mem (r .ctx) (now (ops .exit)) (now (rest .exit))) ⌝ }
 {
-    let mut at = i;
+    let mut i = at.i;
     let mut m = n;
     let mut cur = ctx;
     while m != 0 {
-        let s = lower_expr(a, b, ops, rest, cur, base, at + gap, left);
-        at = s.next;
+        let j = i + gap;
+        let place = At {
+            base: at.base,
+            i: j,
+            left: at.left,
+        };
+        let s = lower_expr(a, b, ops, rest, cur, place);
+        i = s.next;
         let c = s.ctx;
         cur = c;
         m -= 1;
     }
-    Step { next: at, ctx: cur }
+    Reached { next: i, ctx: cur }
 }
 
-// The n parts behind record i.
+// The n parts behind the record at a place.
 pub fn lower_parts(
     a: &[u32],
     b: &[u32],
     ops: &mut [u32],
     rest: &mut [u32],
     ctx: LowerCtx,
-    base: usize,
-    i: usize,
+    at: At,
     n: usize,
-    left: usize,
 ) -> Root
-    requires { ⌜ Roomy (now a) (now b) ⌝ }
-    requires { ⌜ SomeTrees (now a) (now b) patternPart n left (i + 1) ⌝ }
-    requires { ⌜ Good left i (mem ctx (now ops) (now rest)) × (left ≤ 64) × (base ≤ 2048) × (i < 2048) ⌝ }
-    ensures { λ r. ⌜ LowersParts (now (a .entry)) (now (b .entry)) n left base i (r .next) (r .op) (mem ctx (now (ops .entry)) (now (rest .entry))) (mem (r .ctx) (now (ops .exit)) (now (rest .exit))) ⌝ }
+    requires { ⌜ BehindAsked patternPart (now a) (now b) n at (mem ctx (now ops) (now rest)) ⌝ }
+    ensures { λ r. ⌜ LowersParts (now (a .entry)) (now (b .entry)) n (at .left) (at .base) (at .i) (r .next) (r .op) (mem ctx (now (ops .entry)) (now (rest .entry))) (mem (r .ctx) (now (ops .exit)) (now (rest .exit))) ⌝ }
 {
     if n == 0 {
-        return lower_no_parts(ops, ctx, i);
+        return lower_no_parts(ops, ctx, at.i);
     }
-    let r = lower_pattern_part(a, b, ops, rest, ctx, base, i + 1, left);
-    let mut at = r.next;
+    let first = at.i + 1;
+    let below = At {
+        base: at.base,
+        i: first,
+        left: at.left,
+    };
+    let r = lower_pattern_part(a, b, ops, rest, ctx, below);
+    let mut i = r.next;
     let mut op = r.op;
     let c = r.ctx;
     let mut cur = c;
     let mut m = n - 1;
     while m != 0 {
-        let s = lower_pattern_part(a, b, ops, rest, cur, base, at, left);
-        at = s.next;
+        let place = At {
+            base: at.base,
+            i,
+            left: at.left,
+        };
+        let s = lower_pattern_part(a, b, ops, rest, cur, place);
+        i = s.next;
         op = s.op;
         let d = s.ctx;
         cur = d;
         m -= 1;
     }
     Root {
-        next: at,
+        next: i,
         op,
         ctx: cur,
     }
 }
 
-// The part at record i: special only if it is a shortest part of exactly node, rel, node.
+// The part at a place: special only if it is a shortest part of exactly node, rel, node.
 fn lower_pattern_part(
     a: &[u32],
     b: &[u32],
     ops: &mut [u32],
     rest: &mut [u32],
     ctx: LowerCtx,
-    base: usize,
-    i: usize,
-    left: usize,
+    at: At,
 ) -> Root
-    requires { ⌜ Roomy (now a) (now b) ⌝ }
-    requires { ⌜ SomeTree (now a) (now b) patternPart left i ⌝ }
-    requires { ⌜ Good left i (mem ctx (now ops) (now rest)) × (left ≤ 64) × (base ≤ 2048) ⌝ }
-    ensures { λ r. ⌜ LowersPart (now (a .entry)) (now (b .entry)) left base i (r .next) (r .op) (mem ctx (now (ops .entry)) (now (rest .entry))) (mem (r .ctx) (now (ops .exit)) (now (rest .exit))) ⌝ }
+    requires { ⌜ TreeAsked patternPart (now a) (now b) at (mem ctx (now ops) (now rest)) ⌝ }
+    ensures { λ r. ⌜ LowersPart (now (a .entry)) (now (b .entry)) (at .left) (at .base) (at .i) (r .next) (r .op) (mem ctx (now (ops .entry)) (now (rest .entry))) (mem (r .ctx) (now (ops .exit)) (now (rest .exit))) ⌝ }
 {
-    let shortest = words::word(a, b, i, 4);
+    let i = at.i;
+    let shortest = words::word(a, b, i, field::PART_SHORTEST);
     if shortest == 0 {
-        return lower_chain(a, b, ops, rest, ctx, base, i, left);
+        return lower_chain(a, b, ops, rest, ctx, at);
     }
-    let n = words::word(a, b, i, 6);
+    let n = words::word(a, b, i, field::PART_ELEMENTS);
     if n != 3 {
-        return lower_chain(a, b, ops, rest, ctx, base, i, left);
+        return lower_chain(a, b, ops, rest, ctx, at);
     }
-    let rel = records::skip(a, b, i + 1);
-    let Element::Node(x) = read_element(a, b, i + 1) else {
-        return lower_chain(a, b, ops, rest, ctx, base, i, left);
+    let first = i + 1;
+    let rel = records::skip(a, b, first);
+    let Element::Node(near) = read_element(a, b, first) else {
+        return lower_chain(a, b, ops, rest, ctx, at);
     };
     let far = records::skip(a, b, rel);
-    let Element::Rel(y) = read_element(a, b, rel) else {
-        return lower_chain(a, b, ops, rest, ctx, base, i, left);
+    let Element::Rel(between) = read_element(a, b, rel) else {
+        return lower_chain(a, b, ops, rest, ctx, at);
     };
-    let Element::Node(z) = read_element(a, b, far) else {
-        return lower_chain(a, b, ops, rest, ctx, base, i, left);
+    let Element::Node(to) = read_element(a, b, far) else {
+        return lower_chain(a, b, ops, rest, ctx, at);
     };
-    lower_shortest_path_part(a, b, ops, rest, ctx, base, i, rel, far, left)
+    let ends = Ends { near, rel, far, to };
+    lower_shortest_path_part(a, b, ops, rest, ctx, at, ends, between)
 }
 
-// The special shortest part at record i, whose rel and far node stand at rel and far.
+// The special shortest part at a place.
 fn lower_shortest_path_part(
     a: &[u32],
     b: &[u32],
     ops: &mut [u32],
     rest: &mut [u32],
     ctx: LowerCtx,
-    base: usize,
-    i: usize,
-    rel: usize,
-    far: usize,
-    left: usize,
+    at: At,
+    ends: Ends,
+    between: Read,
 ) -> Root
-    requires { ⌜ Roomy (now a) (now b) ⌝ }
-    requires { ⌜ SomeTree (now a) (now b) patternPart left i ⌝ }
-    requires { ⌜ Good left i (mem ctx (now ops) (now rest)) × (left ≤ 64) × (base ≤ 2048) ⌝ }
-    requires { ⌜ Special (now a) (now b) i rel far ⌝ }
-    ensures { λ r. ⌜ LowersPart (now (a .entry)) (now (b .entry)) left base i (r .next) (r .op) (mem ctx (now (ops .entry)) (now (rest .entry))) (mem (r .ctx) (now (ops .exit)) (now (rest .exit))) ⌝ }
+    requires { ⌜ SpecialAsked (now a) (now b) at ends between (mem ctx (now ops) (now rest)) ⌝ }
+    ensures { λ r. ⌜ LowersPart (now (a .entry)) (now (b .entry)) (at .left) (at .base) (at .i) (r .next) (r .op) (mem ctx (now (ops .entry)) (now (rest .entry))) (mem (r .ctx) (now (ops .exit)) (now (rest .exit))) ⌝ }
 {
+    let i = at.i;
+    let base = at.base;
     let first = i + 1;
-    let less = left - 1;
-    let from_named = words::word(a, b, first, 2);
-    let from_id = words::word(a, b, first, 3);
-    let from = ctx.endpoint_var(rest, from_named, from_id, base + (first + 1));
+    let less = at.left - 1;
+    let rel = ends.rel;
+    let far = ends.far;
+    let node = ends.near;
+    let from_bind = node.bind;
+    let from = ctx.endpoint_var(rest, from_bind, base + (first + 1));
     let c = from.ctx;
-    let r = start_node(a, b, ops, rest, c, from.number, base, first, less);
+    let near = At {
+        base,
+        i: first,
+        left: less,
+    };
+    let r = start_node(a, b, ops, rest, c, near, from.number, node);
     let d = r.ctx;
-    let s = lower_rel_element(a, b, ops, rest, d, base, rel, less);
-    let to_named = words::word(a, b, far, 2);
-    let to_id = words::word(a, b, far, 3);
+    let place = At {
+        base,
+        i: rel,
+        left: less,
+    };
+    let s = lower_rel_element(a, b, ops, rest, d, place, between);
+    let to_node = ends.to;
+    let to_bind = to_node.bind;
     let e = s.ctx;
-    let to = e.endpoint_var(rest, to_named, to_id, base + (far + 1));
-    let named = words::word(a, b, i, 2);
-    let id = words::word(a, b, i, 3);
+    let to = e.endpoint_var(rest, to_bind, base + (far + 1));
+    let bind = read_bind(a, b, i);
     let f = to.ctx;
-    let path = f.endpoint_var(rest, named, id, base + first);
+    let path = f.endpoint_var(rest, bind, base + first);
     let g = path.ctx;
     let k = g.ops;
-    let z = g.push(
-        ops,
-        4,
-        i as u32,
-        r.op as u32,
-        rel as u32,
-        far as u32,
-        less as u32,
-        base as u32,
-    );
+    let whole = At {
+        base,
+        i,
+        left: less,
+    };
+    let z = g.push(ops, op::shortest_path(whole, r.op, rel, far));
     let end = records::skip(a, b, far);
     Root {
         next: end,
@@ -313,46 +408,41 @@ fn lower_shortest_path_part(
     }
 }
 
-// The part at record i as a chain: its elements, then the path if it is named.
+// The part at a place as a chain: its elements, then the path if it is named.
 fn lower_chain(
     a: &[u32],
     b: &[u32],
     ops: &mut [u32],
     rest: &mut [u32],
     ctx: LowerCtx,
-    base: usize,
-    i: usize,
-    left: usize,
+    at: At,
 ) -> Root
-    requires { ⌜ Roomy (now a) (now b) ⌝ }
-    requires { ⌜ SomeTree (now a) (now b) patternPart left i ⌝ }
-    requires { ⌜ Good left i (mem ctx (now ops) (now rest)) × (left ≤ 64) × (base ≤ 2048) ⌝ }
-    ensures { λ r. ⌜ LowersChain (now (a .entry)) (now (b .entry)) left base i (r .next) (r .op) (mem ctx (now (ops .entry)) (now (rest .entry))) (mem (r .ctx) (now (ops .exit)) (now (rest .exit))) ⌝ }
+    requires { ⌜ TreeAsked patternPart (now a) (now b) at (mem ctx (now ops) (now rest)) ⌝ }
+    ensures { λ r. ⌜ LowersChain (now (a .entry)) (now (b .entry)) (at .left) (at .base) (at .i) (r .next) (r .op) (mem ctx (now (ops .entry)) (now (rest .entry))) (mem (r .ctx) (now (ops .exit)) (now (rest .exit))) ⌝ }
 {
-    let n = records::count(a, b, i, 6);
-    let less = left - 1;
-    let ch = lower_elements(a, b, ops, rest, ctx, base, i, n, less);
+    let i = at.i;
+    let n = records::count(a, b, i, field::PART_ELEMENTS);
+    let less = at.left - 1;
+    let below = At {
+        base: at.base,
+        i,
+        left: less,
+    };
+    let ch = lower_elements(a, b, ops, rest, ctx, below, n);
     let c = ch.ctx;
-    let q = or_source_all(ops, c, ch.has, ch.last, ch.next);
-    let named = words::word(a, b, i, 2);
+    let last = ch.last;
+    let root = root_of(last);
+    let q = or_source_all(ops, c, root, ch.next);
+    let named = words::word(a, b, i, field::PART_NAMED);
     if named == 0 {
         return q;
     }
-    let id = words::word(a, b, i, 3);
+    let id = words::word(a, b, i, field::PART_VAR);
     let d = q.ctx;
-    let m = d.number(rest, id, base + (i + 1));
+    let m = d.number(rest, id, at.base + (i + 1));
     let e = m.ctx;
     let k = e.ops;
-    let z = e.push(
-        ops,
-        5,
-        i as u32,
-        q.op as u32,
-        ch.kept,
-        m.number,
-        less as u32,
-        base as u32,
-    );
+    let z = e.push(ops, op::bind_path(below, q.op, ch.kept, m.number));
     Root {
         next: q.next,
         op: k,
@@ -360,37 +450,30 @@ fn lower_chain(
     }
 }
 
-// The n elements behind record i.
+// The n elements behind the record at a place.
 fn lower_elements(
     a: &[u32],
     b: &[u32],
     ops: &mut [u32],
     rest: &mut [u32],
     ctx: LowerCtx,
-    base: usize,
-    i: usize,
+    at: At,
     n: usize,
-    left: usize,
 ) -> Chain
-    requires { ⌜ Roomy (now a) (now b) ⌝ }
-    requires { ⌜ SomeTrees (now a) (now b) patternElement n left (i + 1) ⌝ }
-    requires { ⌜ Good left (i + 1) (mem ctx (now ops) (now rest)) × (left ≤ 64) × (base ≤ 2048) ⌝ }
-    ensures { λ r. ⌜ LowersElements (now (a .entry)) (now (b .entry)) n left base (startChain i ctx) r (now (ops .entry)) (now (ops .exit)) (now (rest .entry)) (now (rest .exit)) ⌝ }
+    requires { ⌜ BehindAsked patternElement (now a) (now b) n at (mem ctx (now ops) (now rest)) ⌝ }
+    ensures { λ r. ⌜ LowersElements (now (a .entry)) (now (b .entry)) n (at .left) (at .base) (startChain (at .i) ctx) r (now (ops .entry)) (now (ops .exit)) (now (rest .entry)) (now (rest .exit)) ⌝ }
 {
-    let first = i + 1;
+    let first = at.i + 1;
     let mut ch = Chain {
         next: first,
         ctx,
-        has: 0,
-        last: 0,
-        origin: 0,
-        waits: 0,
-        from: first,
+        last: Last::Nothing,
+        pending: Pending::Nothing,
         kept: 0,
     };
     let mut m = n;
     while m != 0 {
-        let s = lower_element(a, b, ops, rest, ch, base, left);
+        let s = lower_element(a, b, ops, rest, ch, at.base, at.left);
         ch = s;
         m -= 1;
     }
@@ -407,34 +490,37 @@ fn lower_element(
     base: usize,
     left: usize,
 ) -> Chain
-    requires { ⌜ Roomy (now a) (now b) ⌝ }
-    requires { ⌜ SomeTree (now a) (now b) patternElement left (ch .next) ⌝ }
-    requires { ⌜ Good left (ch .from) (mem (ch .ctx) (now ops) (now rest)) × (left ≤ 64) × (base ≤ 2048) ⌝ }
-    requires { ⌜ Sturdy ch × Anchored (now a) (now b) left ch ⌝ }
+    requires { ⌜ ChainAsked (now a) (now b) base left ch (now ops) (now rest) ⌝ }
     ensures { λ r. ⌜ LowersElement (now (a .entry)) (now (b .entry)) left base ch r (now (ops .entry)) (now (ops .exit)) (now (rest .entry)) (now (rest .exit)) ⌝ }
 {
-    let at = ch.next;
-    let Element::Node(x) = read_element(a, b, at) else {
-        let end = records::skip(a, b, at);
+    let i = ch.next;
+    let Element::Node(node) = read_element(a, b, i) else {
+        let end = records::skip(a, b, i);
         let c = ch.ctx;
+        let last = ch.last;
         return Chain {
             next: end,
             ctx: c,
-            has: ch.has,
-            last: ch.last,
-            origin: ch.origin,
-            waits: 1,
-            from: at,
+            last,
+            pending: Pending::Rel(i),
             kept: ch.kept,
         };
     };
-    if ch.waits == 0 {
-        return start_chain(a, b, ops, rest, ch, base, left);
-    }
-    if ch.has == 0 {
-        return start_chain(a, b, ops, rest, ch, base, left);
-    }
-    expand_to(a, b, ops, rest, ch, base, left)
+    let pending = ch.pending;
+    let Pending::Rel(rel) = pending else {
+        return start_chain(a, b, ops, rest, ch, base, left, node);
+    };
+    let last = ch.last;
+    let Last::Op(input, origin) = last else {
+        return start_chain(a, b, ops, rest, ch, base, left, node);
+    };
+    let link = Link {
+        node,
+        rel,
+        input,
+        origin,
+    };
+    expand_to(a, b, ops, rest, ch, base, left, link)
 }
 
 // A node at the start, or with no rel pending.
@@ -446,31 +532,26 @@ fn start_chain(
     ch: Chain,
     base: usize,
     left: usize,
+    node: Read,
 ) -> Chain
-    requires { ⌜ Roomy (now a) (now b) ⌝ }
-    requires { ⌜ SomeTree (now a) (now b) patternElement left (ch .next) ⌝ }
-    requires { ⌜ Good left (ch .from) (mem (ch .ctx) (now ops) (now rest)) × (left ≤ 64) × (base ≤ 2048) ⌝ }
-    requires { ⌜ Sturdy ch × Anchored (now a) (now b) left ch ⌝ }
-    requires { ⌜ (cell (now a) (now b) (ch .next) 0 ≡ 12) × Starts ch ⌝ }
+    requires { ⌜ StartAsked (now a) (now b) base left ch node (now ops) (now rest) ⌝ }
     ensures { λ r. ⌜ LowersElement (now (a .entry)) (now (b .entry)) left base ch r (now (ops .entry)) (now (ops .exit)) (now (rest .entry)) (now (rest .exit)) ⌝ }
 {
-    let at = ch.next;
-    let named = words::word(a, b, at, 2);
-    let id = words::word(a, b, at, 3);
+    let i = ch.next;
+    let bind = node.bind;
     let cur = ch.ctx;
-    let m = cur.endpoint_var(rest, named, id, base + (at + 1));
+    let m = cur.endpoint_var(rest, bind, base + (i + 1));
     let c = m.ctx;
-    let r = start_node(a, b, ops, rest, c, m.number, base, at, left);
+    let place = At { base, i, left };
+    let r = start_node(a, b, ops, rest, c, place, m.number, node);
     let d = r.ctx;
+    let kept = ch.kept + 1;
     Chain {
         next: r.next,
         ctx: d,
-        has: 1,
-        last: r.op,
-        origin: m.number,
-        waits: 0,
-        from: r.next,
-        kept: ch.kept + 1,
+        last: Last::Op(r.op, m.number),
+        pending: Pending::Nothing,
+        kept,
     }
 }
 
@@ -483,104 +564,82 @@ fn expand_to(
     ch: Chain,
     base: usize,
     left: usize,
+    link: Link,
 ) -> Chain
-    requires { ⌜ Roomy (now a) (now b) ⌝ }
-    requires { ⌜ SomeTree (now a) (now b) patternElement left (ch .next) ⌝ }
-    requires { ⌜ Good left (ch .from) (mem (ch .ctx) (now ops) (now rest)) × (left ≤ 64) × (base ≤ 2048) ⌝ }
-    requires { ⌜ Sturdy ch × Anchored (now a) (now b) left ch ⌝ }
-    requires { ⌜ (cell (now a) (now b) (ch .next) 0 ≡ 12) × (ch .waits ≡ 1) × (ch .has ≡ 1) ⌝ }
+    requires { ⌜ ExpandAsked (now a) (now b) base left ch link (now ops) (now rest) ⌝ }
     ensures { λ r. ⌜ LowersElement (now (a .entry)) (now (b .entry)) left base ch r (now (ops .entry)) (now (ops .exit)) (now (rest .entry)) (now (rest .exit)) ⌝ }
 {
-    let at = ch.next;
-    let rel = ch.from;
-    let named = words::word(a, b, at, 2);
-    let id = words::word(a, b, at, 3);
+    let i = ch.next;
+    let rel = link.rel;
+    let node = link.node;
+    let bind = node.bind;
     let cur = ch.ctx;
-    let m = cur.endpoint_var(rest, named, id, base + (at + 1));
+    let m = cur.endpoint_var(rest, bind, base + (i + 1));
     let c = m.ctx;
-    let s = lower_rel_element(a, b, ops, rest, c, base, rel, left);
-    let labels = records::count(a, b, at, 4);
-    let props = records::count(a, b, at, 6);
+    let place = At { base, i: rel, left };
+    let between = read_at(a, b, rel, field::REL_PROPS);
+    let s = lower_rel_element(a, b, ops, rest, c, place, between);
     let d = s.ctx;
-    let t = lower_exprs(
-        a,
-        b,
-        ops,
-        rest,
-        d,
+    let less = left - 1;
+    let below = At {
         base,
-        at + 1 + labels,
-        props,
-        0,
-        left - 1,
-    );
+        i: node.first,
+        left: less,
+    };
+    let t = lower_exprs(a, b, ops, rest, d, below, node.props, 0);
     let f = t.ctx;
     let k = f.ops;
-    let z = f.push(
-        ops,
-        3,
-        rel as u32,
-        ch.last as u32,
-        ch.origin,
-        at as u32,
-        left as u32,
-        base as u32,
-    );
+    let z = f.push(ops, op::expand(place, link.input, link.origin, i));
+    let kept = ch.kept + 2;
     Chain {
         next: t.next,
         ctx: z,
-        has: 1,
-        last: k,
-        origin: m.number,
-        waits: 0,
-        from: t.next,
-        kept: ch.kept + 2,
+        last: Last::Op(k, m.number),
+        pending: Pending::Nothing,
+        kept,
     }
 }
 
-// The operators of the node at record i, which has its number: a source, and a filter by its props.
+// The operators of the node at a place, which has its number: a source, and a filter by its props.
 fn start_node(
     a: &[u32],
     b: &[u32],
     ops: &mut [u32],
     rest: &mut [u32],
     ctx: LowerCtx,
+    at: At,
     number: u32,
-    base: usize,
-    i: usize,
-    left: usize,
+    node: Read,
 ) -> Root
-    requires { ⌜ Roomy (now a) (now b) ⌝ }
-    requires { ⌜ SomeTree (now a) (now b) patternElement left i × (cell (now a) (now b) i 0 ≡ 12) ⌝ }
-    requires { ⌜ Good (left - 1) i (mem ctx (now ops) (now rest)) × (left ≤ 64) × (base ≤ 2048) × (1 ≤ left) ⌝ }
-    ensures { λ r. ⌜ LowersStart (now (a .entry)) (now (b .entry)) left base i number (r .next) (r .op) (mem ctx (now (ops .entry)) (now (rest .entry))) (mem (r .ctx) (now (ops .exit)) (now (rest .exit))) ⌝ }
+    requires { ⌜ NodeAsked (now a) (now b) at node (mem ctx (now ops) (now rest)) ⌝ }
+    ensures { λ r. ⌜ LowersStart (now (a .entry)) (now (b .entry)) (at .left) (at .base) (at .i) number (r .next) (r .op) (mem ctx (now (ops .entry)) (now (rest .entry))) (mem (r .ctx) (now (ops .exit)) (now (rest .exit))) ⌝ }
 {
-    let labels = records::count(a, b, i, 4);
-    let props = words::word(a, b, i, 6);
-    let first = i + 1 + labels;
-    let less = left - 1;
+    let i = at.i;
+    let first = node.first;
+    let less = at.left - 1;
+    let here = At {
+        base: at.base,
+        i,
+        left: less,
+    };
+    let below = At {
+        base: at.base,
+        i: first,
+        left: less,
+    };
     let k = ctx.ops;
-    let p = ctx.push(ops, 1, i as u32, 0, number, 0, less as u32, base as u32);
-    if props == 0 {
+    let p = ctx.push(ops, op::source(here, number));
+    if node.props == 0 {
         return Root {
             next: first,
             op: k,
             ctx: p,
         };
     }
-    let s = lower_expr(a, b, ops, rest, p, base, first, less);
+    let s = lower_expr(a, b, ops, rest, p, below);
     let c = s.ctx;
     let r = c.ops;
-    let z = c.push(
-        ops,
-        2,
-        first as u32,
-        k as u32,
-        0,
-        0,
-        less as u32,
-        base as u32,
-    );
+    let z = c.push(ops, op::filter(below, k));
     Root {
         next: s.next,
         op: r,
@@ -588,27 +647,28 @@ fn start_node(
     }
 }
 
-// The number and the props of the rel at record i.
+// The number and the props of the rel at a place.
 fn lower_rel_element(
     a: &[u32],
     b: &[u32],
     ops: &mut [u32],
     rest: &mut [u32],
     ctx: LowerCtx,
-    base: usize,
-    i: usize,
-    left: usize,
-) -> Step
-    requires { ⌜ Roomy (now a) (now b) ⌝ }
-    requires { ⌜ SomeTree (now a) (now b) patternElement left i × (cell (now a) (now b) i 0 ≡ 13) ⌝ }
-    requires { ⌜ Good (left - 1) i (mem ctx (now ops) (now rest)) × (left ≤ 64) × (base ≤ 2048) × (1 ≤ left) ⌝ }
-    ensures { λ r. ⌜ LowersRel (now (a .entry)) (now (b .entry)) left base i (r .next) ctx (now (ops .entry)) (now (rest .entry)) (mem (r .ctx) (now (ops .exit)) (now (rest .exit))) ⌝ }
+    at: At,
+    rel: Read,
+) -> Reached
+    requires { ⌜ RelAsked (now a) (now b) at rel (mem ctx (now ops) (now rest)) ⌝ }
+    ensures { λ r. ⌜ LowersRel (now (a .entry)) (now (b .entry)) (at .left) (at .base) (at .i) (r .next) ctx (now (ops .entry)) (now (rest .entry)) (mem (r .ctx) (now (ops .exit)) (now (rest .exit))) ⌝ }
 {
-    let named = words::word(a, b, i, 2);
-    let id = words::word(a, b, i, 3);
-    let m = ctx.endpoint_var(rest, named, id, base + (i + 1));
-    let types = records::count(a, b, i, 4);
-    let props = records::count(a, b, i, 10);
+    let i = at.i;
+    let bind = rel.bind;
+    let m = ctx.endpoint_var(rest, bind, at.base + (i + 1));
     let c = m.ctx;
-    lower_exprs(a, b, ops, rest, c, base, i + 1 + types, props, 0, left - 1)
+    let less = at.left - 1;
+    let below = At {
+        base: at.base,
+        i: rel.first,
+        left: less,
+    };
+    lower_exprs(a, b, ops, rest, c, below, rel.props, 0)
 }

@@ -88,7 +88,7 @@ testCheck t (violated n l s k) = refuse (treeRefusal n l s k)
 
 -- 9
 unfoldable pub testPlan : LowerCtx → Test LowerCtx
-testPlan c = cond (ltb maxPlan (length (c .ops)) || ltb maxPlan (c .next)) (refuse (plainRefusal 9)) (pass c)
+testPlan c = cond (ltb maxPlan (length (c .ops)) || ltb maxPlan (c .scope .next)) (refuse (plainRefusal 9)) (pass c)
 
 -- tests 1 to 8: the checked tree. `depth` is the depth that a sheet may have, `work` the lengths of the work slices
 unfoldable pub checked : (depth : ℕ) (work : List ℕ) → Bytes → Test (Tree statement)

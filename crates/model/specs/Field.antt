@@ -18,6 +18,11 @@ u64 = 18446744073709551615
 abbrev pub i64 : ℕ
 i64 = 9223372036854775807
 
+-- what a plan numbers
+pub data Numbered : Type 0 where
+  operator : Numbered
+  variable : Numbered
+
 pub data Form : Type 0 where
   num : (limit : ℕ) → Form
   flag : Form
@@ -26,6 +31,9 @@ pub data Form : Type 0 where
   varOrAbsent : Form
   -- a number, or `-`
   numOrAbsent : (limit : ℕ) → Form
+  -- a number of the plan
+  number : Numbered → Form
+  numberOrAbsent : Numbered → Form
   int : Form
   float : Form
   text : Form
@@ -50,6 +58,8 @@ Val flag = Bool
 Val var = ℕ
 Val varOrAbsent = Option ℕ
 Val (numOrAbsent l) = Option ℕ
+Val (number n) = ℕ
+Val (numberOrAbsent n) = Option ℕ
 Val int = ℤ
 Val float = ℕ
 Val text = Bytes
@@ -64,6 +74,8 @@ width flag = 1
 width var = 1
 width varOrAbsent = 1
 width (numOrAbsent l) = 1
+width (number n) = 1
+width (numberOrAbsent n) = 1
 width int = 1
 width float = 1
 width text = 1
@@ -93,6 +105,8 @@ spell flag b = spellFlag b ∷ []
 spell var n = decimal n ∷ []
 spell varOrAbsent o = spellOption o ∷ []
 spell (numOrAbsent l) o = spellOption o ∷ []
+spell (number n) k = decimal k ∷ []
+spell (numberOrAbsent n) o = spellOption o ∷ []
 spell int z = signed z ∷ []
 spell float n = hexDigits 16 n ∷ []
 spell text t = escape t ∷ []
@@ -119,6 +133,8 @@ fits flag b = true
 fits var n = leb n u32
 fits varOrAbsent o = fitsOption u32 o
 fits (numOrAbsent l) o = fitsOption l o
+fits (number n) k = leb k u32
+fits (numberOrAbsent n) o = fitsOption u32 o
 fits int z = fitsInt z
 fits float n = leb n u64
 fits text t = true
@@ -148,6 +164,8 @@ meaning flag ps = same (piece 0 ps) (49 ∷ [])
 meaning var ps = value (piece 0 ps)
 meaning varOrAbsent ps = optionValue (piece 0 ps)
 meaning (numOrAbsent l) ps = optionValue (piece 0 ps)
+meaning (number n) ps = value (piece 0 ps)
+meaning (numberOrAbsent n) ps = optionValue (piece 0 ps)
 meaning int ps = signedValue (piece 0 ps)
 meaning float ps = hexValue (piece 0 ps)
 meaning text ps = unescape (piece 0 ps)

@@ -18,11 +18,15 @@ Recs = List Rec
 
 -- ── LowerCtx ──
 
--- operators and variables, the newest first; a variable is its id and its number
-pub record LowerCtx : Type 0 where
-  pub ops : List Recs
+-- what numbers are issued from: the variables that have one, the newest first, each its id and its number; and the next number
+pub record Scope : Type 0 where
   pub vars : List (ℕ × ℕ)
   pub next : ℕ
+
+-- operators, the newest first, and the scope
+pub record LowerCtx : Type 0 where
+  pub ops : List Recs
+  pub scope : Scope
 
 -- a step of the lowering gives a result and the state behind it
 abbrev pub Lowering : Type 0 → Type 0
@@ -37,7 +41,7 @@ ret a = λ c. (a, c)
 
 -- the number of the next operator is how many there are
 unfoldable pub push : Recs → Lowering ℕ
-push op = λ c. (length (c .ops), record { ops = op ∷ c .ops; vars = c .vars; next = c .next })
+push op = λ c. (length (c .ops), record { ops = op ∷ c .ops; scope = c .scope })
 
 -- operator k of a list, the newest first
 unfoldable pub at : List Recs → ℕ → Recs
@@ -52,21 +56,25 @@ unfoldable pub lookup : List (ℕ × ℕ) → ℕ → Option ℕ
 lookup [] id = none
 lookup (v ∷ vs) id = cond (eqb (v .0) id) (some (v .1)) (lookup vs id)
 
+-- a number is issued from the scope alone
+unfoldable pub issue : (Scope → ℕ × Scope) → Lowering ℕ
+issue f = λ c. let r = f (c .scope) in (r .0, record { ops = c .ops; scope = r .1 })
+
 -- the number of a variable that has one, or the next one, which it then has
-unfoldable pub numbered : ℕ → Option ℕ → Lowering ℕ
-numbered id (some n) = λ c. (n, c)
-numbered id none = λ c. (c .next, record { ops = c .ops; vars = (id, c .next) ∷ c .vars; next = suc (c .next) })
+unfoldable pub numbered : ℕ → Option ℕ → Scope → ℕ × Scope
+numbered id (some n) s = (n, s)
+numbered id none s = (s .next, record { vars = (id, s .next) ∷ s .vars; next = suc (s .next) })
 
 unfoldable pub mapVar : ℕ → Lowering ℕ
-mapVar id = λ c. numbered id (lookup (c .vars) id) c
+mapVar id = issue (λ s. numbered id (lookup (s .vars) id) s)
 
 -- the next number, for something unnamed
 unfoldable pub fresh : Lowering ℕ
-fresh = λ c. (c .next, record { ops = c .ops; vars = c .vars; next = suc (c .next) })
+fresh = issue (λ s. (s .next, record { vars = s .vars; next = suc (s .next) }))
 
 -- the next number, which is not taken
 unfoldable pub upcoming : Lowering ℕ
-upcoming = λ c. (c .next, c)
+upcoming = issue (λ s. (s .next, s))
 
 unfoldable pub endpointVar : Option ℕ → Lowering ℕ
 endpointVar none = fresh
@@ -244,15 +252,24 @@ unfoldable pub lowerPatternPart : Option ℕ → ℕ → List Step → Lowering 
 lowerPatternPart namedAs zero steps = lowerChain namedAs steps
 lowerPatternPart namedAs (suc n) steps = lowerShaped namedAs (eqb n 1) steps (shapeOf steps)
 
--- the last part is the root, and the earlier ones stay unread
+-- how a further part goes with those before it: it is the root, and they stay unread
+unfoldable pub furtherPart : ℕ → ℕ → Lowering ℕ
+furtherPart before part = ret part
+
+unfoldable pub lowerFurther : ℕ → List (Lowering ℕ) → Lowering ℕ
+lowerFurther root [] = ret root
+lowerFurther root (p ∷ ps) = do
+  part ← p
+  both ← furtherPart root part
+  lowerFurther both ps
+
 unfoldable pub lowerParts : List (Lowering ℕ) → Lowering ℕ
 lowerParts [] = do
   bind ← fresh
   push (source bind [])
-lowerParts (p ∷ []) = p
-lowerParts (p ∷ q ∷ ps) = do
-  left ← p
-  lowerParts (q ∷ ps)
+lowerParts (p ∷ ps) = do
+  root ← p
+  lowerFurther root ps
 
 unfoldable pub optionalJoin : Bool → Option ℕ → ℕ → Lowering ℕ
 optionalJoin false current root = ret root
@@ -555,7 +572,7 @@ lower (node statement line k f (cs ▸ arms ▸ end)) = do
   lowerArms arms head
 
 unfoldable pub empty : LowerCtx
-empty = record { ops = []; vars = []; next = 0 }
+empty = record { ops = []; scope = record { vars = []; next = 0 } }
 
 unfoldable pub lowerStatement : Tree statement → LowerCtx
 lowerStatement t = lower t empty .1

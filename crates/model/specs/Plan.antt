@@ -18,10 +18,10 @@ mappedRecs [] = []
 mappedRecs (v ∷ vs) = mappedRecs vs ++ (rec (inPlan mapped) tt (v .1, (v .0, tt)) ∷ [])
 
 unfoldable pub firstRec : LowerCtx → Rec
-firstRec c = rec (inPlan plan) tt (length (c .ops), (length (c .vars), tt))
+firstRec c = rec (inPlan plan) tt (length (c .ops), (length (c .scope .vars), tt))
 
 unfoldable pub planRecs : LowerCtx → Recs
-planRecs c = firstRec c ∷ (operatorRecs (c .ops) ++ mappedRecs (c .vars))
+planRecs c = firstRec c ∷ (operatorRecs (c .ops) ++ mappedRecs (c .scope .vars))
 
 unfoldable pub planSheet : LowerCtx → Bytes
 planSheet c = spellRecs (planRecs c)

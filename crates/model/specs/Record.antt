@@ -4,7 +4,7 @@ use mathlib.Core.Bool.{Bool, true, false, cond}
 use mathlib.Core.List.{List, [], _∷_, _++_, map}
 use mathlib.Core.Option.{Option, none, some}
 use Rattle.model.specs.Text.{Bytes, bytes, same, split, join, tab, lineFeed}
-use Rattle.model.specs.Field.{Form, num, flag, var, varOrAbsent, numOrAbsent, int, float, text, alias, span, length, u32, Fields, spellFields, readFields}
+use Rattle.model.specs.Field.{Form, Val, num, flag, var, varOrAbsent, numOrAbsent, number, numberOrAbsent, operator, variable, int, float, text, alias, span, length, u32, Fields, spellFields, readFields}
 use Rattle.model.specs.Kind.{Sort, PlanSort, Kind, PlanKind, Clause, PatternElement, Same, Expr, ReadOp, PlanExpr}
 use Rattle.model.specs.Kind.{statement, unionArm, clause, projection, orderItem, patternPart, patternElement, name, yieldItem, entry, expr, inPlan}
 use Rattle.model.specs.Kind.{plan, readOp, relSpec, nodeSpec, planProjection, aggExpr, orderKey, pathElement, mapped, planEntry, planExpr}
@@ -14,9 +14,12 @@ use Rattle.model.specs.Kind.{plan, readOp, relSpec, nodeSpec, planProjec
 abbrev pub count : Form
 count = num u32
 
--- a number of the plan: of an operator or of a variable
-abbrev pub number : Form
-number = num u32
+-- the number of an operator, and of a variable
+abbrev pub opId : Form
+opId = number operator
+
+abbrev pub varId : Form
+varId = number variable
 
 abbrev pub sameForms : Same → List Form
 sameForms Same.Null = []
@@ -70,39 +73,39 @@ elementForms PatternElement.Rel = varOrAbsent ∷ count ∷ num 2 ∷ length ∷
 
 abbrev pub opForms : ReadOp → List Form
 -- bind, labels
-opForms ReadOp.Source = number ∷ count ∷ []
+opForms ReadOp.Source = varId ∷ count ∷ []
 -- input, from, rel, to
-opForms ReadOp.Expand = number ∷ number ∷ number ∷ number ∷ []
-opForms ReadOp.Filter = number ∷ []
-opForms ReadOp.Project = number ∷ count ∷ []
+opForms ReadOp.Expand = opId ∷ varId ∷ varId ∷ varId ∷ []
+opForms ReadOp.Filter = opId ∷ []
+opForms ReadOp.Project = opId ∷ count ∷ []
 -- input, keys, aggs
-opForms ReadOp.Aggregate = number ∷ count ∷ count ∷ []
-opForms ReadOp.OrderBy = number ∷ count ∷ []
-opForms ReadOp.Skip = number ∷ []
-opForms ReadOp.Limit = number ∷ []
-opForms ReadOp.Distinct = number ∷ []
+opForms ReadOp.Aggregate = opId ∷ count ∷ count ∷ []
+opForms ReadOp.OrderBy = opId ∷ count ∷ []
+opForms ReadOp.Skip = opId ∷ []
+opForms ReadOp.Limit = opId ∷ []
+opForms ReadOp.Distinct = opId ∷ []
 -- input, var
-opForms ReadOp.Unwind = number ∷ number ∷ []
+opForms ReadOp.Unwind = opId ∷ varId ∷ []
 -- left, right, all
-opForms ReadOp.Union = number ∷ number ∷ flag ∷ []
+opForms ReadOp.Union = opId ∷ opId ∷ flag ∷ []
 -- input, items, filter
-opForms ReadOp.With = number ∷ count ∷ flag ∷ []
-opForms ReadOp.OptionalJoin = number ∷ []
+opForms ReadOp.With = opId ∷ count ∷ flag ∷ []
+opForms ReadOp.OptionalJoin = opId ∷ []
 -- input, from, to, path, all
-opForms ReadOp.ShortestPath = number ∷ number ∷ number ∷ number ∷ flag ∷ []
+opForms ReadOp.ShortestPath = opId ∷ varId ∷ varId ∷ varId ∷ flag ∷ []
 -- input, var, elements
-opForms ReadOp.BindPath = number ∷ number ∷ count ∷ []
+opForms ReadOp.BindPath = opId ∷ varId ∷ count ∷ []
 -- input, name, args, yields, optional
-opForms ReadOp.ProcedureCall = numOrAbsent u32 ∷ text ∷ count ∷ count ∷ flag ∷ []
+opForms ReadOp.ProcedureCall = numberOrAbsent operator ∷ text ∷ count ∷ count ∷ flag ∷ []
 
 abbrev pub planExprForms : PlanExpr → List Form
 planExprForms (PlanExpr.Over h) = sameForms h
-planExprForms PlanExpr.Var = number ∷ []
+planExprForms PlanExpr.Var = varId ∷ []
 planExprForms PlanExpr.Map = count ∷ []
 -- name, args
 planExprForms PlanExpr.Call = text ∷ count ∷ []
 planExprForms PlanExpr.Exists = []
-planExprForms PlanExpr.ListPredicate = num 3 ∷ number ∷ flag ∷ []
+planExprForms PlanExpr.ListPredicate = num 3 ∷ varId ∷ flag ∷ []
 
 abbrev pub planForms : (p : PlanSort) → PlanKind p → List Form
 -- operators, mapped
@@ -116,9 +119,9 @@ planForms planProjection k = text ∷ []
 -- name, args, distinct
 planForms aggExpr k = text ∷ count ∷ flag ∷ []
 planForms orderKey k = flag ∷ []
-planForms pathElement k = number ∷ []
+planForms pathElement k = varId ∷ []
 -- number, id
-planForms mapped k = number ∷ var ∷ []
+planForms mapped k = varId ∷ var ∷ []
 planForms planEntry k = text ∷ []
 planForms planExpr k = planExprForms k
 
@@ -408,6 +411,36 @@ pub record Rec : Type 0 where
 
 abbrev pub rec : (s : Sort) (k : Kind s) → Fields (forms s k) → Rec
 rec s k f = record { sort = s; kind = k; fields = f }
+
+-- the numbers of operators among fields
+abbrev pub ofOption : Option ℕ → List ℕ
+ofOption none = []
+ofOption (some k) = k ∷ []
+
+abbrev pub operatorIn : (f : Form) → Val f → List ℕ
+operatorIn (num l) v = []
+operatorIn flag v = []
+operatorIn var v = []
+operatorIn varOrAbsent v = []
+operatorIn (numOrAbsent l) v = []
+operatorIn (number operator) k = k ∷ []
+operatorIn (number variable) v = []
+operatorIn (numberOrAbsent operator) o = ofOption o
+operatorIn (numberOrAbsent variable) v = []
+operatorIn int v = []
+operatorIn float v = []
+operatorIn text v = []
+operatorIn alias v = []
+operatorIn span v = []
+operatorIn length v = []
+
+abbrev pub operatorsIn : (fs : List Form) → Fields fs → List ℕ
+operatorsIn [] _ = []
+operatorsIn (f ∷ fs) (v, vs) = operatorIn f v ++ operatorsIn fs vs
+
+-- the inputs of a record: the numbers under input, left and right
+abbrev pub inputs : Rec → List ℕ
+inputs r = operatorsIn (forms (r .sort) (r .kind)) (r .fields)
 
 -- keyword and fields, parted by tabs, and a line feed
 unfoldable pub spellRec : Rec → Bytes

@@ -1,8 +1,8 @@
 // The lowering call on a sheet from standard input: prints the plan sheet, or one line that says how the sheet is refused.
-use cases::call::lower;
-use cases::line::write_refusal;
 use libc::STDIN_FILENO;
 use libc::STDOUT_FILENO;
+use values::call::lower;
+use values::text::write_refusal;
 
 // The plan, or a refusal, parted as a sheet's fields are; a refusal leaves the plan's slice free for its line.
 fn show(sheet: &[u8], a: &mut [u32], b: &mut [u32], c: &mut [u32], d: &mut [u32], plan: &mut [u8]) {

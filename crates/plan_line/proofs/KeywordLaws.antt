@@ -9,7 +9,7 @@ use lib.Seq.{sets}
 use borrow.Author.Tests.{eq-eqb, ne-eqb}
 use Rattle.model.specs.Text.{Bytes, bytes, bytesFrom, same, sameBy}
 use Rattle.laws.specs.TextLaws.{same-sound}
-use Rattle.line.specs.TableLaws.{passesTo, passes-at}
+use Rattle.words.specs.TableLaws.{passesTo, passes-at}
 use Rattle.output.specs.Page.{Page, Puts}
 use Rattle.output.specs.Writes.{sets-append}
 use Rattle.output.specs.Wide.{power}

@@ -5,11 +5,11 @@ use mathlib.Core.Bool.{Bool, true, false, _&&_}
 use mathlib.Core.List.{List, [], _∷_, _++_}
 use lib.ListN.{length}
 use Rattle.model.specs.Text.{Bytes, tab, lineFeed, behind}
-use Rattle.model.specs.Field.{Form, num, flag, var, varOrAbsent, numOrAbsent, int, float, text, alias, span, spell, spellFields}
+use Rattle.model.specs.Field.{Form, num, flag, var, varOrAbsent, numOrAbsent, number, numberOrAbsent, int, float, text, alias, span, spell, spellFields}
 use Rattle.model.specs.Field
 use Rattle.words.specs.Words.{fieldOf, fieldsOf, part}
 use Rattle.words.specs.Held.{Flags, Texts}
-use Rattle.line.specs.Table.{formsAt}
+use Rattle.words.specs.Table.{formsAt}
 
 -- the forms that a line of the plan sheet has from one of the statement sheet
 unfoldable pub plain : Form → Bool
@@ -18,6 +18,8 @@ plain flag = true
 plain var = true
 plain varOrAbsent = false
 plain (numOrAbsent l) = false
+plain (number n) = true
+plain (numberOrAbsent n) = false
 plain int = true
 plain float = true
 plain text = true

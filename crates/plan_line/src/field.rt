@@ -9,10 +9,11 @@ ghost use Rattle.model.specs.Text.{tab, decimal, signed, hexDigits};
 ghost use Rattle.output.specs.Page.{on, Puts};
 ghost use Rattle.words.specs.Words.{Roomy, part, intOf};
 ghost use Rattle.words.specs.Held.{Flag, Text};
-ghost use Rattle.line.specs.Table.{formOf, formsAt};
+ghost use Rattle.words.specs.Table.{formOf, formsAt};
 ghost use Rattle.plan_line.specs.Keywords.{word, wordCount};
 ghost use Rattle.plan_line.specs.Field.{plain, fieldText, fieldsText, Fielded, lineText};
-use line::table::form_code;
+use words::form;
+use words::table::form_code;
 
 // The 64 bits of two words.
 fn bits(low: u32, high: u32) -> u64
@@ -76,10 +77,10 @@ fn put_field(plan: &mut [u8], out: usize, sheet: &[u8], code: u32, x: u32, y: u3
     ensures { λ r. ⌜ Puts (fieldText (formOf code) (now (sheet .entry)) x y) (on (now (plan .entry)) out) (on (now (plan .exit)) r) ⌝ }
 {
     match code {
-        4 => put_int(plan, out, x, y),
-        5 => put_float(plan, out, x, y),
-        6 => put_text(plan, out, sheet, x, y),
-        9 => put_text(plan, out, sheet, x, y),
+        form::INT => put_int(plan, out, x, y),
+        form::FLOAT => put_float(plan, out, x, y),
+        form::TEXT => put_text(plan, out, sheet, x, y),
+        form::LENGTH => put_text(plan, out, sheet, x, y),
         _ => put_number(plan, out, x),
     }
 }
@@ -101,7 +102,7 @@ pub fn put_fields(
     let mut o = out;
     let mut g = 0;
     let mut code = form_code(kind, 0);
-    while code != 0 {
+    while code != form::NONE {
         let x = words::word(a, b, i, g + g + 2);
         let y = words::word(a, b, i, g + g + 3);
         o = put_field(plan, o, sheet, code, x, y);

@@ -18,10 +18,10 @@ use Rattle.output.specs.Page.{Page, Puts}
 use Rattle.output.specs.Writes.{stay}
 use Rattle.words.specs.Words.{Roomy, cell, part, kindOf, firstKind, nth, fieldOf, fieldsOf}
 use Rattle.words.specs.Held.{RecordAt, Texts, PlaceAt}
-use Rattle.line.specs.Table.{sorts, sortOf}
-use Rattle.line.specs.TableLaws.{Row, tabled, kind-row, code-row}
+use Rattle.words.specs.Table.{sorts, sortOf}
+use Rattle.words.specs.TableLaws.{Row, tabled, kind-row, code-row}
 use Rattle.words.specs.Cells.{cells, part-cells, shown, numbered, number-of}
-use Rattle.lower.proofs.Counting.{inner-number, innerNumber}
+use Rattle.words.proofs.Counting.{inner-number, innerNumber}
 use Rattle.words.specs.Numbers.{sameNumber, exprNumber}
 use Rattle.plan_line.specs.Keywords.{word, letters, varWord, existsWord, nullWord, listPredicateWord, fnWord, mapWord, nameWord, keyWord, sameFrom, wordCount}
 use Rattle.plan_line.specs.Field.{plain, allPlain, fieldsText, Fielded, lineText}

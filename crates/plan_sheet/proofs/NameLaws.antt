@@ -16,10 +16,10 @@ use Rattle.output.specs.Page.{Page, Puts}
 use Rattle.output.specs.Writes.{_⨾_, stay}
 use Rattle.words.specs.Words.{Roomy, cell, fieldOf, fieldsOf}
 use Rattle.words.specs.Held.{Held, HeldOf, RecordAt, PlaceAt, size, sizeOf}
-use Rattle.line.specs.Table.{sorts, sortOf}
+use Rattle.words.specs.Table.{sorts, sortOf}
 use Rattle.words.specs.Cells.{shown}
 use Rattle.lower.specs.Render.{Notes, Ops, recsOver, render, renderOf, specRec}
-use Rattle.lower.proofs.Counting.{innerNumber, inner-number}
+use Rattle.words.proofs.Counting.{innerNumber, inner-number}
 use Rattle.words.specs.Numbers.{elementNumber}
 use Rattle.plan_line.specs.Keywords.{word, letters, toWord, nameWord, relWord}
 use Rattle.plan_line.specs.Field.{plain, allPlain, fieldText, lineText}

@@ -22,7 +22,7 @@ use Rattle.context.specs.Tables.{opAt}
 use Rattle.context.specs.Read.{noteOf}
 use Rattle.context.specs.declared.op.Op.{Op}
 use Rattle.lower.specs.Render.{Notes, Ops, specRecs}
-use Rattle.lower.specs.Shows.{shift, Sane, Shows, OverExpr, ByLabels, ByRel, ByShortest, ByPath, ByWith, ByItems, ByParted, ByKeys, ByCall, shows-all, shows-source, shows-filter, shows-expand, shows-short, shows-path, shows-optional, shows-with, shows-project, shows-aggregate, shows-order, shows-skip, shows-limit, shows-distinct, shows-unwind, shows-union, shows-call}
+use Rattle.lower.specs.Shows.{shift, InBounds, Shows, OverExpr, ByLabels, ByRel, ByShortest, ByPath, ByWith, ByItems, ByParted, ByKeys, ByCall, shows-all, shows-source, shows-filter, shows-expand, shows-short, shows-path, shows-optional, shows-with, shows-project, shows-aggregate, shows-order, shows-skip, shows-limit, shows-distinct, shows-unwind, shows-union, shows-call}
 use Rattle.plan_line.specs.Keywords.{word, letters, sourceWord, filterWord, expandWord, shortWord, pathWord, optionalWord, withWord, projectWord, aggWord, orderWord, skipWord, limitWord, distinctWord, unwindWord, unionWord, callWord}
 use Rattle.plan_line.specs.Row.{numbersText, rowText, callText}
 use Rattle.plan_sheet.specs.Due.{noted, Planned, SomePlan, OpShown, WroteFirst, Element, WroteElement, WroteOp}
@@ -218,7 +218,7 @@ module _ {sheet : Bytes} {a b rest : List ℕ} {o : Op} (h : OpShown sheet a b r
 
   pub union-line : o .kind ≡ 15 → spellRecs (take 1 (h .recs)) ≡ rowText unionWord (o .input ∷ o .x ∷ o .y ∷ [])
   unfolding keyword planKeyword opKeyword word letters bytes bytesFrom spellFields spell
-  union-line e = first-rec (of-kind 15 e (h .stored .shows)) ∙ row-rec _ unionWord (o .input ∷ o .x ∷ o .y ∷ []) refl (rw (flag-decimal (o .y) (h .stored .sane .flagged e)))
+  union-line e = first-rec (of-kind 15 e (h .stored .shows)) ∙ row-rec _ unionWord (o .input ∷ o .x ∷ o .y ∷ []) refl (rw (flag-decimal (o .y) (h .stored .bounded .flagged e)))
 
   -- the last kind
   pub is-call : 15 < o .kind → o .kind ≡ 16
@@ -256,8 +256,8 @@ module _ (k : ℕ) {sheet : Bytes} {a b os rest : List ℕ} {A : Ops} {o : Op} (
   unfoldable pub shown-at : OpShown sheet a b rest o
   shown-at = record { ops = A; number = k; recs = A k; stored = rw e (p .stored k (omega arith)) }
 
-  pub sane-at : Sane o
-  sane-at = rw e (p .stored k (omega arith) .sane)
+  pub sane-at : InBounds o
+  sane-at = rw e (p .stored k (omega arith) .bounded)
 
   pub here : Shows sheet a b (noted rest) A k o (A k)
   here = rw e (p .stored k (omega arith) .shows)

@@ -21,7 +21,7 @@ use Rattle.context.specs.Tables.{opAt}
 use Rattle.context.specs.declared.op.Op.{Op}
 use Rattle.lower.specs.Render.{Notes, Ops, Below, BelowOf, belowIn, copiesBelow, itemExpr, isAggregate, aggOf, keyRecs, aggRecs}
 use Rattle.lower.specs.Shows.{shift}
-use Rattle.lower.specs.Count.{Ends}
+use Rattle.words.specs.Count.{Ends}
 use Rattle.aggregate.specs.Names.{SomeExpr}
 use Rattle.plan_line.specs.Keywords.{word, letters, aggFnWord}
 use Rattle.plan_line.specs.Row.{namedText}

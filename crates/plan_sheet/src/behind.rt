@@ -9,7 +9,7 @@ ghost use Rattle.plan_sheet.specs.Behind.{manyOf, firstOf, Yields, Wrote
 use context::op;
 use context::op::Op;
 use context::read::note_of;
-use lower::records::count;
+use words::records::count;
 use words::field;
 
 // How many expressions an operator has.

@@ -102,7 +102,7 @@ pub fn put_path(
     while due != 0 {
         let kind = words::word(a, b, at, field::KIND);
         let p = put_step(plan, o, rest, base, at, kind, seen, waits);
-        at = lower::records::skip(a, b, at);
+        at = words::records::skip(a, b, at);
         o = p.out;
         seen = p.seen;
         waits = p.waits;

@@ -7,8 +7,8 @@ use crate::head::Wrote;
 use aggregate::is_aggregate;
 use context::op;
 use context::read::note_of;
-use lower::records::count;
-use lower::records::skip;
+use words::records::count;
+use words::records::skip;
 use words::field;
 use words::kind;
 
@@ -59,7 +59,7 @@ fn write_expr(
         i: i + 1,
         left: at.left - 1,
         below: at.below,
-        n: lower::records::children(a, b, i),
+        n: words::records::children(a, b, i),
     };
     write_exprs(plan, o, sheet, a, b, ops, rest, run)
 }

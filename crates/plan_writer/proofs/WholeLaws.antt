@@ -104,6 +104,6 @@ vars-count (suc n) vs = ap suc (vars-count n vs)
 pub sheet-wrote : {sheet : Bytes} {a b os rest : List ℕ} {n m : ℕ} {p q r t : Page} → Puts (rowText planWord (n ∷ m ∷ [])) p q → WroteOps sheet a b os rest n n q r → WroteVars rest m r t → WroteSheet sheet a b os rest n m p t
 unfolding planSheet planRecs firstRec spellRecs
 sheet-wrote {rest = rest} {n = n} {m = m} first ops vars s h =
-    let mapped-are : length (s .vars) ≡ m = ap length (sym (h .vars)) ∙ vars-count m (drop varsAt rest) in
+    let mapped-are : length (s .scope .vars) ≡ m = ap length (sym (h .vars)) ∙ vars-count m (drop varsAt rest) in
     let ops-are : upTo n (λ k. at (s .ops) k) ≡ operatorRecs (s .ops) = rw (h .count) (in-order (s .ops)) in
-    rw (← h .count, mapped-are, first-line n m) (first ⨾ rw (spell-append (operatorRecs (s .ops)) (mappedRecs (s .vars))) (rw ops-are at (ops (λ k. at (s .ops) k) (h .planned)) ⨾ rw (h .vars) at vars))
+    rw (← h .count, mapped-are, first-line n m) (first ⨾ rw (spell-append (operatorRecs (s .ops)) (mappedRecs (s .scope .vars))) (rw ops-are at (ops (λ k. at (s .ops) k) (h .planned)) ⨾ rw (h .vars) at vars))

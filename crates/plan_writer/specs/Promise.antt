@@ -18,6 +18,6 @@ tables-of {s = s} {m = m} r few mapped-few =
         few = few;
         stored = λ k l. r .shows k l (omega arith) (λ q. getD (m .rest) q 0) (λ j. at (s .ops) j) (record { notes = record { at = λ q h i. refl }; ops = λ j h. refl });
       };
-      vars = ap (λ (x : LowerCtx). x .vars) (r .state);
+      vars = ap (λ (x : LowerCtx). x .scope .vars) (r .state);
       few = mapped-few;
     }

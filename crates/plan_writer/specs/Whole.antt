@@ -18,7 +18,7 @@ use Rattle.plan_writer.specs.declared.Plan.{Plan}
 pub record Tables (sheet : Bytes) (a b os rest : List ℕ) (n mapped : ℕ) (s : LowerCtx) : Type 0 where
   pub count : n ≡ length (s .ops)
   pub planned : Planned sheet a b os rest n (λ k. at (s .ops) k)
-  pub vars : varsOf mapped (drop varsAt rest) ≡ s .vars
+  pub vars : varsOf mapped (drop varsAt rest) ≡ s .scope .vars
   pub few : mapped ≤ 4352
 
 pub record SomeTables (sheet : Bytes) (a b os rest : List ℕ) (n mapped : ℕ) : Type 0 where

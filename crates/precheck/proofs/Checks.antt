@@ -5,6 +5,7 @@ use native.Mathlib.Numerals.{add-one}
 use native.Mathlib.Omega.{arith}
 use mathlib.Core.Bool.{Bool, true, false}
 use mathlib.Core.List.{List, [], _∷_}
+use Rattle.words.specs.Places.{mapKind, patKind, unresKind, undesKind, kindAt, partElementsAt, undesKindAt}
 use Rattle.model.specs.Field.{Span}
 use Rattle.model.specs.Kind.{Sort, expr, patternPart, patternElement}
 use Rattle.model.specs.Check.{Verdict, fine, noSpan, andThen}
@@ -12,7 +13,8 @@ use Rattle.words.specs.Words.{Roomy, cell}
 use Rattle.precheck.specs.Answer.{spanOf, errorOf}
 use Rattle.precheck.specs.Steps.{Stage, Some, Ends, Walks, Run}
 use Rattle.words.specs.Numbers.{Others, expr-number}
-use Rattle.precheck.specs.Stands.{At, Standing, SomeAt, Exprs, Counts, Begins, Inside}
+use Rattle.words.specs.Count.{countAt}
+use Rattle.precheck.specs.Stands.{At, Standing, SomeAt, Exprs, Begins, Inside}
 use Rattle.precheck.specs.declared.HirSpan.{HirSpan}
 use Rattle.precheck.specs.declared.PlanLowerError.{PlanLowerError}
 use Rattle.precheck.specs.declared.PlanLowerError.the-variants.{UnresolvedName, UndesugaredExpr, EmptyPatternPart}
@@ -21,6 +23,7 @@ use Rattle.precheck.specs.declared.Walk.{Walk}
 use Rattle.precheck.specs.declared.Walk.the-variants.{Go, Refused}
 use Rattle.precheck.proofs.Laws.{map-run}
 use Rattle.precheck.proofs.Opened.{open-at}
+use Rattle.precheck.proofs.Counting.{counts}
 use Rattle.precheck.proofs.Expressions.{Seen, plain, entries, pattern, unresolved, undesugared, see, of-entry}
 use Rattle.precheck.proofs.Patterns.{at-once, any-span}
 
@@ -53,13 +56,13 @@ module _ {P : ℕ → Stage} {n m i : ℕ} (e : n ≡ m) where
 
 -- ── an expression ──
 
-module _ {a b : List ℕ} (room : Roomy a b) {i c n : ℕ} (kind : c ≡ cell a b i 0) (counts : Counts a b i n) {d : ℕ} {span : Span} where
+module _ {a b : List ℕ} (room : Roomy a b) {i c n : ℕ} (kind : c ≡ cell a b i kindAt) (count : n ≡ countAt a b i) {d : ℕ} {span : Span} where
   seen : (v : Verdict) (e : ℕ) → At a b expr d span i v e → Seen a b (d - 1) span i c n v e
   seen v e h =
       let o = open-at room h in
-      rw (counts .each (o .sheet) (o .kind) (o .number) (o .flags)) (see (o .sheet) c (o .kind) (kind ∙ expr-number _ _ (o .number)) (o .body))
+      rw (counts (o .sheet) a b i n (o .kind) count (o .number) (o .flags)) (see (o .sheet) c (o .kind) (kind ∙ expr-number _ _ (o .number)) (o .body))
 
-  pub as-entries : c ≡ 33 → Turns (At a b expr d span i) (Exprs a b 1 (d - 1) span n (i + 1))
+  pub as-entries : c ≡ mapKind → Turns (At a b expr d span i) (Exprs a b 1 (d - 1) span n (i + 1))
   as-entries k = record { to = λ v e h. go (seen v e h) }
     where
       go : {v : Verdict} {e : ℕ} → Seen a b (d - 1) span i c n v e → Exprs a b 1 (d - 1) span n (i + 1) v e
@@ -69,7 +72,7 @@ module _ {a b : List ℕ} (room : Roomy a b) {i c n : ℕ} (kind : c ≡ cell a 
       go (unresolved p r) = absurd (omega arith)
       go (undesugared p r) = absurd (omega arith)
 
-  pub as-pattern : c ≡ 35 → Turns (At a b expr d span i) (Run (At a b patternPart (d - 1) span) n (i + 1))
+  pub as-pattern : c ≡ patKind → Turns (At a b expr d span i) (Run (At a b patternPart (d - 1) span) n (i + 1))
   as-pattern k = record { to = λ v e h. go (seen v e h) }
     where
       go : {v : Verdict} {e : ℕ} → Seen a b (d - 1) span i c n v e → Run (At a b patternPart (d - 1) span) n (i + 1) v e
@@ -79,7 +82,7 @@ module _ {a b : List ℕ} (room : Roomy a b) {i c n : ℕ} (kind : c ≡ cell a 
       go (unresolved p r) = absurd (omega arith)
       go (undesugared p r) = absurd (omega arith)
 
-  pub as-plain : Others c (38 ∷ 37 ∷ 35 ∷ 33 ∷ []) → Turns (At a b expr d span i) (Exprs a b 0 (d - 1) span n (i + 1))
+  pub as-plain : Others c (undesKind ∷ unresKind ∷ patKind ∷ mapKind ∷ []) → Turns (At a b expr d span i) (Exprs a b 0 (d - 1) span n (i + 1))
   as-plain k = record { to = λ v e h. go (seen v e h) }
     where
       go : {v : Verdict} {e : ℕ} → Seen a b (d - 1) span i c n v e → Exprs a b 0 (d - 1) span n (i + 1) v e
@@ -89,9 +92,9 @@ module _ {a b : List ℕ} (room : Roomy a b) {i c n : ℕ} (kind : c ≡ cell a 
       go (unresolved p r) = absurd (k .0 .1 p)
       go (undesugared p r) = absurd (k .1 p)
 
-module _ {a b : List ℕ} (room : Roomy a b) {i c n : ℕ} (kind : c ≡ cell a b i 0) (counts : Counts a b i n) {d : ℕ} {span : HirSpan} where
-  pub as-unresolved : c ≡ 37 → Walks (Refused (UnresolvedName (i + 1) span)) (At a b expr d (spanOf span) i)
-  as-unresolved k = record { each = λ v e h. go (seen room kind counts v e h) }
+module _ {a b : List ℕ} (room : Roomy a b) {i c n : ℕ} (kind : c ≡ cell a b i kindAt) (count : n ≡ countAt a b i) {d : ℕ} {span : HirSpan} where
+  pub as-unresolved : c ≡ unresKind → Walks (Refused (UnresolvedName (i + 1) span)) (At a b expr d (spanOf span) i)
+  as-unresolved k = record { each = λ v e h. go (seen room kind count v e h) }
     where
       go : {v : Verdict} {e : ℕ} → Seen a b (d - 1) (spanOf span) i c n v e → Ends (Refused (UnresolvedName (i + 1) span)) v e
       go (plain p r) = absurd (p .unresolved k)
@@ -100,8 +103,8 @@ module _ {a b : List ℕ} (room : Roomy a b) {i c n : ℕ} (kind : c ≡ cell a 
       go (unresolved p r) = rw add-one r
       go (undesugared p r) = absurd (omega arith)
 
-  pub as-undesugared : {x : ℕ} → x ≡ cell a b i 2 → c ≡ 38 → Walks (Refused (UndesugaredExpr (i + 1) span x)) (At a b expr d (spanOf span) i)
-  as-undesugared {x} q k = record { each = λ v e h. go (seen room kind counts v e h) }
+  pub as-undesugared : {x : ℕ} → x ≡ cell a b i undesKindAt → c ≡ undesKind → Walks (Refused (UndesugaredExpr (i + 1) span x)) (At a b expr d (spanOf span) i)
+  as-undesugared {x} q k = record { each = λ v e h. go (seen room kind count v e h) }
     where
       go : {v : Verdict} {e : ℕ} → Seen a b (d - 1) (spanOf span) i c n v e → Ends (Refused (UndesugaredExpr (i + 1) span x)) v e
       go (plain p r) = absurd (p .undesugared k)
@@ -116,7 +119,7 @@ pub as-empty : {a b : List ℕ} {i : ℕ} {t : Bool} {d : ℕ} {span : HirSpan} 
 unfolding andThen
 as-empty {i = i} {t} {d} {span} h t′ = record { each = λ v e p. (let q = rw t′ at h .each d (spanOf span) v e p in rw add-one (q .both)) }
 
-pub as-elements : {a b : List ℕ} {i n : ℕ} {t : Bool} {d : ℕ} {span : Span} → Begins a b i t → t ≡ true → n ≡ cell a b i 6 → Turns (At a b patternPart d span i) (Run (At a b patternElement (d - 1) noSpan) n (i + 1))
+pub as-elements : {a b : List ℕ} {i n : ℕ} {t : Bool} {d : ℕ} {span : Span} → Begins a b i t → t ≡ true → n ≡ cell a b i partElementsAt → Turns (At a b patternPart d span i) (Run (At a b patternElement (d - 1) noSpan) n (i + 1))
 unfolding andThen
 as-elements {d = d} {span = span} h t e = record { to = λ v x p. (let q = rw t at h .each d span v x p in rw (e, q .both) (map-run any-span (q .elements))) }
 

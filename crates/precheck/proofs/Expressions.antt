@@ -3,6 +3,7 @@ use mathlib.Core.Path.{_≡_, refl}
 use Prim.Native.Nat.{ℕ, suc, _+_, _-_, _<_}
 use native.Mathlib.Omega.{arith}
 use mathlib.Core.List.{List}
+use Rattle.words.specs.Places.{varKind, mapKind, patKind, unresKind, undesKind, undesKindAt}
 use Rattle.model.specs.Text.{Bytes}
 use Rattle.model.specs.Field.{Span}
 use Rattle.model.specs.Kind.{Expr, expr, entry, projection, orderItem, patternPart}
@@ -37,23 +38,23 @@ module _ {a b : List ℕ} (room : Roomy a b) {d : ℕ} {span : Span} where
 
 -- no number that the check tells apart
 pub record Plain (c : ℕ) : Type 0 where
-  pub map : c ≡ 33 → ⊥
-  pub pattern : c ≡ 35 → ⊥
-  pub unresolved : c ≡ 37 → ⊥
-  pub undesugared : c ≡ 38 → ⊥
+  pub map : c ≡ mapKind → ⊥
+  pub pattern : c ≡ patKind → ⊥
+  pub unresolved : c ≡ unresKind → ⊥
+  pub undesugared : c ≡ undesKind → ⊥
 
 -- what the check sees of an expression of kind number c with n children
 pub data Seen (a b : List ℕ) (d : ℕ) (span : Span) (i : ℕ) (c n : ℕ) (v : Verdict) (e : ℕ) : Type 0 where
   plain : Plain c → Run (At a b expr d span) n (i + 1) v e → Seen a b d span i c n v e
-  entries : c ≡ 33 → Run (At a b entry d span) n (i + 1) v e → Seen a b d span i c n v e
-  pattern : c ≡ 35 → Run (At a b patternPart d span) n (i + 1) v e → Seen a b d span i c n v e
-  unresolved : c ≡ 37 → v ≡ violated 6 (suc i) span 0 → Seen a b d span i c n v e
-  undesugared : c ≡ 38 → v ≡ violated 7 (suc i) span (cell a b i 2) → Seen a b d span i c n v e
+  entries : c ≡ mapKind → Run (At a b entry d span) n (i + 1) v e → Seen a b d span i c n v e
+  pattern : c ≡ patKind → Run (At a b patternPart d span) n (i + 1) v e → Seen a b d span i c n v e
+  unresolved : c ≡ unresKind → v ≡ violated 6 (suc i) span 0 → Seen a b d span i c n v e
+  undesugared : c ≡ undesKind → v ≡ violated 7 (suc i) span (cell a b i undesKindAt) → Seen a b d span i c n v e
 
 module _ {a b : List ℕ} {d : ℕ} {span : Span} {i : ℕ} {v : Verdict} {e : ℕ} where
   pub see : (sheet : Bytes) (c : ℕ) (k : Expr) → c ≡ exprNumber k → Body sheet a b expr d span i v e k (fieldsOf (exprForms k) sheet (cells a b i) 0) → Seen a b (d - 1) span i c (countOf (exprChildren k (fieldsOf (exprForms k) sheet (cells a b i) 0))) v e
   unfolding exprNumber ofRecord ofExpr fieldsOf fieldOf andThen Held check size
-  see sheet c (Expr.Over h) n o = plain (let l : sameNumber h < 32 = same-low h in omega arith) (last-of (kids-of o refl))
+  see sheet c (Expr.Over h) n o = plain (let l : sameNumber h < varKind = same-low h in omega arith) (last-of (kids-of o refl))
   see sheet c Expr.Var n o = plain (omega arith) (run-none (kids-of o refl))
   see sheet c Expr.Map n o = entries n (last-of (kids-of o refl))
   see sheet c Expr.Call n o = plain (omega arith) (last-of (kids-of o refl))

@@ -4,6 +4,7 @@ use Prim.Native.Nat.{ℕ}
 use native.Mathlib.Omega.{arith}
 use mathlib.Core.List.{List, []}
 use lib.ListN.{replicate}
+use Rattle.model.specs.Call.{workWords, maxDepth}
 use Rattle.model.specs.Kind.{statement}
 use Rattle.model.specs.Record.{kinds}
 use Rattle.model.specs.Tree.{node, []ᵗ, end, _▸_}
@@ -11,9 +12,9 @@ use Rattle.words.specs.Words.{part, decode, recOf, kindOf, nth, firstKind, fiel
 use Rattle.words.specs.Held.{Held, HeldSome}
 
 unfoldable pub zeros : List ℕ
-zeros = replicate 16384 0
+zeros = replicate workWords 0
 
-pub promise-met : HeldSome [] zeros zeros statement 64 0
+pub promise-met : HeldSome [] zeros zeros statement maxDepth 0
 unfolding zeros Held part decode recOf kindOf nth firstKind kinds fieldsOf fieldOf
 promise-met =
     record {

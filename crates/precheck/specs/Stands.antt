@@ -11,7 +11,8 @@ use Rattle.model.specs.Kind.{Sort, Expr, expr, patternPart, patternElement}
 use Rattle.model.specs.Record.{Group, exprForms, exprChildren}
 use Rattle.model.specs.Tree.{Tree}
 use Rattle.model.specs.Check.{Verdict, fine, violated, check}
-use Rattle.words.specs.Words.{cell, kindOf, fieldsOf}
+use Rattle.words.specs.Words.{cell, kindOf, fieldsOf, maxRecords}
+use Rattle.words.specs.Places.{kindAt, matchKind, matchSpanAt, whereKind, whereSpanAt, unwindKind, unwindSpanAt, callKind, callSpanAt, callArgsAt, callYieldsAt, writeKind, writeSpanAt, projectionSpanAt, itemsAt, keysAt, skipAt, limitAt, partElementsAt}
 use Rattle.words.specs.Held.{Held, Flags, size}
 use Rattle.precheck.specs.Answer.{spanOf}
 use Rattle.precheck.specs.Steps.{Stage, Some, firstOf, Then, Run}
@@ -29,7 +30,7 @@ pub record At (a b : List ℕ) (s : Sort) (d : ℕ) (span : Span) (i : ℕ) (v :
 
 -- one stands there, and its place and depth are in bounds
 pub record Standing (a b : List ℕ) (s : Sort) (d : ℕ) (span : Span) (i : ℕ) : Type 0 where
-  pub low : i < 2048
+  pub low : i < maxRecords
   pub deep : 0 < d
   pub some : Some (At a b s d span i)
 
@@ -42,10 +43,6 @@ abbrev pub countOf : List Group → ℕ
 countOf [] = 0
 countOf (g ∷ gs) = g .1
 
--- n is the number of children of the expression at record i
-pub record Counts (a b : List ℕ) (i n : ℕ) : Type 0 where
-  pub each : (sheet : Bytes) (k : Expr) → kindOf expr (cell a b i 0) ≡ some k → Flags (exprForms k) (cells a b i) 0 → n ≡ countOf (exprChildren k (fieldsOf (exprForms k) sheet (cells a b i) 0))
-
 -- the span in words c and c + 1 of record i
 abbrev pub spanIn : (a b : List ℕ) (i c : ℕ) → Span
 spanIn a b i c = record { start = cell a b i c; end = cell a b i (c + 1) }
@@ -57,7 +54,7 @@ pub record Spans (a b : List ℕ) (i c : ℕ) (s : HirSpan) : Type 0 where
 
 -- a tree of a sort stands at record i, at whatever depth
 pub record SomeAt (a b : List ℕ) (s : Sort) (i : ℕ) : Type 0 where
-  pub low : i < 2048
+  pub low : i < maxRecords
   pub depth : ℕ
   pub span : Span
   pub verdict : Verdict
@@ -76,7 +73,7 @@ ownVerdict false i span = violated 8 (suc i) span 0
 -- a part is refused for itself, and behind that for its elements
 pub record BeginsAs (t : Bool) (a b : List ℕ) (i d : ℕ) (span : Span) (v : Verdict) (e : ℕ) : Type 0 where
   pub inner : Verdict
-  pub elements : Run (At a b patternElement (d - 1) span) (cell a b i 6) (i + 1) inner e
+  pub elements : Run (At a b patternElement (d - 1) span) (cell a b i partElementsAt) (i + 1) inner e
   pub both : v ≡ firstOf (ownVerdict t i span) inner
 
 pub record Begins (a b : List ℕ) (i : ℕ) (t : Bool) : Type 0 where
@@ -86,19 +83,24 @@ pub record Begins (a b : List ℕ) (i : ℕ) (t : Bool) : Type 0 where
 
 -- the word of a clause's record at which its span begins, by the number of its kind
 abbrev pub spanWord : ℕ → ℕ
-spanWord c = cond (eqb c 2) 6 (cond (eqb c 3) 2 (cond (eqb c 6) 4 (cond (eqb c 7) 10 (cond (eqb c 8) 2 12))))
+spanWord c =
+    cond (eqb c matchKind) matchSpanAt
+    (cond (eqb c whereKind) whereSpanAt
+    (cond (eqb c unwindKind) unwindSpanAt
+    (cond (eqb c callKind) callSpanAt
+    (cond (eqb c writeKind) writeSpanAt projectionSpanAt))))
 
 -- sort keys, skip and limit of the clause at record i, from record j on
 abbrev pub Trailers : (a b : List ℕ) (i d : ℕ) → Span → ℕ → Stage
 Trailers a b i d span j v e =
-    Then (Exprs a b 1 (d - 1) span (cell a b i 6) j) (λ k. Then (Exprs a b 0 d span (cell a b i 8) k) (λ l. Exprs a b 0 d span (cell a b i 10) l)) v e
+    Then (Exprs a b 1 (d - 1) span (cell a b i keysAt) j) (λ k. Then (Exprs a b 0 d span (cell a b i skipAt) k) (λ l. Exprs a b 0 d span (cell a b i limitAt) l)) v e
 
 -- its items, and then so many filters, and then its trailers
 abbrev pub Projected : (a b : List ℕ) (i filters d : ℕ) → Span → Stage
 Projected a b i filters d span v e =
-    Then (Exprs a b 1 (d - 1) span (cell a b i 2) (i + 1)) (λ j. Then (Exprs a b 0 d span filters j) (λ k. Trailers a b i d span k)) v e
+    Then (Exprs a b 1 (d - 1) span (cell a b i itemsAt) (i + 1)) (λ j. Then (Exprs a b 0 d span filters j) (λ k. Trailers a b i d span k)) v e
 
 -- the arguments of a call, and then its yields, which are passed over
 abbrev pub Called : (a b : List ℕ) (i d : ℕ) → Span → Stage
 Called a b i d span v e =
-    Then (Exprs a b 0 d span (cell a b i 4) (i + 1)) (λ j w x. (w ≡ fine) × (j + cell a b i 6 ≡ x) × (x ≤ 2048)) v e
+    Then (Exprs a b 0 d span (cell a b i callArgsAt) (i + 1)) (λ j w x. (w ≡ fine) × (j + cell a b i callYieldsAt ≡ x) × (x ≤ maxRecords)) v e

@@ -6,10 +6,18 @@ ghost use Rattle.model.specs.Check.{Verdict, noSpan, precheckStatement};
 ghost use Rattle.model.specs.Text.{Bytes};
 ghost use Rattle.model.specs.Tree.{Tree};
 ghost use Rattle.words.specs.Held.{Held, HeldSome};
-ghost use Rattle.words.specs.Words.{Roomy, cell};
+ghost use Rattle.words.specs.Words.{Roomy, cell, maxRecords};
+ghost use Rattle.model.specs.Call.{maxDepth};
 ghost use Rattle.precheck.specs.Answer.{spanOf, verdictOf};
 ghost use Rattle.precheck.specs.Steps.{Some, Ends, Walks, Run};
-ghost use Rattle.precheck.specs.Stands.{At, Standing, Exprs, Spans, Counts, SomeAt, Inside, Begins, spanWord, Trailers, Projected, Called};
+ghost use Rattle.precheck.specs.Stands.{At, Standing, Exprs, Spans, SomeAt, Inside, Begins, spanWord, Trailers, Projected, Called};
+use words::field;
+use words::kind;
+use words::records::children_of;
+use words::records::count;
+
+// How deep a clause and an arm may be: they stand below the statement.
+const BELOW_STATEMENT: usize = words::MAX_DEPTH - 1;
 
 // A part of the source text.
 pub struct HirSpan {
@@ -38,19 +46,9 @@ enum Walk {
 
 // ── what a record has ──
 
-// Word c of record i, as a count.
-fn count(a: &[u32], b: &[u32], i: usize, c: usize) -> usize
-    requires { ⌜ i < 2048 ⌝ }
-    requires { ⌜ c < 16 ⌝ }
-    requires { ⌜ Roomy (now a) (now b) ⌝ }
-    ensures { λ r. ⌜ (r ≡ cell (now (a .entry)) (now (b .entry)) i c) × (r < 4294967296) ⌝ }
-{
-    words::word(a, b, i, c) as usize
-}
-
 // The span in words c and c + 1 of record i.
 fn span_at(a: &[u32], b: &[u32], i: usize, c: usize) -> HirSpan
-    requires { ⌜ i < 2048 ⌝ }
+    requires { ⌜ i < maxRecords ⌝ }
     requires { ⌜ c < 15 ⌝ }
     requires { ⌜ Roomy (now a) (now b) ⌝ }
     ensures { λ r. ⌜ Spans (now (a .entry)) (now (b .entry)) i c r ⌝ }
@@ -58,38 +56,6 @@ fn span_at(a: &[u32], b: &[u32], i: usize, c: usize) -> HirSpan
     let start = words::word(a, b, i, c);
     let end = words::word(a, b, i, c + 1);
     HirSpan { start, end }
-}
-
-// How many children the expression at record i has, by its kind and its words 2, 4 and 6.
-fn children_of(a: &[u32], b: &[u32], i: usize, kind: u32) -> usize
-    requires { ⌜ i < 2048 ⌝ }
-    requires { ⌜ Roomy (now a) (now b) ⌝ }
-    requires { ⌜ kind ≡ cell (now a) (now b) i 0 ⌝ }
-    ensures { λ r. ⌜ Counts (now (a .entry)) (now (b .entry)) i r ⌝ }
-{
-    let x = count(a, b, i, 2);
-    let y = count(a, b, i, 4);
-    let z = count(a, b, i, 6);
-    match kind {
-        // prop, index, slice, list
-        23 => 1,
-        24 => 2,
-        25 => 1 + x + y,
-        26 => x,
-        // bin, un, case, isnull, in
-        27 => 2,
-        28 => 1,
-        29 => x + y * 2 + z,
-        30 => 1,
-        31 => 2,
-        // map, fn, pat, listp
-        33 => x,
-        34 => y,
-        35 => x,
-        36 => 1 + z,
-        // null, bool, int, float, str, param, var, unres, undes
-        _ => 0,
-    }
 }
 
 // The expression that a node or a rel may have behind its labels or types, and the span that is reported inside it.
@@ -105,17 +71,17 @@ fn props_of(a: &[u32], b: &[u32], i: usize) -> Props
     requires { ⌜ SomeAt (now a) (now b) patternElement i ⌝ }
     ensures { λ r. ⌜ Inside (now (a .entry)) (now (b .entry)) i r ⌝ }
 {
-    let kind = words::word(a, b, i, 0);
-    let labels = count(a, b, i, 4);
+    let kind = words::word(a, b, i, field::KIND);
+    let labels = count(a, b, i, field::NODE_LABELS);
     let first = i + 1 + labels;
     // a node, or else a rel
-    if kind == 12 {
-        let n = count(a, b, i, 6);
-        let span = span_at(a, b, i, 8);
+    if kind == kind::NODE {
+        let n = count(a, b, i, field::NODE_PROPS);
+        let span = span_at(a, b, i, field::NODE_SPAN);
         return Props { first, n, span };
     }
-    let n = count(a, b, i, 10);
-    let span = span_at(a, b, i, 12);
+    let n = count(a, b, i, field::REL_PROPS);
+    let span = span_at(a, b, i, field::REL_SPAN);
     Props { first, n, span }
 }
 
@@ -125,12 +91,12 @@ fn begins_with_node(a: &[u32], b: &[u32], i: usize) -> bool
     requires { ⌜ SomeAt (now a) (now b) patternPart i ⌝ }
     ensures { λ r. ⌜ Begins (now (a .entry)) (now (b .entry)) i r ⌝ }
 {
-    let elements = words::word(a, b, i, 6);
+    let elements = words::word(a, b, i, field::PART_ELEMENTS);
     if elements == 0 {
         return false;
     }
-    let head = words::word(a, b, i + 1, 0);
-    if head == 12 {
+    let head = words::word(a, b, i + 1, field::KIND);
+    if head == kind::NODE {
         return true;
     }
     false
@@ -144,20 +110,18 @@ fn check_expr(a: &[u32], b: &[u32], i: usize, left: usize, span: HirSpan) -> Wal
     requires { ⌜ Standing (now a) (now b) expr left (spanOf span) i ⌝ }
     ensures { λ r. ⌜ Walks r (At (now (a .entry)) (now (b .entry)) expr left (spanOf span) i) ⌝ }
 {
-    let kind = words::word(a, b, i, 0);
-    let x = words::word(a, b, i, 2);
+    let kind = words::word(a, b, i, field::KIND);
+    let x = words::word(a, b, i, field::UNDES_KIND);
     let n = children_of(a, b, i, kind);
     let first = i + 1;
     let line = first as u32;
     let less = left - 1;
     match kind {
-        // map: each expression behind its name
-        33 => check_exprs(a, b, first, n, 1, less, span),
-        // pat
-        35 => check_pattern(a, b, first, n, less, span),
-        // unres, undes
-        37 => Walk::Refused(PlanLowerError::UnresolvedName { line, span }),
-        38 => Walk::Refused(PlanLowerError::UndesugaredExpr {
+        // each expression behind its name
+        kind::MAP => check_exprs(a, b, first, n, 1, less, span),
+        kind::PAT => check_pattern(a, b, first, n, less, span),
+        kind::UNRES => Walk::Refused(PlanLowerError::UnresolvedName { line, span }),
+        kind::UNDES => Walk::Refused(PlanLowerError::UndesugaredExpr {
             line,
             span,
             kind: x,
@@ -212,7 +176,7 @@ fn check_pattern(a: &[u32], b: &[u32], i: usize, n: usize, left: usize, span: Hi
             let line = first as u32;
             return Walk::Refused(PlanLowerError::EmptyPatternPart { line, span });
         }
-        let elements = count(a, b, at, 6);
+        let elements = count(a, b, at, field::PART_ELEMENTS);
         match check_elements(a, b, first, elements, left - 1) {
             Walk::Go(next) => {
                 at = next;
@@ -259,15 +223,13 @@ fn span_word(kind: u32) -> usize
     ensures { λ r. ⌜ (r ≡ spanWord kind) × (r < 15) ⌝ }
 {
     match kind {
-        // match, where
-        2 => 6,
-        3 => 2,
-        // unwind, call, write
-        6 => 4,
-        7 => 10,
-        8 => 2,
+        kind::MATCH => field::MATCH_SPAN,
+        kind::WHERE => field::WHERE_SPAN,
+        kind::UNWIND => field::UNWIND_SPAN,
+        kind::CALL => field::CALL_SPAN,
+        kind::WRITE => field::WRITE_SPAN,
         // with, return
-        _ => 12,
+        _ => field::PROJECTION_SPAN,
     }
 }
 
@@ -281,13 +243,13 @@ fn check_order_skip_limit(
     span: HirSpan,
 ) -> Walk
     requires { ⌜ Roomy (now a) (now b) ⌝ }
-    requires { ⌜ (i < 2048) × (0 < left) ⌝ }
+    requires { ⌜ (i < maxRecords) × (0 < left) ⌝ }
     requires { ⌜ Some (Trailers (now a) (now b) i left (spanOf span) at) ⌝ }
     ensures { λ r. ⌜ Walks r (Trailers (now (a .entry)) (now (b .entry)) i left (spanOf span) at) ⌝ }
 {
-    let keys = count(a, b, i, 6);
-    let skip = count(a, b, i, 8);
-    let limit = count(a, b, i, 10);
+    let keys = count(a, b, i, field::KEYS);
+    let skip = count(a, b, i, field::SKIP);
+    let limit = count(a, b, i, field::LIMIT);
     let less = left - 1;
     let ordered = check_exprs(a, b, at, keys, 1, less, span);
     let Walk::Go(p) = ordered else {
@@ -310,11 +272,11 @@ fn check_projections(
     span: HirSpan,
 ) -> Walk
     requires { ⌜ Roomy (now a) (now b) ⌝ }
-    requires { ⌜ (i < 2048) × (0 < left) ⌝ }
+    requires { ⌜ (i < maxRecords) × (0 < left) ⌝ }
     requires { ⌜ Some (Projected (now a) (now b) i filters left (spanOf span)) ⌝ }
     ensures { λ r. ⌜ Walks r (Projected (now (a .entry)) (now (b .entry)) i filters left (spanOf span)) ⌝ }
 {
-    let items = count(a, b, i, 2);
+    let items = count(a, b, i, field::ITEMS);
     let first = i + 1;
     let less = left - 1;
     let projected = check_exprs(a, b, first, items, 1, less, span);
@@ -331,12 +293,12 @@ fn check_projections(
 // The arguments of the `call` at record i; its yields are passed over.
 fn check_call(a: &[u32], b: &[u32], i: usize, left: usize, span: HirSpan) -> Walk
     requires { ⌜ Roomy (now a) (now b) ⌝ }
-    requires { ⌜ i < 2048 ⌝ }
+    requires { ⌜ i < maxRecords ⌝ }
     requires { ⌜ Some (Called (now a) (now b) i left (spanOf span)) ⌝ }
     ensures { λ r. ⌜ Walks r (Called (now (a .entry)) (now (b .entry)) i left (spanOf span)) ⌝ }
 {
-    let args = count(a, b, i, 4);
-    let yields = count(a, b, i, 6);
+    let args = count(a, b, i, field::CALL_ARGS);
+    let yields = count(a, b, i, field::CALL_YIELDS);
     let first = i + 1;
     let checked = check_exprs(a, b, first, args, 0, left, span);
     let Walk::Go(at) = checked else {
@@ -352,22 +314,21 @@ fn check_clause(a: &[u32], b: &[u32], i: usize, left: usize) -> Walk
     requires { ⌜ Standing (now a) (now b) clause left noSpan i ⌝ }
     ensures { λ r. ⌜ Walks r (At (now (a .entry)) (now (b .entry)) clause left noSpan i) ⌝ }
 {
-    let kind = words::word(a, b, i, 0);
-    let n = count(a, b, i, 4);
+    let kind = words::word(a, b, i, field::KIND);
+    // parts of a `match`, filters of a `with`
+    let n = count(a, b, i, field::MATCH_PARTS);
     let at = span_word(kind);
     let span = span_at(a, b, i, at);
     let first = i + 1;
     let less = left - 1;
     match kind {
-        // match, where
-        2 => check_pattern(a, b, first, n, less, span),
-        3 => check_exprs(a, b, first, 1, 0, less, span),
-        // with, return
-        4 => check_projections(a, b, i, n, less, span),
-        5 => check_projections(a, b, i, 0, less, span),
-        // unwind, call, write
-        6 => check_exprs(a, b, first, 1, 0, less, span),
-        7 => check_call(a, b, i, less, span),
+        kind::MATCH => check_pattern(a, b, first, n, less, span),
+        kind::WHERE => check_exprs(a, b, first, 1, 0, less, span),
+        kind::WITH => check_projections(a, b, i, n, less, span),
+        kind::RETURN => check_projections(a, b, i, 0, less, span),
+        kind::UNWIND => check_exprs(a, b, first, 1, 0, less, span),
+        kind::CALL => check_call(a, b, i, less, span),
+        // write
         _ => Walk::Go(first),
     }
 }
@@ -405,7 +366,7 @@ fn check_arms(a: &[u32], b: &[u32], i: usize, n: usize, left: usize) -> Walk
     let mut at = i;
     let mut m = n;
     while m != 0 {
-        let clauses = count(a, b, at, 4);
+        let clauses = count(a, b, at, field::ARM_CLAUSES);
         let first = at + 1;
         match check_clauses(a, b, first, clauses, left - 1) {
             Walk::Go(next) => {
@@ -425,16 +386,16 @@ fn check_arms(a: &[u32], b: &[u32], i: usize, n: usize, left: usize) -> Walk
 // The first record, in sheet order, that the lowering does not take: clauses in order, then each arm's.
 pub fn precheck_statement(a: &[u32], b: &[u32]) -> Checked
     requires { ⌜ Roomy (now a) (now b) ⌝ }
-    requires { ⌜ ((sheet : Bytes) × HeldSome sheet (now a) (now b) statement 64 0) ⌝ }
-    ensures { λ r. ⌜ ((sheet : Bytes) (t : Tree statement) → Held sheet (now (a .entry)) (now (b .entry)) t 64 0 → verdictOf r ≡ precheckStatement t) ⌝ }
+    requires { ⌜ ((sheet : Bytes) × HeldSome sheet (now a) (now b) statement maxDepth 0) ⌝ }
+    ensures { λ r. ⌜ ((sheet : Bytes) (t : Tree statement) → Held sheet (now (a .entry)) (now (b .entry)) t maxDepth 0 → verdictOf r ≡ precheckStatement t) ⌝ }
 {
-    let clauses = count(a, b, 0, 2);
-    let arms = count(a, b, 0, 4);
-    let head = check_clauses(a, b, 1, clauses, 63);
+    let clauses = count(a, b, 0, field::STMT_CLAUSES);
+    let arms = count(a, b, 0, field::STMT_ARMS);
+    let head = check_clauses(a, b, 1, clauses, BELOW_STATEMENT);
     let Walk::Go(at) = head else {
         return answer(head);
     };
-    answer(check_arms(a, b, at, arms, 63))
+    answer(check_arms(a, b, at, arms, BELOW_STATEMENT))
 }
 
 // The answer that a walk over the whole statement has.

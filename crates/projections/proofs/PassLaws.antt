@@ -14,7 +14,8 @@ use Rattle.model.specs.Tree.{Trees}
 use Rattle.model.specs.Lower.{Recs, Lowering, _>>=_, ret, push, op, orSourceAll, Split, splitProjectionsAgg, aggregateIf, distinctIf}
 use Rattle.words.specs.Words.{cell}
 use Rattle.words.specs.Held.{HeldOf, sizeOf}
-use Rattle.context.specs.Tables.{Op, Pushed}
+use Rattle.context.specs.Tables.{Pushed}
+use Rattle.context.specs.declared.op.Op.{Op}
 use Rattle.context.specs.declared.LowerCtx.{LowerCtx}
 use Rattle.lower.specs.Render.{Notes, Ops, keyRecs, aggRecs}
 use Rattle.lower.specs.Shows.{shift, Stored, shows-project, shows-aggregate, shows-distinct}

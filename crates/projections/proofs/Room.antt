@@ -7,7 +7,8 @@ use lib.ListN.{length}
 use Rattle.model.specs.Kind.{Sort}
 use Rattle.model.specs.Tree.{Tree, node}
 use Rattle.words.specs.Held.{Held}
-use Rattle.context.specs.Tables.{Op, Pushed}
+use Rattle.context.specs.Tables.{Pushed}
+use Rattle.context.specs.declared.op.Op.{Op}
 use Rattle.context.specs.declared.LowerCtx.{LowerCtx}
 use Rattle.lower.specs.Rep.{Mem, mem, Good, Moved}
 use Rattle.lower.specs.Clauses.{Ready, MovedTwice}

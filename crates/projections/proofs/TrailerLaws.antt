@@ -16,7 +16,8 @@ use Rattle.model.specs.Tree.{Tree, Trees, []ᵗ, _∷ᵗ_}
 use Rattle.model.specs.Lower.{Recs, Lowering, _>>=_, ret, push, op, lowerExpr, orderBy, overExpr, lowerTrailers}
 use Rattle.words.specs.Words.{cell}
 use Rattle.words.specs.Held.{Held, HeldOf, size, sizeOf}
-use Rattle.context.specs.Tables.{Op, Pushed}
+use Rattle.context.specs.Tables.{Pushed}
+use Rattle.context.specs.declared.op.Op.{Op}
 use Rattle.context.specs.declared.LowerCtx.{LowerCtx}
 use Rattle.lower.specs.Render.{Notes, Ops}
 use Rattle.lower.specs.Shows.{shift, OverExpr, Shows, shows-order, shows-skip, shows-limit}

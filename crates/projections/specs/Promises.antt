@@ -13,7 +13,8 @@ use Rattle.model.specs.Tree.{Trees}
 use Rattle.model.specs.Lower.{Lowering, _>>=_, push, op, orSourceAll, orderBy, overExpr, lowerTrailers, lowerProjections, splitProjectionsAgg, aggregateIf, distinctIf}
 use Rattle.words.specs.Words.{cell}
 use Rattle.words.specs.Held.{HeldOf, sizeOf}
-use Rattle.context.specs.Tables.{Op, Pushed}
+use Rattle.context.specs.Tables.{Pushed}
+use Rattle.context.specs.declared.op.Op.{Op}
 use Rattle.context.specs.declared.LowerCtx.{LowerCtx}
 use Rattle.lower.specs.Render.{Notes, Ops, BelowOf, keyRecs, aggRecs}
 use Rattle.lower.specs.Shows.{shift}

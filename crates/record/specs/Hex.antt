@@ -4,11 +4,29 @@ use mathlib.Core.Bool.{Bool, true, cond, _&&_}
 use mathlib.Core.List.{[], _∷_}
 use lib.Dec.{ltb}
 use Rattle.model.specs.Text.{Bytes, hexValueOn}
+use Rattle.record.specs.Number.{digit0, digit9}
 use Rattle.record.specs.declared.Decimal.{Decimal}
+
+abbrev pub before0 : ℕ
+before0 = 47
+
+abbrev pub beforeA : ℕ
+beforeA = 96
+
+abbrev pub letterF : ℕ
+letterF = 102
+
+-- a letter's byte is so far above its value
+abbrev pub letterBase : ℕ
+letterBase = 87
 
 -- the value of a lower-case digit; 16 for any other byte
 unfoldable pub digit : ℕ → ℕ
-digit b = cond (ltb 102 b) 16 (cond (ltb 96 b) (b - 87) (cond (ltb 57 b) 16 (cond (ltb 47 b) (b - 48) 16)))
+digit b =
+    cond (ltb letterF b) 16
+    (cond (ltb beforeA b) (b - letterBase)
+    (cond (ltb digit9 b) 16
+    (cond (ltb before0 b) (b - digit0) 16)))
 
 unfoldable pub allHex : Bytes → Bool
 allHex [] = true

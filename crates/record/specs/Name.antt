@@ -3,17 +3,23 @@ use Prim.Native.Nat.{ℕ}
 use mathlib.Core.Bool.{Bool, true, false, cond}
 use mathlib.Core.List.{[], _∷_}
 use lib.Dec.{eqb}
-use Rattle.model.specs.Text.{Bytes}
+use Rattle.model.specs.Text.{Bytes, tab, lineFeed, backslash}
 use Rattle.record.specs.declared.name.Seen.{Seen}
 use Rattle.record.specs.declared.name.Seen.the-variants.{Plain, Escape, Bad}
 
 -- no tab and no line feed stands bare
 unfoldable pub bare : ℕ → Seen
-bare b = cond (eqb b 9) Bad (cond (eqb b 10) Bad (cond (eqb b 92) Escape Plain))
+bare b = cond (eqb b tab) Bad (cond (eqb b lineFeed) Bad (cond (eqb b backslash) Escape Plain))
+
+abbrev pub letterN : ℕ
+letterN = 110
+
+abbrev pub letterT : ℕ
+letterT = 116
 
 -- behind a backslash stands one of three letters
 unfoldable pub letter : ℕ → Seen
-letter b = cond (eqb b 92) Plain (cond (eqb b 110) Plain (cond (eqb b 116) Plain Bad))
+letter b = cond (eqb b backslash) Plain (cond (eqb b letterN) Plain (cond (eqb b letterT) Plain Bad))
 
 unfoldable pub step : Seen → ℕ → Seen
 step Plain b = bare b

@@ -7,12 +7,21 @@ use Rattle.model.specs.Text.{Bytes, valueOn}
 use Rattle.record.specs.declared.Decimal.{Decimal}
 use Rattle.record.specs.declared.Decimal.the-variants.{Is, Not}
 
+abbrev pub minus : ℕ
+minus = 45
+
+abbrev pub digit0 : ℕ
+digit0 = 48
+
+abbrev pub digit9 : ℕ
+digit9 = 57
+
 -- what stands for something absent
 abbrev pub dash : Bytes
-dash = 45 ∷ []
+dash = minus ∷ []
 
 abbrev pub digit : ℕ → Bool
-digit b = leb 48 b && leb b 57
+digit b = leb digit0 b && leb b digit9
 
 unfoldable pub allDigits : Bytes → Bool
 allDigits [] = true

@@ -6,28 +6,44 @@ ghost use Rattle.record.specs.Answer.{decimalOf};
 ghost use Rattle.record.specs.Hex.{digit as digitOf};
 use crate::Decimal;
 
+// A float has so many digits.
+const HEX_DIGITS: usize = 16;
+
+const BEFORE_0: u64 = 47;
+
+const DIGIT_0: u64 = 48;
+
+const DIGIT_9: u64 = 57;
+
+const BEFORE_A: u64 = 96;
+
+const LETTER_F: u64 = 102;
+
+// A letter's byte is so far above its value.
+const LETTER_BASE: u64 = 87;
+
 // The value of a digit, or 16 for any other byte.
 fn digit(b: u8) -> u64
     ensures { λ r. ⌜ r ≡ digitOf b ⌝ }
 {
     let d = b as u64;
-    if 102 < d {
+    if LETTER_F < d {
         return 16;
     }
-    if 96 < d {
-        return d - 87;
+    if BEFORE_A < d {
+        return d - LETTER_BASE;
     }
-    if 57 < d {
+    if DIGIT_9 < d {
         return 16;
     }
-    if 47 < d { d - 48 } else { 16 }
+    if BEFORE_0 < d { d - DIGIT_0 } else { 16 }
 }
 
 // Sixteen lower-case hexadecimal digits.
 pub fn hex(s: &[u8]) -> Decimal
     ensures { λ r. ⌜ r ≡ decimalOf (read Form.float (now (s .entry) ∷ [])) ⌝ }
 {
-    if s.len() != 16 {
+    if s.len() != HEX_DIGITS {
         return Decimal::Not;
     }
     let mut v: u64 = 0;

@@ -5,9 +5,15 @@ ghost use Prim.Native.Nat.{_-_, _≤_, _<_};
 ghost use lib.IntN.{pos, negsuc};
 ghost use Rattle.model.specs.Field.{read, i64 as largest, Form};
 ghost use Rattle.record.specs.Answer.{signedOf};
+ghost use Rattle.record.specs.Number.{minus};
 use crate::Decimal;
 use crate::Signed;
 use crate::number::decimal;
+
+// The largest signed number, and the size of the smallest.
+const MOST: u64 = 9223372036854775807;
+
+const MOST_BELOW: u64 = 9223372036854775808;
 
 // The same number, signed.
 fn positive(n: u64) -> i64
@@ -28,9 +34,9 @@ fn negative(n: u64) -> i64
 
 // What follows a minus sign; zero has none.
 fn minus(s: &[u8]) -> Signed
-    ensures { λ r. ⌜ r ≡ signedOf (read Form.int ((45 ∷ now (s .entry)) ∷ [])) ⌝ }
+    ensures { λ r. ⌜ r ≡ signedOf (read Form.int ((minus ∷ now (s .entry)) ∷ [])) ⌝ }
 {
-    match decimal(s, 9223372036854775808) {
+    match decimal(s, MOST_BELOW) {
         Decimal::Is(n) => {
             if n == 0 {
                 return Signed::Not;
@@ -51,7 +57,7 @@ pub fn signed(s: &[u8]) -> Signed
     if s[0] == b'-' {
         return minus(&s[1..]);
     }
-    match decimal(s, 9223372036854775807) {
+    match decimal(s, MOST) {
         Decimal::Is(n) => Signed::Is(positive(n)),
         Decimal::Not => Signed::Not,
     }

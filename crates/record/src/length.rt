@@ -8,6 +8,9 @@ use crate::OptDecimal;
 use crate::number::decimal_or_absent;
 use crate::number::is_dash;
 
+// The largest number of 64 bits.
+const MAX_U64: u64 = 18446744073709551615;
+
 // A word of three letters.
 fn is_word(s: &[u8], x: u8, y: u8, z: u8) -> bool
     ensures { λ r. ⌜ r ≡ same (now (s .entry)) (x ∷ y ∷ z ∷ []) ⌝ }
@@ -28,7 +31,7 @@ fn is_word(s: &[u8], x: u8, y: u8, z: u8) -> bool
 fn bound(s: &[u8]) -> bool
     ensures { λ r. ⌜ r ≡ isRead (read (Form.numOrAbsent u64) (now (s .entry) ∷ [])) ⌝ }
 {
-    match decimal_or_absent(s, 18446744073709551615) {
+    match decimal_or_absent(s, MAX_U64) {
         OptDecimal::Is(_) => true,
         OptDecimal::Absent => true,
         OptDecimal::Not => false,

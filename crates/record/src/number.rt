@@ -8,6 +8,9 @@ ghost use Rattle.record.specs.Number.{digitsOn, dash};
 use crate::Decimal;
 use crate::OptDecimal;
 
+// The byte of the digit 0.
+const DIGIT_0: u64 = 48;
+
 // A byte as a number of 64 bits.
 fn wide(b: u8) -> u64
     ensures { λ r. ⌜ r ≡ b ⌝ }
@@ -23,10 +26,10 @@ fn gather(s: &[u8], limit: u64) -> Decimal
     let mut i = 0;
     while i < s.len() {
         let b = wide(s[i]);
-        if b < 48 {
+        if b < DIGIT_0 {
             return Decimal::Not;
         }
-        let d = b - 48;
+        let d = b - DIGIT_0;
         if 9 < d {
             return Decimal::Not;
         }

@@ -8,23 +8,25 @@ use borrow.Author.Tests.{eqb-true, eqb-false}
 use lib.Dec.{eqb}
 use lib.ListN.{length, getD, set, length-set}
 use lib.Seq.{getD-set-same, getD-set-other}
+use Rattle.model.specs.Call.{workWords, maxDepth}
+use Rattle.words.specs.Places.{sortCount}
 use Rattle.model.specs.Kind.{Sort}
-use Rattle.line.specs.Table.{sortOf, groupSort, groupSource, countOf, groupsFrom}
+use Rattle.words.specs.Table.{sortOf, groupSort, groupSource, countOf, groupsFrom, groupCount}
 use Rattle.sheet.specs.Due.{Due, due, dueOf}
-use Rattle.sheet.specs.Stack.{Alike, alike-refl, alike-sym, alike-trans, alike-under, alike-none, slack, Fit}
+use Rattle.sheet.specs.Stack.{Alike, alike-refl, alike-sym, alike-trans, alike-under, alike-none, slack, Fit, dueWords, dueCountAt, dueRoomAt, allowed}
 
 -- at most this many groups are ever due
 abbrev pub maxDue : ℕ
-maxDue = 715
+maxDue = allowed 0
 
 -- a group more has room on top of m
 pub record Room (w : List ℕ) (m : ℕ) : Type 0 where
   pub few : m < maxDue
-  pub long : 16384 ≤ length w
+  pub long : workWords ≤ length w
 
 -- group m
 abbrev pub group : List ℕ → ℕ → Due
-group w m = due (sortOf (getD w (m * 3) 0)) (getD w (m * 3 + 1) 0) (getD w (m * 3 + 2) 0)
+group w m = due (sortOf (getD w (m * dueWords) 0)) (getD w (m * dueWords + dueCountAt) 0) (getD w (m * dueWords + dueRoomAt) 0)
 
 unfoldable pub dues : List ℕ → ℕ → List Due
 dues w zero = []
@@ -36,19 +38,19 @@ dues-length w zero = refl
 dues-length w (suc m) = ap suc (dues-length w m)
 
 -- words behind group m do not matter
-pub dues-same : (w w′ : List ℕ) (m : ℕ) → ((j : ℕ) → j < m * 3 → getD w′ j 0 ≡ getD w j 0) → dues w′ m ≡ dues w m
+pub dues-same : (w w′ : List ℕ) (m : ℕ) → ((j : ℕ) → j < m * dueWords → getD w′ j 0 ≡ getD w j 0) → dues w′ m ≡ dues w m
 unfolding dues
 dues-same w w′ zero h = refl
-dues-same w w′ (suc m) h = rw (h (m * 3) (omega arith), h (m * 3 + 1) (omega arith), h (m * 3 + 2) (omega arith), dues-same w w′ m (λ j l. h j (omega arith)))
+dues-same w w′ (suc m) h = rw (h (m * dueWords) (omega arith), h (m * dueWords + dueCountAt) (omega arith), h (m * dueWords + dueRoomAt) (omega arith), dues-same w w′ m (λ j l. h j (omega arith)))
 
 -- the groups' sorts are numbers of sorts
 pub record Sorted (w : List ℕ) (m : ℕ) : Type 0 where
-  pub at : (j : ℕ) → j < m → getD w (j * 3) 0 < 11
+  pub at : (j : ℕ) → j < m → getD w (j * dueWords) 0 < sortCount
 
 pub record Pushed (w w′ : List ℕ) (m sort count room : ℕ) : Type 0 where
   pub same : length w′ ≡ length w
   pub is : dues w′ (suc m) ≡ due (sortOf sort) count room ∷ dues w m
-  pub sorted : Sorted w m → sort < 11 → Sorted w′ (suc m)
+  pub sorted : Sorted w m → sort < sortCount → Sorted w′ (suc m)
 
 -- the top group, m, has one less
 pub record Popped (w w′ : List ℕ) (m r : ℕ) : Type 0 where
@@ -62,81 +64,81 @@ pub record Popped (w w′ : List ℕ) (m r : ℕ) : Type 0 where
 -- ── pushing ──
 
 -- the words of the sorts below stay
-sorted-same : (w w′ : List ℕ) (m : ℕ) → ((j : ℕ) → j < m → getD w′ (j * 3) 0 ≡ getD w (j * 3) 0) → Sorted w m → Sorted w′ m
+sorted-same : (w w′ : List ℕ) (m : ℕ) → ((j : ℕ) → j < m → getD w′ (j * dueWords) 0 ≡ getD w (j * dueWords) 0) → Sorted w m → Sorted w′ m
 sorted-same w w′ m h s = record { at = λ j l. rw (h j l) (s .at j l) }
 
-sorted-more : (w w′ : List ℕ) (m x : ℕ) → ((j : ℕ) → j < m → getD w′ (j * 3) 0 ≡ getD w (j * 3) 0) → getD w′ (m * 3) 0 ≡ x → Sorted w m → x < 11 → Sorted w′ (suc m)
+sorted-more : (w w′ : List ℕ) (m x : ℕ) → ((j : ℕ) → j < m → getD w′ (j * dueWords) 0 ≡ getD w (j * dueWords) 0) → getD w′ (m * dueWords) 0 ≡ x → Sorted w m → x < sortCount → Sorted w′ (suc m)
 sorted-more w w′ m x h e s l = record { at = λ j k. at j k (eqb j m) refl }
   where
-    at : (j : ℕ) → j < suc m → (t : Bool) → eqb j m ≡ t → getD w′ (j * 3) 0 < 11
+    at : (j : ℕ) → j < suc m → (t : Bool) → eqb j m ≡ t → getD w′ (j * dueWords) 0 < sortCount
     at j k true q = rw (eqb-true j m q, e) l
     at j k false q = let z : j < m = omega (arith, eqb-false j m q) in rw (h j z) (s .at j z)
 
 sorted-less : (w : List ℕ) (m : ℕ) → Sorted w (suc m) → Sorted w m
 sorted-less w m s = record { at = λ j l. s .at j (omega arith) }
 
-pub push-is : (w : List ℕ) (m s n d : ℕ) → Room w m → Pushed w (set (set (set w (m * 3) s) (m * 3 + 1) n) (m * 3 + 2) d) m s n d
+pub push-is : (w : List ℕ) (m s n d : ℕ) → Room w m → Pushed w (set (set (set w (m * dueWords) s) (m * dueWords + dueCountAt) n) (m * dueWords + dueRoomAt) d) m s n d
 unfolding dues
 push-is w m s n d h =
     let long = h .long in
     let few = h .few in
-    let x = set w (m * 3) s in
-    let y = set x (m * 3 + 1) n in
-    let lx : length x ≡ length w = length-set w (m * 3) s in
-    let ly : length y ≡ length w = length-set x (m * 3 + 1) n ∙ lx in
+    let x = set w (m * dueWords) s in
+    let y = set x (m * dueWords + dueCountAt) n in
+    let lx : length x ≡ length w = length-set w (m * dueWords) s in
+    let ly : length y ≡ length w = length-set x (m * dueWords + dueCountAt) n ∙ lx in
     record {
-      same = length-set y (m * 3 + 2) d ∙ ly;
+      same = length-set y (m * dueWords + dueRoomAt) d ∙ ly;
       is =
           rw (
-            getD-set-same y (m * 3 + 2) d 0 (omega arith),
-            getD-set-other y (m * 3 + 2) (m * 3 + 1) d 0 (omega arith),
-            getD-set-same x (m * 3 + 1) n 0 (omega arith),
-            getD-set-other y (m * 3 + 2) (m * 3) d 0 (omega arith),
-            getD-set-other x (m * 3 + 1) (m * 3) n 0 (omega arith),
-            getD-set-same w (m * 3) s 0 (omega arith),
+            getD-set-same y (m * dueWords + dueRoomAt) d 0 (omega arith),
+            getD-set-other y (m * dueWords + dueRoomAt) (m * dueWords + dueCountAt) d 0 (omega arith),
+            getD-set-same x (m * dueWords + dueCountAt) n 0 (omega arith),
+            getD-set-other y (m * dueWords + dueRoomAt) (m * dueWords) d 0 (omega arith),
+            getD-set-other x (m * dueWords + dueCountAt) (m * dueWords) n 0 (omega arith),
+            getD-set-same w (m * dueWords) s 0 (omega arith),
           )
-          (ap (λ l. due (sortOf s) n d ∷ l) (dues-same w (set y (m * 3 + 2) d) m (λ j l. getD-set-other y (m * 3 + 2) j d 0 (omega arith) ∙ getD-set-other x (m * 3 + 1) j n 0 (omega arith) ∙ getD-set-other w (m * 3) j s 0 (omega arith))));
-      sorted = sorted-more w (set y (m * 3 + 2) d) m s
-          (λ j l. getD-set-other y (m * 3 + 2) (j * 3) d 0 (omega arith) ∙ getD-set-other x (m * 3 + 1) (j * 3) n 0 (omega arith) ∙ getD-set-other w (m * 3) (j * 3) s 0 (omega arith))
-          (getD-set-other y (m * 3 + 2) (m * 3) d 0 (omega arith) ∙ getD-set-other x (m * 3 + 1) (m * 3) n 0 (omega arith) ∙ getD-set-same w (m * 3) s 0 (omega arith));
+          (ap (λ l. due (sortOf s) n d ∷ l) (dues-same w (set y (m * dueWords + dueRoomAt) d) m (λ j l. getD-set-other y (m * dueWords + dueRoomAt) j d 0 (omega arith) ∙ getD-set-other x (m * dueWords + dueCountAt) j n 0 (omega arith) ∙ getD-set-other w (m * dueWords) j s 0 (omega arith))));
+      sorted = sorted-more w (set y (m * dueWords + dueRoomAt) d) m s
+          (λ j l. getD-set-other y (m * dueWords + dueRoomAt) (j * dueWords) d 0 (omega arith) ∙ getD-set-other x (m * dueWords + dueCountAt) (j * dueWords) n 0 (omega arith) ∙ getD-set-other w (m * dueWords) (j * dueWords) s 0 (omega arith))
+          (getD-set-other y (m * dueWords + dueRoomAt) (m * dueWords) d 0 (omega arith) ∙ getD-set-other x (m * dueWords + dueCountAt) (m * dueWords) n 0 (omega arith) ∙ getD-set-same w (m * dueWords) s 0 (omega arith));
     }
 
 -- ── popping ──
 
-pub pop-last : (w : List ℕ) (m : ℕ) → getD w (m * 3 + 1) 0 ≡ 1 → Popped w w m m
+pub pop-last : (w : List ℕ) (m : ℕ) → getD w (m * dueWords + dueCountAt) 0 ≡ 1 → Popped w w m m
 unfolding dues
 pop-last w m e = record { same = refl; low = omega arith; high = omega arith; is = rw e (alike-sym (alike-none (group w m .sort) (group w m .room) (dues w m))); fit = λ f. f .3; sorted = sorted-less w m }
 
 fit-less : (s : Sort) (n d : ℕ) (st : List Due) → 1 < n → Fit (due s n d ∷ st) → Fit (due s (n - 1) d ∷ st)
 fit-less s n d st h f = (omega arith, f .1, f .2, f .3)
 
-pop-dues : (w : List ℕ) (m : ℕ) → 1 < getD w (m * 3 + 1) 0 → Room w m → dues (set w (m * 3 + 1) (getD w (m * 3 + 1) 0 - 1)) (suc m) ≡ due (group w m .sort) (group w m .count - 1) (group w m .room) ∷ dues w m
+pop-dues : (w : List ℕ) (m : ℕ) → 1 < getD w (m * dueWords + dueCountAt) 0 → Room w m → dues (set w (m * dueWords + dueCountAt) (getD w (m * dueWords + dueCountAt) 0 - 1)) (suc m) ≡ due (group w m .sort) (group w m .count - 1) (group w m .room) ∷ dues w m
 unfolding dues
 pop-dues w m h room =
     let long = room .long in
     let few = room .few in
-    let n = getD w (m * 3 + 1) 0 - 1 in
+    let n = getD w (m * dueWords + dueCountAt) 0 - 1 in
     rw (
-      getD-set-same w (m * 3 + 1) n 0 (omega arith),
-      getD-set-other w (m * 3 + 1) (m * 3) n 0 (omega arith),
-      getD-set-other w (m * 3 + 1) (m * 3 + 2) n 0 (omega arith),
+      getD-set-same w (m * dueWords + dueCountAt) n 0 (omega arith),
+      getD-set-other w (m * dueWords + dueCountAt) (m * dueWords) n 0 (omega arith),
+      getD-set-other w (m * dueWords + dueCountAt) (m * dueWords + dueRoomAt) n 0 (omega arith),
     )
-    (ap (λ l. due (sortOf (getD w (m * 3) 0)) n (getD w (m * 3 + 2) 0) ∷ l) (dues-same w (set w (m * 3 + 1) n) m (λ j l. getD-set-other w (m * 3 + 1) j n 0 (omega arith))))
+    (ap (λ l. due (sortOf (getD w (m * dueWords) 0)) n (getD w (m * dueWords + dueRoomAt) 0) ∷ l) (dues-same w (set w (m * dueWords + dueCountAt) n) m (λ j l. getD-set-other w (m * dueWords + dueCountAt) j n 0 (omega arith))))
 
-pop-fit : (w : List ℕ) (m : ℕ) → 1 < getD w (m * 3 + 1) 0 → Fit (dues w (suc m)) → Fit (due (group w m .sort) (group w m .count - 1) (group w m .room) ∷ dues w m)
+pop-fit : (w : List ℕ) (m : ℕ) → 1 < getD w (m * dueWords + dueCountAt) 0 → Fit (dues w (suc m)) → Fit (due (group w m .sort) (group w m .count - 1) (group w m .room) ∷ dues w m)
 unfolding dues
 pop-fit w m h f = fit-less (group w m .sort) (group w m .count) (group w m .room) (dues w m) h f
 
-pub pop-more : (w : List ℕ) (m r : ℕ) → r ≡ suc m → 1 < getD w (m * 3 + 1) 0 → Room w m → Popped w (set w (m * 3 + 1) (getD w (m * 3 + 1) 0 - 1)) m r
+pub pop-more : (w : List ℕ) (m r : ℕ) → r ≡ suc m → 1 < getD w (m * dueWords + dueCountAt) 0 → Room w m → Popped w (set w (m * dueWords + dueCountAt) (getD w (m * dueWords + dueCountAt) 0 - 1)) m r
 pop-more w m r e h room =
     let d = pop-dues w m h room in
     record {
-      same = length-set w (m * 3 + 1) (getD w (m * 3 + 1) 0 - 1);
+      same = length-set w (m * dueWords + dueCountAt) (getD w (m * dueWords + dueCountAt) 0 - 1);
       low = omega arith;
       high = omega arith;
       is = rw (e, d) (alike-refl _);
       fit = λ f. rw (e, d) (pop-fit w m h f);
-      sorted = λ z. rw e (sorted-same w (set w (m * 3 + 1) (getD w (m * 3 + 1) 0 - 1)) (suc m) (λ j l. getD-set-other w (m * 3 + 1) (j * 3) (getD w (m * 3 + 1) 0 - 1) 0 (omega arith)) z);
+      sorted = λ z. rw e (sorted-same w (set w (m * dueWords + dueCountAt) (getD w (m * dueWords + dueCountAt) 0 - 1)) (suc m) (λ j l. getD-set-other w (m * dueWords + dueCountAt) (j * dueWords) (getD w (m * dueWords + dueCountAt) 0 - 1) 0 (omega arith)) z);
     }
 
 -- ── a record's groups ──
@@ -151,16 +153,16 @@ pub record Grouped (w w′ : List ℕ) (m s n d r : ℕ) : Type 0 where
   pub low : m ≤ r
   pub high : r ≤ suc m
   pub is : Alike (dues w′ r) (due (sortOf s) n d ∷ dues w m)
-  pub fit : Fit (dues w m) → d ≤ 64 → m + 1 + slack (sortOf s) ≤ 11 * (65 - d) → Fit (dues w′ r)
+  pub fit : Fit (dues w m) → d ≤ maxDepth → m + 1 + slack (sortOf s) ≤ allowed d → Fit (dues w′ r)
   pub sorted : Sorted w m → Sorted w′ r
 
 pub grouped-none : (w : List ℕ) (m s n d : ℕ) → n ≡ 0 → Grouped w w m s n d m
 grouped-none w m s n d e = record { same = refl; low = omega arith; high = omega arith; is = rw e (alike-sym (alike-none (sortOf s) d (dues w m))); fit = λ f h g. f; sorted = λ z. z }
 
-grouped-one : (w w′ : List ℕ) (m s n d r : ℕ) → (n ≡ 0 → ⊥) → s < 11 → r ≡ suc m → Pushed w w′ m s n d → Grouped w w′ m s n d r
+grouped-one : (w w′ : List ℕ) (m s n d r : ℕ) → (n ≡ 0 → ⊥) → s < sortCount → r ≡ suc m → Pushed w w′ m s n d → Grouped w w′ m s n d r
 grouped-one w w′ m s n d r z low e p = record { same = p .same; low = omega arith; high = omega arith; is = rw (e, p .is) (alike-refl _); fit = λ f h g. rw (e, p .is) (nonzero n z, h, rw (dues-length w m) g, f); sorted = λ q. rw e (p .sorted q low) }
 
-pub grouped-push : (w w′ : List ℕ) (m s n d r s′ n′ : ℕ) → (s′ ≡ s) × (s′ < 11) → n′ ≡ n → (n′ ≡ 0 → ⊥) → r ≡ suc m → Pushed w w′ m s′ n′ d → Grouped w w′ m s n d r
+pub grouped-push : (w w′ : List ℕ) (m s n d r s′ n′ : ℕ) → (s′ ≡ s) × (s′ < sortCount) → n′ ≡ n → (n′ ≡ 0 → ⊥) → r ≡ suc m → Pushed w w′ m s′ n′ d → Grouped w w′ m s n d r
 grouped-push w w′ m s n d r s′ n′ e f z q p = rw (← (e .0), ← f) (grouped-one w w′ m s′ n′ d r z (e .1) q p)
 
 -- k groups from group g on, on top of m others
@@ -174,18 +176,18 @@ pub record Groups (w w′ : List ℕ) (n : ℕ) (ws : List ℕ) (g k m d r : ℕ
 
 -- there is room for every group of a kind
 pub record Space (w : List ℕ) (n m d : ℕ) : Type 0 where
-  pub long : 16384 ≤ length w
-  pub few : m + 5 ≤ maxDue
-  pub room : d ≤ 64
-  pub each : (g : ℕ) → g < 5 → m + 5 + slack (sortOf (groupSort n g)) ≤ 11 * (65 - d)
+  pub long : workWords ≤ length w
+  pub few : m + groupCount ≤ maxDue
+  pub room : d ≤ maxDepth
+  pub each : (g : ℕ) → g < groupCount → m + groupCount + slack (sortOf (groupSort n g)) ≤ allowed d
   pub fit : Fit (dues w m)
   pub sorted : Sorted w m
 
-pub groups-none : (w : List ℕ) (n : ℕ) (ws : List ℕ) (m d : ℕ) → Space w n m d → Groups w w n ws 5 0 m d m
+pub groups-none : (w : List ℕ) (n : ℕ) (ws : List ℕ) (m d : ℕ) → Space w n m d → Groups w w n ws groupCount 0 m d m
 unfolding groupsFrom dueOf
 groups-none w n ws m d s = record { same = refl; low = omega arith; high = omega arith; is = alike-refl (dues w m); fit = s .fit; sorted = s .sorted }
 
-pub groups-more : (w w′ w″ : List ℕ) (n : ℕ) (ws : List ℕ) (g k m d r r′ : ℕ) → Space w n m d → k + suc g ≡ 5 → Groups w w′ n ws (suc g) k m d r → Grouped w′ w″ r (groupSort n g) (countOf ws (groupSource n g)) d r′ → Groups w w″ n ws g (suc k) m d r′
+pub groups-more : (w w′ w″ : List ℕ) (n : ℕ) (ws : List ℕ) (g k m d r r′ : ℕ) → Space w n m d → k + suc g ≡ groupCount → Groups w w′ n ws (suc g) k m d r → Grouped w′ w″ r (groupSort n g) (countOf ws (groupSource n g)) d r′ → Groups w w″ n ws g (suc k) m d r′
 unfolding groupsFrom dueOf
 groups-more w w′ w″ n ws g k m d r r′ s e p q =
     let low = p .low in
@@ -204,20 +206,20 @@ groups-more w w′ w″ n ws g k m d r r′ s e p q =
 
 -- ── the loop over a record's groups, from the last to the first ──
 
-stepped : (w w′ w″ : List ℕ) (n : ℕ) (ws : List ℕ) (m d r r′ : ℕ) → Space w n m d → (g : ℕ) → 0 < g → g ≤ 5 → Groups w w′ n ws g (5 - g) m d r → Grouped w′ w″ r (groupSort n (g - 1)) (countOf ws (groupSource n (g - 1))) d r′ → Groups w w″ n ws (g - 1) (5 - (g - 1)) m d r′
+stepped : (w w′ w″ : List ℕ) (n : ℕ) (ws : List ℕ) (m d r r′ : ℕ) → Space w n m d → (g : ℕ) → 0 < g → g ≤ groupCount → Groups w w′ n ws g (groupCount - g) m d r → Grouped w′ w″ r (groupSort n (g - 1)) (countOf ws (groupSource n (g - 1))) d r′ → Groups w w″ n ws (g - 1) (groupCount - (g - 1)) m d r′
 stepped w w′ w″ n ws m d r r′ s zero h l p q = absurd (omega arith)
 stepped w w′ w″ n ws m d r r′ s (suc g) h l p q =
     let e : suc g - 1 ≡ g = omega arith in
-    let k : 5 - (suc g - 1) ≡ suc (5 - suc g) = omega arith in
-    rw (k, e) (groups-more w w′ w″ n ws g (5 - suc g) m d r r′ s (omega arith) p (rw e at q))
+    let k : groupCount - (suc g - 1) ≡ suc (groupCount - suc g) = omega arith in
+    rw (k, e) (groups-more w w′ w″ n ws g (groupCount - suc g) m d r r′ s (omega arith) p (rw e at q))
 
-module _ (w w′ : List ℕ) (n : ℕ) (ws : List ℕ) (g m d r : ℕ) (s : Space w n m d) (h : 0 < g) (l : g ≤ 5) (p : Groups w w′ n ws g (5 - g) m d r) where
+module _ (w w′ : List ℕ) (n : ℕ) (ws : List ℕ) (g m d r : ℕ) (s : Space w n m d) (h : 0 < g) (l : g ≤ groupCount) (p : Groups w w′ n ws g (groupCount - g) m d r) where
   pub room-left : Room w′ r
   room-left = record { few = omega (arith, s .few, p .high); long = omega (arith, s .long, p .same) }
 
-  pub groups-step : (w″ : List ℕ) (r′ : ℕ) → Grouped w′ w″ r (groupSort n (g - 1)) (countOf ws (groupSource n (g - 1))) d r′ → Groups w w″ n ws (g - 1) (5 - (g - 1)) m d r′
+  pub groups-step : (w″ : List ℕ) (r′ : ℕ) → Grouped w′ w″ r (groupSort n (g - 1)) (countOf ws (groupSource n (g - 1))) d r′ → Groups w w″ n ws (g - 1) (groupCount - (g - 1)) m d r′
   groups-step w″ r′ q = stepped w w′ w″ n ws m d r r′ s g h l p q
 
-pub groups-all : (w w′ : List ℕ) (n : ℕ) (ws : List ℕ) (m d r g : ℕ) → g ≡ 0 → Groups w w′ n ws g (5 - g) m d r → Groups w w′ n ws 0 5 m d r
+pub groups-all : (w w′ : List ℕ) (n : ℕ) (ws : List ℕ) (m d r g : ℕ) → g ≡ 0 → Groups w w′ n ws g (groupCount - g) m d r → Groups w w′ n ws 0 groupCount m d r
 groups-all w w′ n ws m d r zero e p = p
 groups-all w w′ n ws m d r (suc g) e p = absurd (omega arith)

@@ -10,13 +10,15 @@ use borrow.Author.Tests.{eqb-true, eqb-false}
 use lib.Dec.{eqb}
 use lib.ListN.{length, getD}
 use lib.Seq.{slice}
+use Rattle.sheet.specs.Stack.{dueWords, dueCountAt, dueRoomAt}
+use Rattle.words.specs.Places.{writeKind, kindCount, sortCount}
 use Rattle.model.specs.Text.{Bytes}
 use Rattle.model.specs.Field.{Fields}
 use Rattle.model.specs.Kind.{Sort, Kind}
 use Rattle.model.specs.Record.{Rec, rec, forms, readRec}
 use Rattle.model.specs.Sheet.{refused, readLine, orElse}
 use Rattle.model.specs.Call.{refuse, lineRefusal}
-use Rattle.words.specs.Words.{Roomy, part, decode, recOf, fieldsOf}
+use Rattle.words.specs.Words.{Roomy, part, decode, recOf, fieldsOf, maxRecords}
 use Rattle.record.specs.Piece.{Piece}
 use Rattle.line.specs.LineRead.{Got, IntoRead}
 use Rattle.line.specs.declared.read.Line.{Line}
@@ -28,7 +30,7 @@ use Rattle.sheet.specs.Due.{roomBelow, isZero}
 use Rattle.sheet.specs.Writes.{writes, writeAmong}
 use Rattle.sheet.specs.Progress.{placeAt, rest, line-refused, no-feed, too-many, deep, unformed, well-formed}
 use Rattle.sheet.specs.Dues.{dues, dues-length, group, Room, Popped, Groups, Space}
-use Rattle.sheet.specs.Steps.{writes-eight, space, due-now}
+use Rattle.sheet.specs.Steps.{writes-kind, space, due-now}
 use Rattle.sheet.specs.Reader.{readOnly, Reads, Ends, SoFar, writeOf, rest-refused, top-is, advance, seen-more, seen-write}
 
 -- behind record i
@@ -39,19 +41,19 @@ Next sheet a b w i Big = readOnly sheet ≡ refuse (lineRefusal 4 (i + 1))
 
 -- the line of the first write, when record i has kind number n
 pub record Wrote (n wr i wr′ : ℕ) : Type 0 where
-  pub new : n ≡ 8 → wr ≡ 0 → wr′ ≡ suc i
-  pub old : n ≡ 8 → (wr ≡ 0 → ⊥) → wr′ ≡ wr
-  pub other : (n ≡ 8 → ⊥) → wr′ ≡ wr
+  pub new : n ≡ writeKind → wr ≡ 0 → wr′ ≡ suc i
+  pub old : n ≡ writeKind → (wr ≡ 0 → ⊥) → wr′ ≡ wr
+  pub other : (n ≡ writeKind → ⊥) → wr′ ≡ wr
 
 module _ (sheet : Bytes) (a b w : List ℕ) (i pos m wr : ℕ) (o : SoFar sheet a b w i pos (m + 1) wr) where
   -- with the successor that definitions go by
   state : SoFar sheet a b w i pos (suc m) wr
   state = rw (add-one m) at o
 
-  pub top-sort : getD w (m * 3) 0 < 11
+  pub top-sort : getD w (m * dueWords) 0 < sortCount
   top-sort = o .sorted .at m (omega arith)
 
-  pub top-count : 0 < getD w (m * 3 + 1) 0
+  pub top-count : 0 < getD w (m * dueWords + dueCountAt) 0
   unfolding dues
   top-count = state .fit .0
 
@@ -73,17 +75,17 @@ module _ (sheet : Bytes) (a b w : List ℕ) (i pos m wr : ℕ) (o : SoFar sheet 
       within : e < length sheet
       within = omega (arith, piece .within, ends)
 
-      pub next-many : i ≡ 2048 → readOnly sheet ≡ refuse (lineRefusal 4 (i + 1))
+      pub next-many : i ≡ maxRecords → readOnly sheet ≡ refuse (lineRefusal 4 (i + 1))
       next-many q = line-refuses 4 (too-many sheet pos (suc i) (group w m .sort) (group w m .room) (e + 1) (piece .more within) (omega arith))
 
-      pub next-deep : getD w (m * 3 + 2) 0 ≡ 0 → readOnly sheet ≡ refuse (lineRefusal 4 (i + 1))
+      pub next-deep : getD w (m * dueWords + dueRoomAt) 0 ≡ 0 → readOnly sheet ≡ refuse (lineRefusal 4 (i + 1))
       next-deep q = line-refuses 4 (deep sheet pos (suc i) (group w m .sort) (group w m .room) (e + 1) (piece .more within) q)
 
-      module _ (few : i ≡ 2048 → ⊥) (room : getD w (m * 3 + 2) 0 ≡ 0 → ⊥) where
-        low : i < 2048
+      module _ (few : i ≡ maxRecords → ⊥) (room : getD w (m * dueWords + dueRoomAt) 0 ≡ 0 → ⊥) where
+        low : i < maxRecords
         low = omega (arith, o .few, few)
 
-        deep-enough : 0 < getD w (m * 3 + 2) 0
+        deep-enough : 0 < getD w (m * dueWords + dueRoomAt) 0
         deep-enough = omega (arith, room)
 
         pub next-unformed : (a′ b′ : List ℕ) (l : Line) → IntoRead (group w m .sort) sheet pos e i a b a′ b′ l → l ≡ Line.Not → readOnly sheet ≡ refuse (lineRefusal 3 (i + 1))
@@ -105,19 +107,19 @@ module _ (sheet : Bytes) (a b w : List ℕ) (i pos m wr : ℕ) (o : SoFar sheet 
           is-read : readRec (group w m .sort) (slice pos e sheet) ≡ some (got-it .kind, fields)
           is-read = got-it .read ∙ sym (got-it .held) ∙ decoded
 
-          pub next-low : n < 39
+          pub next-low : n < kindCount
           next-low = got-it .low
 
           pub next-space : Space w′ n r d
           next-space = space w w′ m r n (state .long) (state .fit) (state .sorted) pop deep-enough (got-it .kind) (got-it .named) d below
 
-          writes-is : writes (group w m .sort) (got-it .kind) ≡ eqb n 8
-          writes-is = writes-eight (getD w (m * 3) 0) top-sort n (got-it .kind) (got-it .named)
+          writes-is : writes (group w m .sort) (got-it .kind) ≡ eqb n writeKind
+          writes-is = writes-kind (getD w (m * dueWords) 0) top-sort n (got-it .kind) (got-it .named)
 
           module _ (w″ : List ℕ) (r″ wr′ : ℕ) where
-            seen : (t : Bool) → eqb n 8 ≡ t → Wrote n wr i wr′ → (ss : List Rec) → writeAmong 1 ((state .done ++ (rec (group w m .sort) (got-it .kind) fields ∷ [])) ++ ss) ≡ orElse (writeOf wr′) (writeAmong (suc (suc i)) ss)
-            seen true q wrote = seen-write sheet a b w a′ b′ w″ i pos m wr state (e + 1) r″ wr′ (got-it .kind, fields) (writes-is ∙ q) (wrote .new (eqb-true n 8 q)) (wrote .old (eqb-true n 8 q))
-            seen false q wrote = seen-more sheet a b w a′ b′ w″ i pos m wr state (e + 1) r″ wr′ (got-it .kind, fields) (writes-is ∙ q) (wrote .other (eqb-false n 8 q))
+            seen : (t : Bool) → eqb n writeKind ≡ t → Wrote n wr i wr′ → (ss : List Rec) → writeAmong 1 ((state .done ++ (rec (group w m .sort) (got-it .kind) fields ∷ [])) ++ ss) ≡ orElse (writeOf wr′) (writeAmong (suc (suc i)) ss)
+            seen true q wrote = seen-write sheet a b w a′ b′ w″ i pos m wr state (e + 1) r″ wr′ (got-it .kind, fields) (writes-is ∙ q) (wrote .new (eqb-true n writeKind q)) (wrote .old (eqb-true n writeKind q))
+            seen false q wrote = seen-more sheet a b w a′ b′ w″ i pos m wr state (e + 1) r″ wr′ (got-it .kind, fields) (writes-is ∙ q) (wrote .other (eqb-false n writeKind q))
 
             pub next-more : Groups w′ w″ n (part a′ b′ i) 0 5 r d r″ → Wrote n wr i wr′ → Next sheet a′ b′ w″ i (More (e + 1) r″ wr′)
             unfolding fields
@@ -134,7 +136,7 @@ module _ (sheet : Bytes) (a b w : List ℕ) (i pos m wr : ℕ) (o : SoFar sheet 
                 (groups .fit)
                 (groups .sorted)
                 (due-now w w′ m r n (state .long) (state .fit) (state .sorted) pop deep-enough (got-it .kind) (got-it .named) w″ r″ d sheet (part a′ b′ i) (got-it .flags) below groups)
-                (seen (eqb n 8) refl wrote))
+                (seen (eqb n writeKind) refl wrote))
 
 -- ── the loop ──
 

@@ -7,17 +7,18 @@ use mathlib.Core.Bool.{true, false}
 use mathlib.Core.List.{List, [], _∷_, _++_, append-assoc, append-nil}
 use mathlib.Core.Option.{Option, none, some}
 use lib.ListN.{length, length-append}
+use Rattle.words.specs.Places.{statementSort}
 use Rattle.model.specs.Text.{Bytes}
 use Rattle.model.specs.Field.{Fields}
 use Rattle.model.specs.Kind.{Sort, Kind, statement}
 use Rattle.model.specs.Record.{Rec, rec, RecOf, forms, children}
 use Rattle.model.specs.Tree.{Tree, records}
 use Rattle.model.specs.Sheet.{Place, Reading, got, refused, readLine, readSheet, firstWrite, orElse}
-use Rattle.model.specs.Call.{Test, refuse, pass, then, testReading, testWrite, lineRefusal, recordCount}
-use Rattle.words.specs.Words.{Roomy, part}
+use Rattle.model.specs.Call.{Test, refuse, pass, then, testReading, testWrite, lineRefusal, recordCount, workWords, maxDepth}
+use Rattle.words.specs.Words.{Roomy, part, maxRecords}
 use Rattle.words.specs.Held.{RecordAt, Held}
 use Rattle.laws.specs.SheetLaws.{sheet-sound}
-use Rattle.line.specs.Table.{sorts, sortOf}
+use Rattle.words.specs.Table.{sorts, sortOf}
 use Rattle.sheet.specs.declared.reader.Read.{Read}
 use Rattle.sheet.specs.declared.reader.Read.the-variants.{Records, BadLine, BigTree, WriteClause}
 use Rattle.sheet.specs.Due.{due, dueOf, mapped, mapped-mapped, mapped-ext, roomBelow, isZero}
@@ -29,11 +30,11 @@ use Rattle.sheet.specs.Dues.{dues, group, Sorted, Pushed}
 
 -- tests 3 to 5
 unfoldable pub readOnly : Bytes → Test (Tree statement)
-readOnly sheet = then (testReading (readSheet 64 sheet)) λ t. testWrite t (firstWrite t)
+readOnly sheet = then (testReading (readSheet maxDepth sheet)) λ t. testWrite t (firstWrite t)
 
 -- the promise: the words hold the tree, or the answer is the refusal
 abbrev pub Reads : Bytes → List ℕ → List ℕ → Read → Type 0
-Reads sheet a b (Records n) = (t : Tree statement) × (readOnly sheet ≡ pass t) × (recordCount t ≡ n) × Held sheet a b t 64 0
+Reads sheet a b (Records n) = (t : Tree statement) × (readOnly sheet ≡ pass t) × (recordCount t ≡ n) × Held sheet a b t maxDepth 0
 Reads sheet a b (BadLine l) = readOnly sheet ≡ refuse (lineRefusal 3 l)
 Reads sheet a b (BigTree l) = readOnly sheet ≡ refuse (lineRefusal 4 l)
 Reads sheet a b (WriteClause l) = readOnly sheet ≡ refuse (lineRefusal 5 l)
@@ -48,13 +49,13 @@ pub record SoFar (sheet : Bytes) (a b w : List ℕ) (i pos m wr : ℕ) : Type 0 
   pub done : List Rec
   pub stands : Standing sheet a b 0 done
   pub many : length done ≡ i
-  pub few : i ≤ 2048
+  pub few : i ≤ maxRecords
   pub here : pos ≤ length sheet
-  pub long : 16384 ≤ length w
+  pub long : workWords ≤ length w
   pub roomy : Roomy a b
   pub fit : Fit (dues w m)
   pub sorted : Sorted w m
-  pub left : whole 64 sheet ≡ mapped (λ rs. done ++ rs) (rest (dues w m) (placeAt sheet pos (suc i)))
+  pub left : whole maxDepth sheet ≡ mapped (λ rs. done ++ rs) (rest (dues w m) (placeAt sheet pos (suc i)))
   pub wrote : (ss : List Rec) → writeAmong 1 (done ++ ss) ≡ orElse (writeOf wr) (writeAmong (suc i) ss)
 
 -- ── refusals ──
@@ -64,14 +65,14 @@ unfolding mapped
 mapped-refused f (got a p) n l e = let z : _≡_ {A = ℕ} 0 1 = cc in absurd (omega arith)
 mapped-refused f (refused m k) n l e = let p : m ≡ n = cc in let q : k ≡ l = cc in rw (p, q)
 
-refusal : (sheet : Bytes) (n l : ℕ) → readSheet 64 sheet ≡ refused n l → readOnly sheet ≡ refuse (lineRefusal n l)
+refusal : (sheet : Bytes) (n l : ℕ) → readSheet maxDepth sheet ≡ refused n l → readOnly sheet ≡ refuse (lineRefusal n l)
 unfolding readOnly then testReading
 refusal sheet n l e = rw e
 
 module _ (sheet : Bytes) (a b w : List ℕ) (i pos m wr : ℕ) (s : SoFar sheet a b w i pos m wr) where
   pub rest-refused : (n l : ℕ) → rest (dues w m) (placeAt sheet pos (suc i)) ≡ refused n l → readOnly sheet ≡ refuse (lineRefusal n l)
   unfolding mapped whole
-  rest-refused n l e = refusal sheet n l (mapped-refused (λ t. records t) (readSheet 64 sheet) n l (s .left ∙ ap (mapped (λ rs. s .done ++ rs)) e))
+  rest-refused n l e = refusal sheet n l (mapped-refused (λ t. records t) (readSheet maxDepth sheet) n l (s .left ∙ ap (mapped (λ rs. s .done ++ rs)) e))
 
 -- ── the end ──
 
@@ -89,10 +90,10 @@ mapped-got f (refused n l) b q e = let z : _≡_ {A = ℕ} 0 1 = cc in absurd (o
 record Ended (sheet : Bytes) (a b : List ℕ) (i wr : ℕ) : Type 0 where
   tree : Tree statement
   place : Place
-  reads : readSheet 64 sheet ≡ got tree place
+  reads : readSheet maxDepth sheet ≡ got tree place
   count : recordCount tree ≡ i
   write : firstWrite tree ≡ writeOf wr
-  is : Held sheet a b tree 64 0
+  is : Held sheet a b tree maxDepth 0
 
 passed : (t : Tree statement) (wr : ℕ) → wr ≡ 0 → testWrite t (writeOf wr) ≡ pass t
 unfolding testWrite writeOf
@@ -105,27 +106,27 @@ written t zero z = absurd (z refl)
 written t (suc l) z = refl
 
 module _ (sheet : Bytes) (a b w : List ℕ) (i pos wr : ℕ) (s : SoFar sheet a b w i pos 0 wr) (e : pos ≡ length sheet) where
-  ended-whole : whole 64 sheet ≡ got (s .done) (placeAt sheet (length sheet) (suc i))
+  ended-whole : whole maxDepth sheet ≡ got (s .done) (placeAt sheet (length sheet) (suc i))
   unfolding mapped dues
   ended-whole = s .left ∙ rw (e, at-the-end sheet (suc i)) (ap (λ l. got l (placeAt sheet (length sheet) (suc i))) (append-nil (s .done)))
 
-  ended-tree : (t : Tree statement) (q : Place) → readSheet 64 sheet ≡ got t q → records t ≡ s .done → Ended sheet a b i wr
+  ended-tree : (t : Tree statement) (q : Place) → readSheet maxDepth sheet ≡ got t q → records t ≡ s .done → Ended sheet a b i wr
   unfolding recordCount writeAmong
   ended-tree t q g d =
-      let wf = sheet-sound 64 sheet t q g .0 in
+      let wf = sheet-sound maxDepth sheet t q g .0 in
       record {
         tree = t;
         place = q;
         reads = g;
         count = ap length d ∙ s .many;
         write = ap firstWrite (sym (wf .numbers)) ∙ first-write t ∙ ap (writeAmong 1) (d ∙ sym (append-nil (s .done))) ∙ s .wrote [] ∙ orElse-none (writeOf wr);
-        is = subst (λ u. Held sheet a b u 64 0) (wf .numbers) (stands-held sheet a b t 64 0 (wf .deep) (subst (λ l. Standing sheet a b 0 l) (sym d) (s .stands)));
+        is = subst (λ u. Held sheet a b u maxDepth 0) (wf .numbers) (stands-held sheet a b t maxDepth 0 (wf .deep) (subst (λ l. Standing sheet a b 0 l) (sym d) (s .stands)));
       }
 
   ended : Ended sheet a b i wr
   unfolding whole
   ended =
-      let g = mapped-got (λ t. records t) (readSheet 64 sheet) (s .done) (placeAt sheet (length sheet) (suc i)) ended-whole in
+      let g = mapped-got (λ t. records t) (readSheet maxDepth sheet) (s .done) (placeAt sheet (length sheet) (suc i)) ended-whole in
       ended-tree (g .value) (placeAt sheet (length sheet) (suc i)) (g .is) (g .result)
 
   pub all-read : wr ≡ 0 → Reads sheet a b (Records i)
@@ -167,7 +168,7 @@ module _ (sheet : Bytes) (a b w a′ b′ w′ : List ℕ) (i pos m wr : ℕ) (o
   unfolding writeAmong
   seen-write q new old ss = ap (writeAmong 1) (append-assoc (o .done) (rec (group w m .sort) (x .0) (x .1) ∷ []) ss) ∙ o .wrote (rec (group w m .sort) (x .0) (x .1) ∷ ss) ∙ rw q (first-of wr wr′ i (writeAmong (suc (suc i)) ss) new old)
 
-  left-is : readLine (group w m .sort) (isZero (group w m .room)) (placeAt sheet pos (suc i)) ≡ got x (placeAt sheet to (suc (suc i))) → Alike (dues w′ m′) (dueOf (roomBelow (group w m .sort) (group w m .room)) (children (group w m .sort) (x .0) (x .1)) ++ (due (group w m .sort) (group w m .count - 1) (group w m .room) ∷ dues w m)) → whole 64 sheet ≡ mapped (λ rs. (o .done ++ (rec (group w m .sort) (x .0) (x .1) ∷ [])) ++ rs) (rest (dues w′ m′) (placeAt sheet to (suc (suc i))))
+  left-is : readLine (group w m .sort) (isZero (group w m .room)) (placeAt sheet pos (suc i)) ≡ got x (placeAt sheet to (suc (suc i))) → Alike (dues w′ m′) (dueOf (roomBelow (group w m .sort) (group w m .room)) (children (group w m .sort) (x .0) (x .1)) ++ (due (group w m .sort) (group w m .count - 1) (group w m .room) ∷ dues w m)) → whole maxDepth sheet ≡ mapped (λ rs. (o .done ++ (rec (group w m .sort) (x .0) (x .1) ∷ [])) ++ rs) (rest (dues w′ m′) (placeAt sheet to (suc (suc i))))
   left-is r alike =
       o .left
       ∙ ap (λ st. mapped (λ rs. o .done ++ rs) (rest st (placeAt sheet pos (suc i)))) (top-is w m (o .fit))
@@ -178,12 +179,12 @@ module _ (sheet : Bytes) (a b w a′ b′ w′ : List ℕ) (i pos m wr : ℕ) (o
 
   pub advance :
       readLine (group w m .sort) (isZero (group w m .room)) (placeAt sheet pos (suc i)) ≡ got x (placeAt sheet to (suc (suc i)))
-      → i < 2048
+      → i < maxRecords
       → to ≤ length sheet
       → RecordAt sheet a′ b′ i (group w m .sort) (x .0) (x .1)
       → ((j : ℕ) → j < i → part a′ b′ j ≡ part a b j)
       → Roomy a′ b′
-      → 16384 ≤ length w′
+      → workWords ≤ length w′
       → Fit (dues w′ m′)
       → Sorted w′ m′
       → Alike (dues w′ m′) (dueOf (roomBelow (group w m .sort) (group w m .room)) (children (group w m .sort) (x .0) (x .1)) ++ (due (group w m .sort) (group w m .count - 1) (group w m .room) ∷ dues w m))
@@ -214,14 +215,14 @@ unfolding mapped
 mapped-all (got rs p) = refl
 mapped-all (refused n l) = refl
 
-only-statement : (w w′ : List ℕ) → Pushed w w′ 0 0 1 64 → dues w′ 1 ≡ due statement 1 64 ∷ []
+only-statement : (w w′ : List ℕ) → Pushed w w′ 0 statementSort 1 maxDepth → dues w′ 1 ≡ due statement 1 maxDepth ∷ []
 unfolding dues sortOf sorts
 only-statement w w′ p = p .is
 
-statement-fits : Fit (due statement 1 64 ∷ [])
+statement-fits : Fit (due statement 1 maxDepth ∷ [])
 statement-fits = (omega arith, omega arith, omega arith, tt)
 
-pub begin : (sheet : Bytes) (a b w w′ : List ℕ) → Roomy a b → 16384 ≤ length w → Pushed w w′ 0 0 1 64 → SoFar sheet a b w′ 0 0 1 0
+pub begin : (sheet : Bytes) (a b w w′ : List ℕ) → Roomy a b → workWords ≤ length w → Pushed w w′ 0 statementSort 1 maxDepth → SoFar sheet a b w′ 0 0 1 0
 unfolding writeOf orElse
 begin sheet a b w w′ roomy long p =
     let e = only-statement w w′ p in
@@ -235,7 +236,7 @@ begin sheet a b w w′ roomy long p =
       roomy = roomy;
       fit = subst (λ st. Fit st) (sym e) statement-fits;
       sorted = p .sorted (record { at = λ j l. absurd (omega arith) }) (omega arith);
-      left = at-start 64 sheet ∙ sym (mapped-all (rest (due statement 1 64 ∷ []) (placeAt sheet 0 1))) ∙ ap (λ st. mapped (λ rs. [] ++ rs) (rest st (placeAt sheet 0 1))) (sym e);
+      left = at-start maxDepth sheet ∙ sym (mapped-all (rest (due statement 1 maxDepth ∷ []) (placeAt sheet 0 1))) ∙ ap (λ st. mapped (λ rs. [] ++ rs) (rest st (placeAt sheet 0 1))) (sym e);
       wrote = λ ss. refl;
     }
 

@@ -7,12 +7,25 @@ use mathlib.Core.List.{List, [], _∷_, _++_}
 use lib.ListN.{length, replicate}
 use Rattle.model.specs.Kind.{Sort}
 use Rattle.model.specs.Record.{rec, Group, children, beside}
+use Rattle.model.specs.Call.{maxDepth}
 use Rattle.model.specs.Tree.{recordsOf}
 use Rattle.model.specs.Sheet.{Place, next, readLine, readMany, readTree, atEnd}
 use Rattle.line.specs.GroupLaws.{sortsOf}
 use Rattle.sheet.specs.Due.{Due, due, dueOf, mapped, readDue, isZero, roomBelow, step, none-due}
 use Rattle.sheet.specs.Progress.{rest}
 use Rattle.laws.specs.SpelledLaws.{next-same}
+
+-- ── the words of a group ──
+
+abbrev pub dueWords : ℕ
+dueWords = 3
+
+-- its sort comes first; where its count and its room stand
+abbrev pub dueCountAt : ℕ
+dueCountAt = 1
+
+abbrev pub dueRoomAt : ℕ
+dueRoomAt = 2
 
 -- ── lists of groups that read the same ──
 
@@ -58,14 +71,21 @@ alike-split s d st a b n e = rw e (split-at s d st b a)
 
 -- ── room ──
 
+-- so many groups may be due down to one with room d: eleven for each level above
+abbrev pub allowed : ℕ → ℕ
+allowed d = 11 * (maxDepth + 1 - d)
+
 -- a map's key leaves place for the expression beside it
+abbrev pub entrySlack : ℕ
+entrySlack = 6
+
 abbrev pub slack : Sort → ℕ
-slack s = cond (beside s) 6 0
+slack s = cond (beside s) entrySlack 0
 
 -- each group is due, and stands low enough for its room
 abbrev pub Fit : List Due → Type 0
 Fit [] = Unit {0}
-Fit (g ∷ st) = (0 < g .count) × (g .room ≤ 64) × (length st + 1 + slack (g .sort) ≤ 11 * (65 - g .room)) × Fit st
+Fit (g ∷ st) = (0 < g .count) × (g .room ≤ maxDepth) × (length st + 1 + slack (g .sort) ≤ allowed (g .room)) × Fit st
 
 -- ── groups one by one ──
 

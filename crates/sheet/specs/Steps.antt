@@ -8,36 +8,38 @@ use mathlib.Core.Option.{some}
 use borrow.Author.Tests.{eqb-true, eq-eqb, ne-eqb}
 use lib.Dec.{eqb}
 use lib.ListN.{length, getD}
+use Rattle.model.specs.Call.{workWords, maxDepth}
+use Rattle.words.specs.Places.{writeKind, entryKind, entrySort, sortCount}
 use Rattle.model.specs.Text.{Bytes}
 use Rattle.model.specs.Kind.{Sort, Kind}
 use Rattle.model.specs.Record.{forms, kinds, sames, children, beside}
 use Rattle.words.specs.Words.{kindOf, firstKind, fieldsOf}
 use Rattle.words.specs.Held.{Flags}
-use Rattle.line.specs.Table.{sorts, sortOf, groupSort, groupsFrom, groupsOf}
-use Rattle.line.specs.TableLaws.{Rows, done, _▸_, kind-row}
+use Rattle.words.specs.Table.{sorts, sortOf, groupSort, groupsFrom, groupsOf, groupCount}
+use Rattle.words.specs.TableLaws.{Rows, done, _▸_, kind-row}
 use Rattle.line.specs.GroupLaws.{groups-are}
 use Rattle.sheet.specs.Due.{due, dueOf, roomBelow}
 use Rattle.sheet.specs.Writes.{writes}
-use Rattle.sheet.specs.Stack.{Alike, alike-trans, alike-behind, alike-groups, slack, Fit}
+use Rattle.sheet.specs.Stack.{Alike, alike-trans, alike-behind, alike-groups, slack, Fit, dueWords, allowed, entrySlack}
 use Rattle.sheet.specs.Dues.{dues, dues-length, group, Sorted, Popped, Groups, Space}
 
 -- ── the room below ──
 
 -- entries alone have children beside them
-pub beside-nine : (n : ℕ) → n < 11 → beside (sortOf n) ≡ eqb n 9
+pub beside-entry : (n : ℕ) → n < sortCount → beside (sortOf n) ≡ eqb n entrySort
 unfolding sortOf sorts
-beside-nine zero h = refl
-beside-nine (suc zero) h = refl
-beside-nine (suc (suc zero)) h = refl
-beside-nine (suc (suc (suc zero))) h = refl
-beside-nine (suc (suc (suc (suc zero)))) h = refl
-beside-nine (suc (suc (suc (suc (suc zero))))) h = refl
-beside-nine (suc (suc (suc (suc (suc (suc zero)))))) h = refl
-beside-nine (suc (suc (suc (suc (suc (suc (suc zero))))))) h = refl
-beside-nine (suc (suc (suc (suc (suc (suc (suc (suc zero)))))))) h = refl
-beside-nine (suc (suc (suc (suc (suc (suc (suc (suc (suc zero))))))))) h = refl
-beside-nine (suc (suc (suc (suc (suc (suc (suc (suc (suc (suc zero)))))))))) h = refl
-beside-nine (suc (suc (suc (suc (suc (suc (suc (suc (suc (suc (suc n))))))))))) h = absurd (omega arith)
+beside-entry zero h = refl
+beside-entry (suc zero) h = refl
+beside-entry (suc (suc zero)) h = refl
+beside-entry (suc (suc (suc zero))) h = refl
+beside-entry (suc (suc (suc (suc zero)))) h = refl
+beside-entry (suc (suc (suc (suc (suc zero))))) h = refl
+beside-entry (suc (suc (suc (suc (suc (suc zero)))))) h = refl
+beside-entry (suc (suc (suc (suc (suc (suc (suc zero))))))) h = refl
+beside-entry (suc (suc (suc (suc (suc (suc (suc (suc zero)))))))) h = refl
+beside-entry (suc (suc (suc (suc (suc (suc (suc (suc (suc zero))))))))) h = refl
+beside-entry (suc (suc (suc (suc (suc (suc (suc (suc (suc (suc zero)))))))))) h = refl
+beside-entry (suc (suc (suc (suc (suc (suc (suc (suc (suc (suc (suc n))))))))))) h = absurd (omega arith)
 
 room-same : (s : Sort) (d : ℕ) → beside s ≡ true → 0 < d → d ≡ roomBelow s d
 unfolding roomBelow
@@ -49,15 +51,15 @@ unfolding roomBelow
 room-less s zero e h = absurd (omega arith)
 room-less s (suc d) e h = rw e (omega arith)
 
-pub room-entry : (n d : ℕ) → n < 11 → 0 < d → n ≡ 9 → d ≡ roomBelow (sortOf n) d
-room-entry n d l h e = room-same (sortOf n) d (beside-nine n l ∙ eq-eqb n 9 e) h
+pub room-entry : (n d : ℕ) → n < sortCount → 0 < d → n ≡ entrySort → d ≡ roomBelow (sortOf n) d
+room-entry n d l h e = room-same (sortOf n) d (beside-entry n l ∙ eq-eqb n entrySort e) h
 
-pub room-other : (n d : ℕ) → n < 11 → 0 < d → (n ≡ 9 → ⊥) → d - 1 ≡ roomBelow (sortOf n) d
-room-other n d l h e = room-less (sortOf n) d (beside-nine n l ∙ ne-eqb n 9 e) h
+pub room-other : (n d : ℕ) → n < sortCount → 0 < d → (n ≡ entrySort → ⊥) → d - 1 ≡ roomBelow (sortOf n) d
+room-other n d l h e = room-less (sortOf n) d (beside-entry n l ∙ ne-eqb n entrySort e) h
 
 -- ── a write ──
 
-write-rows : (m : ℕ) → m < 11 → Rows (sortOf m) (λ n k. writes (sortOf m) k ≡ eqb n 8) (firstKind (sortOf m)) (kinds (sortOf m))
+write-rows : (m : ℕ) → m < sortCount → Rows (sortOf m) (λ n k. writes (sortOf m) k ≡ eqb n writeKind) (firstKind (sortOf m)) (kinds (sortOf m))
 unfolding sorts sortOf firstKind kinds sames
 write-rows zero l = refl ▸ done
 write-rows (suc zero) l = refl ▸ done
@@ -72,9 +74,9 @@ write-rows (suc (suc (suc (suc (suc (suc (suc (suc (suc zero))))))))) l = refl �
 write-rows (suc (suc (suc (suc (suc (suc (suc (suc (suc (suc zero)))))))))) l = refl ▸ refl ▸ refl ▸ refl ▸ refl ▸ refl ▸ refl ▸ refl ▸ refl ▸ refl ▸ refl ▸ refl ▸ refl ▸ refl ▸ refl ▸ refl ▸ refl ▸ refl ▸ refl ▸ refl ▸ refl ▸ refl ▸ done
 write-rows (suc (suc (suc (suc (suc (suc (suc (suc (suc (suc (suc n))))))))))) l = absurd (omega arith)
 
--- kind 8 alone is a write
-pub writes-eight : (m : ℕ) → m < 11 → (n : ℕ) (k : Kind (sortOf m)) → kindOf (sortOf m) n ≡ some k → writes (sortOf m) k ≡ eqb n 8
-writes-eight m h n k e = kind-row (sortOf m) (λ n k. writes (sortOf m) k ≡ eqb n 8) (write-rows m h) n k e
+-- one kind alone is a write
+pub writes-kind : (m : ℕ) → m < sortCount → (n : ℕ) (k : Kind (sortOf m)) → kindOf (sortOf m) n ≡ some k → writes (sortOf m) k ≡ eqb n writeKind
+writes-kind m h n k e = kind-row (sortOf m) (λ n k. writes (sortOf m) k ≡ eqb n writeKind) (write-rows m h) n k e
 
 -- ── room for the groups ──
 
@@ -85,11 +87,11 @@ slack-low s = at (beside s)
     at true = omega arith
     at false = omega arith
 
-entry-row : Rows (sortOf 9) (λ n k. n ≡ 16) (firstKind (sortOf 9)) (kinds (sortOf 9))
+entry-row : Rows (sortOf entrySort) (λ n k. n ≡ entryKind) (firstKind (sortOf entrySort)) (kinds (sortOf entrySort))
 unfolding sorts sortOf firstKind kinds
 entry-row = refl ▸ done
 
-entry-groups : (g : ℕ) → g < 5 → slack (sortOf (groupSort 16 g)) ≡ 0
+entry-groups : (g : ℕ) → g < groupCount → slack (sortOf (groupSort entryKind g)) ≡ 0
 unfolding sortOf sorts
 entry-groups zero h = refl
 entry-groups (suc zero) h = refl
@@ -98,41 +100,41 @@ entry-groups (suc (suc (suc zero))) h = refl
 entry-groups (suc (suc (suc (suc zero)))) h = refl
 entry-groups (suc (suc (suc (suc (suc g))))) h = absurd (omega arith)
 
-entry-number : (m n : ℕ) (k : Kind (sortOf m)) → m ≡ 9 → kindOf (sortOf m) n ≡ some k → n ≡ 16
-entry-number m n k e q = subst (λ z. (k : Kind (sortOf z)) → kindOf (sortOf z) n ≡ some k → n ≡ 16) (sym e) (λ k q. kind-row (sortOf 9) (λ n k. n ≡ 16) entry-row n k q) k q
+entry-number : (m n : ℕ) (k : Kind (sortOf m)) → m ≡ entrySort → kindOf (sortOf m) n ≡ some k → n ≡ entryKind
+entry-number m n k e q = subst (λ z. (k : Kind (sortOf z)) → kindOf (sortOf z) n ≡ some k → n ≡ entryKind) (sym e) (λ k q. kind-row (sortOf entrySort) (λ n k. n ≡ entryKind) entry-row n k q) k q
 
 -- an entry's groups are none of entries
-entry-slack : (m n g : ℕ) (k : Kind (sortOf m)) → m ≡ 9 → kindOf (sortOf m) n ≡ some k → g < 5 → slack (sortOf (groupSort n g)) ≡ 0
-entry-slack m n g k e q h = let z : n ≡ 16 = entry-number m n k e q in rw z (entry-groups g h)
+entry-slack : (m n g : ℕ) (k : Kind (sortOf m)) → m ≡ entrySort → kindOf (sortOf m) n ≡ some k → g < groupCount → slack (sortOf (groupSort n g)) ≡ 0
+entry-slack m n g k e q h = let z : n ≡ entryKind = entry-number m n k e q in rw z (entry-groups g h)
 
 -- the numbers: m groups lie below the one of room d and slack x, of which r are left or one more; t is the slack of a new one, whose room is e
-numbers-beside : (m r d t : ℕ) → m + 1 + 6 ≤ 11 * (65 - d) → r ≤ suc m → 0 < d → t ≡ 0 → r + 5 + t ≤ 11 * (65 - d)
+numbers-beside : (m r d t : ℕ) → m + 1 + entrySlack ≤ allowed d → r ≤ suc m → 0 < d → t ≡ 0 → r + groupCount + t ≤ allowed d
 numbers-beside m r d t h l z e = omega arith
 
-numbers-below : (m r d t : ℕ) → m + 1 + 0 ≤ 11 * (65 - d) → r ≤ suc m → 0 < d → d ≤ 64 → t ≤ 6 → r + 5 + t ≤ 11 * (65 - (d - 1))
+numbers-below : (m r d t : ℕ) → m + 1 + 0 ≤ allowed d → r ≤ suc m → 0 < d → d ≤ maxDepth → t ≤ entrySlack → r + groupCount + t ≤ allowed (d - 1)
 numbers-below m r d t h l z k e = omega arith
 
 -- ── the line's groups on the stack ──
 
 -- m groups lie below the top one, of which a record was read: a record of sort number s and kind number n
-module _ (w w′ : List ℕ) (m r n : ℕ) (long : 16384 ≤ length w) (fit : Fit (dues w (suc m))) (sorted : Sorted w (suc m)) (pop : Popped w w′ m r) (room : 0 < group w m .room) (k : Kind (group w m .sort)) (named : kindOf (group w m .sort) n ≡ some k) where
-  low-sort : getD w (m * 3) 0 < 11
+module _ (w w′ : List ℕ) (m r n : ℕ) (long : workWords ≤ length w) (fit : Fit (dues w (suc m))) (sorted : Sorted w (suc m)) (pop : Popped w w′ m r) (room : 0 < group w m .room) (k : Kind (group w m .sort)) (named : kindOf (group w m .sort) n ≡ some k) where
+  low-sort : getD w (m * dueWords) 0 < sortCount
   low-sort = sorted .at m (omega arith)
 
-  top-fits : (0 < group w m .count) × (group w m .room ≤ 64) × (m + 1 + slack (group w m .sort) ≤ 11 * (65 - group w m .room))
+  top-fits : (0 < group w m .count) × (group w m .room ≤ maxDepth) × (m + 1 + slack (group w m .sort) ≤ allowed (group w m .room))
   unfolding dues
   top-fits = (fit .0, fit .1, rw (dues-length w m) at (fit .2))
 
-  each-fits : (t : Bool) → beside (group w m .sort) ≡ t → (d : ℕ) → d ≡ roomBelow (group w m .sort) (group w m .room) → (g : ℕ) → g < 5 → r + 5 + slack (sortOf (groupSort n g)) ≤ 11 * (65 - d)
+  each-fits : (t : Bool) → beside (group w m .sort) ≡ t → (d : ℕ) → d ≡ roomBelow (group w m .sort) (group w m .room) → (g : ℕ) → g < groupCount → r + groupCount + slack (sortOf (groupSort n g)) ≤ allowed d
   each-fits true e d q g h =
-      let nine : getD w (m * 3) 0 ≡ 9 = eqb-true (getD w (m * 3) 0) 9 (sym (beside-nine (getD w (m * 3) 0) low-sort) ∙ e) in
-      let low : m + 1 + 6 ≤ 11 * (65 - group w m .room) = rw e at (top-fits .2) in
-      rw (q, ← (room-same (group w m .sort) (group w m .room) e room)) (numbers-beside m r (group w m .room) _ low (pop .high) room (entry-slack (getD w (m * 3) 0) n g k nine named h))
+      let entry-is : getD w (m * dueWords) 0 ≡ entrySort = eqb-true (getD w (m * dueWords) 0) entrySort (sym (beside-entry (getD w (m * dueWords) 0) low-sort) ∙ e) in
+      let low : m + 1 + entrySlack ≤ allowed (group w m .room) = rw e at (top-fits .2) in
+      rw (q, ← (room-same (group w m .sort) (group w m .room) e room)) (numbers-beside m r (group w m .room) _ low (pop .high) room (entry-slack (getD w (m * dueWords) 0) n g k entry-is named h))
   each-fits false e d q g h =
-      let low : m + 1 + 0 ≤ 11 * (65 - group w m .room) = rw e at (top-fits .2) in
+      let low : m + 1 + 0 ≤ allowed (group w m .room) = rw e at (top-fits .2) in
       rw (q, ← (room-less (group w m .sort) (group w m .room) e room)) (numbers-below m r (group w m .room) _ low (pop .high) room (top-fits .1) (slack-low (sortOf (groupSort n g))))
 
-  room-low : (t : Bool) → beside (group w m .sort) ≡ t → roomBelow (group w m .sort) (group w m .room) ≤ 64
+  room-low : (t : Bool) → beside (group w m .sort) ≡ t → roomBelow (group w m .sort) (group w m .room) ≤ maxDepth
   room-low true e = rw (← (room-same (group w m .sort) (group w m .room) e room)) (top-fits .1)
   room-low false e = rw (← (room-less (group w m .sort) (group w m .room) e room)) (omega (arith, top-fits .1))
 
@@ -148,10 +150,10 @@ module _ (w w′ : List ℕ) (m r n : ℕ) (long : 16384 ≤ length w) (fit : Fi
       }
 
   -- the children are due, and then what was due before
-  pub due-now : (w″ : List ℕ) (r″ d : ℕ) (sheet : Bytes) (ws : List ℕ) → Flags (forms (group w m .sort) k) ws 0 → d ≡ roomBelow (group w m .sort) (group w m .room) → Groups w′ w″ n ws 0 5 r d r″ → Alike (dues w″ r″) (dueOf (roomBelow (group w m .sort) (group w m .room)) (children (group w m .sort) k (fieldsOf (forms (group w m .sort) k) sheet ws 0)) ++ (due (group w m .sort) (group w m .count - 1) (group w m .room) ∷ dues w m))
+  pub due-now : (w″ : List ℕ) (r″ d : ℕ) (sheet : Bytes) (ws : List ℕ) → Flags (forms (group w m .sort) k) ws 0 → d ≡ roomBelow (group w m .sort) (group w m .room) → Groups w′ w″ n ws 0 groupCount r d r″ → Alike (dues w″ r″) (dueOf (roomBelow (group w m .sort) (group w m .room)) (children (group w m .sort) k (fieldsOf (forms (group w m .sort) k) sheet ws 0)) ++ (due (group w m .sort) (group w m .count - 1) (group w m .room) ∷ dues w m))
   unfolding groupsOf
   due-now w″ r″ d sheet ws flags q g =
       rw (← q)
       (alike-trans (g .is)
-      (alike-trans (alike-behind (dueOf d (groupsFrom n ws 0 5)) (pop .is))
-      (alike-groups d (groupsFrom n ws 0 5) (children (group w m .sort) k (fieldsOf (forms (group w m .sort) k) sheet ws 0)) _ (groups-are (getD w (m * 3) 0) low-sort n k named sheet ws flags))))
+      (alike-trans (alike-behind (dueOf d (groupsFrom n ws 0 groupCount)) (pop .is))
+      (alike-groups d (groupsFrom n ws 0 groupCount) (children (group w m .sort) k (fieldsOf (forms (group w m .sort) k) sheet ws 0)) _ (groups-are (getD w (m * dueWords) 0) low-sort n k named sheet ws flags))))

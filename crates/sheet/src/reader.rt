@@ -2,8 +2,10 @@
 ghost use mathlib.Core.Path.{_≡_};
 ghost use Prim.Native.Nat.{_+_, _<_, _≤_};
 ghost use lib.ListN.{length};
-ghost use Rattle.words.specs.Words.{Roomy};
-ghost use Rattle.line.specs.Table.{sortOf};
+ghost use Rattle.words.specs.Words.{Roomy, maxRecords};
+ghost use Rattle.words.specs.Places.{sortCount};
+ghost use Rattle.model.specs.Call.{maxBytes, workWords};
+ghost use Rattle.words.specs.Table.{sortOf};
 ghost use Rattle.sheet.specs.Due.{roomBelow};
 ghost use Rattle.sheet.specs.Reader.{Reads, SoFar, Ends};
 ghost use Rattle.sheet.specs.Next.{Next, Wrote};
@@ -13,6 +15,10 @@ use crate::stack::push_groups;
 use line::read::Line;
 use line::read::read_into;
 use record::piece::piece_end;
+use words::sort;
+
+// The room of the statement: so deep may a tree be.
+const MAX_ROOM: u32 = words::MAX_DEPTH as u32;
 
 // The number of records, or a refusal with its line.
 pub enum Read {
@@ -24,7 +30,7 @@ pub enum Read {
 
 // Nothing is due any more: i records were read, up to pos, and the first write is on line `write`, if that is not 0.
 fn finish(sheet: &[u8], i: usize, pos: usize, write: u32) -> Read
-    requires { ⌜ i ≤ 2048 ⌝ }
+    requires { ⌜ i ≤ maxRecords ⌝ }
     ensures { λ r. ⌜ Ends (now (sheet .entry)) i pos write r ⌝ }
 {
     if pos < sheet.len() {
@@ -45,10 +51,10 @@ pub enum Step {
 
 // The room of the children of a record: a map's key and its expression stand side by side.
 fn room_below(sort: u32, room: u32) -> u32
-    requires { ⌜ (sort < 11) × (0 < room) ⌝ }
+    requires { ⌜ (sort < sortCount) × (0 < room) ⌝ }
     ensures { λ r. ⌜ r ≡ roomBelow (sortOf sort) room ⌝ }
 {
-    if sort == 9 {
+    if sort == sort::ENTRY {
         return room;
     }
     room - 1
@@ -56,10 +62,10 @@ fn room_below(sort: u32, room: u32) -> u32
 
 // The line of the first write, when record i is of a kind.
 fn write_line(kind: u32, write: u32, i: usize) -> u32
-    requires { ⌜ i < 2048 ⌝ }
+    requires { ⌜ i < maxRecords ⌝ }
     ensures { λ r. ⌜ Wrote kind write i r ⌝ }
 {
-    if kind == 8 {
+    if kind == words::kind::WRITE {
         if write == 0 {
             return i as u32 + 1;
         }
@@ -78,18 +84,18 @@ fn read_next(
     top: usize,
     write: u32,
 ) -> Step
-    requires { ⌜ length (now sheet) ≤ 32768 ⌝ }
+    requires { ⌜ length (now sheet) ≤ maxBytes ⌝ }
     requires { ⌜ SoFar (now sheet) (now a) (now b) (now stack) i pos (top + 1) write ⌝ }
     ensures { λ r. ⌜ Next (now (sheet .entry)) (now (a .exit)) (now (b .exit)) (now (stack .exit)) i r ⌝ }
 {
-    let e = piece_end(sheet, pos, 10);
+    let e = piece_end(sheet, pos, b'\n');
     if e == sheet.len() {
         return Step::Bad;
     }
-    let at = top * 3;
+    let at = top * crate::stack::GROUP_WORDS;
     let sort = stack[at];
-    let room = stack[at + 2];
-    if i == 2048 {
+    let room = stack[at + crate::stack::ROOM];
+    if i == words::MAX_RECORDS {
         return Step::Big;
     }
     if room == 0 {
@@ -107,12 +113,12 @@ fn read_next(
 
 // Reads a sheet into the records of two slices; the third is room to work in. What a refusal leaves in them is not promised.
 pub fn read_sheet(sheet: &[u8], a: &mut [u32], b: &mut [u32], stack: &mut [u32]) -> Read
-    requires { ⌜ length (now sheet) ≤ 32768 ⌝ }
+    requires { ⌜ length (now sheet) ≤ maxBytes ⌝ }
     requires { ⌜ Roomy (now a) (now b) ⌝ }
-    requires { ⌜ 16384 ≤ length (now stack) ⌝ }
+    requires { ⌜ workWords ≤ length (now stack) ⌝ }
     ensures { λ r. ⌜ Reads (now (sheet .entry)) (now (a .exit)) (now (b .exit)) r ⌝ }
 {
-    push(stack, 0, 0, 1, 64);
+    push(stack, 0, sort::STATEMENT, 1, MAX_ROOM);
     let mut i = 0;
     let mut pos = 0;
     let mut due = 1;

@@ -1,30 +1,41 @@
 // The stack of due groups: three words a group (sort, count, room), group m from word 3m on.
 ghost use Prim.Native.Nat.{_+_, _*_, _-_, _<_};
 ghost use lib.ListN.{getD};
-ghost use Rattle.words.specs.Words.{Roomy, part};
-ghost use Rattle.line.specs.Table.{groupSort, groupSource, countOf};
+ghost use Rattle.sheet.specs.Stack.{dueWords, dueCountAt};
+ghost use Rattle.words.specs.Words.{Roomy, part, maxRecords};
+ghost use Rattle.words.specs.Places.{kindCount};
+ghost use Rattle.words.specs.Table.{groupSort, groupSource, countOf, groupCount};
 ghost use Rattle.sheet.specs.Dues.{Pushed, Popped, Room, Grouped, Groups, Space};
 use line::group::group_count;
 use line::group::group_sort;
+use words::table::GROUPS;
+
+// A group has so many words.
+pub const GROUP_WORDS: usize = 3;
+
+// Its sort comes first; where its count and its room stand.
+pub const COUNT: usize = 1;
+
+pub const ROOM: usize = 2;
 
 // A group on top of m others.
 pub fn push(stack: &mut [u32], m: usize, sort: u32, count: u32, room: u32)
     requires { ⌜ Room (now stack) m ⌝ }
     ensures { λ r. ⌜ Pushed (now (stack .entry)) (now (stack .exit)) m sort count room ⌝ }
 {
-    let at = m * 3;
+    let at = m * GROUP_WORDS;
     stack[at] = sort;
-    stack[at + 1] = count;
-    stack[at + 2] = room;
+    stack[at + COUNT] = count;
+    stack[at + ROOM] = room;
 }
 
 // One record of the group on top of `top` others is read: it has one less, and is gone at none. How many groups there are now.
 pub fn pop(stack: &mut [u32], top: usize) -> usize
     requires { ⌜ Room (now stack) top ⌝ }
-    requires { ⌜ 0 < getD (now stack) (top * 3 + 1) 0 ⌝ }
+    requires { ⌜ 0 < getD (now stack) (top * dueWords + dueCountAt) 0 ⌝ }
     ensures { λ r. ⌜ Popped (now (stack .entry)) (now (stack .exit)) top r ⌝ }
 {
-    let at = top * 3 + 1;
+    let at = top * GROUP_WORDS + COUNT;
     let count = stack[at];
     if count == 1 {
         return top;
@@ -44,8 +55,8 @@ fn push_group(
     g: usize,
     room: u32,
 ) -> usize
-    requires { ⌜ (kind < 39) × (g < 5) ⌝ }
-    requires { ⌜ i < 2048 ⌝ }
+    requires { ⌜ (kind < kindCount) × (g < groupCount) ⌝ }
+    requires { ⌜ i < maxRecords ⌝ }
     requires { ⌜ Roomy (now a) (now b) ⌝ }
     requires { ⌜ Room (now stack) m ⌝ }
     ensures { λ r. ⌜ Grouped (now (stack .entry)) (now (stack .exit)) m (groupSort kind g) (countOf (part (now (a .entry)) (now (b .entry)) i) (groupSource kind g)) room r ⌝ }
@@ -69,13 +80,13 @@ pub fn push_groups(
     kind: u32,
     room: u32,
 ) -> usize
-    requires { ⌜ kind < 39 ⌝ }
-    requires { ⌜ i < 2048 ⌝ }
+    requires { ⌜ kind < kindCount ⌝ }
+    requires { ⌜ i < maxRecords ⌝ }
     requires { ⌜ Roomy (now a) (now b) ⌝ }
     requires { ⌜ Space (now stack) kind m room ⌝ }
-    ensures { λ r. ⌜ Groups (now (stack .entry)) (now (stack .exit)) kind (part (now (a .entry)) (now (b .entry)) i) 0 5 m room r ⌝ }
+    ensures { λ r. ⌜ Groups (now (stack .entry)) (now (stack .exit)) kind (part (now (a .entry)) (now (b .entry)) i) 0 groupCount m room r ⌝ }
 {
-    let mut g = 5;
+    let mut g = GROUPS;
     let mut top = m;
     while g > 0 {
         g -= 1;

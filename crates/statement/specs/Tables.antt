@@ -39,8 +39,8 @@ module _ {sheet : Bytes} {a b : List ℕ} {m : Mem} where
     pub ops-count : m .ctx .ops ≡ length (s .ops)
     ops-count = r .count
 
-    pub next-count : m .ctx .next ≡ s .next
-    next-count = ap (λ (z : LowerCtx). z .next) (r .state)
+    pub next-count : m .ctx .next ≡ s .scope .next
+    next-count = ap (λ (z : LowerCtx). z .scope .next) (r .state)
 
 -- ── the plan, as it is answered ──
 

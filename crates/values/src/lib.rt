@@ -4,6 +4,10 @@ ghost use Rattle.model.specs.Call.{lineRefusal, treeRefusal};
 ghost use Rattle.precheck.specs.Answer.{spanOf};
 ghost use Rattle.statement.specs.Answer.{answerOf, errorAnswer};
 ghost use Rattle.values.specs.Told.{told};
+
+pub mod call;
+pub mod text;
+
 use precheck::HirSpan;
 use precheck::PlanLowerError;
 use statement::Answer;

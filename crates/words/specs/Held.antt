@@ -7,7 +7,7 @@ use mathlib.Core.Option.{some}
 use lib.ListN.{length, getD}
 use lib.Seq.{slice}
 use Rattle.model.specs.Text.{Bytes}
-use Rattle.model.specs.Field.{Form, Fields, num, flag, var, varOrAbsent, numOrAbsent, int, float, text, alias, span, spell}
+use Rattle.model.specs.Field.{Form, Fields, num, flag, var, varOrAbsent, numOrAbsent, number, numberOrAbsent, int, float, text, alias, span, spell}
 use Rattle.model.specs.Field
 use Rattle.model.specs.Kind.{Sort, Kind}
 use Rattle.model.specs.Record.{Group, forms, beside}
@@ -21,6 +21,8 @@ Flag flag x = x ≤ 1
 Flag var x = Unit {0}
 Flag varOrAbsent x = x ≤ 1
 Flag (numOrAbsent l) x = x ≤ 1
+Flag (number n) x = Unit {0}
+Flag (numberOrAbsent n) x = x ≤ 1
 Flag int x = Unit {0}
 Flag float x = Unit {0}
 Flag text x = Unit {0}
@@ -46,6 +48,8 @@ Text flag sheet x y = Unit {0}
 Text var sheet x y = Unit {0}
 Text varOrAbsent sheet x y = Unit {0}
 Text (numOrAbsent l) sheet x y = Unit {0}
+Text (number n) sheet x y = Unit {0}
+Text (numberOrAbsent n) sheet x y = Unit {0}
 Text int sheet x y = Unit {0}
 Text float sheet x y = Unit {0}
 Text text sheet x y = PlaceAt text sheet x y

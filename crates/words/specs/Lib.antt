@@ -3,3 +3,8 @@ pub mod Places
 pub mod Held
 pub mod Cells
 pub mod Numbers
+pub mod Table
+pub mod TableLaws
+pub mod LastLaws
+pub mod Fits
+pub mod Count

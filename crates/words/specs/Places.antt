@@ -1,4 +1,4 @@
--- The kinds of records by number and the places of their fields among a record's words, under the names that the code has for them (src/kind.rt, src/field.rt). Assumes nothing: these are definitions.
+-- The kinds and sorts of records and the forms of fields by number, and the places of their fields among a record's words, under the names that the code has for them (src/kind.rt, src/sort.rt, src/form.rt, src/field.rt). Assumes nothing: these are definitions.
 use Prim.Native.Nat.{ℕ}
 
 -- ── kinds ──
@@ -120,6 +120,90 @@ unresKind = 37
 abbrev pub undesKind : ℕ
 undesKind = 38
 
+-- so many
+abbrev pub kindCount : ℕ
+kindCount = 39
+
+-- ── sorts ──
+
+abbrev pub statementSort : ℕ
+statementSort = 0
+
+abbrev pub unionArmSort : ℕ
+unionArmSort = 1
+
+abbrev pub clauseSort : ℕ
+clauseSort = 2
+
+abbrev pub projectionSort : ℕ
+projectionSort = 3
+
+abbrev pub orderItemSort : ℕ
+orderItemSort = 4
+
+abbrev pub patternPartSort : ℕ
+patternPartSort = 5
+
+abbrev pub patternElementSort : ℕ
+patternElementSort = 6
+
+abbrev pub nameSort : ℕ
+nameSort = 7
+
+abbrev pub yieldItemSort : ℕ
+yieldItemSort = 8
+
+abbrev pub entrySort : ℕ
+entrySort = 9
+
+abbrev pub exprSort : ℕ
+exprSort = 10
+
+-- so many
+abbrev pub sortCount : ℕ
+sortCount = 11
+
+-- ── forms ──
+
+-- code 0 stands behind the last field of a record
+abbrev pub noneForm : ℕ
+noneForm = 0
+
+abbrev pub flagForm : ℕ
+flagForm = 1
+
+abbrev pub varForm : ℕ
+varForm = 2
+
+abbrev pub varOrAbsentForm : ℕ
+varOrAbsentForm = 3
+
+abbrev pub intForm : ℕ
+intForm = 4
+
+abbrev pub floatForm : ℕ
+floatForm = 5
+
+abbrev pub textForm : ℕ
+textForm = 6
+
+abbrev pub aliasForm : ℕ
+aliasForm = 7
+
+abbrev pub spanForm : ℕ
+spanForm = 8
+
+abbrev pub lengthForm : ℕ
+lengthForm = 9
+
+-- a number; so is each code above it, with a smaller limit
+abbrev pub numberForm : ℕ
+numberForm = 10
+
+-- so many
+abbrev pub formCount : ℕ
+formCount = 15
+
 -- ── places ──
 
 -- of every record
@@ -151,6 +235,9 @@ matchSpanAt = 6
 
 abbrev pub whereSpanAt : ℕ
 whereSpanAt = 2
+
+abbrev pub writeSpanAt : ℕ
+writeSpanAt = 2
 
 abbrev pub unwindVarAt : ℕ
 unwindVarAt = 2

@@ -8,28 +8,41 @@ use lib.IntN.{ℤ, pos, negsuc}
 use lib.ListN.{length, getD}
 use lib.Seq.{slice}
 use Rattle.model.specs.Text.{Bytes, unescape, split, tab}
-use Rattle.model.specs.Field.{Form, num, flag, var, varOrAbsent, numOrAbsent, int, float, text, alias, span, Fields, Val, meaning}
+use Rattle.model.specs.Field.{Form, num, flag, var, varOrAbsent, numOrAbsent, number, numberOrAbsent, int, float, text, alias, span, Fields, Val, meaning}
 use Rattle.model.specs.Field
 use Rattle.model.specs.Kind.{Sort, Kind, statement, unionArm, clause, projection, orderItem, patternPart, patternElement, name, yieldItem, entry, expr, inPlan}
 use Rattle.model.specs.Record.{RecOf, forms, kinds}
+use Rattle.model.specs.Call.{workWords}
+use Rattle.words.specs.Places.{kindAt, stmtKind, armKind, matchKind, itemKind, keyKind, partKind, nodeKind, nameKind, yieldKind, entryKind, nullKind, kindCount}
 
 -- ── places ──
 
 abbrev pub maxRecords : ℕ
 maxRecords = 2048
 
+abbrev pub recordWords : ℕ
+recordWords = 16
+
+-- so many stand in the first slice
+abbrev pub firstRecords : ℕ
+firstRecords = 1024
+
 -- the slices are long enough
 pub record Roomy (a b : List ℕ) : Type 0 where
-  pub first : 16384 ≤ length a
-  pub second : 16384 ≤ length b
+  pub first : workWords ≤ length a
+  pub second : workWords ≤ length b
 
 -- word c of record i
 abbrev pub cell : List ℕ → List ℕ → ℕ → ℕ → ℕ
-cell a b i c = cond (ltb i 1024) (getD a (i * 16 + c) 0) (getD b ((i - 1024) * 16 + c) 0)
+cell a b i c = cond (ltb i firstRecords) (getD a (i * recordWords + c) 0) (getD b ((i - firstRecords) * recordWords + c) 0)
 
 -- the sixteen words of record i
 unfoldable pub part : List ℕ → List ℕ → ℕ → List ℕ
-part a b i = cond (ltb i 1024) (slice (i * 16) (i * 16 + 16) a) (slice ((i - 1024) * 16) ((i - 1024) * 16 + 16) b)
+part a b i =
+    cond
+    (ltb i firstRecords)
+    (slice (i * recordWords) (i * recordWords + recordWords) a)
+    (slice ((i - firstRecords) * recordWords) ((i - firstRecords) * recordWords + recordWords) b)
 
 -- ── fields ──
 
@@ -64,6 +77,8 @@ fieldOf flag sheet x y = eqb x 1
 fieldOf var sheet x y = x
 fieldOf varOrAbsent sheet x y = optionOf x y
 fieldOf (numOrAbsent l) sheet x y = optionOf x y
+fieldOf (number n) sheet x y = x
+fieldOf (numberOrAbsent n) sheet x y = optionOf x y
 fieldOf int sheet x y = intOf x y
 fieldOf float sheet x y = y * two32 + x
 fieldOf text sheet x y = unescape (slice x y sheet)
@@ -80,18 +95,18 @@ fieldsOf (f ∷ fs) sheet ws g = (fieldOf f sheet (getD ws (g + g + 2) 0) (getD 
 
 -- the number of a sort's first kind: kinds are numbered sort by sort, in the table's order
 unfoldable pub firstKind : Sort → ℕ
-firstKind statement = 0
-firstKind unionArm = 1
-firstKind clause = 2
-firstKind projection = 9
-firstKind orderItem = 10
-firstKind patternPart = 11
-firstKind patternElement = 12
-firstKind name = 14
-firstKind yieldItem = 15
-firstKind entry = 16
-firstKind expr = 17
-firstKind (inPlan p) = 39
+firstKind statement = stmtKind
+firstKind unionArm = armKind
+firstKind clause = matchKind
+firstKind projection = itemKind
+firstKind orderItem = keyKind
+firstKind patternPart = partKind
+firstKind patternElement = nodeKind
+firstKind name = nameKind
+firstKind yieldItem = yieldKind
+firstKind entry = entryKind
+firstKind expr = nullKind
+firstKind (inPlan p) = kindCount
 
 unfoldable pub nth : {A : Type 0} → List A → ℕ → Option A
 nth [] i = none
@@ -109,4 +124,4 @@ recOf s sheet ws (some k) = some (k, fieldsOf (forms s k) sheet ws 0)
 
 -- sixteen words, read as a record of a sort
 unfoldable pub decode : (s : Sort) → Bytes → List ℕ → Option (RecOf s)
-decode s sheet ws = recOf s sheet ws (kindOf s (getD ws 0 0))
+decode s sheet ws = recOf s sheet ws (kindOf s (getD ws kindAt 0))

@@ -21,6 +21,8 @@ pub const MATCH_SPAN: usize = 6;
 
 pub const WHERE_SPAN: usize = 2;
 
+pub const WRITE_SPAN: usize = 2;
+
 pub const UNWIND_VAR: usize = 2;
 
 pub const UNWIND_SPAN: usize = 4;

@@ -5,6 +5,21 @@ use borrow.Author.Needs.{needs}
 use Rattle.context.proofs.LowerCtx.new_var.Statement.{statement}
 use Rattle.context.proofs.LowerCtx.new_var.Tie as tie
 
+-- the ways back, from place to place
+abbrev back-enter : tie.After-enter → tie.Start
+back-enter c = search
+
+ruleset ways = (back-enter)
+
+slice-write-vars-2 : tie.Need-slice-write-vars-2
+slice-write-vars-2 c = simp length-set (omega arith)
+
+returns : tie.Need-returns
+returns c =
+    let after-enter : tie.After-enter = search ways in
+    let start : tie.Start = search ways in
+    Adding.new-var _ _ _ _ (start .pre .0 .0) (start .pre .0 .2) (after-enter .enter .ensures) (start .pre .1)
+
 pub new-var-spec : {M : Type 1} → statement M
 new-var-spec =
     tie.close
@@ -15,8 +30,8 @@ new-var-spec =
     (λ c. search needs)
     (λ c. search needs)
     (λ c. search needs)
-    (λ c. simp length-set (omega arith))
+    slice-write-vars-2
     (λ c. search needs)
     (λ c. search needs)
     (λ c. search needs)
-    (λ c. Adding.new-var _ _ _ _ ((c .before .before .before .before .before .before .before .before .pre .0 .0)) ((c .before .before .before .before .before .before .before .before .pre .0 .2)) ((c .before .before .before .before .before .enter .ensures)) ((c .before .before .before .before .before .before .before .before .pre .1))))
+    returns)

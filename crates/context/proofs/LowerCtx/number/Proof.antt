@@ -4,6 +4,27 @@ use borrow.Author.Needs.{needs}
 use Rattle.context.proofs.LowerCtx.number.Statement.{statement}
 use Rattle.context.proofs.LowerCtx.number.Tie as tie
 
+-- the ways back, from place to place
+abbrev back-note : tie.After-note → tie.After-map-var
+back-note c = search
+
+abbrev back-map-var : tie.After-map-var → tie.Start
+back-map-var c = search
+
+ruleset ways = (back-note, back-map-var)
+
+map-var-requires : tie.Need-map-var-requires
+map-var-requires c κs =
+    let start : tie.Start = search ways in
+    (search needs, search needs, search needs, Laws.index-part _ _ (start .args .rest .now) refl (start .pre .index))
+
+returns : tie.Need-returns
+returns c =
+    let after-note : tie.After-note = search ways in
+    let after-map-var : tie.After-map-var = search ways in
+    let start : tie.Start = search ways in
+    Laws.number-law _ _ _ _ _ _ _ _ (start .pre .long) refl (after-map-var .map-var .ensures) (after-note .note .ensures)
+
 pub number-spec : {M : Type 1} → statement M
 number-spec =
     tie.close
@@ -11,7 +32,7 @@ number-spec =
     (λ c. search needs)
     (λ c. search needs)
     (λ c. search needs)
-    (λ c κs. (search needs, search needs, search needs, Laws.index-part _ _ (c .before .before .args .rest .now) refl (c .before .before .pre .4)))
+    map-var-requires
     (λ c κs. search needs)
     (λ c. search needs)
-    (λ c. Laws.number-law _ _ _ _ _ _ _ _ ((c .before .before .before .before .before .before .before .before .before .pre .3)) refl (c .before .before .before .before .before .before .map-var .ensures) (c .before .before .note .ensures)))
+    returns)

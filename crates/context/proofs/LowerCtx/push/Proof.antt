@@ -1,37 +1,67 @@
 use Rattle.context.proofs.Laws
 use lib.ListN.{length-set}
+use mathlib.Core.Path.{refl}
 use native.Mathlib.Omega.{arith}
 use borrow.Author.Needs.{needs}
 use Rattle.context.proofs.LowerCtx.push.Statement.{statement}
 use Rattle.context.proofs.LowerCtx.push.Tie as tie
+
+returns : tie.Need-returns
+returns c = Laws.not-stored _ _ _ (c .if1 .taken)
+
+slice-write-ops-2 : tie.Need-slice-write-ops-2
+slice-write-ops-2 c = simp length-set (omega arith)
+
+slice-write-ops-3 : tie.Need-slice-write-ops-3
+slice-write-ops-3 c = simp length-set (omega arith)
+
+slice-write-ops-4 : tie.Need-slice-write-ops-4
+slice-write-ops-4 c = simp length-set (omega arith)
+
+slice-write-ops-5 : tie.Need-slice-write-ops-5
+slice-write-ops-5 c = simp length-set (omega arith)
+
+slice-write-ops-6 : tie.Need-slice-write-ops-6
+slice-write-ops-6 c = simp length-set (omega arith)
+
+slice-write-ops-7 : tie.Need-slice-write-ops-7
+slice-write-ops-7 c = simp length-set (omega arith)
+
+same-length : tie.Need-same-length
+same-length c = simp length-set refl
+
+returns-2 : tie.Need-returns-2
+returns-2 c =
+    let start : tie.Start = search in
+    Laws.stored _ _ _ (omega arith) (start .pre .1)
 
 pub push-spec : {M : Type 1} → statement M
 push-spec =
     tie.close
     (tie.spec
     (λ c. search needs)
-    (λ c. Laws.not-stored _ _ _ (c .if1 .taken))
+    returns
     (λ c. search needs)
     (λ c. search needs)
     (λ c. search needs)
     (λ c. search needs)
     (λ c. search needs)
     (λ c. search needs)
-    (λ c. simp length-set (omega arith))
+    slice-write-ops-2
     (λ c. search needs)
     (λ c. search needs)
-    (λ c. simp length-set (omega arith))
+    slice-write-ops-3
     (λ c. search needs)
     (λ c. search needs)
-    (λ c. simp length-set (omega arith))
+    slice-write-ops-4
     (λ c. search needs)
     (λ c. search needs)
-    (λ c. simp length-set (omega arith))
+    slice-write-ops-5
     (λ c. search needs)
     (λ c. search needs)
-    (λ c. simp length-set (omega arith))
+    slice-write-ops-6
     (λ c. search needs)
     (λ c. search needs)
-    (λ c. simp length-set (omega arith))
-    (λ c. search needs)
-    (λ c. Laws.stored _ _ _ _ _ _ _ _ _ (omega arith) ((c .before .pre .1))))
+    slice-write-ops-7
+    same-length
+    returns-2)

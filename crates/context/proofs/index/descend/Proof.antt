@@ -8,10 +8,83 @@ use Rattle.context.proofs.index.descend.Statement.{statement}
 use Rattle.context.proofs.index.descend.Tie as tie
 
 abbrev Inv-loop : tie.InvT-loop
-Inv-loop vars count id p₀ rest₀ p rest = Descends vars count id p rest
+Inv-loop vars count id p₀ rest₀ p bits = Descends vars count id p bits
 
 abbrev μ-loop : tie.MeasureT-loop
-μ-loop vars count id p₀ rest₀ p rest = count - p
+μ-loop vars count id p₀ rest₀ p bits = count - p
+
+-- a place or a need, at the loops' invariants and measures
+abbrev here : (tie.InvT-loop → tie.MeasureT-loop → Type 0) → Type 0
+here X = X Inv-loop μ-loop
+
+-- the ways back, from place to place
+abbrev back-child : here tie.After-child → here tie.Then1
+back-child c = search
+
+abbrev back-then1 : here tie.Then1 → here tie.At-loop
+back-then1 c = search
+
+abbrev back-at-loop : here tie.At-loop → here tie.Start
+back-at-loop c = search
+
+ruleset ways = (back-child, back-then1, back-at-loop)
+
+loop-holds : here tie.Need-loop-holds
+loop-holds c =
+    let start : here tie.Start = search ways in
+    Tree.descends-start _ _ _ (Tree.all-indexed _ _ (start .pre .1) (start .pre .3)) (start .pre .0)
+
+returns : here tie.Need-returns
+returns c =
+    let after-child : here tie.After-child = search ways in
+    let at-loop : here tie.At-loop = search ways in
+    record { way = (at-loop .loop .inv); end = λ _. sym (after-child .child .ensures) ∙ (c .if2 .taken) }
+
+loop-less : here tie.Need-loop-less
+loop-less c =
+    let after-child : here tie.After-child = search ways in
+    let then1 : here tie.Then1 = search ways in
+    let at-loop : here tie.At-loop = search ways in
+    let start : here tie.Start = search ways in
+    let s =
+    Tree.descends-on
+    _
+    _
+    _
+    (Tree.all-indexed _ _ (start .pre .1) (start .pre .3))
+    _
+    _
+    _
+    (at-loop .loop .inv)
+    (then1 .if1 .taken)
+    (after-child .child .ensures)
+    (c .if2 .left)
+    in
+    omega (arith, s .1, s .0 .low)
+
+loop-again : here tie.Need-loop-again
+loop-again c =
+    let after-child : here tie.After-child = search ways in
+    let then1 : here tie.Then1 = search ways in
+    let at-loop : here tie.At-loop = search ways in
+    let start : here tie.Start = search ways in
+    Tree.descends-on
+    _
+    _
+    _
+    (Tree.all-indexed _ _ (start .pre .1) (start .pre .3))
+    _
+    _
+    _
+    (at-loop .loop .inv)
+    (then1 .if1 .taken)
+    (after-child .child .ensures)
+    (c .if2 .left) .0
+
+returns-2 : here tie.Need-returns-2
+returns-2 c =
+    let at-loop : here tie.At-loop = search ways in
+    record { way = (at-loop .loop .inv); end = λ h. absurd (h (c .if1 .left)) }
 
 pub descend-spec : {M : Type 1} → statement M
 descend-spec =
@@ -19,13 +92,13 @@ descend-spec =
     (tie.spec
     Inv-loop
     μ-loop
-    (λ c. Tree.descends-start _ _ _ (Tree.all-indexed _ _ (c .before .pre .1) (c .before .pre .3)) (c .before .pre .0))
+    loop-holds
     (λ c. search needs)
     (λ c. search needs)
     (λ c. search needs)
     (λ c κs. search needs)
-    (λ c. record { way = (c .before .before .before .before .loop .inv); end = λ _. sym (c .before .child .ensures) ∙ (c .if2 .taken) })
+    returns
     (λ c. search needs)
-    (λ c. (let s = Tree.descends-on _ _ _ (Tree.all-indexed _ _ (c .before .before .before .before .before .before .pre .1) (c .before .before .before .before .before .before .pre .3)) _ _ _ (c .before .before .before .before .loop .inv) (c .before .before .if1 .taken) (c .before .child .ensures) (c .if2 .left) in omega (arith, s .1, s .0 .low)))
-    (λ c. Tree.descends-on _ _ _ (Tree.all-indexed _ _ (c .before .before .before .before .before .before .pre .1) (c .before .before .before .before .before .before .pre .3)) _ _ _ (c .before .before .before .before .loop .inv) (c .before .before .if1 .taken) (c .before .child .ensures) (c .if2 .left) .0)
-    (λ c. record { way = (c .before .before .loop .inv); end = λ h. absurd (h (c .if1 .left)) }))
+    loop-less
+    loop-again
+    returns-2)

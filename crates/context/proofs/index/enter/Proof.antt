@@ -4,14 +4,31 @@ use borrow.Author.Needs.{needs}
 use Rattle.context.proofs.index.enter.Statement.{statement}
 use Rattle.context.proofs.index.enter.Tie as tie
 
+-- the ways back, from place to place
+abbrev back-join : tie.After-join → tie.Start
+back-join c = search
+
+ruleset ways = (back-join)
+
+returns : tie.Need-returns
+returns c =
+    let start : tie.Start = search ways in
+    Tree.entered-full _ _ _ (start .pre .0 .1) (c .if1 .taken)
+
+returns-2 : tie.Need-returns-2
+returns-2 c =
+    let after-join : tie.After-join = search ways in
+    let start : tie.Start = search ways in
+    Tree.entered-room _ _ _ (start .pre .0 .1) (omega arith) (start .pre .0 .0) (start .pre .1) (after-join .join .ensures)
+
 pub enter-spec : {M : Type 1} → statement M
 enter-spec =
     tie.close
     (tie.spec
-    (λ c. Tree.linked-full _ _ _ (c .before .before .pre .0 .1) (c .if1 .taken))
+    returns
     (λ c κs. search needs)
     (λ c. search needs)
     (λ c. search needs)
     (λ c. search needs)
     (λ c. search needs)
-    (λ c. Tree.linked-room _ _ _ (c .before .before .before .before .before .before .pre .0 .1) (omega arith) (c .before .before .before .before .before .before .pre .0 .0) (c .before .before .before .before .before .before .pre .1) (c .before .before .join .ensures)))
+    returns-2)

@@ -5,14 +5,48 @@ use borrow.Author.Needs.{needs}
 use Rattle.context.proofs.index.join.Statement.{statement}
 use Rattle.context.proofs.index.join.Tie as tie
 
+-- the ways back, from place to place
+abbrev back-set-child : tie.After-set-child → tie.After-descend
+back-set-child c = search
+
+abbrev back-descend : tie.After-descend → tie.Start
+back-descend c = search
+
+ruleset ways = (back-set-child, back-descend)
+
+returns : tie.Need-returns
+returns c = root (c .if1 .taken) refl
+
+set-child-requires : tie.Need-set-child-requires
+set-child-requires c κs =
+    let after-descend : tie.After-descend = search ways in
+    let start : tie.Start = search ways in (
+      search needs,
+      search needs,
+      search needs,
+      (after-descend .descend .ensures .end) (Tree.not-met _ _ _ (start .pre .1) _ (after-descend .descend .ensures .way .low)),
+    )
+
+returns-2 : tie.Need-returns-2
+returns-2 c =
+    let after-set-child : tie.After-set-child = search ways in
+    let after-descend : tie.After-descend = search ways in
+    let start : tie.Start = search ways in
+    child
+    _
+    _
+    (after-descend .descend .ensures .way)
+    ((after-descend .descend .ensures .end) (Tree.not-met _ _ _ (start .pre .1) _ (after-descend .descend .ensures .way .low)))
+    (after-set-child .set-child .ensures)
+
 pub join-spec : {M : Type 1} → statement M
 join-spec =
     tie.close
     (tie.spec
-    (λ c. root (c .if1 .taken) refl)
+    returns
     (λ c κs. search needs)
     (λ c. search needs)
     (λ c. search needs)
-    (λ c κs. (search needs, search needs, search needs, (c .before .descend .ensures .end) (Tree.not-met _ _ _ (c .before .before .before .before .before .pre .1) _ (c .before .descend .ensures .way .low))))
+    set-child-requires
     (λ c. search needs)
-    (λ c. child _ _ (c .before .before .before .before .descend .ensures .way) ((c .before .before .before .before .descend .ensures .end) (Tree.not-met _ _ _ (c .before .before .before .before .before .before .before .before .pre .1) _ (c .before .before .before .before .descend .ensures .way .low))) (c .before .before .set-child .ensures)))
+    returns-2)

@@ -1,32 +1,114 @@
--- `line::kind::kind_named` meets its contract: the keyword's kind among those of a sort. The invariant: the kinds passed have another keyword. Assumes nothing.
-use Rattle.line.proofs.KindLaws.{Looking, look-low, look-first, look-here, look-past, look-none}
+-- `line::kind::kind_named` meets its contract: the number that a keyword has among the kinds of the sort is that of the kind it names. Assumes nothing.
 use native.Mathlib.Omega.{arith}
-use Prim.Native.Nat.{_-_}
-use mathlib.Core.Path.{sym, _∙_}
 use borrow.Author.Needs.{needs}
+use Rattle.words.specs.LastLaws.{last-is}
+use Rattle.words.specs.Places.{statementSort, unionArmSort, clauseSort, projectionSort, orderItemSort, patternPartSort, patternElementSort, nameSort, yieldItemSort, entrySort, exprSort}
+use Rattle.line.specs.Kinds.{keyed, keyedFrom}
+use Rattle.line.proofs.KindLaws.{keyed-named}
 use Rattle.line.proofs.kind.kind_named.Statement.{statement}
 use Rattle.line.proofs.kind.kind_named.Tie as tie
 
-abbrev Inv-loop : tie.InvT-loop
-Inv-loop s sort w at end k₀ k = Looking sort s w end k
+returns : tie.Need-returns
+unfolding keyed keyedFrom
+returns c =
+    let s : tie.Start = search in
+    let p : tie.After-pack = search in
+    keyed-named statementSort (c .before .match .keys1) (omega arith) (p .pack .ensures) (c .only .ensures)
 
-abbrev μ-loop : tie.MeasureT-loop
-μ-loop s sort w at end k₀ k = end - k
+returns-2 : tie.Need-returns-2
+unfolding keyed keyedFrom
+returns-2 c =
+    let s : tie.Start = search in
+    let p : tie.After-pack = search in
+    keyed-named unionArmSort (c .before .match .keys2) (omega arith) (p .pack .ensures) (c .only2 .ensures)
+
+returns-3 : tie.Need-returns-3
+unfolding keyed keyedFrom
+returns-3 c =
+    let s : tie.Start = search in
+    let p : tie.After-pack = search in
+    keyed-named clauseSort (c .before .match .keys3) (omega arith) (p .pack .ensures) (c .clause-kind .ensures)
+
+returns-4 : tie.Need-returns-4
+unfolding keyed keyedFrom
+returns-4 c =
+    let s : tie.Start = search in
+    let p : tie.After-pack = search in
+    keyed-named projectionSort (c .before .match .keys4) (omega arith) (p .pack .ensures) (c .only3 .ensures)
+
+returns-5 : tie.Need-returns-5
+unfolding keyed keyedFrom
+returns-5 c =
+    let s : tie.Start = search in
+    let p : tie.After-pack = search in
+    keyed-named orderItemSort (c .before .match .keys5) (omega arith) (p .pack .ensures) (c .only4 .ensures)
+
+returns-6 : tie.Need-returns-6
+unfolding keyed keyedFrom
+returns-6 c =
+    let s : tie.Start = search in
+    let p : tie.After-pack = search in
+    keyed-named patternPartSort (c .before .match .keys6) (omega arith) (p .pack .ensures) (c .only5 .ensures)
+
+returns-7 : tie.Need-returns-7
+unfolding keyed keyedFrom
+returns-7 c =
+    let s : tie.Start = search in
+    let p : tie.After-pack = search in
+    keyed-named patternElementSort (c .before .match .keys7) (omega arith) (p .pack .ensures) (c .element-kind .ensures)
+
+returns-8 : tie.Need-returns-8
+unfolding keyed keyedFrom
+returns-8 c =
+    let s : tie.Start = search in
+    let p : tie.After-pack = search in
+    keyed-named nameSort (c .before .match .keys8) (omega arith) (p .pack .ensures) (c .only6 .ensures)
+
+returns-9 : tie.Need-returns-9
+unfolding keyed keyedFrom
+returns-9 c =
+    let s : tie.Start = search in
+    let p : tie.After-pack = search in
+    keyed-named yieldItemSort (c .before .match .keys9) (omega arith) (p .pack .ensures) (c .only7 .ensures)
+
+returns-10 : tie.Need-returns-10
+unfolding keyed keyedFrom
+returns-10 c =
+    let s : tie.Start = search in
+    let p : tie.After-pack = search in
+    keyed-named entrySort (c .before .match .keys10) (omega arith) (p .pack .ensures) (c .only8 .ensures)
+
+returns-11 : tie.Need-returns-11
+unfolding keyed keyedFrom
+returns-11 c =
+    let s : tie.Start = search in
+    let p : tie.After-pack = search in
+    keyed-named exprSort (last-is _ 10 (s .pre) (c .before .match .rest)) (omega arith) (p .pack .ensures) (c .expr-kind .ensures)
 
 pub kind-named-spec : {M : Type 1} → statement M
 kind-named-spec =
     tie.close
     (tie.spec
-    Inv-loop
-    μ-loop
-    (λ c κs. search needs)
-    (λ c. search needs)
     (λ c κs. search needs)
     (λ c κs. search needs)
-    (λ c. look-first _ _ _ _ _ (c .before .before .before .before .pre) (c .before .before .pack .ensures) (c .before .first-kind .ensures) (c .first-kind2 .ensures))
-    (λ c κs. look-low _ _ _ _ _ (c .before .loop .inv) (c .loop-test .taken))
-    (λ c. look-here _ _ _ _ _ (c .before .before .before .loop .inv) (c .before .before .loop-test .taken) (sym (c .before .key .ensures) ∙ (c .if1 .taken)))
-    (λ c. omega (arith, look-low _ _ _ _ _ (c .before .before .before .loop .inv) (c .before .before .loop-test .taken)))
-    (λ c. search needs)
-    (λ c. look-past _ _ _ _ _ (c .before .before .before .loop .inv) (c .before .before .loop-test .taken) (λ q. (c .if1 .left) ((c .before .key .ensures) ∙ q)))
-    (λ c. look-none _ _ _ _ _ (c .before .loop .inv) (c .loop-test .left)))
+    (λ c κs. search needs)
+    (λ c κs. search needs)
+    (λ c κs. search needs)
+    (λ c κs. search needs)
+    (λ c κs. search needs)
+    (λ c κs. search needs)
+    (λ c κs. search needs)
+    (λ c κs. search needs)
+    (λ c κs. search needs)
+    (λ c κs. search needs)
+    returns
+    returns-2
+    returns-3
+    returns-4
+    returns-5
+    returns-6
+    returns-7
+    returns-8
+    returns-9
+    returns-10
+    returns-11)

@@ -1,6 +1,6 @@
 -- `line::read::read_fields` meets its contract: the fields, one by one. The invariant: what the fields left come to is what all come to. Assumes nothing.
 use Rattle.line.proofs.FillLaws.{Filling, fill-start, fill-code, fill-room, fill-less, fill-not, fill-more, fill-yes, fill-no}
-use Rattle.line.specs.Table.{formsFrom}
+use Rattle.words.specs.Table.{formsFrom}
 use lib.ListN.{length, length-set}
 use native.Mathlib.Omega.{arith}
 use borrow.Author.Needs.{needs}

@@ -41,50 +41,58 @@ use Rattle.lower.proofs.+expand_to+lower_chain+lower_element+lower_elem
 use Rattle.context.proofs.LowerCtx.endpoint_var.Reads as endpoint-var-reads
 use Rattle.context.proofs.LowerCtx.number.Reads as number-reads
 use Rattle.context.proofs.LowerCtx.push.Reads as push-reads
+use Rattle.context.proofs.op.source.Reads as source-reads
+use Rattle.context.proofs.op.filter.Reads as filter-reads
+use Rattle.context.proofs.op.expand.Reads as expand-reads
+use Rattle.context.proofs.op.shortest_path.Reads as shortest-path-reads
+use Rattle.context.proofs.op.bind_path.Reads as bind-path-reads
 use Rattle.context.proofs.note.Reads as note-reads
 use Rattle.lower.proofs.lower_no_parts.Reads as lower-no-parts-reads
 use Rattle.lower.proofs.or_source_all.Reads as or-source-all-reads
+use Rattle.lower.proofs.root_of.Reads as root-of-reads
 use Rattle.lower.proofs.read_element.Reads as read-element-reads
-use Rattle.lower.proofs.records.children.Reads as children-reads
-use Rattle.lower.proofs.records.count.Reads as count-reads
-use Rattle.lower.proofs.records.skip.Reads as skip-reads
+use Rattle.lower.proofs.read_at.Reads as read-at-reads
+use Rattle.lower.proofs.read_bind.Reads as read-bind-reads
+use Rattle.words.proofs.records.children_of.Reads as children-of-reads
+use Rattle.words.proofs.records.count.Reads as count-reads
+use Rattle.words.proofs.records.skip.Reads as skip-reads
 use Rattle.words.proofs.word.Reads as word-reads
 
 abbrev pub μ-expand-to : Measures 4 expand-to-kinds.ps ℕ
 μ-expand-to κs a = 8 * a .1 .1 .1 .1 .1 .1 .0 + 2
 
 abbrev pub μ-lower-chain : Measures 4 lower-chain-kinds.ps ℕ
-μ-lower-chain κs a = 8 * a .1 .1 .1 .1 .1 .1 .1 .0 + 1
+μ-lower-chain κs a = 8 * a .1 .1 .1 .1 .1 .0 .left + 1
 
 abbrev pub μ-lower-element : Measures 4 lower-element-kinds.ps ℕ
 μ-lower-element κs a = 8 * a .1 .1 .1 .1 .1 .1 .0 + 3
 
 abbrev pub μ-lower-elements : Measures 4 lower-elements-kinds.ps ℕ
-μ-lower-elements κs a = 8 * a .1 .1 .1 .1 .1 .1 .1 .1 .0 + 4
+μ-lower-elements κs a = 8 * a .1 .1 .1 .1 .1 .0 .left + 4
 
 abbrev pub μ-lower-expr : Measures 4 lower-expr-kinds.ps ℕ
-μ-lower-expr κs a = 8 * a .1 .1 .1 .1 .1 .1 .1 .0
+μ-lower-expr κs a = 8 * a .1 .1 .1 .1 .1 .0 .left
 
 abbrev pub μ-lower-exprs : Measures 4 lower-exprs-kinds.ps ℕ
-μ-lower-exprs κs a = 8 * a .1 .1 .1 .1 .1 .1 .1 .1 .1 .0 + 1
+μ-lower-exprs κs a = 8 * a .1 .1 .1 .1 .1 .0 .left + 1
 
 abbrev pub μ-lower-parts : Measures 4 lower-parts-kinds.ps ℕ
-μ-lower-parts κs a = 8 * a .1 .1 .1 .1 .1 .1 .1 .1 .0 + 3
+μ-lower-parts κs a = 8 * a .1 .1 .1 .1 .1 .0 .left + 3
 
 abbrev pub μ-lower-pattern-part : Measures 4 lower-pattern-part-kinds.ps ℕ
-μ-lower-pattern-part κs a = 8 * a .1 .1 .1 .1 .1 .1 .1 .0 + 2
+μ-lower-pattern-part κs a = 8 * a .1 .1 .1 .1 .1 .0 .left + 2
 
 abbrev pub μ-lower-rel-element : Measures 4 lower-rel-element-kinds.ps ℕ
-μ-lower-rel-element κs a = 8 * a .1 .1 .1 .1 .1 .1 .1 .0 + 1
+μ-lower-rel-element κs a = 8 * a .1 .1 .1 .1 .1 .0 .left + 1
 
 abbrev pub μ-lower-shortest-path-part : Measures 4 lower-shortest-path-part-kinds.ps ℕ
-μ-lower-shortest-path-part κs a = 8 * a .1 .1 .1 .1 .1 .1 .1 .1 .1 .0 + 1
+μ-lower-shortest-path-part κs a = 8 * a .1 .1 .1 .1 .1 .0 .left + 1
 
 abbrev pub μ-start-chain : Measures 4 start-chain-kinds.ps ℕ
 μ-start-chain κs a = 8 * a .1 .1 .1 .1 .1 .1 .0 + 2
 
 abbrev pub μ-start-node : Measures 4 start-node-kinds.ps ℕ
-μ-start-node κs a = 8 * a .1 .1 .1 .1 .1 .1 .1 .1 .0 + 1
+μ-start-node κs a = 8 * a .1 .1 .1 .1 .1 .0 .left + 1
 
 abbrev pub expand-to-at : ℕ → In 4 expand-to-kinds.ps
 expand-to-at t = and 4 expand-to-kinds.ps (is 4 expand-to-kinds.ps μ-expand-to t) expand-to.Pre
@@ -219,16 +227,16 @@ start-node-below t =
 
 abbrev pub expand-to-calls : ℕ → expand-to-lts.Claims
 expand-to-calls t = (
-  word-reads.Asked,
-  word-reads.Learnt,
   endpoint-var-reads.Asked,
   endpoint-var-reads.Learnt,
+  read-at-reads.Asked,
+  read-at-reads.Learnt,
   lower-rel-element-below t,
   lower-rel-element.Post,
-  count-reads.Asked,
-  count-reads.Learnt,
   lower-exprs-below t,
   lower-exprs.Post,
+  expand-reads.Asked,
+  expand-reads.Learnt,
   push-reads.Asked,
   push-reads.Learnt,
 )
@@ -239,12 +247,16 @@ lower-chain-calls t = (
   count-reads.Learnt,
   lower-elements-below t,
   lower-elements.Post,
+  root-of-reads.Asked,
+  root-of-reads.Learnt,
   or-source-all-reads.Asked,
   or-source-all-reads.Learnt,
   word-reads.Asked,
   word-reads.Learnt,
   number-reads.Asked,
   number-reads.Learnt,
+  bind-path-reads.Asked,
+  bind-path-reads.Learnt,
   push-reads.Asked,
   push-reads.Learnt,
 )
@@ -269,14 +281,12 @@ abbrev pub lower-expr-calls : ℕ → lower-expr-lts.Claims
 lower-expr-calls t = (
   word-reads.Asked,
   word-reads.Learnt,
-  children-reads.Asked,
-  children-reads.Learnt,
+  children-of-reads.Asked,
+  children-of-reads.Learnt,
   number-reads.Asked,
   number-reads.Learnt,
   lower-exprs-below t,
   lower-exprs.Post,
-  count-reads.Asked,
-  count-reads.Learnt,
   lower-parts-below t,
   lower-parts.Post,
   note-reads.Asked,
@@ -307,26 +317,24 @@ lower-pattern-part-calls t = (
 
 abbrev pub lower-rel-element-calls : ℕ → lower-rel-element-lts.Claims
 lower-rel-element-calls t = (
-  word-reads.Asked,
-  word-reads.Learnt,
   endpoint-var-reads.Asked,
   endpoint-var-reads.Learnt,
-  count-reads.Asked,
-  count-reads.Learnt,
   lower-exprs-below t,
   lower-exprs.Post,
 )
 
 abbrev pub lower-shortest-path-part-calls : ℕ → lower-shortest-path-part-lts.Claims
 lower-shortest-path-part-calls t = (
-  word-reads.Asked,
-  word-reads.Learnt,
   endpoint-var-reads.Asked,
   endpoint-var-reads.Learnt,
   start-node-below t,
   start-node.Post,
   lower-rel-element-below t,
   lower-rel-element.Post,
+  read-bind-reads.Asked,
+  read-bind-reads.Learnt,
+  shortest-path-reads.Asked,
+  shortest-path-reads.Learnt,
   push-reads.Asked,
   push-reads.Learnt,
   skip-reads.Asked,
@@ -334,17 +342,21 @@ lower-shortest-path-part-calls t = (
 )
 
 abbrev pub start-chain-calls : ℕ → start-chain-lts.Claims
-start-chain-calls t =
-    (word-reads.Asked, word-reads.Learnt, endpoint-var-reads.Asked, endpoint-var-reads.Learnt, start-node-below t, start-node.Post)
+start-chain-calls t = (
+  endpoint-var-reads.Asked,
+  endpoint-var-reads.Learnt,
+  start-node-below t,
+  start-node.Post,
+)
 
 abbrev pub start-node-calls : ℕ → start-node-lts.Claims
 start-node-calls t = (
-  count-reads.Asked,
-  count-reads.Learnt,
-  word-reads.Asked,
-  word-reads.Learnt,
+  source-reads.Asked,
+  source-reads.Learnt,
   push-reads.Asked,
   push-reads.Learnt,
   lower-expr-below t,
   lower-expr.Post,
+  filter-reads.Asked,
+  filter-reads.Learnt,
 )

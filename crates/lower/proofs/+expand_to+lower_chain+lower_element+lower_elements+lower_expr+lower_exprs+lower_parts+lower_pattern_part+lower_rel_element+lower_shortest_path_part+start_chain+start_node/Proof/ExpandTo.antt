@@ -1,5 +1,7 @@
 -- `expand_to`, of the cycle.
 use Prim.Native.Nat.{_+_, ℕ}
+use Rattle.context.specs.OpLaws.{pushed-as}
+use Rattle.lower.proofs.Reading.{endpoint-read, exprs-read}
 use Rattle.lower.proofs.Linking
 use Rattle.lower.specs.Exprs
 use Rattle.lower.proofs.Room
@@ -17,335 +19,221 @@ module _ (t : ℕ) where
   here X = X (expand-to-calls t) (expand-to-at t) reads.Post
 
   -- the ways back, from place to place
-  abbrev back-push : here lts.After-push → here lts.After-lower-exprs
+  abbrev back-push : here lts.After-push → here lts.After-expand
   back-push c = search
 
-  abbrev back-lower-exprs : here lts.After-lower-exprs → here lts.After-count2
+  abbrev back-expand : here lts.After-expand → here lts.After-lower-exprs
+  back-expand c = search
+
+  abbrev back-lower-exprs : here lts.After-lower-exprs → here lts.After-lower-rel-element
   back-lower-exprs c = search
 
-  abbrev back-count2 : here lts.After-count2 → here lts.After-count
-  back-count2 c = search
-
-  abbrev back-count : here lts.After-count → here lts.After-lower-rel-element
-  back-count c = search
-
-  abbrev back-lower-rel-element : here lts.After-lower-rel-element → here lts.After-endpoint-var
+  abbrev back-lower-rel-element : here lts.After-lower-rel-element → here lts.After-read-at
   back-lower-rel-element c = search
 
-  abbrev back-endpoint-var : here lts.After-endpoint-var → here lts.After-word2
+  abbrev back-read-at : here lts.After-read-at → here lts.After-endpoint-var
+  back-read-at c = search
+
+  abbrev back-endpoint-var : here lts.After-endpoint-var → here lts.Start
   back-endpoint-var c = search
 
-  abbrev back-word2 : here lts.After-word2 → here lts.After-word
-  back-word2 c = search
-
-  abbrev back-word : here lts.After-word → here lts.Start
-  back-word c = search
-
-  ruleset ways = (back-push, back-lower-exprs, back-count2, back-count, back-lower-rel-element, back-endpoint-var, back-word2, back-word)
-
-  word-requires : here lts.Need-word-requires
-  word-requires c κs =
-      let start : here lts.Start = search ways depth 10 in
-      (Room.low (start .pre .1 .1 .0), (omega arith, start .pre .1 .0))
-
-  word-requires-2 : here lts.Need-word-requires-2
-  word-requires-2 c κs =
-      let start : here lts.Start = search ways depth 10 in
-      (Room.low (start .pre .1 .1 .0), (omega arith, start .pre .1 .0))
+  ruleset ways = (back-push, back-expand, back-lower-exprs, back-lower-rel-element, back-read-at, back-endpoint-var)
 
   add-endpoint-var : here lts.Need-add-endpoint-var
   add-endpoint-var c =
-      let start : here lts.Start = search ways depth 10 in
-      let l₀ = Room.low (start .pre .1 .1 .0) in
-      let l₁ = Room.deep (start .pre .1 .1 .0) in
-      let l₂ = start .pre .1 .1 .1 .0 .1 in
-      let l₃ = start .pre .1 .1 .1 .0 .2 in
-      omega arith
+      let start : here lts.Start = search ways depth 12 in
+      omega (arith, Room.chain-bounds (start .pre .1 .chain))
 
   add-endpoint-var-2 : here lts.Need-add-endpoint-var-2
   add-endpoint-var-2 c =
-      let start : here lts.Start = search ways depth 10 in
-      let l₀ = Room.low (start .pre .1 .1 .0) in
-      let l₁ = Room.deep (start .pre .1 .1 .0) in
-      let l₂ = start .pre .1 .1 .1 .0 .1 in
-      let l₃ = start .pre .1 .1 .1 .0 .2 in
-      omega arith
+      let start : here lts.Start = search ways depth 12 in
+      omega (arith, Room.chain-bounds (start .pre .1 .chain))
 
   endpoint-var-requires : here lts.Need-endpoint-var-requires
   endpoint-var-requires c κs =
-      let start : here lts.Start = search ways depth 10 in
-      let l₀ = Room.low (start .pre .1 .1 .0) in
-      let l₁ = Room.deep (start .pre .1 .1 .0) in
-      let l₂ = start .pre .1 .1 .1 .0 .1 in
-      let l₃ = start .pre .1 .1 .1 .0 .2 in
-      Room.can-number (start .pre .1 .1 .1 .0 .0) _ _ _ (start .pre .1 .1 .1 .0 .2) (omega arith) refl
+      let start : here lts.Start = search ways depth 12 in
+      let l = Room.chain-bounds (start .pre .1 .chain) in
+      Room.can-number (start .pre .1 .chain .room) _ _ _ (start .pre .1 .chain .pass) (omega arith) refl
+
+  read-at-requires : here lts.Need-read-at-requires
+  read-at-requires c κs =
+      let start : here lts.Start = search ways depth 12 in
+      let w = Room.waiting-rel (start .pre .1 .chain .words) (start .pre .1 .waits) (start .pre .1 .chain .anchored) in
+      (start .pre .1 .chain .words, (Room.low (w .tree), omega arith))
 
   lower-rel-element-requires : here lts.Need-lower-rel-element-requires
   lower-rel-element-requires c κs =
-      let after-endpoint-var : here lts.After-endpoint-var = search ways depth 10 in
-      let start : here lts.Start = search ways depth 10 in (
+      let after-read-at : here lts.After-read-at = search ways depth 12 in
+      let after-endpoint-var : here lts.After-endpoint-var = search ways depth 12 in
+      let start : here lts.Start = search ways depth 12 in (
         omega (arith, start .pre .0),
-        (
-          start .pre .1 .0,
-          (
-            (
-              Room.waiting-rel (start .pre .1 .0) (start .pre .1 .1 .1 .1 .1 .1) (start .pre .1 .1 .1 .1 .0 .1),
-              Room.waiting-kind (start .pre .1 .0) (start .pre .1 .1 .1 .1 .1 .1) (start .pre .1 .1 .1 .1 .0 .1),
-            ),
-            (
-              Room.numbered
-                  (start .pre .1 .1 .1 .0 .0)
-                  (after-endpoint-var .endpoint-var .ensures .issued)
-                  (after-endpoint-var .endpoint-var .kept .1 .0)
-                  (Room.deep (start .pre .1 .1 .0)),
-              start .pre .1 .1 .1 .0 .1,
-              start .pre .1 .1 .1 .0 .2,
-              Room.deep (start .pre .1 .1 .0),
-            ),
-          ),
-        ),
+        record {
+          asked = record {
+            words = start .pre .1 .chain .words;
+            tree = Room.waiting-rel (start .pre .1 .chain .words) (start .pre .1 .waits) (start .pre .1 .chain .anchored);
+            room =
+                Room.good-at
+                (Room.from-rel (start .args .ch) (start .pre .1 .waits))
+                (Room.numbered
+                (start .pre .1 .chain .room)
+                (after-endpoint-var .endpoint-var .ensures .issued)
+                (after-endpoint-var .endpoint-var .kept .1 .0)
+                (Room.deep (start .pre .1 .chain .tree)));
+            depth = start .pre .1 .chain .depth;
+            pass = start .pre .1 .chain .pass;
+          };
+          read = after-read-at .read-at .ensures;
+        },
       )
 
-  count-requires : here lts.Need-count-requires
-  count-requires c κs =
-      let start : here lts.Start = search ways depth 10 in
-      (Room.low (start .pre .1 .1 .0), (omega arith, start .pre .1 .0))
-
-  count-requires-2 : here lts.Need-count-requires-2
-  count-requires-2 c κs =
-      let start : here lts.Start = search ways depth 10 in
-      (Room.low (start .pre .1 .1 .0), (omega arith, start .pre .1 .0))
-
-  add-lower-exprs : here lts.Need-add-lower-exprs
-  add-lower-exprs c =
-      let start : here lts.Start = search ways depth 10 in
-      let l₀ = Room.low (start .pre .1 .1 .0) in
-      let l₁ = Room.deep (start .pre .1 .1 .0) in
-      let l₂ = start .pre .1 .1 .1 .0 .1 in
-      let l₃ = start .pre .1 .1 .1 .0 .2 in
-      omega arith
-
-  add-lower-exprs-2 : here lts.Need-add-lower-exprs-2
-  add-lower-exprs-2 c =
-      let after-count : here lts.After-count = search ways depth 10 in
-      let start : here lts.Start = search ways depth 10 in
-      let l₀ = Room.names-low (start .pre .1 .0) (start .pre .1 .1 .0) in
-      let n₀ = after-count .count .ensures .0 in
-      omega arith
-
-  sub-lower-exprs : here lts.Need-sub-lower-exprs
-  sub-lower-exprs c =
-      let start : here lts.Start = search ways depth 10 in
-      let l₀ = Room.low (start .pre .1 .1 .0) in
-      let l₁ = Room.deep (start .pre .1 .1 .0) in
-      let l₂ = start .pre .1 .1 .1 .0 .1 in
-      let l₃ = start .pre .1 .1 .1 .0 .2 in
-      omega arith
+  sub-less : here lts.Need-sub-less
+  sub-less c =
+      let start : here lts.Start = search ways depth 12 in
+      omega (arith, Room.chain-bounds (start .pre .1 .chain))
 
   lower-exprs-requires : here lts.Need-lower-exprs-requires
   lower-exprs-requires c κs =
-      let after-count2 : here lts.After-count2 = search ways depth 10 in
-      let after-count : here lts.After-count = search ways depth 10 in
-      let after-lower-rel-element : here lts.After-lower-rel-element = search ways depth 10 in
-      let after-endpoint-var : here lts.After-endpoint-var = search ways depth 10 in
-      let start : here lts.Start = search ways depth 10 in
-      let l₁ = Room.deep (start .pre .1 .1 .0) in
+      let after-lower-rel-element : here lts.After-lower-rel-element = search ways depth 12 in
+      let after-endpoint-var : here lts.After-endpoint-var = search ways depth 12 in
+      let start : here lts.Start = search ways depth 12 in
+      let l₁ = Room.deep (start .pre .1 .chain .tree) in
       let l₀ =
       Room.waiting-end
-      (start .pre .1 .0)
-      (start .pre .1 .1 .1 .1 .1 .1)
-      (start .pre .1 .1 .1 .1 .0 .1)
+      (start .pre .1 .chain .words)
+      (start .pre .1 .waits)
+      (start .pre .1 .chain .anchored)
       (after-lower-rel-element .lower-rel-element .ensures)
       in
-      let l₀′ = Room.names-low (start .pre .1 .0) (start .pre .1 .1 .0) in
-      let n₀ = after-count .count .ensures .0 in
-      let l₀′′ = Room.low (start .pre .1 .1 .0) in
-      let l₂ = start .pre .1 .1 .1 .0 .1 in
-      let l₃ = start .pre .1 .1 .1 .0 .2 in (
-        (omega (arith, start .pre .0)),
-        (
-          start .pre .1 .0,
-          (
-            Room.node-some
-                (start .pre .1 .0)
-                (start .pre .1 .1 .0)
-                (start .pre .1 .1 .1 .1 .1 .0)
-                _
-                _
-                (after-count2 .count2 .ensures .0)
-                (ap (λ z. (start .args .ch .next) + 1 + z) (after-count .count .ensures .0)),
-            (
+      let l₀′ = Room.names-low (start .pre .1 .chain .words) (start .pre .1 .chain .tree) in
+      let n₀ = start .pre .1 .read .first in
+      let l₀′′ = Room.low (start .pre .1 .chain .tree) in
+      let l₂ = start .pre .1 .chain .depth in
+      let l₃ = start .pre .1 .chain .pass in (
+        omega (arith, start .pre .0),
+        record {
+          words = start .pre .1 .chain .words;
+          tree =
+              Room.node-some
+              (start .pre .1 .chain .words)
+              (start .pre .1 .chain .tree)
+              (start .pre .1 .is)
+              _
+              _
+              (start .pre .1 .read .props)
+              (start .pre .1 .read .first);
+          room =
               Room.after-rel
-                  _
-                  (Room.numbered
-                  (start .pre .1 .1 .1 .0 .0)
-                  (after-endpoint-var .endpoint-var .ensures .issued)
-                  (after-endpoint-var .endpoint-var .kept .1 .0)
-                  (Room.deep (start .pre .1 .1 .0)))
-                  (after-lower-rel-element .lower-rel-element .ensures)
-                  (omega arith)
-                  (omega arith),
-              omega arith,
-              start .pre .1 .1 .1 .0 .2,
-              omega arith,
-            ),
-          ),
-        ),
+              _
+              (Room.good-at (Room.from-rel (start .args .ch) (start .pre .1 .waits)) (Room.numbered
+              (start .pre .1 .chain .room)
+              (after-endpoint-var .endpoint-var .ensures .issued)
+              (after-endpoint-var .endpoint-var .kept .1 .0)
+              (Room.deep (start .pre .1 .chain .tree))))
+              (after-lower-rel-element .lower-rel-element .ensures)
+              (omega arith)
+              (omega arith);
+          depth = omega arith;
+          pass = start .pre .1 .chain .pass;
+        },
       )
 
-  cast-push : here lts.Need-cast-push
-  cast-push c =
-      let start : here lts.Start = search ways depth 10 in
-      let l₀ = Room.low (start .pre .1 .1 .0) in
-      let q = (start .pre .1 .1 .1 .1 .0 .0) .from in
-      omega arith
-
-  cast-push-2 : here lts.Need-cast-push-2
-  cast-push-2 c =
-      let start : here lts.Start = search ways depth 10 in
-      let g = Room.few-ops (start .pre .1 .1 .1 .0 .0) in
-      let q = (start .pre .1 .1 .1 .1 .0 .0) .last in
-      omega arith
-
-  cast-push-3 : here lts.Need-cast-push-3
-  cast-push-3 c =
-      let start : here lts.Start = search ways depth 10 in
-      let l₀ = Room.low (start .pre .1 .1 .0) in
-      let l₁ = Room.deep (start .pre .1 .1 .0) in
-      let l₂ = start .pre .1 .1 .1 .0 .1 in
-      let l₃ = start .pre .1 .1 .1 .0 .2 in
-      omega arith
-
-  cast-push-4 : here lts.Need-cast-push-4
-  cast-push-4 c =
-      let start : here lts.Start = search ways depth 10 in
-      let l₀ = Room.low (start .pre .1 .1 .0) in
-      let l₁ = Room.deep (start .pre .1 .1 .0) in
-      let l₂ = start .pre .1 .1 .1 .0 .1 in
-      let l₃ = start .pre .1 .1 .1 .0 .2 in
-      omega arith
-
-  cast-push-5 : here lts.Need-cast-push-5
-  cast-push-5 c =
-      let start : here lts.Start = search ways depth 10 in
-      let l₀ = Room.low (start .pre .1 .1 .0) in
-      let l₁ = Room.deep (start .pre .1 .1 .0) in
-      let l₂ = start .pre .1 .1 .1 .0 .1 in
-      let l₃ = start .pre .1 .1 .1 .0 .2 in
-      omega arith
+  expand-requires : here lts.Need-expand-requires
+  expand-requires c κs =
+      let start : here lts.Start = search ways depth 12 in
+      let l₀ = Room.low (start .pre .1 .chain .tree) in
+      let l₂ = start .pre .1 .chain .depth in
+      let q = start .pre .1 .chain .bounded .from in
+      let fr = Room.from-rel (start .args .ch) (start .pre .1 .waits) in
+      let g = Room.few-ops (start .pre .1 .chain .room) in
+      let q′ = start .pre .1 .chain .bounded .last .op _ _ (start .pre .1 .has) in
+      (Room.fits (start .pre .1 .chain .pass) (omega arith) (omega arith), omega arith, omega arith)
 
   push-requires : here lts.Need-push-requires
   push-requires c κs =
-      let after-lower-exprs : here lts.After-lower-exprs = search ways depth 10 in
-      let after-count : here lts.After-count = search ways depth 10 in
-      let after-lower-rel-element : here lts.After-lower-rel-element = search ways depth 10 in
-      let after-endpoint-var : here lts.After-endpoint-var = search ways depth 10 in
-      let start : here lts.Start = search ways depth 10 in
+      let after-lower-exprs : here lts.After-lower-exprs = search ways depth 12 in
+      let after-lower-rel-element : here lts.After-lower-rel-element = search ways depth 12 in
+      let after-endpoint-var : here lts.After-endpoint-var = search ways depth 12 in
+      let start : here lts.Start = search ways depth 12 in
       let l₀ =
       Room.waiting-end
-      (start .pre .1 .0)
-      (start .pre .1 .1 .1 .1 .1 .1)
-      (start .pre .1 .1 .1 .1 .0 .1)
+      (start .pre .1 .chain .words)
+      (start .pre .1 .waits)
+      (start .pre .1 .chain .anchored)
       (after-lower-rel-element .lower-rel-element .ensures)
       in
-      let l₀′ = Room.names-low (start .pre .1 .0) (start .pre .1 .1 .0) in
-      let n₀ = after-count .count .ensures .0 in
+      let l₀′ = Room.names-low (start .pre .1 .chain .words) (start .pre .1 .chain .tree) in
+      let n₀ = start .pre .1 .read .first in
       Room.can-push
       (Exprs.good-after
       (after-lower-exprs .lower-exprs .ensures .moved)
       (Room.after-rel
       _
-      (Room.numbered
-      (start .pre .1 .1 .1 .0 .0)
+      (Room.good-at (Room.from-rel (start .args .ch) (start .pre .1 .waits)) (Room.numbered
+      (start .pre .1 .chain .room)
       (after-endpoint-var .endpoint-var .ensures .issued)
       (after-endpoint-var .endpoint-var .kept .1 .0)
-      (Room.deep (start .pre .1 .1 .0)))
+      (Room.deep (start .pre .1 .chain .tree))))
       (after-lower-rel-element .lower-rel-element .ensures)
       (omega arith)
       (omega arith)))
 
-  add-t38 : here lts.Need-add-t38
-  add-t38 c =
-      let start : here lts.Start = search ways depth 10 in
-      let q = (start .pre .1 .1 .1 .1 .0 .0) .kept in
-      let q′ = (start .pre .1 .1 .1 .1 .0 .0) .next in
+  add-kept : here lts.Need-add-kept
+  add-kept c =
+      let start : here lts.Start = search ways depth 12 in
+      let q = (start .pre .1 .chain .bounded) .kept in
+      let q′ = (start .pre .1 .chain .bounded) .next in
       omega arith
 
   same-length : here lts.Need-same-length
   same-length c =
-      let after-push : here lts.After-push = search ways depth 10 in
-      let after-lower-exprs : here lts.After-lower-exprs = search ways depth 10 in
-      let after-lower-rel-element : here lts.After-lower-rel-element = search ways depth 10 in
+      let after-push : here lts.After-push = search ways depth 12 in
+      let after-lower-exprs : here lts.After-lower-exprs = search ways depth 12 in
+      let after-lower-rel-element : here lts.After-lower-rel-element = search ways depth 12 in
       (after-push .push .kept .1 .0) ∙ (after-lower-exprs .lower-exprs .kept .1 .1 .0) ∙ (after-lower-rel-element .lower-rel-element .kept .1 .1 .0)
 
   same-length-2 : here lts.Need-same-length-2
   same-length-2 c =
-      let after-lower-exprs : here lts.After-lower-exprs = search ways depth 10 in
-      let after-lower-rel-element : here lts.After-lower-rel-element = search ways depth 10 in
-      let after-endpoint-var : here lts.After-endpoint-var = search ways depth 10 in
+      let after-lower-exprs : here lts.After-lower-exprs = search ways depth 12 in
+      let after-lower-rel-element : here lts.After-lower-rel-element = search ways depth 12 in
+      let after-endpoint-var : here lts.After-endpoint-var = search ways depth 12 in
       (after-lower-exprs .lower-exprs .kept .1 .1 .1 .0) ∙
       (after-lower-rel-element .lower-rel-element .kept .1 .1 .1 .0) ∙
       (after-endpoint-var .endpoint-var .kept .1 .0)
 
   returns : here lts.Need-returns
   returns c =
-      let after-push : here lts.After-push = c .before .before .before in
-      let after-lower-exprs : here lts.After-lower-exprs =
-      c .before .before .before .before .before .before .before .before .before .before .before
-      in
-      let after-count2 : here lts.After-count2 =
-      c .before .before .before .before .before .before .before .before .before .before .before .before .before .before .before
-      in
-      let after-count : here lts.After-count =
-      c .before .before .before .before .before .before .before .before .before .before .before .before .before .before .before .before
-      in
-      let after-lower-rel-element : here lts.After-lower-rel-element =
-      c .before .before .before .before .before .before .before .before .before .before .before .before .before .before .before .before .before
-      .before .before .before .before
-      in
-      let after-endpoint-var : here lts.After-endpoint-var =
-      c .before .before .before .before .before .before .before .before .before .before .before .before .before .before .before .before .before
-      .before .before .before .before .before .before .before .before .before .before
-      in
-      let after-word2 : here lts.After-word2 =
-      c .before .before .before .before .before .before .before .before .before .before .before .before .before .before .before .before .before
-      .before .before .before .before .before .before .before .before .before .before .before .before .before
-      in
-      let after-word : here lts.After-word =
-      c .before .before .before .before .before .before .before .before .before .before .before .before .before .before .before .before .before
-      .before .before .before .before .before .before .before .before .before .before .before .before .before .before
-      in
-      let start : here lts.Start =
-      c .before .before .before .before .before .before .before .before .before .before .before .before .before .before .before .before .before
-      .before .before .before .before .before .before .before .before .before .before .before .before .before .before .before .before .before
-      .before .before
-      in
+      let after-push : here lts.After-push = search ways depth 12 in
+      let after-expand : here lts.After-expand = search ways depth 12 in
+      let after-lower-exprs : here lts.After-lower-exprs = search ways depth 12 in
+      let after-lower-rel-element : here lts.After-lower-rel-element = search ways depth 12 in
+      let after-endpoint-var : here lts.After-endpoint-var = search ways depth 12 in
+      let start : here lts.Start = search ways depth 12 in
       Linking.expand-law
       _
       _
       _
-      (start .pre .1 .0)
-      (start .pre .1 .1 .1 .0 .2)
-      (start .pre .1 .1 .1 .0 .1)
-      (start .pre .1 .1 .1 .1 .0 .0)
-      (start .pre .1 .1 .1 .1 .1 .1)
-      (start .pre .1 .1 .1 .1 .1 .2)
-      (start .pre .1 .1 .1 .1 .1 .0)
-      (Room.low (start .pre .1 .1 .0))
+      (start .pre .1 .chain .words)
+      (start .pre .1 .chain .pass)
+      (start .pre .1 .chain .depth)
+      (start .pre .1 .chain .bounded)
+      (start .pre .1 .waits)
+      (start .pre .1 .has)
+      (start .pre .1 .is)
+      (Room.low (start .pre .1 .chain .tree))
       refl
-      (rw (after-word .word .ensures, after-word2 .word2 .ensures) at (after-endpoint-var .endpoint-var .ensures))
+      (endpoint-read (start .pre .1 .read .bind) (after-endpoint-var .endpoint-var .ensures))
       (after-endpoint-var .endpoint-var .kept .1 .0)
       refl
       (after-lower-rel-element .lower-rel-element .ensures .noted)
       (after-lower-rel-element .lower-rel-element .ensures .kept)
       refl
       (after-lower-rel-element .lower-rel-element .ensures .props)
-      (after-count2 .count2 .ensures .0)
-      (rw (ap (λ z. (start .args .ch .next) + 1 + z) (after-count .count .ensures .0)) at (after-lower-exprs .lower-exprs .ensures))
-      (after-push .push .ensures)
+      (start .pre .1 .read .props)
+      (exprs-read (start .pre .1 .read .first) (after-lower-exprs .lower-exprs .ensures))
+      (pushed-as (after-expand .expand .ensures) (after-push .push .ensures))
       (after-push .push .kept .1 .0)
-      (start .pre .1 .1 .0)
-      (start .pre .1 .1 .1 .1 .0 .1)
+      (start .pre .1 .chain .tree)
+      (start .pre .1 .chain .anchored)
 
   pub meets : {M : Type 1} → lts.Closed (expand-to-calls t) (expand-to-at t) reads.Post M
   meets =
@@ -353,25 +241,16 @@ module _ (t : ℕ) where
       (expand-to-calls t)
       (expand-to-at t)
       reads.Post
-      word-requires
-      word-requires-2
       add-endpoint-var
       add-endpoint-var-2
       endpoint-var-requires
+      read-at-requires
       lower-rel-element-requires
-      count-requires
-      count-requires-2
-      add-lower-exprs
-      add-lower-exprs-2
-      sub-lower-exprs
+      sub-less
       lower-exprs-requires
-      cast-push
-      cast-push-2
-      cast-push-3
-      cast-push-4
-      cast-push-5
+      expand-requires
       push-requires
-      add-t38
+      add-kept
       same-length
       same-length-2
       returns

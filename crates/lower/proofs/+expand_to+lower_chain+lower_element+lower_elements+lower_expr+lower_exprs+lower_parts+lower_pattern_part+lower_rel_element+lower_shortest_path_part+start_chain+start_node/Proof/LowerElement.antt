@@ -18,32 +18,32 @@ module _ (t : ℕ) where
   here X = X (lower-element-calls t) (lower-element-at t) reads.Post
 
   -- the ways back, from place to place
-  abbrev back-start-chain2 : here lts.After-start-chain2 → here lts.Then2
+  abbrev back-start-chain2 : here lts.After-start-chain2 → here lts.After-enum-told3
   back-start-chain2 c = search
 
-  abbrev back-expand-to : here lts.After-expand-to → here lts.Else2
+  abbrev back-expand-to : here lts.After-expand-to → here lts.After-last
   back-expand-to c = search
 
-  abbrev back-start-chain : here lts.After-start-chain → here lts.Then1
+  abbrev back-start-chain : here lts.After-start-chain → here lts.After-enum-told2
   back-start-chain c = search
 
-  abbrev back-then2 : here lts.Then2 → here lts.Else1
-  back-then2 c = search
+  abbrev back-enum-told3 : here lts.After-enum-told3 → here lts.After-pending
+  back-enum-told3 c = search
 
-  abbrev back-else2 : here lts.Else2 → here lts.Else1
-  back-else2 c = search
+  abbrev back-last : here lts.After-last → here lts.After-pending
+  back-last c = search
 
-  abbrev back-else1 : here lts.Else1 → here lts.After-x
-  back-else1 c = search
+  abbrev back-enum-told2 : here lts.After-enum-told2 → here lts.After-node
+  back-enum-told2 c = search
 
-  abbrev back-then1 : here lts.Then1 → here lts.After-x
-  back-then1 c = search
+  abbrev back-pending : here lts.After-pending → here lts.After-node
+  back-pending c = search
 
   abbrev back-skip : here lts.After-skip → here lts.After-enum-told
   back-skip c = search
 
-  abbrev back-x : here lts.After-x → here lts.After-read-element
-  back-x c = search
+  abbrev back-node : here lts.After-node → here lts.After-read-element
+  back-node c = search
 
   abbrev back-enum-told : here lts.After-enum-told → here lts.After-read-element
   back-enum-told c = search
@@ -55,12 +55,12 @@ module _ (t : ℕ) where
     back-start-chain2,
     back-expand-to,
     back-start-chain,
-    back-then2,
-    back-else2,
-    back-else1,
-    back-then1,
+    back-enum-told3,
+    back-last,
+    back-enum-told2,
+    back-pending,
     back-skip,
-    back-x,
+    back-node,
     back-enum-told,
     back-read-element,
   )
@@ -68,12 +68,12 @@ module _ (t : ℕ) where
   read-element-requires : here lts.Need-read-element-requires
   read-element-requires c κs =
       let start : here lts.Start = search ways depth 7 in
-      (start .pre .1 .0, Room.low (start .pre .1 .1 .0))
+      (start .pre .1 .words, Room.low (start .pre .1 .tree))
 
   skip-requires : here lts.Need-skip-requires
   skip-requires c κs =
       let start : here lts.Start = search ways depth 7 in
-      (start .pre .1 .0, Part.starts (start .pre .1 .1 .0))
+      (start .pre .1 .words, Part.starts (start .pre .1 .tree))
 
   returns : here lts.Need-returns
   returns c =
@@ -88,35 +88,23 @@ module _ (t : ℕ) where
       _
       _
       _
-      (start .pre .1 .0)
-      (start .pre .1 .1 .1 .1 .0)
+      (start .pre .1 .words)
+      (start .pre .1 .bounded)
       (Part.other-kind
-      (start .pre .1 .0)
-      (start .pre .1 .1 .0)
-      (Part.is-rel _ _ _ _ (after-read-element .read-element .ensures) (after-enum-told .enum-told .given .1)))
+      (start .pre .1 .words)
+      (start .pre .1 .tree)
+      (Part.rel-read (after-read-element .read-element .ensures) (after-enum-told .enum-told .given .1) .is))
       (after-skip .skip .ensures)
-      (start .pre .1 .1 .0)
+      (start .pre .1 .tree)
 
   start-chain-requires : here lts.Need-start-chain-requires
   start-chain-requires c κs =
-      let then1 : here lts.Then1 = search ways depth 7 in
-      let after-x : here lts.After-x = search ways depth 7 in
+      let after-enum-told2 : here lts.After-enum-told2 = search ways depth 7 in
+      let after-node : here lts.After-node = search ways depth 7 in
       let after-read-element : here lts.After-read-element = search ways depth 7 in
       let start : here lts.Start = search ways depth 7 in (
         omega arith,
-        (
-          start .pre .1 .0,
-          (
-            start .pre .1 .1 .0,
-            (
-              start .pre .1 .1 .1 .0,
-              (
-                (start .pre .1 .1 .1 .1 .0, start .pre .1 .1 .1 .1 .1),
-                (Part.is-node _ _ _ _ (after-read-element .read-element .ensures) (after-x .x .given .1), inl (then1 .if1 .taken)),
-              ),
-            ),
-          ),
-        ),
+        record { chain = start .pre .1; is = Part.node-read (after-read-element .read-element .ensures) (after-node .node .given .1) .is; read = Part.node-read (after-read-element .read-element .ensures) (after-node .node .given .1) .read; anew = inl (after-enum-told2 .enum-told2 .given .1) },
       )
 
   same-length : here lts.Need-same-length
@@ -136,24 +124,12 @@ module _ (t : ℕ) where
 
   start-chain-requires-2 : here lts.Need-start-chain-requires-2
   start-chain-requires-2 c κs =
-      let then2 : here lts.Then2 = search ways depth 7 in
-      let after-x : here lts.After-x = search ways depth 7 in
+      let after-enum-told3 : here lts.After-enum-told3 = search ways depth 7 in
+      let after-node : here lts.After-node = search ways depth 7 in
       let after-read-element : here lts.After-read-element = search ways depth 7 in
       let start : here lts.Start = search ways depth 7 in (
         omega arith,
-        (
-          start .pre .1 .0,
-          (
-            start .pre .1 .1 .0,
-            (
-              start .pre .1 .1 .1 .0,
-              (
-                (start .pre .1 .1 .1 .1 .0, start .pre .1 .1 .1 .1 .1),
-                (Part.is-node _ _ _ _ (after-read-element .read-element .ensures) (after-x .x .given .1), inr (then2 .if2 .taken)),
-              ),
-            ),
-          ),
-        ),
+        record { chain = start .pre .1; is = Part.node-read (after-read-element .read-element .ensures) (after-node .node .given .1) .is; read = Part.node-read (after-read-element .read-element .ensures) (after-node .node .given .1) .read; anew = inr (after-enum-told3 .enum-told3 .given .1) },
       )
 
   same-length-3 : here lts.Need-same-length-3
@@ -173,29 +149,19 @@ module _ (t : ℕ) where
 
   expand-to-requires : here lts.Need-expand-to-requires
   expand-to-requires c κs =
-      let else2 : here lts.Else2 = search ways depth 7 in
-      let else1 : here lts.Else1 = search ways depth 7 in
-      let after-x : here lts.After-x = search ways depth 7 in
+      let after-last : here lts.After-last = search ways depth 7 in
+      let after-pending : here lts.After-pending = search ways depth 7 in
+      let after-node : here lts.After-node = search ways depth 7 in
       let after-read-element : here lts.After-read-element = search ways depth 7 in
       let start : here lts.Start = search ways depth 7 in (
         omega arith,
-        (
-          start .pre .1 .0,
-          (
-            start .pre .1 .1 .0,
-            (
-              start .pre .1 .1 .1 .0,
-              (
-                (start .pre .1 .1 .1 .1 .0, start .pre .1 .1 .1 .1 .1),
-                (
-                  Part.is-node _ _ _ _ (after-read-element .read-element .ensures) (after-x .x .given .1),
-                  Part.one-of ((start .pre .1 .1 .1 .1 .0) .waits) (else1 .if1 .left),
-                  Part.one-of ((start .pre .1 .1 .1 .1 .0) .has) (else2 .if2 .left),
-                ),
-              ),
-            ),
-          ),
-        ),
+        record {
+          chain = start .pre .1;
+          is = Part.node-read (after-read-element .read-element .ensures) (after-node .node .given .1) .is;
+          read = Part.node-read (after-read-element .read-element .ensures) (after-node .node .given .1) .read;
+          waits = after-pending .pending .given .1;
+          has = after-last .last .given .1;
+        },
       )
 
   same-length-5 : here lts.Need-same-length-5
@@ -224,10 +190,14 @@ module _ (t : ℕ) where
       (λ c. search needs)
       skip-requires
       returns
+      (λ c. search needs)
+      (λ c. search needs)
       start-chain-requires
       same-length
       same-length-2
       returns-2
+      (λ c. search needs)
+      (λ c. search needs)
       start-chain-requires-2
       same-length-3
       same-length-4

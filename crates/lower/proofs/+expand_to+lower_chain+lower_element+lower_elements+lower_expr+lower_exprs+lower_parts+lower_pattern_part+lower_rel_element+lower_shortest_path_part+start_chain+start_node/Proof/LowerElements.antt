@@ -1,5 +1,7 @@
 -- `lower_elements`, of the cycle.
 use Rattle.lower.specs.Chains.{LowersElements}
+use native.Mathlib.Nat.{le-refl}
+use Rattle.lower.specs.Exprs
 use Rattle.lower.proofs.Chaining
 use Rattle.lower.proofs.Links
 use native.Mathlib.Omega.{arith}
@@ -11,10 +13,10 @@ use Rattle.lower.proofs.+expand_to+lower_chain+lower_element+lower_elem
 use Rattle.lower.proofs.+expand_to+lower_chain+lower_element+lower_elements+lower_expr+lower_exprs+lower_parts+lower_pattern_part+lower_rel_element+lower_shortest_path_part+start_chain+start_node.Proof.Claims.{lower-elements-at, lower-elements-calls}
 
 abbrev Inv-loop : lts.InvT-loop
-Inv-loop a b ops₀ rest₀ base i n left first ch₀ m₀ ops rest ch m = Links.Left a b left base (λ ch′ os′ rs′. LowersElements a b n left base ch₀ ch′ ops₀ os′ rest₀ rs′) m ch ops rest
+Inv-loop a b ops₀ rest₀ at n first ch₀ m₀ ops rest ch m = Links.Left a b (at .left) (at .base) (λ ch′ os′ rs′. LowersElements a b n (at .left) (at .base) ch₀ ch′ ops₀ os′ rest₀ rs′) m ch ops rest
 
 abbrev μ-loop : lts.MeasureT-loop
-μ-loop a b ops₀ rest₀ base i n left first ch₀ m₀ ops rest ch m = m
+μ-loop a b ops₀ rest₀ at n first ch₀ m₀ ops rest ch m = m
 
 module _ (t : ℕ) where
   -- a place or a need of this function, at the measure t
@@ -36,17 +38,17 @@ module _ (t : ℕ) where
   add-first : here lts.Need-add-first
   add-first c =
       let start : here lts.Start = search ways in
-      let g = (start .pre .1 .1 .1 .0) .here in
-      omega arith
+      omega (arith, start .pre .1 .tree .low)
 
   loop-holds : here lts.Need-loop-holds
   loop-holds c =
       let start : here lts.Start = search ways in
+      let l = start .pre .1 .tree .low in
       record {
-        some = (start .pre .1 .1 .0);
-        good = (start .pre .1 .1 .1 .0);
-        sturdy = Chaining.start-sturdy _ _ ((start .pre .1 .1 .1 .0) .here);
-        anchored = Chaining.start-anchored (start .args .a .now) (start .args .b .now) ((start .pre .1 .1 .0) .sheet) _ _ _;
+        some = start .pre .1 .tree .trees;
+        good = Exprs.good-from (le-refl _) (omega arith) (omega arith) (start .pre .1 .room);
+        bounded = Chaining.start-bounded _ _ (omega arith);
+        anchored = Chaining.start-anchored (start .args .a .now) (start .args .b .now) (start .pre .1 .tree .trees .sheet) _ _ _;
         rest = λ ch′ os′ rs′ q. q;
       }
 
@@ -56,13 +58,15 @@ module _ (t : ℕ) where
       let at-loop : here lts.At-loop = search ways in
       let start : here lts.Start = search ways in (
         omega arith,
-        (
-          start .pre .1 .0,
-          (
-            Links.child (in-loop .loop-test .taken) (at-loop .loop .inv),
-            ((at-loop .loop .inv .good, start .pre .1 .1 .1 .1, start .pre .1 .1 .1 .2), (at-loop .loop .inv .sturdy, at-loop .loop .inv .anchored)),
-          ),
-        ),
+        record {
+          words = start .pre .1 .words;
+          tree = Links.child (in-loop .loop-test .taken) (at-loop .loop .inv);
+          room = at-loop .loop .inv .good;
+          depth = start .pre .1 .depth;
+          pass = start .pre .1 .pass;
+          bounded = at-loop .loop .inv .bounded;
+          anchored = at-loop .loop .inv .anchored;
+        },
       )
 
   sub-m : here lts.Need-sub-m

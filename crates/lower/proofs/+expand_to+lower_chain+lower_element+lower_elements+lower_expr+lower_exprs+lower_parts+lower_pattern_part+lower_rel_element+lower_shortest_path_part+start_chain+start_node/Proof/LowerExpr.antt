@@ -1,4 +1,5 @@
 -- `lower_expr`, of the cycle.
+use Rattle.lower.proofs.Reading.{var-read}
 use Rattle.lower.proofs.Named
 use Rattle.lower.proofs.Arms
 use Rattle.lower.specs.Exprs
@@ -24,7 +25,7 @@ module _ (t : ℕ) where
   abbrev back-lower-exprs2 : here lts.After-lower-exprs2 → here lts.After-number2
   back-lower-exprs2 c = search
 
-  abbrev back-lower-parts : here lts.After-lower-parts → here lts.After-count
+  abbrev back-lower-parts : here lts.After-lower-parts → here lts.At-match-keys3
   back-lower-parts c = search
 
   abbrev back-number2 : here lts.After-number2 → here lts.After-word3
@@ -45,26 +46,23 @@ module _ (t : ℕ) where
   abbrev back-word2 : here lts.After-word2 → here lts.At-match-keys1
   back-word2 c = search
 
-  abbrev back-count : here lts.After-count → here lts.At-match-keys3
-  back-count c = search
-
-  abbrev back-at-match-rest : here lts.At-match-rest → here lts.After-children
+  abbrev back-at-match-rest : here lts.At-match-rest → here lts.After-children-of
   back-at-match-rest c = search
 
-  abbrev back-at-match-keys4 : here lts.At-match-keys4 → here lts.After-children
+  abbrev back-at-match-keys4 : here lts.At-match-keys4 → here lts.After-children-of
   back-at-match-keys4 c = search
 
-  abbrev back-at-match-keys3 : here lts.At-match-keys3 → here lts.After-children
+  abbrev back-at-match-keys3 : here lts.At-match-keys3 → here lts.After-children-of
   back-at-match-keys3 c = search
 
-  abbrev back-at-match-keys2 : here lts.At-match-keys2 → here lts.After-children
+  abbrev back-at-match-keys2 : here lts.At-match-keys2 → here lts.After-children-of
   back-at-match-keys2 c = search
 
-  abbrev back-at-match-keys1 : here lts.At-match-keys1 → here lts.After-children
+  abbrev back-at-match-keys1 : here lts.At-match-keys1 → here lts.After-children-of
   back-at-match-keys1 c = search
 
-  abbrev back-children : here lts.After-children → here lts.After-word
-  back-children c = search
+  abbrev back-children-of : here lts.After-children-of → here lts.After-word
+  back-children-of c = search
 
   abbrev back-word : here lts.After-word → here lts.Start
   back-word c = search
@@ -79,131 +77,89 @@ module _ (t : ℕ) where
     back-lower-exprs,
     back-word3,
     back-word2,
-    back-count,
     back-at-match-rest,
     back-at-match-keys4,
     back-at-match-keys3,
     back-at-match-keys2,
     back-at-match-keys1,
-    back-children,
+    back-children-of,
     back-word,
   )
 
   word-requires : here lts.Need-word-requires
   word-requires c κs =
       let start : here lts.Start = search ways depth 8 in
-      (Room.low (start .pre .1 .1 .0), (omega arith, start .pre .1 .0))
+      (Room.low (start .pre .1 .tree), (omega arith, start .pre .1 .words))
 
-  children-requires : here lts.Need-children-requires
-  children-requires c κs =
+  children-of-requires : here lts.Need-children-of-requires
+  children-of-requires c κs =
+      let after-word : here lts.After-word = search ways depth 8 in
       let start : here lts.Start = search ways depth 8 in
-      (Room.low (start .pre .1 .1 .0), start .pre .1 .0)
+      (Room.low (start .pre .1 .tree), (start .pre .1 .words, after-word .word .ensures))
 
   add-first : here lts.Need-add-first
   add-first c =
       let start : here lts.Start = search ways depth 8 in
-      let l₀ = Room.low (start .pre .1 .1 .0) in
-      let l₁ = Room.deep (start .pre .1 .1 .0) in
-      let l₂ = start .pre .1 .1 .1 .1 in
-      let l₃ = start .pre .1 .1 .1 .2 in
-      omega arith
+      omega (arith, Room.bounds (start .pre .1))
+
+  add-place : here lts.Need-add-place
+  add-place c =
+      let start : here lts.Start = search ways depth 8 in
+      omega (arith, Room.bounds (start .pre .1))
 
   sub-less : here lts.Need-sub-less
   sub-less c =
       let start : here lts.Start = search ways depth 8 in
-      let l₀ = Room.low (start .pre .1 .1 .0) in
-      let l₁ = Room.deep (start .pre .1 .1 .0) in
-      let l₂ = start .pre .1 .1 .1 .1 in
-      let l₃ = start .pre .1 .1 .1 .2 in
-      omega arith
+      omega (arith, Room.bounds (start .pre .1))
 
   word-requires-2 : here lts.Need-word-requires-2
   word-requires-2 c κs =
       let start : here lts.Start = search ways depth 8 in
-      (Room.low (start .pre .1 .1 .0), (omega arith, start .pre .1 .0))
-
-  add-number : here lts.Need-add-number
-  add-number c =
-      let start : here lts.Start = search ways depth 8 in
-      let l₀ = Room.low (start .pre .1 .1 .0) in
-      let l₁ = Room.deep (start .pre .1 .1 .0) in
-      let l₂ = start .pre .1 .1 .1 .1 in
-      let l₃ = start .pre .1 .1 .1 .2 in
-      omega arith
+      (Room.low (start .pre .1 .tree), (omega arith, start .pre .1 .words))
 
   number-requires : here lts.Need-number-requires
   number-requires c κs =
       let start : here lts.Start = search ways depth 8 in
-      let l₀ = Room.low (start .pre .1 .1 .0) in
-      let l₁ = Room.deep (start .pre .1 .1 .0) in
-      let l₂ = start .pre .1 .1 .1 .1 in
-      let l₃ = start .pre .1 .1 .1 .2 in
-      Room.can-number (start .pre .1 .1 .1 .0) _ _ _ (start .pre .1 .1 .1 .2) (omega arith) refl
+      let l = Room.bounds (start .pre .1) in
+      Room.can-number (start .pre .1 .room) _ _ _ (start .pre .1 .pass) (omega arith) refl
 
   lower-exprs-requires : here lts.Need-lower-exprs-requires
   lower-exprs-requires c κs =
       let at-match-keys2 : here lts.At-match-keys2 = search ways depth 8 in
-      let after-children : here lts.After-children = search ways depth 8 in
+      let after-children-of : here lts.After-children-of = search ways depth 8 in
       let after-word : here lts.After-word = search ways depth 8 in
       let start : here lts.Start = search ways depth 8 in
-      let l₀ = Room.low (start .pre .1 .1 .0) in
-      let l₁ = Room.deep (start .pre .1 .1 .0) in
-      let l₂ = start .pre .1 .1 .1 .1 in
-      let l₃ = start .pre .1 .1 .1 .2 in (
+      let l = Room.bounds (start .pre .1) in (
         omega arith,
-        (
-          start .pre .1 .0,
-          (
+        Room.asked-on _ _ _ (start .pre .1) (omega arith)
+            (
             Arms.headed-some
-                (λ sheet t hd. Arms.mapped (start .pre .1 .0) t hd (sym (after-word .word .ensures) ∙ (at-match-keys2 .match .keys2)))
-                (after-children .children .ensures .0)
-                (start .pre .1 .1 .0),
-            (Exprs.good-from (omega arith) (omega arith) (omega arith) (start .pre .1 .1 .1 .0), omega arith, start .pre .1 .1 .1 .2, omega arith),
-          ),
-        ),
+            (λ sheet t hd. Arms.mapped (start .pre .1 .words) t hd (sym (after-word .word .ensures) ∙ (at-match-keys2 .match .keys2)))
+            (after-children-of .children-of .ensures .0)
+            (start .pre .1 .tree))
+            (Exprs.good-from (omega arith) (omega arith) (omega arith) (start .pre .1 .room)),
       )
-
-  count-requires : here lts.Need-count-requires
-  count-requires c κs =
-      let start : here lts.Start = search ways depth 8 in
-      (Room.low (start .pre .1 .1 .0), (omega arith, start .pre .1 .0))
 
   lower-parts-requires : here lts.Need-lower-parts-requires
   lower-parts-requires c κs =
-      let after-count : here lts.After-count = search ways depth 8 in
       let at-match-keys3 : here lts.At-match-keys3 = search ways depth 8 in
+      let after-children-of : here lts.After-children-of = search ways depth 8 in
       let after-word : here lts.After-word = search ways depth 8 in
       let start : here lts.Start = search ways depth 8 in
-      let l₀ = Room.low (start .pre .1 .1 .0) in
-      let l₁ = Room.deep (start .pre .1 .1 .0) in
-      let l₂ = start .pre .1 .1 .1 .1 in
-      let l₃ = start .pre .1 .1 .1 .2 in (
+      let l = Room.bounds (start .pre .1) in
+      let k = sym (after-word .word .ensures) ∙ (at-match-keys3 .match .keys3) in (
         omega arith,
-        (
-          start .pre .1 .0,
-          (
-            Named.pattern-some
-                (λ sheet t hd. Named.pattern (start .pre .1 .0) t hd (sym (after-word .word .ensures) ∙ (at-match-keys3 .match .keys3)))
-                (after-count .count .ensures .0)
-                (start .pre .1 .1 .0),
-            (
-              Exprs.good-from (omega arith) (omega arith) (omega arith) (start .pre .1 .1 .1 .0),
-              omega arith,
-              start .pre .1 .1 .1 .2,
-              Room.low (start .pre .1 .1 .0),
-            ),
-          ),
-        ),
+        Room.asked-on _ _ _ (start .pre .1) (omega arith)
+            (record {
+              low = l .low;
+              trees =
+                  Named.pattern-some
+                  (λ sheet t hd. Named.pattern (start .pre .1 .words) t hd k)
+                  ((after-children-of .children-of .ensures .0) ∙ Named.count-parts (start .args .a .now) (start .args .b .now) (start .args .at .i) k)
+                  (start .pre .1 .tree);
+            })
+            (Exprs.good-from (omega arith) (omega arith) (omega arith) (start .pre .1 .room)),
       )
-
-  add-note : here lts.Need-add-note
-  add-note c =
-      let start : here lts.Start = search ways depth 8 in
-      let l₀ = Room.low (start .pre .1 .1 .0) in
-      let l₁ = Room.deep (start .pre .1 .1 .0) in
-      let l₂ = start .pre .1 .1 .1 .1 in
-      let l₃ = start .pre .1 .1 .1 .2 in
-      omega arith
 
   cast-note : here lts.Need-cast-note
   cast-note c =
@@ -212,108 +168,76 @@ module _ (t : ℕ) where
       let p = after-lower-parts .lower-parts .ensures .low in
       let v = after-lower-parts .lower-parts .ensures .moved .few in
       let h = after-lower-parts .lower-parts .ensures .moved .here in
-      let g = Room.few-ops (start .pre .1 .1 .1 .0) in
+      let g = Room.few-ops (start .pre .1 .room) in
       omega arith
 
   note-requires : here lts.Need-note-requires
   note-requires c κs =
       let after-lower-parts : here lts.After-lower-parts = search ways depth 8 in
       let start : here lts.Start = search ways depth 8 in
-      let l₀ = Room.low (start .pre .1 .1 .0) in
-      let l₁ = Room.deep (start .pre .1 .1 .0) in
-      let l₂ = start .pre .1 .1 .1 .1 in
-      let l₃ = start .pre .1 .1 .1 .2 in
-      (omega arith, rw (after-lower-parts .lower-parts .ensures .moved .in-rest) (start .pre .1 .1 .1 .0 .in-rest))
+      let l = Room.bounds (start .pre .1) in
+      (omega arith, rw (after-lower-parts .lower-parts .ensures .moved .in-rest) (start .pre .1 .room .in-rest))
 
   word-requires-3 : here lts.Need-word-requires-3
   word-requires-3 c κs =
       let start : here lts.Start = search ways depth 8 in
-      (Room.low (start .pre .1 .1 .0), (omega arith, start .pre .1 .0))
-
-  add-number-2 : here lts.Need-add-number-2
-  add-number-2 c =
-      let start : here lts.Start = search ways depth 8 in
-      let l₀ = Room.low (start .pre .1 .1 .0) in
-      let l₁ = Room.deep (start .pre .1 .1 .0) in
-      let l₂ = start .pre .1 .1 .1 .1 in
-      let l₃ = start .pre .1 .1 .1 .2 in
-      omega arith
+      (Room.low (start .pre .1 .tree), (omega arith, start .pre .1 .words))
 
   number-requires-2 : here lts.Need-number-requires-2
   number-requires-2 c κs =
       let start : here lts.Start = search ways depth 8 in
-      let l₀ = Room.low (start .pre .1 .1 .0) in
-      let l₁ = Room.deep (start .pre .1 .1 .0) in
-      let l₂ = start .pre .1 .1 .1 .1 in
-      let l₃ = start .pre .1 .1 .1 .2 in
-      Room.can-number (start .pre .1 .1 .1 .0) _ _ _ (start .pre .1 .1 .1 .2) (omega arith) refl
+      let l = Room.bounds (start .pre .1) in
+      Room.can-number (start .pre .1 .room) _ _ _ (start .pre .1 .pass) (omega arith) refl
 
   lower-exprs-requires-2 : here lts.Need-lower-exprs-requires-2
   lower-exprs-requires-2 c κs =
       let after-number2 : here lts.After-number2 = search ways depth 8 in
       let at-match-keys4 : here lts.At-match-keys4 = search ways depth 8 in
-      let after-children : here lts.After-children = search ways depth 8 in
+      let after-children-of : here lts.After-children-of = search ways depth 8 in
       let after-word : here lts.After-word = search ways depth 8 in
       let start : here lts.Start = search ways depth 8 in
-      let l₀ = Room.low (start .pre .1 .1 .0) in
-      let l₁ = Room.deep (start .pre .1 .1 .0) in
-      let l₂ = start .pre .1 .1 .1 .1 in
-      let l₃ = start .pre .1 .1 .1 .2 in (
+      let l = Room.bounds (start .pre .1) in (
         omega arith,
-        (
-          start .pre .1 .0,
-          (
-            Named.naming-some
-                (λ sheet t hd. Named.predicate (start .pre .1 .0) t hd (sym (after-word .word .ensures) ∙ (at-match-keys4 .match .keys4)))
-                (after-children .children .ensures .0)
-                (start .pre .1 .1 .0),
+        Room.asked-on _ _ _ (start .pre .1) (omega arith)
             (
-              Room.numbered-on
-                  (start .pre .1 .1 .1 .0)
-                  _
-                  _
-                  (after-number2 .number2 .ensures .issued)
-                  (after-number2 .number2 .kept .1 .0)
-                  (omega arith)
-                  (omega arith)
-                  (omega arith),
-              omega arith,
-              start .pre .1 .1 .1 .2,
-              omega arith,
-            ),
-          ),
-        ),
+            Named.naming-some
+            (λ sheet t hd. Named.predicate (start .pre .1 .words) t hd (sym (after-word .word .ensures) ∙ (at-match-keys4 .match .keys4)))
+            (after-children-of .children-of .ensures .0)
+            (start .pre .1 .tree))
+            (
+            Room.numbered-on
+            (start .pre .1 .room)
+            _
+            _
+            (after-number2 .number2 .ensures .issued)
+            (after-number2 .number2 .kept .1 .0)
+            (omega arith)
+            (omega arith)
+            (omega arith)),
       )
 
   lower-exprs-requires-3 : here lts.Need-lower-exprs-requires-3
   lower-exprs-requires-3 c κs =
       let at-match-rest : here lts.At-match-rest = search ways depth 8 in
-      let after-children : here lts.After-children = search ways depth 8 in
+      let after-children-of : here lts.After-children-of = search ways depth 8 in
       let after-word : here lts.After-word = search ways depth 8 in
       let start : here lts.Start = search ways depth 8 in
-      let l₀ = Room.low (start .pre .1 .1 .0) in
-      let l₁ = Room.deep (start .pre .1 .1 .0) in
-      let l₂ = start .pre .1 .1 .1 .1 in
-      let l₃ = start .pre .1 .1 .1 .2 in (
+      let l = Room.bounds (start .pre .1) in (
         omega arith,
-        (
-          start .pre .1 .0,
-          (
-            Arms.headed-some
-                (λ sheet t hd.
-                Arms.plainly
-                (start .pre .1 .0)
-                t
-                hd
-                (λ e. (at-match-rest .match .rest .0 .0 .0 .1) ((after-word .word .ensures) ∙ e))
-                (λ e. (at-match-rest .match .rest .0 .0 .1) ((after-word .word .ensures) ∙ e))
-                (λ e. (at-match-rest .match .rest .0 .1) ((after-word .word .ensures) ∙ e))
-                (λ e. (at-match-rest .match .rest .1) ((after-word .word .ensures) ∙ e)))
-                (after-children .children .ensures .0)
-                (start .pre .1 .1 .0),
-            (Exprs.good-from (omega arith) (omega arith) (omega arith) (start .pre .1 .1 .1 .0), omega arith, start .pre .1 .1 .1 .2, omega arith),
-          ),
-        ),
+        Room.asked-on _ _ _ (start .pre .1) (omega arith)
+            (Arms.headed-some
+            (λ sheet t hd.
+            Arms.plainly
+            (start .pre .1 .words)
+            t
+            hd
+            (λ e. (at-match-rest .match .rest .0 .0 .0 .1) ((after-word .word .ensures) ∙ e))
+            (λ e. (at-match-rest .match .rest .0 .0 .1) ((after-word .word .ensures) ∙ e))
+            (λ e. (at-match-rest .match .rest .0 .1) ((after-word .word .ensures) ∙ e))
+            (λ e. (at-match-rest .match .rest .1) ((after-word .word .ensures) ∙ e)))
+            (after-children-of .children-of .ensures .0)
+            (start .pre .1 .tree))
+            (Exprs.good-from (omega arith) (omega arith) (omega arith) (start .pre .1 .room)),
       )
 
   same-length : here lts.Need-same-length
@@ -323,22 +247,19 @@ module _ (t : ℕ) where
 
   returns : here lts.Need-returns
   returns c =
-      let after-number : here lts.After-number = c .before .before .before in
-      let after-word2 : here lts.After-word2 = c .before .before .before .before .before in
-      let at-match-keys1 : here lts.At-match-keys1 = c .before .before .before .before .before .before in
-      let after-word : here lts.After-word = c .before .before .before .before .before .before .before .before in
-      let start : here lts.Start = c .before .before .before .before .before .before .before .before .before .before .before .before .before in
-      let l₀ = Room.low (start .pre .1 .1 .0) in
-      let l₁ = Room.deep (start .pre .1 .1 .0) in
-      let l₂ = start .pre .1 .1 .1 .1 in
-      let l₃ = start .pre .1 .1 .1 .2 in
+      let after-number : here lts.After-number = search ways depth 8 in
+      let after-word2 : here lts.After-word2 = search ways depth 8 in
+      let at-match-keys1 : here lts.At-match-keys1 = search ways depth 8 in
+      let after-word : here lts.After-word = search ways depth 8 in
+      let start : here lts.Start = search ways depth 8 in
+      let l = Room.bounds (start .pre .1) in
       Named.naming-law
-      (λ sheet t hd. Named.variable (start .pre .1 .0) t hd (sym (after-word .word .ensures) ∙ (at-match-keys1 .match .keys1)))
-      (Named.count-none (start .args .a .now) (start .args .b .now) (start .args .i) (sym (after-word .word .ensures) ∙ (at-match-keys1 .match .keys1)))
-      (start .pre .1 .1 .1 .2)
-      (Room.low (start .pre .1 .1 .0))
+      (λ sheet t hd. Named.variable (start .pre .1 .words) t hd (sym (after-word .word .ensures) ∙ (at-match-keys1 .match .keys1)))
+      (Named.count-none (start .args .a .now) (start .args .b .now) (start .args .at .i) (sym (after-word .word .ensures) ∙ (at-match-keys1 .match .keys1)))
+      (start .pre .1 .pass)
+      (Room.low (start .pre .1 .tree))
       refl
-      (rw (after-word2 .word2 .ensures) at (after-number .number .ensures))
+      (var-read (after-word2 .word2 .ensures) (after-number .number .ensures))
       (after-number .number .kept .1 .0)
       (Exprs.nil-law (start .args .a .now) (start .args .b .now) _ _ _ _ _ (omega arith))
 
@@ -356,16 +277,13 @@ module _ (t : ℕ) where
   returns-2 c =
       let after-lower-exprs : here lts.After-lower-exprs = search ways depth 8 in
       let at-match-keys2 : here lts.At-match-keys2 = search ways depth 8 in
-      let after-children : here lts.After-children = search ways depth 8 in
+      let after-children-of : here lts.After-children-of = search ways depth 8 in
       let after-word : here lts.After-word = search ways depth 8 in
       let start : here lts.Start = search ways depth 8 in
-      let l₀ = Room.low (start .pre .1 .1 .0) in
-      let l₁ = Room.deep (start .pre .1 .1 .0) in
-      let l₂ = start .pre .1 .1 .1 .1 in
-      let l₃ = start .pre .1 .1 .1 .2 in
+      let l = Room.bounds (start .pre .1) in
       Arms.headed-law
-      (λ sheet t hd. Arms.mapped (start .pre .1 .0) t hd (sym (after-word .word .ensures) ∙ (at-match-keys2 .match .keys2)))
-      (after-children .children .ensures .0)
+      (λ sheet t hd. Arms.mapped (start .pre .1 .words) t hd (sym (after-word .word .ensures) ∙ (at-match-keys2 .match .keys2)))
+      (after-children-of .children-of .ensures .0)
       (omega arith)
       (after-lower-exprs .lower-exprs .ensures)
 
@@ -384,15 +302,15 @@ module _ (t : ℕ) where
   returns-3 c =
       let after-note : here lts.After-note = search ways depth 8 in
       let after-lower-parts : here lts.After-lower-parts = search ways depth 8 in
-      let after-count : here lts.After-count = search ways depth 8 in
+      let after-children-of : here lts.After-children-of = search ways depth 8 in
       let at-match-keys3 : here lts.At-match-keys3 = search ways depth 8 in
       let after-word : here lts.After-word = search ways depth 8 in
       let start : here lts.Start = search ways depth 8 in
       Named.pattern-law
-      (λ sheet t hd. Named.pattern (start .pre .1 .0) t hd (sym (after-word .word .ensures) ∙ (at-match-keys3 .match .keys3)))
-      (after-count .count .ensures .0)
-      (start .pre .1 .1 .1 .2)
-      (Room.low (start .pre .1 .1 .0))
+      (λ sheet t hd. Named.pattern (start .pre .1 .words) t hd (sym (after-word .word .ensures) ∙ (at-match-keys3 .match .keys3)))
+      ((after-children-of .children-of .ensures .0) ∙ Named.count-parts (start .args .a .now) (start .args .b .now) (start .args .at .i) (sym (after-word .word .ensures) ∙ (at-match-keys3 .match .keys3)))
+      (start .pre .1 .pass)
+      (Room.low (start .pre .1 .tree))
       refl
       (after-lower-parts .lower-parts .ensures)
       (after-note .note .ensures)
@@ -411,29 +329,20 @@ module _ (t : ℕ) where
 
   returns-4 : here lts.Need-returns-4
   returns-4 c =
-      let after-lower-exprs2 : here lts.After-lower-exprs2 = c .before .before .before .before in
-      let after-number2 : here lts.After-number2 = c .before .before .before .before .before .before .before .before .before .before in
-      let after-word3 : here lts.After-word3 = c .before .before .before .before .before .before .before .before .before .before .before .before in
-      let at-match-keys4 : here lts.At-match-keys4 =
-      c .before .before .before .before .before .before .before .before .before .before .before .before .before
-      in
-      let after-children : here lts.After-children =
-      c .before .before .before .before .before .before .before .before .before .before .before .before .before .before
-      in
-      let after-word : here lts.After-word =
-      c .before .before .before .before .before .before .before .before .before .before .before .before .before .before .before
-      in
-      let start : here lts.Start =
-      c .before .before .before .before .before .before .before .before .before .before .before .before .before .before .before .before .before
-      .before .before .before
-      in
+      let after-lower-exprs2 : here lts.After-lower-exprs2 = search ways depth 8 in
+      let after-number2 : here lts.After-number2 = search ways depth 8 in
+      let after-word3 : here lts.After-word3 = search ways depth 8 in
+      let at-match-keys4 : here lts.At-match-keys4 = search ways depth 8 in
+      let after-children-of : here lts.After-children-of = search ways depth 8 in
+      let after-word : here lts.After-word = search ways depth 8 in
+      let start : here lts.Start = search ways depth 8 in
       Named.naming-law
-      (λ sheet t hd. Named.predicate (start .pre .1 .0) t hd (sym (after-word .word .ensures) ∙ (at-match-keys4 .match .keys4)))
-      (after-children .children .ensures .0)
-      (start .pre .1 .1 .1 .2)
-      (Room.low (start .pre .1 .1 .0))
+      (λ sheet t hd. Named.predicate (start .pre .1 .words) t hd (sym (after-word .word .ensures) ∙ (at-match-keys4 .match .keys4)))
+      (after-children-of .children-of .ensures .0)
+      (start .pre .1 .pass)
+      (Room.low (start .pre .1 .tree))
       refl
-      (rw (after-word3 .word3 .ensures) at (after-number2 .number2 .ensures))
+      (var-read (after-word3 .word3 .ensures) (after-number2 .number2 .ensures))
       (after-number2 .number2 .kept .1 .0)
       (after-lower-exprs2 .lower-exprs2 .ensures)
 
@@ -451,24 +360,21 @@ module _ (t : ℕ) where
   returns-5 c =
       let after-lower-exprs3 : here lts.After-lower-exprs3 = search ways depth 8 in
       let at-match-rest : here lts.At-match-rest = search ways depth 8 in
-      let after-children : here lts.After-children = search ways depth 8 in
+      let after-children-of : here lts.After-children-of = search ways depth 8 in
       let after-word : here lts.After-word = search ways depth 8 in
       let start : here lts.Start = search ways depth 8 in
-      let l₀ = Room.low (start .pre .1 .1 .0) in
-      let l₁ = Room.deep (start .pre .1 .1 .0) in
-      let l₂ = start .pre .1 .1 .1 .1 in
-      let l₃ = start .pre .1 .1 .1 .2 in
+      let l = Room.bounds (start .pre .1) in
       Arms.headed-law
       (λ sheet t hd.
       Arms.plainly
-      (start .pre .1 .0)
+      (start .pre .1 .words)
       t
       hd
       (λ e. (at-match-rest .match .rest .0 .0 .0 .1) ((after-word .word .ensures) ∙ e))
       (λ e. (at-match-rest .match .rest .0 .0 .1) ((after-word .word .ensures) ∙ e))
       (λ e. (at-match-rest .match .rest .0 .1) ((after-word .word .ensures) ∙ e))
       (λ e. (at-match-rest .match .rest .1) ((after-word .word .ensures) ∙ e)))
-      (after-children .children .ensures .0)
+      (after-children-of .children-of .ensures .0)
       (omega arith)
       (after-lower-exprs3 .lower-exprs3 .ensures)
 
@@ -479,20 +385,17 @@ module _ (t : ℕ) where
       (lower-expr-at t)
       reads.Post
       word-requires
-      children-requires
+      children-of-requires
       add-first
+      add-place
       sub-less
       word-requires-2
-      add-number
       number-requires
       lower-exprs-requires
-      count-requires
       lower-parts-requires
-      add-note
       cast-note
       note-requires
       word-requires-3
-      add-number-2
       number-requires-2
       lower-exprs-requires-2
       lower-exprs-requires-3

@@ -13,10 +13,10 @@ use Rattle.lower.proofs.+expand_to+lower_chain+lower_element+lower_elem
 use Rattle.lower.proofs.+expand_to+lower_chain+lower_element+lower_elements+lower_expr+lower_exprs+lower_parts+lower_pattern_part+lower_rel_element+lower_shortest_path_part+start_chain+start_node.Proof.Claims.{lower-exprs-at, lower-exprs-calls}
 
 abbrev Inv-loop : lts.InvT-loop
-Inv-loop a b ops₀ rest₀ base i n gap left at₀ m₀ cur₀ ops rest at m cur = Exprs.Left a b gap left base (λ e m′. LowersExprs a b n gap left base i e (mem cur₀ ops₀ rest₀) m′) m at (mem cur ops rest)
+Inv-loop a b ops₀ rest₀ at n gap i₀ m₀ cur₀ ops rest i m cur = Exprs.Left a b gap (at .left) (at .base) (λ e m′. LowersExprs a b n gap (at .left) (at .base) (at .i) e (mem cur₀ ops₀ rest₀) m′) m i (mem cur ops rest)
 
 abbrev μ-loop : lts.MeasureT-loop
-μ-loop a b ops₀ rest₀ base i n gap left at₀ m₀ cur₀ ops rest at m cur = m
+μ-loop a b ops₀ rest₀ at n gap i₀ m₀ cur₀ ops rest i m cur = m
 
 module _ (t : ℕ) where
   -- a place or a need of this function, at the measure t
@@ -38,14 +38,13 @@ module _ (t : ℕ) where
   loop-holds : here lts.Need-loop-holds
   loop-holds c =
       let start : here lts.Start = search ways in
-      record { some = (start .pre .1 .1 .0); good = (start .pre .1 .1 .1 .0); rest = λ e m′ q. q }
+      record { some = (start .pre .1 .tree); good = (start .pre .1 .room); rest = λ e m′ q. q }
 
-  add-lower-expr : here lts.Need-add-lower-expr
-  add-lower-expr c =
+  add-j : here lts.Need-add-j
+  add-j c =
+      let in-loop : here lts.In-loop = search ways in
       let at-loop : here lts.At-loop = search ways in
-      let start : here lts.Start = search ways in
-      let g = at-loop .loop .inv .good .here in
-      let h = start .pre .1 .1 .1 .3 in
+      let l = Room.low (Exprs.child (in-loop .loop-test .taken) (at-loop .loop .inv)) in
       omega arith
 
   lower-expr-requires : here lts.Need-lower-expr-requires
@@ -54,13 +53,8 @@ module _ (t : ℕ) where
       let at-loop : here lts.At-loop = search ways in
       let start : here lts.Start = search ways in
       let x = Exprs.child (in-loop .loop-test .taken) (at-loop .loop .inv) in
-      let l₀ = Room.low x in (
-        omega arith,
-        (
-          start .pre .1 .0,
-          (x, (Exprs.good-from (le-refl _) (omega arith) (omega arith) (at-loop .loop .inv .good), start .pre .1 .1 .1 .1, start .pre .1 .1 .1 .2)),
-        ),
-      )
+      let l = Room.low x in
+      (omega arith, Room.asked-on _ _ _ (start .pre .1) (le-refl _) x (Exprs.good-from (le-refl _) (omega arith) (omega arith) (at-loop .loop .inv .good)))
 
   sub-m : here lts.Need-sub-m
   sub-m c =
@@ -105,7 +99,7 @@ module _ (t : ℕ) where
       Inv-loop
       μ-loop
       loop-holds
-      add-lower-expr
+      add-j
       lower-expr-requires
       sub-m
       loop-less

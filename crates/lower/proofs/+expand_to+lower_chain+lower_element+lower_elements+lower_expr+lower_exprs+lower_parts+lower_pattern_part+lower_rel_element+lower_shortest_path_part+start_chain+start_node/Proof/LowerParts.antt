@@ -14,10 +14,10 @@ use Rattle.lower.proofs.+expand_to+lower_chain+lower_element+lower_elem
 use Rattle.lower.proofs.+expand_to+lower_chain+lower_element+lower_elements+lower_expr+lower_exprs+lower_parts+lower_pattern_part+lower_rel_element+lower_shortest_path_part+start_chain+start_node.Proof.Claims.{lower-parts-at, lower-parts-calls}
 
 abbrev Inv-loop : lts.InvT-loop
-Inv-loop a b ops₀ rest₀ base i n left at₀ op₀ cur₀ m₀ ops rest at op cur m = Parts.Left a b left base (λ e k m′. Parts.LowersFrom a b m₀ left base at₀ e op₀ k (mem cur₀ ops₀ rest₀) m′) m at op (mem cur ops rest)
+Inv-loop a b ops₀ rest₀ at n first i₀ op₀ cur₀ m₀ ops rest i op cur m = Parts.Left a b (at .left) (at .base) (λ e k m′. Parts.LowersFrom a b m₀ (at .left) (at .base) i₀ e op₀ k (mem cur₀ ops₀ rest₀) m′) m i op (mem cur ops rest)
 
 abbrev μ-loop : lts.MeasureT-loop
-μ-loop a b ops₀ rest₀ base i n left at₀ op₀ cur₀ m₀ ops rest at op cur m = m
+μ-loop a b ops₀ rest₀ at n first i₀ op₀ cur₀ m₀ ops rest i op cur m = m
 
 module _ (t : ℕ) where
   -- a place or a need of this function, at the measure t
@@ -51,10 +51,10 @@ module _ (t : ℕ) where
   lower-no-parts-requires : here lts.Need-lower-no-parts-requires
   lower-no-parts-requires c κs =
       let start : here lts.Start = search ways depth 7 in
-      let x = Room.few-ops (start .pre .1 .1 .1 .0) in
-      let y = (start .pre .1 .1 .1 .0) .low in
-      let h = start .pre .1 .1 .1 .3 in
-      (omega arith, omega arith, (start .pre .1 .1 .1 .0) .in-ops, h)
+      let x = Room.few-ops (start .pre .1 .room) in
+      let y = (start .pre .1 .room) .low in
+      let h = start .pre .1 .tree .low in
+      (omega arith, omega arith, (start .pre .1 .room) .in-ops, h)
 
   same-length : here lts.Need-same-length
   same-length c =
@@ -68,25 +68,21 @@ module _ (t : ℕ) where
       let start : here lts.Start = search ways depth 7 in
       rw (then1 .if1 .taken) ((after-lower-no-parts .lower-no-parts .ensures .1) (start .args .a .now) (start .args .b .now) _ _ _)
 
-  add-lower-pattern-part : here lts.Need-add-lower-pattern-part
-  add-lower-pattern-part c =
+  add-first : here lts.Need-add-first
+  add-first c =
       let start : here lts.Start = search ways depth 7 in
-      let h = start .pre .1 .1 .1 .3 in
+      let h = start .pre .1 .tree .low in
       omega arith
 
   lower-pattern-part-requires : here lts.Need-lower-pattern-part-requires
   lower-pattern-part-requires c κs =
       let else1 : here lts.Else1 = search ways depth 7 in
       let start : here lts.Start = search ways depth 7 in
-      let h = start .pre .1 .1 .1 .3 in (
+      let h = start .pre .1 .tree .low in (
         omega arith,
-        (
-          start .pre .1 .0,
-          (
-            Parts.some-child (else1 .if1 .left) (start .pre .1 .1 .0),
-            (Exprs.good-from (le-refl _) (omega arith) (omega arith) (start .pre .1 .1 .1 .0), start .pre .1 .1 .1 .1, start .pre .1 .1 .1 .2),
-          ),
-        ),
+        Room.asked-on _ _ _ (start .pre .1) (le-refl _)
+            (Parts.some-child (else1 .if1 .left) (start .pre .1 .tree .trees))
+            (Exprs.good-from (le-refl _) (omega arith) (omega arith) (start .pre .1 .room)),
       )
 
   sub-m : here lts.Need-sub-m
@@ -100,28 +96,20 @@ module _ (t : ℕ) where
       let after-lower-pattern-part : here lts.After-lower-pattern-part = search ways depth 7 in
       let else1 : here lts.Else1 = search ways depth 7 in
       let start : here lts.Start = search ways depth 7 in
-      let h = start .pre .1 .1 .1 .3 in
+      let h = start .pre .1 .tree .low in
       Parts.from-left
       _
       (else1 .if1 .left)
-      (start .pre .1 .1 .0)
-      (Exprs.good-from (le-refl _) (omega arith) (omega arith) (start .pre .1 .1 .1 .0))
+      (start .pre .1 .tree .trees)
+      (Exprs.good-from (le-refl _) (omega arith) (omega arith) (start .pre .1 .room))
       (after-lower-pattern-part .lower-pattern-part .ensures)
 
   lower-pattern-part-requires-2 : here lts.Need-lower-pattern-part-requires-2
   lower-pattern-part-requires-2 c κs =
       let in-loop : here lts.In-loop = search ways depth 7 in
       let at-loop : here lts.At-loop = search ways depth 7 in
-      let start : here lts.Start = search ways depth 7 in (
-        omega arith,
-        (
-          start .pre .1 .0,
-          (
-            Parts.some-child (in-loop .loop-test .taken) (at-loop .loop .inv .some),
-            (at-loop .loop .inv .good, start .pre .1 .1 .1 .1, start .pre .1 .1 .1 .2),
-          ),
-        ),
-      )
+      let start : here lts.Start = search ways depth 7 in
+      (omega arith, Room.asked-on _ _ _ (start .pre .1) (le-refl _) (Parts.some-child (in-loop .loop-test .taken) (at-loop .loop .inv .some)) (at-loop .loop .inv .good))
 
   sub-m-2 : here lts.Need-sub-m-2
   sub-m-2 c =
@@ -176,7 +164,7 @@ module _ (t : ℕ) where
       lower-no-parts-requires
       same-length
       returns
-      add-lower-pattern-part
+      add-first
       lower-pattern-part-requires
       sub-m
       loop-holds

@@ -17,14 +17,14 @@ module _ (t : ℕ) where
   here X = X (lower-pattern-part-calls t) (lower-pattern-part-at t) reads.Post
 
   -- the ways back, from place to place
-  abbrev back-lower-shortest-path-part : here lts.After-lower-shortest-path-part → here lts.After-z
+  abbrev back-lower-shortest-path-part : here lts.After-lower-shortest-path-part → here lts.After-to
   back-lower-shortest-path-part c = search
 
   abbrev back-lower-chain5 : here lts.After-lower-chain5 → here lts.After-enum-told3
   back-lower-chain5 c = search
 
-  abbrev back-z : here lts.After-z → here lts.After-read-element3
-  back-z c = search
+  abbrev back-to : here lts.After-to → here lts.After-read-element3
+  back-to c = search
 
   abbrev back-enum-told3 : here lts.After-enum-told3 → here lts.After-read-element3
   back-enum-told3 c = search
@@ -32,11 +32,11 @@ module _ (t : ℕ) where
   abbrev back-lower-chain4 : here lts.After-lower-chain4 → here lts.After-enum-told2
   back-lower-chain4 c = search
 
-  abbrev back-read-element3 : here lts.After-read-element3 → here lts.After-y
+  abbrev back-read-element3 : here lts.After-read-element3 → here lts.After-between
   back-read-element3 c = search
 
-  abbrev back-y : here lts.After-y → here lts.After-read-element2
-  back-y c = search
+  abbrev back-between : here lts.After-between → here lts.After-read-element2
+  back-between c = search
 
   abbrev back-enum-told2 : here lts.After-enum-told2 → here lts.After-read-element2
   back-enum-told2 c = search
@@ -47,11 +47,11 @@ module _ (t : ℕ) where
   abbrev back-lower-chain3 : here lts.After-lower-chain3 → here lts.After-enum-told
   back-lower-chain3 c = search
 
-  abbrev back-skip2 : here lts.After-skip2 → here lts.After-x
+  abbrev back-skip2 : here lts.After-skip2 → here lts.After-near
   back-skip2 c = search
 
-  abbrev back-x : here lts.After-x → here lts.After-read-element
-  back-x c = search
+  abbrev back-near : here lts.After-near → here lts.After-read-element
+  back-near c = search
 
   abbrev back-enum-told : here lts.After-enum-told → here lts.After-read-element
   back-enum-told c = search
@@ -89,16 +89,16 @@ module _ (t : ℕ) where
   ruleset ways = (
     back-lower-shortest-path-part,
     back-lower-chain5,
-    back-z,
+    back-to,
     back-enum-told3,
     back-lower-chain4,
     back-read-element3,
-    back-y,
+    back-between,
     back-enum-told2,
     back-read-element2,
     back-lower-chain3,
     back-skip2,
-    back-x,
+    back-near,
     back-enum-told,
     back-lower-chain2,
     back-read-element,
@@ -115,12 +115,12 @@ module _ (t : ℕ) where
   word-requires : here lts.Need-word-requires
   word-requires c κs =
       let start : here lts.Start = search ways depth 15 in
-      (Room.low (start .pre .1 .1 .0), (omega arith, start .pre .1 .0))
+      (Room.low (start .pre .1 .tree), (omega arith, start .pre .1 .words))
 
   lower-chain-requires : here lts.Need-lower-chain-requires
   lower-chain-requires c κs =
       let start : here lts.Start = search ways depth 15 in
-      (omega arith, (start .pre .1 .0, (start .pre .1 .1 .0, (start .pre .1 .1 .1 .0, start .pre .1 .1 .1 .1, start .pre .1 .1 .1 .2))))
+      (omega arith, start .pre .1)
 
   same-length : here lts.Need-same-length
   same-length c =
@@ -139,18 +139,18 @@ module _ (t : ℕ) where
       let after-word : here lts.After-word = search ways depth 15 in
       let start : here lts.Start = search ways depth 15 in
       Part.chain-part
-      (Part.no-shortest _ _ (start .pre .1 .0) (sym (after-word .word .ensures) ∙ (then1 .if1 .taken)))
+      (Part.no-shortest _ _ (start .pre .1 .words) (sym (after-word .word .ensures) ∙ (then1 .if1 .taken)))
       (after-lower-chain .lower-chain .ensures)
 
   word-requires-2 : here lts.Need-word-requires-2
   word-requires-2 c κs =
       let start : here lts.Start = search ways depth 15 in
-      (Room.low (start .pre .1 .1 .0), (omega arith, start .pre .1 .0))
+      (Room.low (start .pre .1 .tree), (omega arith, start .pre .1 .words))
 
   lower-chain-requires-2 : here lts.Need-lower-chain-requires-2
   lower-chain-requires-2 c κs =
       let start : here lts.Start = search ways depth 15 in
-      (omega arith, (start .pre .1 .0, (start .pre .1 .1 .0, (start .pre .1 .1 .1 .0, start .pre .1 .1 .1 .1, start .pre .1 .1 .1 .2))))
+      (omega arith, start .pre .1)
 
   same-length-3 : here lts.Need-same-length-3
   same-length-3 c =
@@ -169,48 +169,35 @@ module _ (t : ℕ) where
       let after-word2 : here lts.After-word2 = search ways depth 15 in
       let start : here lts.Start = search ways depth 15 in
       Part.chain-part
-      (Part.not-three _ _ (start .pre .1 .0) (λ e. (then2 .if2 .taken) ((after-word2 .word2 .ensures) ∙ e)))
+      (Part.not-three _ _ (start .pre .1 .words) (λ e. (then2 .if2 .taken) ((after-word2 .word2 .ensures) ∙ e)))
       (after-lower-chain2 .lower-chain2 .ensures)
 
-  add-skip : here lts.Need-add-skip
-  add-skip c =
+  add-first : here lts.Need-add-first
+  add-first c =
       let start : here lts.Start = search ways depth 15 in
-      let l₀ = Room.low (start .pre .1 .1 .0) in
-      let l₁ = Room.deep (start .pre .1 .1 .0) in
-      let l₂ = start .pre .1 .1 .1 .1 in
-      let l₃ = start .pre .1 .1 .1 .2 in
-      omega arith
+      omega (arith, Room.bounds (start .pre .1))
 
   skip-requires : here lts.Need-skip-requires
   skip-requires c κs =
       let after-word2 : here lts.After-word2 = search ways depth 15 in
       let start : here lts.Start = search ways depth 15 in (
-        start .pre .1 .0,
-        Part.starts (Part.first-some _ _ (start .pre .1 .0) (sym (after-word2 .word2 .ensures) ∙ (c .if2 .left)) (start .pre .1 .1 .0)),
+        start .pre .1 .words,
+        Part.starts (Part.first-some _ _ (start .pre .1 .words) (sym (after-word2 .word2 .ensures) ∙ (c .if2 .left)) (start .pre .1 .tree)),
       )
-
-  add-read-element : here lts.Need-add-read-element
-  add-read-element c =
-      let start : here lts.Start = search ways depth 15 in
-      let l₀ = Room.low (start .pre .1 .1 .0) in
-      let l₁ = Room.deep (start .pre .1 .1 .0) in
-      let l₂ = start .pre .1 .1 .1 .1 in
-      let l₃ = start .pre .1 .1 .1 .2 in
-      omega arith
 
   read-element-requires : here lts.Need-read-element-requires
   read-element-requires c κs =
       let else2 : here lts.Else2 = search ways depth 15 in
       let after-word2 : here lts.After-word2 = search ways depth 15 in
       let start : here lts.Start = search ways depth 15 in (
-        start .pre .1 .0,
-        Room.low (Part.first-some _ _ (start .pre .1 .0) (sym (after-word2 .word2 .ensures) ∙ (else2 .if2 .left)) (start .pre .1 .1 .0)),
+        start .pre .1 .words,
+        Room.low (Part.first-some _ _ (start .pre .1 .words) (sym (after-word2 .word2 .ensures) ∙ (else2 .if2 .left)) (start .pre .1 .tree)),
       )
 
   lower-chain-requires-3 : here lts.Need-lower-chain-requires-3
   lower-chain-requires-3 c κs =
       let start : here lts.Start = search ways depth 15 in
-      (omega arith, (start .pre .1 .0, (start .pre .1 .1 .0, (start .pre .1 .1 .1 .0, start .pre .1 .1 .1 .1, start .pre .1 .1 .1 .2))))
+      (omega arith, start .pre .1)
 
   same-length-5 : here lts.Need-same-length-5
   same-length-5 c =
@@ -235,10 +222,10 @@ module _ (t : ℕ) where
       (Part.not-first
       _
       _
-      (start .pre .1 .0)
+      (start .pre .1 .words)
       (sym (after-word2 .word2 .ensures) ∙ (else2 .if2 .left))
       (after-skip .skip .ensures)
-      (Part.is-rel _ _ _ _ (after-read-element .read-element .ensures) (after-enum-told .enum-told .given .1)))
+      (Part.rel-read (after-read-element .read-element .ensures) (after-enum-told .enum-told .given .1) .is))
       (after-lower-chain3 .lower-chain3 .ensures)
 
   skip-requires-2 : here lts.Need-skip-requires-2
@@ -247,15 +234,15 @@ module _ (t : ℕ) where
       let else2 : here lts.Else2 = search ways depth 15 in
       let after-word2 : here lts.After-word2 = search ways depth 15 in
       let start : here lts.Start = search ways depth 15 in (
-        start .pre .1 .0,
+        start .pre .1 .words,
         Part.starts
             (Part.some-second
             _
             _
-            (start .pre .1 .0)
+            (start .pre .1 .words)
             (sym (after-word2 .word2 .ensures) ∙ (else2 .if2 .left))
             (after-skip .skip .ensures)
-            (start .pre .1 .1 .0)),
+            (start .pre .1 .tree)),
       )
 
   read-element-requires-2 : here lts.Need-read-element-requires-2
@@ -264,21 +251,21 @@ module _ (t : ℕ) where
       let else2 : here lts.Else2 = search ways depth 15 in
       let after-word2 : here lts.After-word2 = search ways depth 15 in
       let start : here lts.Start = search ways depth 15 in (
-        start .pre .1 .0,
+        start .pre .1 .words,
         Room.low
             (Part.some-second
             _
             _
-            (start .pre .1 .0)
+            (start .pre .1 .words)
             (sym (after-word2 .word2 .ensures) ∙ (else2 .if2 .left))
             (after-skip .skip .ensures)
-            (start .pre .1 .1 .0)),
+            (start .pre .1 .tree)),
       )
 
   lower-chain-requires-4 : here lts.Need-lower-chain-requires-4
   lower-chain-requires-4 c κs =
       let start : here lts.Start = search ways depth 15 in
-      (omega arith, (start .pre .1 .0, (start .pre .1 .1 .0, (start .pre .1 .1 .1 .0, start .pre .1 .1 .1 .1, start .pre .1 .1 .1 .2))))
+      (omega arith, start .pre .1)
 
   same-length-7 : here lts.Need-same-length-7
   same-length-7 c =
@@ -295,7 +282,7 @@ module _ (t : ℕ) where
       let after-lower-chain4 : here lts.After-lower-chain4 = search ways depth 15 in
       let after-enum-told2 : here lts.After-enum-told2 = search ways depth 15 in
       let after-read-element2 : here lts.After-read-element2 = search ways depth 15 in
-      let after-x : here lts.After-x = search ways depth 15 in
+      let after-near : here lts.After-near = search ways depth 15 in
       let after-read-element : here lts.After-read-element = search ways depth 15 in
       let after-skip : here lts.After-skip = search ways depth 15 in
       let else2 : here lts.Else2 = search ways depth 15 in
@@ -305,11 +292,11 @@ module _ (t : ℕ) where
       (Part.not-second
       _
       _
-      (start .pre .1 .0)
+      (start .pre .1 .words)
       (sym (after-word2 .word2 .ensures) ∙ (else2 .if2 .left))
       (after-skip .skip .ensures)
-      (Part.is-node _ _ _ _ (after-read-element .read-element .ensures) (after-x .x .given .1))
-      (Part.is-node _ _ _ _ (after-read-element2 .read-element2 .ensures) (after-enum-told2 .enum-told2 .given .1)))
+      (Part.node-read (after-read-element .read-element .ensures) (after-near .near .given .1) .is)
+      (Part.node-read (after-read-element2 .read-element2 .ensures) (after-enum-told2 .enum-told2 .given .1) .is))
       (after-lower-chain4 .lower-chain4 .ensures)
 
   read-element-requires-3 : here lts.Need-read-element-requires-3
@@ -319,23 +306,23 @@ module _ (t : ℕ) where
       let else2 : here lts.Else2 = search ways depth 15 in
       let after-word2 : here lts.After-word2 = search ways depth 15 in
       let start : here lts.Start = search ways depth 15 in (
-        start .pre .1 .0,
+        start .pre .1 .words,
         Room.low
             (Part.some-third
             _
             _
-            (start .pre .1 .0)
+            (start .pre .1 .words)
             (sym (after-word2 .word2 .ensures) ∙ (else2 .if2 .left))
             (after-skip .skip .ensures)
             (after-skip2 .skip2 .ensures)
-            (start .pre .1 .1 .0)),
+            (start .pre .1 .tree)),
       )
 
   lower-chain-requires-5 : here lts.Need-lower-chain-requires-5
   lower-chain-requires-5 c κs =
       let start : here lts.Start = search ways depth 15 in (
         omega (arith, start .pre .0),
-        (start .pre .1 .0, (start .pre .1 .1 .0, (start .pre .1 .1 .1 .0, start .pre .1 .1 .1 .1, start .pre .1 .1 .1 .2))),
+        start .pre .1,
       )
 
   same-length-9 : here lts.Need-same-length-9
@@ -353,10 +340,10 @@ module _ (t : ℕ) where
       let after-lower-chain5 : here lts.After-lower-chain5 = search ways depth 15 in
       let after-enum-told3 : here lts.After-enum-told3 = search ways depth 15 in
       let after-read-element3 : here lts.After-read-element3 = search ways depth 15 in
-      let after-y : here lts.After-y = search ways depth 15 in
+      let after-between : here lts.After-between = search ways depth 15 in
       let after-read-element2 : here lts.After-read-element2 = search ways depth 15 in
       let after-skip2 : here lts.After-skip2 = search ways depth 15 in
-      let after-x : here lts.After-x = search ways depth 15 in
+      let after-near : here lts.After-near = search ways depth 15 in
       let after-read-element : here lts.After-read-element = search ways depth 15 in
       let after-skip : here lts.After-skip = search ways depth 15 in
       let else2 : here lts.Else2 = search ways depth 15 in
@@ -366,23 +353,23 @@ module _ (t : ℕ) where
       (Part.not-third
       _
       _
-      (start .pre .1 .0)
+      (start .pre .1 .words)
       (sym (after-word2 .word2 .ensures) ∙ (else2 .if2 .left))
       (after-skip .skip .ensures)
       (after-skip2 .skip2 .ensures)
-      (Part.is-node _ _ _ _ (after-read-element .read-element .ensures) (after-x .x .given .1))
-      (Part.is-rel _ _ _ _ (after-read-element2 .read-element2 .ensures) (after-y .y .given .1))
-      (Part.is-rel _ _ _ _ (after-read-element3 .read-element3 .ensures) (after-enum-told3 .enum-told3 .given .1)))
+      (Part.node-read (after-read-element .read-element .ensures) (after-near .near .given .1) .is)
+      (Part.rel-read (after-read-element2 .read-element2 .ensures) (after-between .between .given .1) .is)
+      (Part.rel-read (after-read-element3 .read-element3 .ensures) (after-enum-told3 .enum-told3 .given .1) .is))
       (after-lower-chain5 .lower-chain5 .ensures)
 
   lower-shortest-path-part-requires : here lts.Need-lower-shortest-path-part-requires
   lower-shortest-path-part-requires c κs =
-      let after-z : here lts.After-z = search ways depth 15 in
+      let after-to : here lts.After-to = search ways depth 15 in
       let after-read-element3 : here lts.After-read-element3 = search ways depth 15 in
-      let after-y : here lts.After-y = search ways depth 15 in
+      let after-between : here lts.After-between = search ways depth 15 in
       let after-read-element2 : here lts.After-read-element2 = search ways depth 15 in
       let after-skip2 : here lts.After-skip2 = search ways depth 15 in
-      let after-x : here lts.After-x = search ways depth 15 in
+      let after-near : here lts.After-near = search ways depth 15 in
       let after-read-element : here lts.After-read-element = search ways depth 15 in
       let after-skip : here lts.After-skip = search ways depth 15 in
       let else2 : here lts.Else2 = search ways depth 15 in
@@ -391,34 +378,31 @@ module _ (t : ℕ) where
       let after-word : here lts.After-word = search ways depth 15 in
       let start : here lts.Start = search ways depth 15 in (
         omega (arith, start .pre .0),
-        (
-          start .pre .1 .0,
-          (
-            start .pre .1 .1 .0,
-            (
-              (start .pre .1 .1 .1 .0, start .pre .1 .1 .1 .1, start .pre .1 .1 .1 .2),
-              record {
-                shortest = λ e. (else1 .if1 .left) ((after-word .word .ensures) ∙ e);
-                three = (sym (after-word2 .word2 .ensures) ∙ (else2 .if2 .left));
-                first = (Part.is-node _ _ _ _ (after-read-element .read-element .ensures) (after-x .x .given .1));
-                second =
-                    Part.other-kind
-                    (start .pre .1 .0)
-                    (Part.some-second
-                    _
-                    _
-                    (start .pre .1 .0)
-                    (sym (after-word2 .word2 .ensures) ∙ (else2 .if2 .left))
-                    (after-skip .skip .ensures)
-                    (start .pre .1 .1 .0))
-                    (Part.is-rel _ _ _ _ (after-read-element2 .read-element2 .ensures) (after-y .y .given .1));
-                third = Part.is-node _ _ _ _ (after-read-element3 .read-element3 .ensures) (after-z .z .given .1);
-                first-end = (after-skip .skip .ensures);
-                second-end = (after-skip2 .skip2 .ensures);
-              },
-            ),
-          ),
-        ),
+        record {
+          part = start .pre .1;
+          special = record {
+            shortest = λ e. (else1 .if1 .left) ((after-word .word .ensures) ∙ e);
+            three = (sym (after-word2 .word2 .ensures) ∙ (else2 .if2 .left));
+            first = (Part.node-read (after-read-element .read-element .ensures) (after-near .near .given .1) .is);
+            second =
+                Part.other-kind
+                (start .pre .1 .words)
+                (Part.some-second
+                _
+                _
+                (start .pre .1 .words)
+                (sym (after-word2 .word2 .ensures) ∙ (else2 .if2 .left))
+                (after-skip .skip .ensures)
+                (start .pre .1 .tree))
+                (Part.rel-read (after-read-element2 .read-element2 .ensures) (after-between .between .given .1) .is);
+            third = Part.node-read (after-read-element3 .read-element3 .ensures) (after-to .to .given .1) .is;
+            first-end = (after-skip .skip .ensures);
+            second-end = (after-skip2 .skip2 .ensures);
+          };
+          near = Part.node-read (after-read-element .read-element .ensures) (after-near .near .given .1) .read;
+          rel = Part.rel-read (after-read-element2 .read-element2 .ensures) (after-between .between .given .1) .read;
+          to = Part.node-read (after-read-element3 .read-element3 .ensures) (after-to .to .given .1) .read;
+        },
       )
 
   same-length-11 : here lts.Need-same-length-11
@@ -452,9 +436,8 @@ module _ (t : ℕ) where
       same-length-3
       same-length-4
       returns-2
-      add-skip
+      add-first
       skip-requires
-      add-read-element
       read-element-requires
       (λ c. search needs)
       (λ c. search needs)

@@ -1,6 +1,7 @@
 -- `lower_rel_element`, of the cycle.
 use native.Mathlib.Nat.{le-refl}
 use Prim.Native.Nat.{_+_, ℕ}
+use Rattle.lower.proofs.Reading.{endpoint-read}
 use Rattle.lower.proofs.Room
 use mathlib.Core.Path.{refl, ap, _∙_}
 use native.Mathlib.Omega.{arith}
@@ -16,180 +17,86 @@ module _ (t : ℕ) where
   here X = X (lower-rel-element-calls t) (lower-rel-element-at t) reads.Post
 
   -- the ways back, from place to place
-  abbrev back-lower-exprs : here lts.After-lower-exprs → here lts.After-count2
+  abbrev back-lower-exprs : here lts.After-lower-exprs → here lts.After-endpoint-var
   back-lower-exprs c = search
 
-  abbrev back-count2 : here lts.After-count2 → here lts.After-count
-  back-count2 c = search
-
-  abbrev back-count : here lts.After-count → here lts.After-endpoint-var
-  back-count c = search
-
-  abbrev back-endpoint-var : here lts.After-endpoint-var → here lts.After-word2
+  abbrev back-endpoint-var : here lts.After-endpoint-var → here lts.Start
   back-endpoint-var c = search
 
-  abbrev back-word2 : here lts.After-word2 → here lts.After-word
-  back-word2 c = search
-
-  abbrev back-word : here lts.After-word → here lts.Start
-  back-word c = search
-
-  ruleset ways = (back-lower-exprs, back-count2, back-count, back-endpoint-var, back-word2, back-word)
-
-  word-requires : here lts.Need-word-requires
-  word-requires c κs =
-      let start : here lts.Start = search ways depth 8 in
-      (Room.low (start .pre .1 .1 .0 .0), (omega arith, start .pre .1 .0))
-
-  word-requires-2 : here lts.Need-word-requires-2
-  word-requires-2 c κs =
-      let start : here lts.Start = search ways depth 8 in
-      (Room.low (start .pre .1 .1 .0 .0), (omega arith, start .pre .1 .0))
+  ruleset ways = (back-lower-exprs, back-endpoint-var)
 
   add-endpoint-var : here lts.Need-add-endpoint-var
   add-endpoint-var c =
-      let start : here lts.Start = search ways depth 8 in
-      let l₀ = Room.low (start .pre .1 .1 .0 .0) in
-      let l₁ = start .pre .1 .1 .1 .3 in
-      let l₂ = start .pre .1 .1 .1 .1 in
-      let l₃ = start .pre .1 .1 .1 .2 in
-      omega arith
+      let start : here lts.Start = search ways depth 10 in
+      omega (arith, Room.element-bounds (start .pre .1 .asked))
 
   add-endpoint-var-2 : here lts.Need-add-endpoint-var-2
   add-endpoint-var-2 c =
-      let start : here lts.Start = search ways depth 8 in
-      let l₀ = Room.low (start .pre .1 .1 .0 .0) in
-      let l₁ = start .pre .1 .1 .1 .3 in
-      let l₂ = start .pre .1 .1 .1 .1 in
-      let l₃ = start .pre .1 .1 .1 .2 in
-      omega arith
+      let start : here lts.Start = search ways depth 10 in
+      omega (arith, Room.element-bounds (start .pre .1 .asked))
 
   endpoint-var-requires : here lts.Need-endpoint-var-requires
   endpoint-var-requires c κs =
-      let start : here lts.Start = search ways depth 8 in
-      let l₀ = Room.low (start .pre .1 .1 .0 .0) in
-      let l₁ = start .pre .1 .1 .1 .3 in
-      let l₂ = start .pre .1 .1 .1 .1 in
-      let l₃ = start .pre .1 .1 .1 .2 in
-      Room.can-number (start .pre .1 .1 .1 .0) _ _ _ (start .pre .1 .1 .1 .2) (omega arith) refl
+      let start : here lts.Start = search ways depth 10 in
+      let l = Room.element-bounds (start .pre .1 .asked) in
+      Room.can-number (start .pre .1 .asked .room) _ _ _ (start .pre .1 .asked .pass) (omega arith) refl
 
-  count-requires : here lts.Need-count-requires
-  count-requires c κs =
-      let start : here lts.Start = search ways depth 8 in
-      (Room.low (start .pre .1 .1 .0 .0), (omega arith, start .pre .1 .0))
-
-  count-requires-2 : here lts.Need-count-requires-2
-  count-requires-2 c κs =
-      let start : here lts.Start = search ways depth 8 in
-      (Room.low (start .pre .1 .1 .0 .0), (omega arith, start .pre .1 .0))
-
-  add-lower-exprs : here lts.Need-add-lower-exprs
-  add-lower-exprs c =
-      let start : here lts.Start = search ways depth 8 in
-      let l₀ = Room.low (start .pre .1 .1 .0 .0) in
-      let l₁ = start .pre .1 .1 .1 .3 in
-      let l₂ = start .pre .1 .1 .1 .1 in
-      let l₃ = start .pre .1 .1 .1 .2 in
-      omega arith
-
-  add-lower-exprs-2 : here lts.Need-add-lower-exprs-2
-  add-lower-exprs-2 c =
-      let after-count : here lts.After-count = search ways depth 8 in
-      let start : here lts.Start = search ways depth 8 in
-      let l₀ = Room.names-low (start .pre .1 .0) (start .pre .1 .1 .0 .0) in
-      let l₁ = start .pre .1 .1 .1 .3 in
-      let l₂ = start .pre .1 .1 .1 .1 in
-      let l₃ = start .pre .1 .1 .1 .2 in
-      let n₀ = after-count .count .ensures .0 in
-      omega arith
-
-  sub-lower-exprs : here lts.Need-sub-lower-exprs
-  sub-lower-exprs c =
-      let start : here lts.Start = search ways depth 8 in
-      let l₀ = Room.low (start .pre .1 .1 .0 .0) in
-      let l₁ = start .pre .1 .1 .1 .3 in
-      let l₂ = start .pre .1 .1 .1 .1 in
-      let l₃ = start .pre .1 .1 .1 .2 in
-      omega arith
+  sub-less : here lts.Need-sub-less
+  sub-less c =
+      let start : here lts.Start = search ways depth 10 in
+      omega (arith, Room.element-bounds (start .pre .1 .asked))
 
   lower-exprs-requires : here lts.Need-lower-exprs-requires
   lower-exprs-requires c κs =
-      let after-count2 : here lts.After-count2 = search ways depth 8 in
-      let after-count : here lts.After-count = search ways depth 8 in
-      let after-endpoint-var : here lts.After-endpoint-var = search ways depth 8 in
-      let start : here lts.Start = search ways depth 8 in
-      let l₀ = Room.low (start .pre .1 .1 .0 .0) in
-      let l₁ = start .pre .1 .1 .1 .3 in
-      let l₂ = start .pre .1 .1 .1 .1 in
-      let l₃ = start .pre .1 .1 .1 .2 in
-      let l₀′ = Room.names-low (start .pre .1 .0) (start .pre .1 .1 .0 .0) in
-      let n₀ = after-count .count .ensures .0 in (
+      let after-endpoint-var : here lts.After-endpoint-var = search ways depth 10 in
+      let start : here lts.Start = search ways depth 10 in
+      let l = Room.element-bounds (start .pre .1 .asked) in
+      let l₀′ = Room.names-low (start .pre .1 .asked .words) (start .pre .1 .asked .tree .tree) in
+      let n₀ = start .pre .1 .read .first in (
         omega arith,
-        (
-          start .pre .1 .0,
-          (
-            Room.prop-some
-                (start .pre .1 .0)
-                (start .pre .1 .1 .0 .0)
-                (start .pre .1 .1 .0 .1)
-                _
-                _
-                (after-count2 .count2 .ensures .0)
-                (ap (λ z. (start .args .i) + 1 + z) (after-count .count .ensures .0)),
-            (
-              Room.numbered-on
-                  (start .pre .1 .1 .1 .0)
-                  _
-                  _
-                  (after-endpoint-var .endpoint-var .ensures .issued)
-                  (after-endpoint-var .endpoint-var .kept .1 .0)
-                  (le-refl _)
-                  (omega arith)
-                  (omega arith),
-              omega arith,
-              start .pre .1 .1 .1 .2,
-              omega arith,
-            ),
-          ),
-        ),
+        Room.asked-on _ _ _ (start .pre .1 .asked) (omega arith)
+            (Room.prop-some
+            (start .pre .1 .asked .words)
+            (start .pre .1 .asked .tree .tree)
+            (start .pre .1 .asked .tree .is)
+            _
+            _
+            (start .pre .1 .read .props)
+            (start .pre .1 .read .first))
+            (Room.numbered-on
+            (start .pre .1 .asked .room)
+            _
+            _
+            (after-endpoint-var .endpoint-var .ensures .issued)
+            (after-endpoint-var .endpoint-var .kept .1 .0)
+            (le-refl _)
+            (omega arith)
+            (omega arith)),
       )
 
   same-length : here lts.Need-same-length
   same-length c =
-      let after-lower-exprs : here lts.After-lower-exprs = search ways depth 8 in
+      let after-lower-exprs : here lts.After-lower-exprs = search ways depth 10 in
       after-lower-exprs .lower-exprs .kept .1 .1 .0
 
   same-length-2 : here lts.Need-same-length-2
   same-length-2 c =
-      let after-lower-exprs : here lts.After-lower-exprs = search ways depth 8 in
-      let after-endpoint-var : here lts.After-endpoint-var = search ways depth 8 in
+      let after-lower-exprs : here lts.After-lower-exprs = search ways depth 10 in
+      let after-endpoint-var : here lts.After-endpoint-var = search ways depth 10 in
       (after-lower-exprs .lower-exprs .kept .1 .1 .1 .0) ∙ (after-endpoint-var .endpoint-var .kept .1 .0)
 
   returns : here lts.Need-returns
   returns c =
-      let after-lower-exprs : here lts.After-lower-exprs = c .before .before .before .before in
-      let after-count2 : here lts.After-count2 = c .before .before .before .before .before .before .before .before in
-      let after-count : here lts.After-count = c .before .before .before .before .before .before .before .before .before in
-      let after-endpoint-var : here lts.After-endpoint-var =
-      c .before .before .before .before .before .before .before .before .before .before .before .before
-      in
-      let after-word2 : here lts.After-word2 =
-      c .before .before .before .before .before .before .before .before .before .before .before .before .before .before
-      in
-      let after-word : here lts.After-word =
-      c .before .before .before .before .before .before .before .before .before .before .before .before .before .before .before
-      in
-      let start : here lts.Start =
-      c .before .before .before .before .before .before .before .before .before .before .before .before .before .before .before .before .before
-      .before .before .before
-      in
+      let after-lower-exprs : here lts.After-lower-exprs = search ways depth 10 in
+      let after-endpoint-var : here lts.After-endpoint-var = search ways depth 10 in
+      let start : here lts.Start = search ways depth 10 in
       Room.rel-done
       _
       refl
-      (rw (after-word .word .ensures, after-word2 .word2 .ensures) at (after-endpoint-var .endpoint-var .ensures))
+      (endpoint-read (start .pre .1 .read .bind) (after-endpoint-var .endpoint-var .ensures))
       (after-endpoint-var .endpoint-var .kept .1 .0)
-      (after-count2 .count2 .ensures .0)
-      (ap (λ z. (start .args .i) + 1 + z) (after-count .count .ensures .0))
+      (start .pre .1 .read .props)
+      (start .pre .1 .read .first)
       (after-lower-exprs .lower-exprs .ensures)
 
   pub meets : {M : Type 1} → lts.Closed (lower-rel-element-calls t) (lower-rel-element-at t) reads.Post M
@@ -198,16 +105,10 @@ module _ (t : ℕ) where
       (lower-rel-element-calls t)
       (lower-rel-element-at t)
       reads.Post
-      word-requires
-      word-requires-2
       add-endpoint-var
       add-endpoint-var-2
       endpoint-var-requires
-      count-requires
-      count-requires-2
-      add-lower-exprs
-      add-lower-exprs-2
-      sub-lower-exprs
+      sub-less
       lower-exprs-requires
       same-length
       same-length-2

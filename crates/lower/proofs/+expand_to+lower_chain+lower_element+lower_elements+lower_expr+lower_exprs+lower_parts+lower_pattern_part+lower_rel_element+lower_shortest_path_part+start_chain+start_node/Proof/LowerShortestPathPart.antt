@@ -1,5 +1,8 @@
 -- `lower_shortest_path_part`, of the cycle.
 use Prim.Native.Nat.{_-_, _+_, ℕ}
+use Rattle.context.specs.OpLaws.{pushed-as}
+use Rattle.lower.proofs.Asking
+use Rattle.lower.proofs.Reading.{endpoint-read}
 use Rattle.lower.proofs.Part
 use Rattle.lower.proofs.Special
 use Rattle.lower.specs.Exprs
@@ -18,26 +21,20 @@ module _ (t : ℕ) where
   here X = X (lower-shortest-path-part-calls t) (lower-shortest-path-part-at t) reads.Post
 
   -- the ways back, from place to place
-  abbrev back-push : here lts.After-push → here lts.After-endpoint-var3
+  abbrev back-push : here lts.After-push → here lts.After-shortest-path
   back-push c = search
 
-  abbrev back-endpoint-var3 : here lts.After-endpoint-var3 → here lts.After-word6
+  abbrev back-shortest-path : here lts.After-shortest-path → here lts.After-endpoint-var3
+  back-shortest-path c = search
+
+  abbrev back-endpoint-var3 : here lts.After-endpoint-var3 → here lts.After-read-bind
   back-endpoint-var3 c = search
 
-  abbrev back-word6 : here lts.After-word6 → here lts.After-word5
-  back-word6 c = search
+  abbrev back-read-bind : here lts.After-read-bind → here lts.After-endpoint-var2
+  back-read-bind c = search
 
-  abbrev back-word5 : here lts.After-word5 → here lts.After-endpoint-var2
-  back-word5 c = search
-
-  abbrev back-endpoint-var2 : here lts.After-endpoint-var2 → here lts.After-word4
+  abbrev back-endpoint-var2 : here lts.After-endpoint-var2 → here lts.After-lower-rel-element
   back-endpoint-var2 c = search
-
-  abbrev back-word4 : here lts.After-word4 → here lts.After-word3
-  back-word4 c = search
-
-  abbrev back-word3 : here lts.After-word3 → here lts.After-lower-rel-element
-  back-word3 c = search
 
   abbrev back-lower-rel-element : here lts.After-lower-rel-element → here lts.After-start-node
   back-lower-rel-element c = search
@@ -45,601 +42,286 @@ module _ (t : ℕ) where
   abbrev back-start-node : here lts.After-start-node → here lts.After-endpoint-var
   back-start-node c = search
 
-  abbrev back-endpoint-var : here lts.After-endpoint-var → here lts.After-word2
+  abbrev back-endpoint-var : here lts.After-endpoint-var → here lts.Start
   back-endpoint-var c = search
-
-  abbrev back-word2 : here lts.After-word2 → here lts.After-word
-  back-word2 c = search
-
-  abbrev back-word : here lts.After-word → here lts.Start
-  back-word c = search
 
   ruleset ways = (
     back-push,
+    back-shortest-path,
     back-endpoint-var3,
-    back-word6,
-    back-word5,
+    back-read-bind,
     back-endpoint-var2,
-    back-word4,
-    back-word3,
     back-lower-rel-element,
     back-start-node,
     back-endpoint-var,
-    back-word2,
-    back-word,
   )
 
   add-first : here lts.Need-add-first
   add-first c =
-      let start : here lts.Start = search ways depth 14 in
-      let l₀ = Room.low (start .pre .1 .1 .0) in
-      let l₁ = Room.deep (start .pre .1 .1 .0) in
-      let l₂ = start .pre .1 .1 .1 .0 .1 in
-      let l₃ = start .pre .1 .1 .1 .0 .2 in
-      let l₄ = Room.low (Part.first-some _ _ (start .pre .1 .0) (start .pre .1 .1 .1 .1 .three) (start .pre .1 .1 .0)) in
+      let start : here lts.Start = search ways depth 16 in
+      let l = Room.bounds (start .pre .1 .part) in
+      let l₄ = Room.low (Asking.first-of (start .pre .1) .tree) in
       omega arith
 
   sub-less : here lts.Need-sub-less
   sub-less c =
-      let start : here lts.Start = search ways depth 14 in
-      let l₀ = Room.low (start .pre .1 .1 .0) in
-      let l₁ = Room.deep (start .pre .1 .1 .0) in
-      let l₂ = start .pre .1 .1 .1 .0 .1 in
-      let l₃ = start .pre .1 .1 .1 .0 .2 in
-      let l₄ = Room.low (Part.first-some _ _ (start .pre .1 .0) (start .pre .1 .1 .1 .1 .three) (start .pre .1 .1 .0)) in
+      let start : here lts.Start = search ways depth 16 in
+      let l = Room.bounds (start .pre .1 .part) in
+      let l₄ = Room.low (Asking.first-of (start .pre .1) .tree) in
       omega arith
-
-  word-requires : here lts.Need-word-requires
-  word-requires c κs =
-      let start : here lts.Start = search ways depth 14 in
-      (Room.low (Part.first-some _ _ (start .pre .1 .0) (start .pre .1 .1 .1 .1 .three) (start .pre .1 .1 .0)), (omega arith, start .pre .1 .0))
-
-  word-requires-2 : here lts.Need-word-requires-2
-  word-requires-2 c κs =
-      let start : here lts.Start = search ways depth 14 in
-      (Room.low (Part.first-some _ _ (start .pre .1 .0) (start .pre .1 .1 .1 .1 .three) (start .pre .1 .1 .0)), (omega arith, start .pre .1 .0))
 
   add-endpoint-var : here lts.Need-add-endpoint-var
   add-endpoint-var c =
-      let start : here lts.Start = search ways depth 14 in
-      let l₀ = Room.low (start .pre .1 .1 .0) in
-      let l₁ = Room.deep (start .pre .1 .1 .0) in
-      let l₂ = start .pre .1 .1 .1 .0 .1 in
-      let l₃ = start .pre .1 .1 .1 .0 .2 in
-      let l₄ = Room.low (Part.first-some _ _ (start .pre .1 .0) (start .pre .1 .1 .1 .1 .three) (start .pre .1 .1 .0)) in
+      let start : here lts.Start = search ways depth 16 in
+      let l = Room.bounds (start .pre .1 .part) in
+      let l₄ = Room.low (Asking.first-of (start .pre .1) .tree) in
       omega arith
 
   add-endpoint-var-2 : here lts.Need-add-endpoint-var-2
   add-endpoint-var-2 c =
-      let start : here lts.Start = search ways depth 14 in
-      let l₀ = Room.low (start .pre .1 .1 .0) in
-      let l₁ = Room.deep (start .pre .1 .1 .0) in
-      let l₂ = start .pre .1 .1 .1 .0 .1 in
-      let l₃ = start .pre .1 .1 .1 .0 .2 in
-      let l₄ = Room.low (Part.first-some _ _ (start .pre .1 .0) (start .pre .1 .1 .1 .1 .three) (start .pre .1 .1 .0)) in
+      let start : here lts.Start = search ways depth 16 in
+      let l = Room.bounds (start .pre .1 .part) in
+      let l₄ = Room.low (Asking.first-of (start .pre .1) .tree) in
       omega arith
 
   endpoint-var-requires : here lts.Need-endpoint-var-requires
   endpoint-var-requires c κs =
-      let start : here lts.Start = search ways depth 14 in
-      let l₀ = Room.low (start .pre .1 .1 .0) in
-      let l₁ = Room.deep (start .pre .1 .1 .0) in
-      let l₂ = start .pre .1 .1 .1 .0 .1 in
-      let l₃ = start .pre .1 .1 .1 .0 .2 in
-      let l₄ = Room.low (Part.first-some _ _ (start .pre .1 .0) (start .pre .1 .1 .1 .1 .three) (start .pre .1 .1 .0)) in
-      Room.can-number (start .pre .1 .1 .1 .0 .0) _ _ _ (start .pre .1 .1 .1 .0 .2) (omega arith) refl
+      let start : here lts.Start = search ways depth 16 in
+      let l = Room.bounds (start .pre .1 .part) in
+      let l₄ = Room.low (Asking.first-of (start .pre .1) .tree) in
+      Room.can-number (start .pre .1 .part .room) _ _ _ (start .pre .1 .part .pass) (omega arith) refl
 
   start-node-requires : here lts.Need-start-node-requires
   start-node-requires c κs =
-      let after-endpoint-var : here lts.After-endpoint-var = search ways depth 14 in
-      let start : here lts.Start = search ways depth 14 in
-      let l₁ = Room.deep (start .pre .1 .1 .0) in
-      let l₀ = Room.low (start .pre .1 .1 .0) in
-      let l₂ = start .pre .1 .1 .1 .0 .1 in
-      let l₃ = start .pre .1 .1 .1 .0 .2 in
-      let l₄ = Room.low (Part.first-some _ _ (start .pre .1 .0) (start .pre .1 .1 .1 .1 .three) (start .pre .1 .1 .0)) in (
-        (omega (arith, start .pre .0)),
-        (
-          start .pre .1 .0,
-          (
-            (Part.first-some _ _ (start .pre .1 .0) (start .pre .1 .1 .1 .1 .three) (start .pre .1 .1 .0), start .pre .1 .1 .1 .1 .first),
-            (
-              Room.numbered-on
-                  (start .pre .1 .1 .1 .0 .0)
-                  (((start .args .left) - 1) - 1)
-                  ((start .args .i) + 1)
-                  (after-endpoint-var .endpoint-var .ensures .issued)
-                  (after-endpoint-var .endpoint-var .kept .1 .0)
-                  (omega arith)
-                  (omega arith)
-                  (omega arith),
-              omega arith,
-              start .pre .1 .1 .1 .0 .2,
-              Room.deep (Part.first-some _ _ (start .pre .1 .0) (start .pre .1 .1 .1 .1 .three) (start .pre .1 .1 .0)),
-            ),
-          ),
-        ),
+      let after-endpoint-var : here lts.After-endpoint-var = search ways depth 16 in
+      let start : here lts.Start = search ways depth 16 in (
+        omega (arith, start .pre .0, Room.bounds (start .pre .1 .part)),
+        record {
+          asked =
+              Room.asked-on
+              _
+              _
+              _
+              (start .pre .1 .part)
+              (omega (arith, Room.bounds (start .pre .1 .part)))
+              (Asking.first-of (start .pre .1))
+              (Asking.near-room (start .pre .1) (after-endpoint-var .endpoint-var .ensures) (after-endpoint-var .endpoint-var .kept .1 .0));
+          read = start .pre .1 .near;
+        },
       )
 
   lower-rel-element-requires : here lts.Need-lower-rel-element-requires
   lower-rel-element-requires c κs =
-      let after-start-node : here lts.After-start-node = c .before .before .before .before .before .before .before in
-      let after-endpoint-var : here lts.After-endpoint-var =
-      c .before .before .before .before .before .before .before .before .before .before .before .before .before
-      in
-      let start : here lts.Start =
-      c .before .before .before .before .before .before .before .before .before .before .before .before .before .before .before .before .before
-      .before .before .before .before
-      in
-      let l₁ = Room.deep (start .pre .1 .1 .0) in
-      let l₀ = Room.low (start .pre .1 .1 .0) in
-      let l₂ = start .pre .1 .1 .1 .0 .1 in
-      let l₃ = start .pre .1 .1 .1 .0 .2 in
-      let l₄ = Room.low (Part.first-some _ _ (start .pre .1 .0) (start .pre .1 .1 .1 .1 .three) (start .pre .1 .1 .0)) in (
-        (omega (arith, start .pre .0)),
-        (
-          start .pre .1 .0,
-          (
-            (
-              Part.some-second _ _ (start .pre .1 .0) (start .pre .1 .1 .1 .1 .three) (start .pre .1 .1 .1 .1 .first-end) (start .pre .1 .1 .0),
-              start .pre .1 .1 .1 .1 .second,
-            ),
-            (
-              (rw
-                  (Room.start-ends
-                  (Part.first-some _ _ (start .pre .1 .0) (start .pre .1 .1 .1 .1 .three) (start .pre .1 .1 .0))
-                  (after-start-node .start-node .ensures)
-                  (start .pre .1 .1 .1 .1 .first-end))
-                  at
-                  (Exprs.good-after
-                  (after-start-node .start-node .ensures .moved)
-                  (Room.numbered-on
-                  (start .pre .1 .1 .1 .0 .0)
-                  (((start .args .left) - 1) - 1)
-                  ((start .args .i) + 1)
-                  (after-endpoint-var .endpoint-var .ensures .issued)
-                  (after-endpoint-var .endpoint-var .kept .1 .0)
-                  (omega arith)
-                  (omega arith)
-                  (omega arith)))),
-              omega arith,
-              start .pre .1 .1 .1 .0 .2,
-              Room.deep (Part.first-some _ _ (start .pre .1 .0) (start .pre .1 .1 .1 .1 .three) (start .pre .1 .1 .0)),
-            ),
-          ),
-        ),
-      )
-
-  word-requires-3 : here lts.Need-word-requires-3
-  word-requires-3 c κs =
-      let start : here lts.Start = search ways depth 14 in (
-        Room.low
-            (Part.some-third
-            _
-            _
-            (start .pre .1 .0)
-            (start .pre .1 .1 .1 .1 .three)
-            (start .pre .1 .1 .1 .1 .first-end)
-            (start .pre .1 .1 .1 .1 .second-end)
-            (start .pre .1 .1 .0)),
-        (omega arith, start .pre .1 .0),
-      )
-
-  word-requires-4 : here lts.Need-word-requires-4
-  word-requires-4 c κs =
-      let start : here lts.Start = search ways depth 14 in (
-        Room.low
-            (Part.some-third
-            _
-            _
-            (start .pre .1 .0)
-            (start .pre .1 .1 .1 .1 .three)
-            (start .pre .1 .1 .1 .1 .first-end)
-            (start .pre .1 .1 .1 .1 .second-end)
-            (start .pre .1 .1 .0)),
-        (omega arith, start .pre .1 .0),
+      let after-start-node : here lts.After-start-node = search ways depth 16 in
+      let after-endpoint-var : here lts.After-endpoint-var = search ways depth 16 in
+      let start : here lts.Start = search ways depth 16 in (
+        omega (arith, start .pre .0, Room.bounds (start .pre .1 .part)),
+        record {
+          asked =
+              Room.asked-on
+              _
+              _
+              _
+              (start .pre .1 .part)
+              (omega (arith, Room.bounds (start .pre .1 .part)))
+              (Asking.rel-of (start .pre .1))
+              (Asking.rel-room
+              (start .pre .1)
+              (after-endpoint-var .endpoint-var .ensures)
+              (after-endpoint-var .endpoint-var .kept .1 .0)
+              (after-start-node .start-node .ensures));
+          read = start .pre .1 .rel;
+        },
       )
 
   add-endpoint-var-3 : here lts.Need-add-endpoint-var-3
   add-endpoint-var-3 c =
-      let start : here lts.Start = search ways depth 14 in
-      let l₃ = start .pre .1 .1 .1 .0 .2 in
+      let start : here lts.Start = search ways depth 16 in
+      let l₃ = start .pre .1 .part .pass in
       let l₄ =
       Room.low
-      (Part.some-third
-      _
-      _
-      (start .pre .1 .0)
-      (start .pre .1 .1 .1 .1 .three)
-      (start .pre .1 .1 .1 .1 .first-end)
-      (start .pre .1 .1 .1 .1 .second-end)
-      (start .pre .1 .1 .0))
+      (Asking.far-of (start .pre .1) .tree)
       in
       omega arith
 
   add-endpoint-var-4 : here lts.Need-add-endpoint-var-4
   add-endpoint-var-4 c =
-      let start : here lts.Start = search ways depth 14 in
-      let l₃ = start .pre .1 .1 .1 .0 .2 in
+      let start : here lts.Start = search ways depth 16 in
+      let l₃ = start .pre .1 .part .pass in
       let l₄ =
       Room.low
-      (Part.some-third
-      _
-      _
-      (start .pre .1 .0)
-      (start .pre .1 .1 .1 .1 .three)
-      (start .pre .1 .1 .1 .1 .first-end)
-      (start .pre .1 .1 .1 .1 .second-end)
-      (start .pre .1 .1 .0))
+      (Asking.far-of (start .pre .1) .tree)
       in
       omega arith
 
   endpoint-var-requires-2 : here lts.Need-endpoint-var-requires-2
   endpoint-var-requires-2 c κs =
-      let after-lower-rel-element : here lts.After-lower-rel-element = c .before .before .before .before .before .before .before .before in
-      let after-start-node : here lts.After-start-node =
-      c .before .before .before .before .before .before .before .before .before .before .before .before .before .before .before .before
-      in
-      let after-endpoint-var : here lts.After-endpoint-var =
-      c .before .before .before .before .before .before .before .before .before .before .before .before .before .before .before .before .before
-      .before .before .before .before .before
-      in
-      let start : here lts.Start =
-      c .before .before .before .before .before .before .before .before .before .before .before .before .before .before .before .before .before
-      .before .before .before .before .before .before .before .before .before .before .before .before .before
-      in
-      let l₀ = Room.low (start .pre .1 .1 .0) in
-      let l₁ = Room.deep (start .pre .1 .1 .0) in
-      let l₂ = start .pre .1 .1 .1 .0 .1 in
-      let l₃ = start .pre .1 .1 .1 .0 .2 in
-      let l₄ = Room.low (Part.first-some _ _ (start .pre .1 .0) (start .pre .1 .1 .1 .1 .three) (start .pre .1 .1 .0)) in
+      let after-lower-rel-element : here lts.After-lower-rel-element = search ways depth 16 in
+      let after-start-node : here lts.After-start-node = search ways depth 16 in
+      let after-endpoint-var : here lts.After-endpoint-var = search ways depth 16 in
+      let start : here lts.Start = search ways depth 16 in
+      let l = Room.bounds (start .pre .1 .part) in
+      let l₄ = Room.low (Asking.first-of (start .pre .1) .tree) in
       let l₅ =
       Room.rel-ends
-      (start .pre .1 .0)
-      (start .pre .1 .1 .1 .1 .second)
-      (Part.some-second _ _ (start .pre .1 .0) (start .pre .1 .1 .1 .1 .three) (start .pre .1 .1 .1 .1 .first-end) (start .pre .1 .1 .0))
+      (start .pre .1 .part .words)
+      (start .pre .1 .special .second)
+      (Asking.rel-of (start .pre .1) .tree)
       (after-lower-rel-element .lower-rel-element .ensures)
-      (start .pre .1 .1 .1 .1 .second-end)
+      (start .pre .1 .special .second-end)
       in
       let l₄′ =
       Room.low
-      (Part.some-third
-      _
-      _
-      (start .pre .1 .0)
-      (start .pre .1 .1 .1 .1 .three)
-      (start .pre .1 .1 .1 .1 .first-end)
-      (start .pre .1 .1 .1 .1 .second-end)
-      (start .pre .1 .1 .0))
+      (Asking.far-of (start .pre .1) .tree)
       in
       Room.can-number
-      (Room.after-rel
-      (start .args .far)
-      (rw
-      (Room.start-ends
-      (Part.first-some _ _ (start .pre .1 .0) (start .pre .1 .1 .1 .1 .three) (start .pre .1 .1 .0))
-      (after-start-node .start-node .ensures)
-      (start .pre .1 .1 .1 .1 .first-end))
-      at
-      (Exprs.good-after
-      (after-start-node .start-node .ensures .moved)
-      (Room.numbered-on
-      (start .pre .1 .1 .1 .0 .0)
-      (((start .args .left) - 1) - 1)
-      ((start .args .i) + 1)
-      (after-endpoint-var .endpoint-var .ensures .issued)
+      (Asking.far-room
+      (start .pre .1)
+      (Asking.rel-room
+      (start .pre .1)
+      (after-endpoint-var .endpoint-var .ensures)
       (after-endpoint-var .endpoint-var .kept .1 .0)
-      (omega arith)
-      (omega arith)
-      (omega arith))))
-      (after-lower-rel-element .lower-rel-element .ensures)
-      (omega arith)
-      (omega arith))
+      (after-start-node .start-node .ensures))
+      (after-lower-rel-element .lower-rel-element .ensures))
       _
       _
       _
-      (start .pre .1 .1 .1 .0 .2)
+      (start .pre .1 .part .pass)
       (omega arith)
       refl
 
-  word-requires-5 : here lts.Need-word-requires-5
-  word-requires-5 c κs =
-      let start : here lts.Start = search ways depth 14 in
-      (Room.low (start .pre .1 .1 .0), (omega arith, start .pre .1 .0))
-
-  word-requires-6 : here lts.Need-word-requires-6
-  word-requires-6 c κs =
-      let start : here lts.Start = search ways depth 14 in
-      (Room.low (start .pre .1 .1 .0), (omega arith, start .pre .1 .0))
+  read-bind-requires : here lts.Need-read-bind-requires
+  read-bind-requires c κs =
+      let start : here lts.Start = search ways depth 16 in
+      (start .pre .1 .part .words, Room.low (start .pre .1 .part .tree))
 
   add-endpoint-var-5 : here lts.Need-add-endpoint-var-5
   add-endpoint-var-5 c =
-      let start : here lts.Start = search ways depth 14 in
-      let l₀ = Room.low (start .pre .1 .1 .0) in
-      let l₁ = Room.deep (start .pre .1 .1 .0) in
-      let l₂ = start .pre .1 .1 .1 .0 .1 in
-      let l₃ = start .pre .1 .1 .1 .0 .2 in
-      let l₄ = Room.low (Part.first-some _ _ (start .pre .1 .0) (start .pre .1 .1 .1 .1 .three) (start .pre .1 .1 .0)) in
+      let start : here lts.Start = search ways depth 16 in
+      let l = Room.bounds (start .pre .1 .part) in
+      let l₄ = Room.low (Asking.first-of (start .pre .1) .tree) in
       omega arith
 
   endpoint-var-requires-3 : here lts.Need-endpoint-var-requires-3
   endpoint-var-requires-3 c κs =
-      let after-endpoint-var2 : here lts.After-endpoint-var2 = c .before .before .before .before .before .before in
-      let after-lower-rel-element : here lts.After-lower-rel-element =
-      c .before .before .before .before .before .before .before .before .before .before .before .before .before .before .before
-      in
-      let after-start-node : here lts.After-start-node =
-      c .before .before .before .before .before .before .before .before .before .before .before .before .before .before .before .before .before
-      .before .before .before .before .before .before
-      in
-      let after-endpoint-var : here lts.After-endpoint-var =
-      c .before .before .before .before .before .before .before .before .before .before .before .before .before .before .before .before .before
-      .before .before .before .before .before .before .before .before .before .before .before .before
-      in
-      let start : here lts.Start =
-      c .before .before .before .before .before .before .before .before .before .before .before .before .before .before .before .before .before
-      .before .before .before .before .before .before .before .before .before .before .before .before .before .before .before .before .before
-      .before .before .before
-      in
-      let l₀ = Room.low (start .pre .1 .1 .0) in
-      let l₁ = Room.deep (start .pre .1 .1 .0) in
-      let l₂ = start .pre .1 .1 .1 .0 .1 in
-      let l₃ = start .pre .1 .1 .1 .0 .2 in
-      let l₄ = Room.low (Part.first-some _ _ (start .pre .1 .0) (start .pre .1 .1 .1 .1 .three) (start .pre .1 .1 .0)) in
+      let after-endpoint-var2 : here lts.After-endpoint-var2 = search ways depth 16 in
+      let after-lower-rel-element : here lts.After-lower-rel-element = search ways depth 16 in
+      let after-start-node : here lts.After-start-node = search ways depth 16 in
+      let after-endpoint-var : here lts.After-endpoint-var = search ways depth 16 in
+      let start : here lts.Start = search ways depth 16 in
+      let l = Room.bounds (start .pre .1 .part) in
+      let l₄ = Room.low (Asking.first-of (start .pre .1) .tree) in
       let l₅ =
       Room.rel-ends
-      (start .pre .1 .0)
-      (start .pre .1 .1 .1 .1 .second)
-      (Part.some-second _ _ (start .pre .1 .0) (start .pre .1 .1 .1 .1 .three) (start .pre .1 .1 .1 .1 .first-end) (start .pre .1 .1 .0))
+      (start .pre .1 .part .words)
+      (start .pre .1 .special .second)
+      (Asking.rel-of (start .pre .1) .tree)
       (after-lower-rel-element .lower-rel-element .ensures)
-      (start .pre .1 .1 .1 .1 .second-end)
+      (start .pre .1 .special .second-end)
       in
       let l₄′ =
       Room.low
-      (Part.some-third
-      _
-      _
-      (start .pre .1 .0)
-      (start .pre .1 .1 .1 .1 .three)
-      (start .pre .1 .1 .1 .1 .first-end)
-      (start .pre .1 .1 .1 .1 .second-end)
-      (start .pre .1 .1 .0))
+      (Asking.far-of (start .pre .1) .tree)
       in
       Room.can-again
-      (Room.after-rel
-      (start .args .far)
-      (rw
-      (Room.start-ends
-      (Part.first-some _ _ (start .pre .1 .0) (start .pre .1 .1 .1 .1 .three) (start .pre .1 .1 .0))
-      (after-start-node .start-node .ensures)
-      (start .pre .1 .1 .1 .1 .first-end))
-      at
-      (Exprs.good-after
-      (after-start-node .start-node .ensures .moved)
-      (Room.numbered-on
-      (start .pre .1 .1 .1 .0 .0)
-      (((start .args .left) - 1) - 1)
-      ((start .args .i) + 1)
-      (after-endpoint-var .endpoint-var .ensures .issued)
+      (Asking.far-room
+      (start .pre .1)
+      (Asking.rel-room
+      (start .pre .1)
+      (after-endpoint-var .endpoint-var .ensures)
       (after-endpoint-var .endpoint-var .kept .1 .0)
-      (omega arith)
-      (omega arith)
-      (omega arith))))
-      (after-lower-rel-element .lower-rel-element .ensures)
-      (omega arith)
-      (omega arith))
+      (after-start-node .start-node .ensures))
+      (after-lower-rel-element .lower-rel-element .ensures))
       (after-endpoint-var2 .endpoint-var2 .ensures .issued)
       (after-endpoint-var2 .endpoint-var2 .kept .1 .0)
       _
       _
       _
-      (start .pre .1 .1 .1 .0 .2)
+      (start .pre .1 .part .pass)
       (omega arith)
       refl
 
-  cast-push : here lts.Need-cast-push
-  cast-push c =
-      let start : here lts.Start = search ways depth 14 in
-      let l₀ = Room.low (start .pre .1 .1 .0) in
-      let l₁ = Room.deep (start .pre .1 .1 .0) in
-      let l₂ = start .pre .1 .1 .1 .0 .1 in
-      let l₃ = start .pre .1 .1 .1 .0 .2 in
-      let l₄ = Room.low (Part.first-some _ _ (start .pre .1 .0) (start .pre .1 .1 .1 .1 .three) (start .pre .1 .1 .0)) in
-      omega arith
-
-  cast-push-2 : here lts.Need-cast-push-2
-  cast-push-2 c =
-      let after-start-node : here lts.After-start-node =
-      c .before .before .before .before .before .before .before .before .before .before .before .before .before .before .before .before .before
-      .before .before .before .before .before .before .before .before .before .before .before .before
-      in
-      let after-endpoint-var : here lts.After-endpoint-var =
-      c .before .before .before .before .before .before .before .before .before .before .before .before .before .before .before .before .before
-      .before .before .before .before .before .before .before .before .before .before .before .before .before .before .before .before .before
-      .before
-      in
-      let start : here lts.Start =
-      c .before .before .before .before .before .before .before .before .before .before .before .before .before .before .before .before .before
-      .before .before .before .before .before .before .before .before .before .before .before .before .before .before .before .before .before
-      .before .before .before .before .before .before .before .before .before
-      in
-      let l₀ = Room.low (start .pre .1 .1 .0) in
-      let l₁ = Room.deep (start .pre .1 .1 .0) in
-      let l₂ = start .pre .1 .1 .1 .0 .1 in
-      let l₃ = start .pre .1 .1 .1 .0 .2 in
-      let l₄ = Room.low (Part.first-some _ _ (start .pre .1 .0) (start .pre .1 .1 .1 .1 .three) (start .pre .1 .1 .0)) in
+  shortest-path-requires : here lts.Need-shortest-path-requires
+  shortest-path-requires c κs =
+      let after-start-node : here lts.After-start-node = search ways depth 16 in
+      let after-endpoint-var : here lts.After-endpoint-var = search ways depth 16 in
+      let start : here lts.Start = search ways depth 16 in
+      let l = Room.bounds (start .pre .1 .part) in
+      let l₄ = Room.low (Asking.first-of (start .pre .1) .tree) in
       let x =
       Room.few-ops
-      (rw
-      (Room.start-ends
-      (Part.first-some _ _ (start .pre .1 .0) (start .pre .1 .1 .1 .1 .three) (start .pre .1 .1 .0))
-      (after-start-node .start-node .ensures)
-      (start .pre .1 .1 .1 .1 .first-end))
-      at
-      (Exprs.good-after
-      (after-start-node .start-node .ensures .moved)
-      (Room.numbered-on
-      (start .pre .1 .1 .1 .0 .0)
-      (((start .args .left) - 1) - 1)
-      ((start .args .i) + 1)
-      (after-endpoint-var .endpoint-var .ensures .issued)
+      (Asking.rel-room
+      (start .pre .1)
+      (after-endpoint-var .endpoint-var .ensures)
       (after-endpoint-var .endpoint-var .kept .1 .0)
-      (omega arith)
-      (omega arith)
-      (omega arith))))
+      (after-start-node .start-node .ensures))
       in
       let y = after-start-node .start-node .ensures .low in
-      omega arith
-
-  cast-push-3 : here lts.Need-cast-push-3
-  cast-push-3 c =
-      let start : here lts.Start = search ways depth 14 in
-      let l₃ = start .pre .1 .1 .1 .0 .2 in
-      let l₄ =
-      Room.low (Part.some-second _ _ (start .pre .1 .0) (start .pre .1 .1 .1 .1 .three) (start .pre .1 .1 .1 .1 .first-end) (start .pre .1 .1 .0))
+      let l₅ =
+      Room.low (Asking.rel-of (start .pre .1) .tree)
       in
-      omega arith
-
-  cast-push-4 : here lts.Need-cast-push-4
-  cast-push-4 c =
-      let start : here lts.Start = search ways depth 14 in
-      let l₃ = start .pre .1 .1 .1 .0 .2 in
-      let l₄ =
+      let l₆ =
       Room.low
-      (Part.some-third
-      _
-      _
-      (start .pre .1 .0)
-      (start .pre .1 .1 .1 .1 .three)
-      (start .pre .1 .1 .1 .1 .first-end)
-      (start .pre .1 .1 .1 .1 .second-end)
-      (start .pre .1 .1 .0))
+      (Asking.far-of (start .pre .1) .tree)
       in
-      omega arith
-
-  cast-push-5 : here lts.Need-cast-push-5
-  cast-push-5 c =
-      let start : here lts.Start = search ways depth 14 in
-      let l₀ = Room.low (start .pre .1 .1 .0) in
-      let l₁ = Room.deep (start .pre .1 .1 .0) in
-      let l₂ = start .pre .1 .1 .1 .0 .1 in
-      let l₃ = start .pre .1 .1 .1 .0 .2 in
-      let l₄ = Room.low (Part.first-some _ _ (start .pre .1 .0) (start .pre .1 .1 .1 .1 .three) (start .pre .1 .1 .0)) in
-      omega arith
-
-  cast-push-6 : here lts.Need-cast-push-6
-  cast-push-6 c =
-      let start : here lts.Start = search ways depth 14 in
-      let l₀ = Room.low (start .pre .1 .1 .0) in
-      let l₁ = Room.deep (start .pre .1 .1 .0) in
-      let l₂ = start .pre .1 .1 .1 .0 .1 in
-      let l₃ = start .pre .1 .1 .1 .0 .2 in
-      let l₄ = Room.low (Part.first-some _ _ (start .pre .1 .0) (start .pre .1 .1 .1 .1 .three) (start .pre .1 .1 .0)) in
-      omega arith
+      (Room.fits (start .pre .1 .part .pass) (omega arith) (omega arith), omega arith, omega arith, omega arith)
 
   push-requires : here lts.Need-push-requires
   push-requires c κs =
-      let after-endpoint-var3 : here lts.After-endpoint-var3 = c .before .before .before .before .before in
-      let after-endpoint-var2 : here lts.After-endpoint-var2 =
-      c .before .before .before .before .before .before .before .before .before .before .before .before
-      in
-      let after-lower-rel-element : here lts.After-lower-rel-element =
-      c .before .before .before .before .before .before .before .before .before .before .before .before .before .before .before .before .before
-      .before .before .before .before
-      in
-      let after-start-node : here lts.After-start-node =
-      c .before .before .before .before .before .before .before .before .before .before .before .before .before .before .before .before .before
-      .before .before .before .before .before .before .before .before .before .before .before .before
-      in
-      let after-endpoint-var : here lts.After-endpoint-var =
-      c .before .before .before .before .before .before .before .before .before .before .before .before .before .before .before .before .before
-      .before .before .before .before .before .before .before .before .before .before .before .before .before .before .before .before .before
-      .before
-      in
-      let start : here lts.Start =
-      c .before .before .before .before .before .before .before .before .before .before .before .before .before .before .before .before .before
-      .before .before .before .before .before .before .before .before .before .before .before .before .before .before .before .before .before
-      .before .before .before .before .before .before .before .before .before
-      in
-      let l₀ = Room.low (start .pre .1 .1 .0) in
-      let l₁ = Room.deep (start .pre .1 .1 .0) in
-      let l₂ = start .pre .1 .1 .1 .0 .1 in
-      let l₃ = start .pre .1 .1 .1 .0 .2 in
-      let l₄ = Room.low (Part.first-some _ _ (start .pre .1 .0) (start .pre .1 .1 .1 .1 .three) (start .pre .1 .1 .0)) in
+      let after-endpoint-var3 : here lts.After-endpoint-var3 = search ways depth 16 in
+      let after-endpoint-var2 : here lts.After-endpoint-var2 = search ways depth 16 in
+      let after-lower-rel-element : here lts.After-lower-rel-element = search ways depth 16 in
+      let after-start-node : here lts.After-start-node = search ways depth 16 in
+      let after-endpoint-var : here lts.After-endpoint-var = search ways depth 16 in
+      let start : here lts.Start = search ways depth 16 in
+      let l = Room.bounds (start .pre .1 .part) in
+      let l₄ = Room.low (Asking.first-of (start .pre .1) .tree) in
       let l₅ =
       Room.rel-ends
-      (start .pre .1 .0)
-      (start .pre .1 .1 .1 .1 .second)
-      (Part.some-second _ _ (start .pre .1 .0) (start .pre .1 .1 .1 .1 .three) (start .pre .1 .1 .1 .1 .first-end) (start .pre .1 .1 .0))
+      (start .pre .1 .part .words)
+      (start .pre .1 .special .second)
+      (Asking.rel-of (start .pre .1) .tree)
       (after-lower-rel-element .lower-rel-element .ensures)
-      (start .pre .1 .1 .1 .1 .second-end)
+      (start .pre .1 .special .second-end)
       in
       let l₄′ =
       Room.low
-      (Part.some-third
-      _
-      _
-      (start .pre .1 .0)
-      (start .pre .1 .1 .1 .1 .three)
-      (start .pre .1 .1 .1 .1 .first-end)
-      (start .pre .1 .1 .1 .1 .second-end)
-      (start .pre .1 .1 .0))
+      (Asking.far-of (start .pre .1) .tree)
       in
       Room.push-again
-      (Room.after-rel
-      (start .args .far)
-      (rw
-      (Room.start-ends
-      (Part.first-some _ _ (start .pre .1 .0) (start .pre .1 .1 .1 .1 .three) (start .pre .1 .1 .0))
-      (after-start-node .start-node .ensures)
-      (start .pre .1 .1 .1 .1 .first-end))
-      at
-      (Exprs.good-after
-      (after-start-node .start-node .ensures .moved)
-      (Room.numbered-on
-      (start .pre .1 .1 .1 .0 .0)
-      (((start .args .left) - 1) - 1)
-      ((start .args .i) + 1)
-      (after-endpoint-var .endpoint-var .ensures .issued)
+      (Asking.far-room
+      (start .pre .1)
+      (Asking.rel-room
+      (start .pre .1)
+      (after-endpoint-var .endpoint-var .ensures)
       (after-endpoint-var .endpoint-var .kept .1 .0)
-      (omega arith)
-      (omega arith)
-      (omega arith))))
-      (after-lower-rel-element .lower-rel-element .ensures)
-      (omega arith)
-      (omega arith))
+      (after-start-node .start-node .ensures))
+      (after-lower-rel-element .lower-rel-element .ensures))
       (after-endpoint-var2 .endpoint-var2 .ensures .issued)
       (after-endpoint-var3 .endpoint-var3 .ensures .issued)
 
   skip-requires : here lts.Need-skip-requires
   skip-requires c κs =
-      let start : here lts.Start = search ways depth 14 in (
-        start .pre .1 .0,
+      let start : here lts.Start = search ways depth 16 in (
+        start .pre .1 .part .words,
         Part.starts
-            (Part.some-third
-            _
-            _
-            (start .pre .1 .0)
-            (start .pre .1 .1 .1 .1 .three)
-            (start .pre .1 .1 .1 .1 .first-end)
-            (start .pre .1 .1 .1 .1 .second-end)
-            (start .pre .1 .1 .0)),
+            (Asking.far-of (start .pre .1) .tree),
       )
 
   same-length : here lts.Need-same-length
   same-length c =
-      let after-push : here lts.After-push = search ways depth 14 in
-      let after-lower-rel-element : here lts.After-lower-rel-element = search ways depth 14 in
-      let after-start-node : here lts.After-start-node = search ways depth 14 in
+      let after-push : here lts.After-push = search ways depth 16 in
+      let after-lower-rel-element : here lts.After-lower-rel-element = search ways depth 16 in
+      let after-start-node : here lts.After-start-node = search ways depth 16 in
       (after-push .push .kept .1 .0) ∙ (after-lower-rel-element .lower-rel-element .kept .1 .1 .0) ∙ (after-start-node .start-node .kept .1 .1 .0)
 
   same-length-2 : here lts.Need-same-length-2
   same-length-2 c =
-      let after-endpoint-var3 : here lts.After-endpoint-var3 = search ways depth 14 in
-      let after-endpoint-var2 : here lts.After-endpoint-var2 = search ways depth 14 in
-      let after-lower-rel-element : here lts.After-lower-rel-element = search ways depth 14 in
-      let after-start-node : here lts.After-start-node = search ways depth 14 in
-      let after-endpoint-var : here lts.After-endpoint-var = search ways depth 14 in
+      let after-endpoint-var3 : here lts.After-endpoint-var3 = search ways depth 16 in
+      let after-endpoint-var2 : here lts.After-endpoint-var2 = search ways depth 16 in
+      let after-lower-rel-element : here lts.After-lower-rel-element = search ways depth 16 in
+      let after-start-node : here lts.After-start-node = search ways depth 16 in
+      let after-endpoint-var : here lts.After-endpoint-var = search ways depth 16 in
       (after-endpoint-var3 .endpoint-var3 .kept .1 .0) ∙
       (after-endpoint-var2 .endpoint-var2 .kept .1 .0) ∙
       (after-lower-rel-element .lower-rel-element .kept .1 .1 .1 .0) ∙
@@ -648,51 +330,15 @@ module _ (t : ℕ) where
 
   returns : here lts.Need-returns
   returns c =
-      let after-push : here lts.After-push = c .before .before .before in
-      let after-endpoint-var3 : here lts.After-endpoint-var3 = c .before .before .before .before .before .before .before .before .before in
-      let after-word6 : here lts.After-word6 = c .before .before .before .before .before .before .before .before .before .before .before .before in
-      let after-word5 : here lts.After-word5 =
-      c .before .before .before .before .before .before .before .before .before .before .before .before .before
-      in
-      let after-endpoint-var2 : here lts.After-endpoint-var2 =
-      c .before .before .before .before .before .before .before .before .before .before .before .before .before .before .before .before
-      in
-      let after-word4 : here lts.After-word4 =
-      c .before .before .before .before .before .before .before .before .before .before .before .before .before .before .before .before .before
-      .before .before
-      in
-      let after-word3 : here lts.After-word3 =
-      c .before .before .before .before .before .before .before .before .before .before .before .before .before .before .before .before .before
-      .before .before .before
-      in
-      let after-lower-rel-element : here lts.After-lower-rel-element =
-      c .before .before .before .before .before .before .before .before .before .before .before .before .before .before .before .before .before
-      .before .before .before .before .before .before .before .before
-      in
-      let after-start-node : here lts.After-start-node =
-      c .before .before .before .before .before .before .before .before .before .before .before .before .before .before .before .before .before
-      .before .before .before .before .before .before .before .before .before .before .before .before .before .before .before .before
-      in
-      let after-endpoint-var : here lts.After-endpoint-var =
-      c .before .before .before .before .before .before .before .before .before .before .before .before .before .before .before .before .before
-      .before .before .before .before .before .before .before .before .before .before .before .before .before .before .before .before .before
-      .before .before .before .before .before
-      in
-      let after-word2 : here lts.After-word2 =
-      c .before .before .before .before .before .before .before .before .before .before .before .before .before .before .before .before .before
-      .before .before .before .before .before .before .before .before .before .before .before .before .before .before .before .before .before
-      .before .before .before .before .before .before .before
-      in
-      let after-word : here lts.After-word =
-      c .before .before .before .before .before .before .before .before .before .before .before .before .before .before .before .before .before
-      .before .before .before .before .before .before .before .before .before .before .before .before .before .before .before .before .before
-      .before .before .before .before .before .before .before .before
-      in
-      let start : here lts.Start =
-      c .before .before .before .before .before .before .before .before .before .before .before .before .before .before .before .before .before
-      .before .before .before .before .before .before .before .before .before .before .before .before .before .before .before .before .before
-      .before .before .before .before .before .before .before .before .before .before .before .before .before
-      in
+      let after-push : here lts.After-push = search ways depth 16 in
+      let after-shortest-path : here lts.After-shortest-path = search ways depth 16 in
+      let after-endpoint-var3 : here lts.After-endpoint-var3 = search ways depth 16 in
+      let after-read-bind : here lts.After-read-bind = search ways depth 16 in
+      let after-endpoint-var2 : here lts.After-endpoint-var2 = search ways depth 16 in
+      let after-lower-rel-element : here lts.After-lower-rel-element = search ways depth 16 in
+      let after-start-node : here lts.After-start-node = search ways depth 16 in
+      let after-endpoint-var : here lts.After-endpoint-var = search ways depth 16 in
+      let start : here lts.Start = search ways depth 16 in
       Special.special-law
       _
       _
@@ -700,31 +346,31 @@ module _ (t : ℕ) where
       _
       _
       _
-      (start .pre .1 .0)
-      (start .pre .1 .1 .1 .0 .2)
-      (start .pre .1 .1 .1 .0 .1)
-      (start .pre .1 .1 .1 .1 .shortest)
-      (start .pre .1 .1 .1 .1 .three)
-      (start .pre .1 .1 .1 .1 .first)
-      (start .pre .1 .1 .1 .1 .second)
-      (start .pre .1 .1 .1 .1 .third)
-      (start .pre .1 .1 .1 .1 .first-end)
-      (start .pre .1 .1 .1 .1 .second-end)
+      (start .pre .1 .part .words)
+      (start .pre .1 .part .pass)
+      (start .pre .1 .part .depth)
+      (start .pre .1 .special .shortest)
+      (start .pre .1 .special .three)
+      (start .pre .1 .special .first)
+      (start .pre .1 .special .second)
+      (start .pre .1 .special .third)
+      (start .pre .1 .special .first-end)
+      (start .pre .1 .special .second-end)
       (c .skip .ensures)
       refl
-      (rw (after-word .word .ensures, after-word2 .word2 .ensures) at (after-endpoint-var .endpoint-var .ensures))
+      (endpoint-read (start .pre .1 .near .bind) (after-endpoint-var .endpoint-var .ensures))
       (after-endpoint-var .endpoint-var .kept .1 .0)
       (after-start-node .start-node .ensures)
       (after-lower-rel-element .lower-rel-element .ensures)
       refl
-      (rw (after-word3 .word3 .ensures, after-word4 .word4 .ensures) at (after-endpoint-var2 .endpoint-var2 .ensures))
+      (endpoint-read (start .pre .1 .to .bind) (after-endpoint-var2 .endpoint-var2 .ensures))
       (after-endpoint-var2 .endpoint-var2 .kept .1 .0)
       refl
-      (rw (after-word5 .word5 .ensures, after-word6 .word6 .ensures) at (after-endpoint-var3 .endpoint-var3 .ensures))
+      (endpoint-read (after-read-bind .read-bind .ensures) (after-endpoint-var3 .endpoint-var3 .ensures))
       (after-endpoint-var3 .endpoint-var3 .kept .1 .0)
-      (after-push .push .ensures)
+      (pushed-as (after-shortest-path .shortest-path .ensures) (after-push .push .ensures))
       (after-push .push .kept .1 .0)
-      (start .pre .1 .1 .0)
+      (start .pre .1 .part .tree)
 
   pub meets : {M : Type 1} → lts.Closed (lower-shortest-path-part-calls t) (lower-shortest-path-part-at t) reads.Post M
   meets =
@@ -734,28 +380,18 @@ module _ (t : ℕ) where
       reads.Post
       add-first
       sub-less
-      word-requires
-      word-requires-2
       add-endpoint-var
       add-endpoint-var-2
       endpoint-var-requires
       start-node-requires
       lower-rel-element-requires
-      word-requires-3
-      word-requires-4
       add-endpoint-var-3
       add-endpoint-var-4
       endpoint-var-requires-2
-      word-requires-5
-      word-requires-6
+      read-bind-requires
       add-endpoint-var-5
       endpoint-var-requires-3
-      cast-push
-      cast-push-2
-      cast-push-3
-      cast-push-4
-      cast-push-5
-      cast-push-6
+      shortest-path-requires
       push-requires
       skip-requires
       same-length

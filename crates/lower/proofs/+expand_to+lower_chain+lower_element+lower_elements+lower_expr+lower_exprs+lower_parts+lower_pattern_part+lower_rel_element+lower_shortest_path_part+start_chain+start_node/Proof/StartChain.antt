@@ -1,5 +1,6 @@
 -- `start_chain`, of the cycle.
 use native.Mathlib.Nat.{le-refl}
+use Rattle.lower.proofs.Reading.{endpoint-read}
 use Rattle.lower.proofs.Linking
 use Rattle.lower.specs.Exprs
 use Rattle.lower.proofs.Room
@@ -21,86 +22,58 @@ module _ (t : ℕ) where
   abbrev back-start-node : here lts.After-start-node → here lts.After-endpoint-var
   back-start-node c = search
 
-  abbrev back-endpoint-var : here lts.After-endpoint-var → here lts.After-word2
+  abbrev back-endpoint-var : here lts.After-endpoint-var → here lts.Start
   back-endpoint-var c = search
 
-  abbrev back-word2 : here lts.After-word2 → here lts.After-word
-  back-word2 c = search
-
-  abbrev back-word : here lts.After-word → here lts.Start
-  back-word c = search
-
-  ruleset ways = (back-start-node, back-endpoint-var, back-word2, back-word)
-
-  word-requires : here lts.Need-word-requires
-  word-requires c κs =
-      let start : here lts.Start = search ways in
-      (Room.low (start .pre .1 .1 .0), (omega arith, start .pre .1 .0))
-
-  word-requires-2 : here lts.Need-word-requires-2
-  word-requires-2 c κs =
-      let start : here lts.Start = search ways in
-      (Room.low (start .pre .1 .1 .0), (omega arith, start .pre .1 .0))
+  ruleset ways = (back-start-node, back-endpoint-var)
 
   add-endpoint-var : here lts.Need-add-endpoint-var
   add-endpoint-var c =
       let start : here lts.Start = search ways in
-      let l₀ = Room.low (start .pre .1 .1 .0) in
-      let l₁ = Room.deep (start .pre .1 .1 .0) in
-      let l₂ = start .pre .1 .1 .1 .0 .1 in
-      let l₃ = start .pre .1 .1 .1 .0 .2 in
-      omega arith
+      omega (arith, Room.chain-bounds (start .pre .1 .chain))
 
   add-endpoint-var-2 : here lts.Need-add-endpoint-var-2
   add-endpoint-var-2 c =
       let start : here lts.Start = search ways in
-      let l₀ = Room.low (start .pre .1 .1 .0) in
-      let l₁ = Room.deep (start .pre .1 .1 .0) in
-      let l₂ = start .pre .1 .1 .1 .0 .1 in
-      let l₃ = start .pre .1 .1 .1 .0 .2 in
-      omega arith
+      omega (arith, Room.chain-bounds (start .pre .1 .chain))
 
   endpoint-var-requires : here lts.Need-endpoint-var-requires
   endpoint-var-requires c κs =
       let start : here lts.Start = search ways in
-      let l₀ = Room.low (start .pre .1 .1 .0) in
-      let l₁ = Room.deep (start .pre .1 .1 .0) in
-      let l₂ = start .pre .1 .1 .1 .0 .1 in
-      let l₃ = start .pre .1 .1 .1 .0 .2 in
-      Room.can-number (start .pre .1 .1 .1 .0 .0) _ _ _ (start .pre .1 .1 .1 .0 .2) (omega arith) refl
+      let l = Room.chain-bounds (start .pre .1 .chain) in
+      Room.can-number (start .pre .1 .chain .room) _ _ _ (start .pre .1 .chain .pass) (omega arith) refl
 
   start-node-requires : here lts.Need-start-node-requires
   start-node-requires c κs =
       let after-endpoint-var : here lts.After-endpoint-var = search ways in
       let start : here lts.Start = search ways in (
         omega arith,
-        (
-          start .pre .1 .0,
-          (
-            (start .pre .1 .1 .0, start .pre .1 .1 .1 .1 .1 .0),
-            (
-              Exprs.good-from
-                  (le-refl _)
-                  ((start .pre .1 .1 .1 .1 .0 .0) .from)
-                  ((start .pre .1 .1 .1 .1 .0 .0) .next)
-                  (Room.numbered
-                  (start .pre .1 .1 .1 .0 .0)
-                  (after-endpoint-var .endpoint-var .ensures .issued)
-                  (after-endpoint-var .endpoint-var .kept .1 .0)
-                  (Room.deep (start .pre .1 .1 .0))),
-              start .pre .1 .1 .1 .0 .1,
-              start .pre .1 .1 .1 .0 .2,
-              Room.deep (start .pre .1 .1 .0),
-            ),
-          ),
-        ),
+        record {
+          asked = record {
+            words = start .pre .1 .chain .words;
+            tree = record { tree = start .pre .1 .chain .tree; is = start .pre .1 .is };
+            room =
+                Exprs.good-from
+                (le-refl _)
+                (start .pre .1 .chain .bounded .from)
+                (start .pre .1 .chain .bounded .next)
+                (Room.numbered
+                (start .pre .1 .chain .room)
+                (after-endpoint-var .endpoint-var .ensures .issued)
+                (after-endpoint-var .endpoint-var .kept .1 .0)
+                (Room.deep (start .pre .1 .chain .tree)));
+            depth = start .pre .1 .chain .depth;
+            pass = start .pre .1 .chain .pass;
+          };
+          read = start .pre .1 .read;
+        },
       )
 
-  add-t24 : here lts.Need-add-t24
-  add-t24 c =
+  add-kept : here lts.Need-add-kept
+  add-kept c =
       let start : here lts.Start = search ways in
-      let q = (start .pre .1 .1 .1 .1 .0 .0) .kept in
-      let q′ = (start .pre .1 .1 .1 .1 .0 .0) .next in
+      let q = (start .pre .1 .chain .bounded) .kept in
+      let q′ = (start .pre .1 .chain .bounded) .next in
       omega arith
 
   same-length : here lts.Need-same-length
@@ -116,34 +89,23 @@ module _ (t : ℕ) where
 
   returns : here lts.Need-returns
   returns c =
-      let after-start-node : here lts.After-start-node = c .before .before .before .before .before .before in
-      let after-endpoint-var : here lts.After-endpoint-var =
-      c .before .before .before .before .before .before .before .before .before .before .before .before
-      in
-      let after-word2 : here lts.After-word2 =
-      c .before .before .before .before .before .before .before .before .before .before .before .before .before .before .before
-      in
-      let after-word : here lts.After-word =
-      c .before .before .before .before .before .before .before .before .before .before .before .before .before .before .before .before
-      in
-      let start : here lts.Start =
-      c .before .before .before .before .before .before .before .before .before .before .before .before .before .before .before .before .before
-      .before .before .before .before
-      in
+      let after-start-node : here lts.After-start-node = search ways in
+      let after-endpoint-var : here lts.After-endpoint-var = search ways in
+      let start : here lts.Start = search ways in
       Linking.start-law
       _
       _
       _
-      (start .pre .1 .0)
-      (start .pre .1 .1 .1 .0 .2)
-      (start .pre .1 .1 .1 .1 .0 .0)
-      (start .pre .1 .1 .1 .1 .1 .0)
-      (start .pre .1 .1 .1 .1 .1 .1)
+      (start .pre .1 .chain .words)
+      (start .pre .1 .chain .pass)
+      (start .pre .1 .chain .bounded)
+      (start .pre .1 .is)
+      (start .pre .1 .anew)
       refl
-      (rw (after-word .word .ensures, after-word2 .word2 .ensures) at (after-endpoint-var .endpoint-var .ensures))
+      (endpoint-read (start .pre .1 .read .bind) (after-endpoint-var .endpoint-var .ensures))
       (after-endpoint-var .endpoint-var .kept .1 .0)
       (after-start-node .start-node .ensures)
-      (start .pre .1 .1 .0)
+      (start .pre .1 .chain .tree)
 
   pub meets : {M : Type 1} → lts.Closed (start-chain-calls t) (start-chain-at t) reads.Post M
   meets =
@@ -151,13 +113,11 @@ module _ (t : ℕ) where
       (start-chain-calls t)
       (start-chain-at t)
       reads.Post
-      word-requires
-      word-requires-2
       add-endpoint-var
       add-endpoint-var-2
       endpoint-var-requires
       start-node-requires
-      add-t24
+      add-kept
       same-length
       same-length-2
       returns

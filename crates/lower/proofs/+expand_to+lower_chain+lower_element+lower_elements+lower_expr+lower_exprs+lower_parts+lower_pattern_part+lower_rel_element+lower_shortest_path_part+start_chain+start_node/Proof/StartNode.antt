@@ -1,6 +1,7 @@
 -- `start_node`, of the cycle.
 use native.Mathlib.Nat.{le-refl}
 use Prim.Native.Nat.{_+_, ℕ}
+use Rattle.context.specs.OpLaws.{pushed-as}
 use Rattle.lower.proofs.Start
 use Rattle.lower.specs.Exprs
 use Rattle.lower.proofs.Room
@@ -18,8 +19,11 @@ module _ (t : ℕ) where
   here X = X (start-node-calls t) (start-node-at t) reads.Post
 
   -- the ways back, from place to place
-  abbrev back-push2 : here lts.After-push2 → here lts.After-lower-expr
+  abbrev back-push2 : here lts.After-push2 → here lts.After-filter
   back-push2 c = search
+
+  abbrev back-filter : here lts.After-filter → here lts.After-lower-expr
+  back-filter c = search
 
   abbrev back-lower-expr : here lts.After-lower-expr → here lts.Else1
   back-lower-expr c = search
@@ -27,248 +31,140 @@ module _ (t : ℕ) where
   abbrev back-else1 : here lts.Else1 → here lts.After-push
   back-else1 c = search
 
-  abbrev back-push : here lts.After-push → here lts.After-word
+  abbrev back-push : here lts.After-push → here lts.After-source
   back-push c = search
 
-  abbrev back-word : here lts.After-word → here lts.After-count
-  back-word c = search
+  abbrev back-source : here lts.After-source → here lts.Start
+  back-source c = search
 
-  abbrev back-count : here lts.After-count → here lts.Start
-  back-count c = search
-
-  ruleset ways = (back-push2, back-lower-expr, back-else1, back-push, back-word, back-count)
-
-  count-requires : here lts.Need-count-requires
-  count-requires c κs =
-      let start : here lts.Start = search ways depth 8 in
-      (Room.low (start .pre .1 .1 .0 .0), (omega arith, start .pre .1 .0))
-
-  word-requires : here lts.Need-word-requires
-  word-requires c κs =
-      let start : here lts.Start = search ways depth 8 in
-      (Room.low (start .pre .1 .1 .0 .0), (omega arith, start .pre .1 .0))
-
-  add-first : here lts.Need-add-first
-  add-first c =
-      let start : here lts.Start = search ways depth 8 in
-      let l₀ = Room.low (start .pre .1 .1 .0 .0) in
-      let l₁ = start .pre .1 .1 .1 .3 in
-      let l₂ = start .pre .1 .1 .1 .1 in
-      let l₃ = start .pre .1 .1 .1 .2 in
-      omega arith
-
-  add-first-2 : here lts.Need-add-first-2
-  add-first-2 c =
-      let after-count : here lts.After-count = search ways depth 8 in
-      let start : here lts.Start = search ways depth 8 in
-      let l₀ = Room.names-low (start .pre .1 .0) (start .pre .1 .1 .0 .0) in
-      let l₁ = start .pre .1 .1 .1 .3 in
-      let l₂ = start .pre .1 .1 .1 .1 in
-      let l₃ = start .pre .1 .1 .1 .2 in
-      let n₀ = after-count .count .ensures .0 in
-      omega arith
+  ruleset ways = (back-push2, back-filter, back-lower-expr, back-else1, back-push, back-source)
 
   sub-less : here lts.Need-sub-less
   sub-less c =
-      let start : here lts.Start = search ways depth 8 in
-      let l₀ = Room.low (start .pre .1 .1 .0 .0) in
-      let l₁ = start .pre .1 .1 .1 .3 in
-      let l₂ = start .pre .1 .1 .1 .1 in
-      let l₃ = start .pre .1 .1 .1 .2 in
-      omega arith
+      let start : here lts.Start = search ways depth 10 in
+      omega (arith, Room.element-bounds (start .pre .1 .asked))
 
-  cast-push : here lts.Need-cast-push
-  cast-push c =
-      let start : here lts.Start = search ways depth 8 in
-      let l₀ = Room.low (start .pre .1 .1 .0 .0) in
-      let l₁ = start .pre .1 .1 .1 .3 in
-      let l₂ = start .pre .1 .1 .1 .1 in
-      let l₃ = start .pre .1 .1 .1 .2 in
-      omega arith
-
-  cast-push-2 : here lts.Need-cast-push-2
-  cast-push-2 c =
-      let start : here lts.Start = search ways depth 8 in
-      let l₀ = Room.low (start .pre .1 .1 .0 .0) in
-      let l₁ = start .pre .1 .1 .1 .3 in
-      let l₂ = start .pre .1 .1 .1 .1 in
-      let l₃ = start .pre .1 .1 .1 .2 in
-      omega arith
-
-  cast-push-3 : here lts.Need-cast-push-3
-  cast-push-3 c =
-      let start : here lts.Start = search ways depth 8 in
-      let l₀ = Room.low (start .pre .1 .1 .0 .0) in
-      let l₁ = start .pre .1 .1 .1 .3 in
-      let l₂ = start .pre .1 .1 .1 .1 in
-      let l₃ = start .pre .1 .1 .1 .2 in
-      omega arith
+  source-requires : here lts.Need-source-requires
+  source-requires c κs =
+      let start : here lts.Start = search ways depth 10 in
+      let l₀ = Room.low (start .pre .1 .asked .tree .tree) in
+      let l₂ = start .pre .1 .asked .depth in
+      Room.fits (start .pre .1 .asked .pass) (omega arith) (omega arith)
 
   push-requires : here lts.Need-push-requires
   push-requires c κs =
-      let start : here lts.Start = search ways depth 8 in
-      Room.can-push (start .pre .1 .1 .1 .0)
+      let start : here lts.Start = search ways depth 10 in
+      Room.can-push (start .pre .1 .asked .room)
 
   same-length : here lts.Need-same-length
   same-length c =
-      let after-push : here lts.After-push = search ways depth 8 in
+      let after-push : here lts.After-push = search ways depth 10 in
       after-push .push .kept .1 .0
 
   returns : here lts.Need-returns
   returns c =
-      let after-push : here lts.After-push = search ways depth 8 in
-      let after-word : here lts.After-word = search ways depth 8 in
-      let after-count : here lts.After-count = search ways depth 8 in
-      let start : here lts.Start = search ways depth 8 in
-      rw
-      (ap (λ z. (start .args .i) + 1 + z) (after-count .count .ensures .0))
-      (Start.bare-law
+      let after-push : here lts.After-push = search ways depth 10 in
+      let after-source : here lts.After-source = search ways depth 10 in
+      let start : here lts.Start = search ways depth 10 in
+      Start.bare-read
       _
       _
-      (start .pre .1 .0)
-      (start .pre .1 .1 .0 .1)
-      (start .pre .1 .1 .1 .1, start .pre .1 .1 .1 .2)
-      (after-push .push .ensures)
+      _
+      (start .pre .1 .asked .words)
+      (start .pre .1 .asked .tree .is)
+      (start .pre .1 .asked .depth, start .pre .1 .asked .pass)
+      (start .pre .1 .read .first)
+      (pushed-as (after-source .source .ensures) (after-push .push .ensures))
       (after-push .push .kept .1 .0)
-      (sym (after-word .word .ensures) ∙ (c .if1 .taken))
-      (start .pre .1 .1 .0 .0))
+      (sym (start .pre .1 .read .props) ∙ (c .if1 .taken))
+      (start .pre .1 .asked .tree .tree)
 
   lower-expr-requires : here lts.Need-lower-expr-requires
   lower-expr-requires c κs =
-      let else1 : here lts.Else1 = search ways depth 8 in
-      let after-push : here lts.After-push = search ways depth 8 in
-      let after-word : here lts.After-word = search ways depth 8 in
-      let after-count : here lts.After-count = search ways depth 8 in
-      let start : here lts.Start = search ways depth 8 in
-      let l₀ = Room.low (start .pre .1 .1 .0 .0) in
-      let l₁ = start .pre .1 .1 .1 .3 in
-      let l₂ = start .pre .1 .1 .1 .1 in
-      let l₃ = start .pre .1 .1 .1 .2 in
-      let l₀′ = Room.names-low (start .pre .1 .0) (start .pre .1 .1 .0 .0) in
-      let n₀ = after-count .count .ensures .0 in (
+      let else1 : here lts.Else1 = search ways depth 10 in
+      let after-push : here lts.After-push = search ways depth 10 in
+      let start : here lts.Start = search ways depth 10 in
+      let l = Room.element-bounds (start .pre .1 .asked) in
+      let l₀′ = Room.names-low (start .pre .1 .asked .words) (start .pre .1 .asked .tree .tree) in
+      let n₀ = start .pre .1 .read .first in (
         omega arith,
-        (
-          start .pre .1 .0,
-          (
-            rw
-                (ap (λ z. (start .args .i) + 1 + z) (after-count .count .ensures .0))
-                (Start.some-prop
-                _
-                _
-                (start .pre .1 .0)
-                (start .pre .1 .1 .0 .1)
-                (start .pre .1 .1 .0 .0)
-                (λ e. (else1 .if1 .left) ((after-word .word .ensures) ∙ e))),
-            (
-              Room.pushed-on
-                  (start .pre .1 .1 .1 .0)
-                  _
-                  _
-                  (after-push .push .ensures)
-                  (after-push .push .kept .1 .0)
-                  (le-refl _)
-                  (omega arith)
-                  (omega arith),
-              omega arith,
-              start .pre .1 .1 .1 .2,
-            ),
-          ),
-        ),
+        Room.asked-on _ _ _ (start .pre .1 .asked) (omega arith)
+            (Start.prop-read
+            _
+            _
+            _
+            (start .pre .1 .asked .words)
+            (start .pre .1 .asked .tree .is)
+            (start .pre .1 .read .first)
+            (start .pre .1 .asked .tree .tree)
+            (λ e. (else1 .if1 .left) (start .pre .1 .read .props ∙ e)))
+            (Room.pushed-on
+            (start .pre .1 .asked .room)
+            _
+            _
+            (after-push .push .ensures)
+            (after-push .push .kept .1 .0)
+            (le-refl _)
+            (omega arith)
+            (omega arith)),
       )
 
-  cast-push-4 : here lts.Need-cast-push-4
-  cast-push-4 c =
-      let after-count : here lts.After-count = search ways depth 8 in
-      let start : here lts.Start = search ways depth 8 in
-      let l₀ = Room.names-low (start .pre .1 .0) (start .pre .1 .1 .0 .0) in
-      let l₁ = start .pre .1 .1 .1 .3 in
-      let l₂ = start .pre .1 .1 .1 .1 in
-      let l₃ = start .pre .1 .1 .1 .2 in
-      let n₀ = after-count .count .ensures .0 in
-      omega arith
-
-  cast-push-5 : here lts.Need-cast-push-5
-  cast-push-5 c =
-      let start : here lts.Start = search ways depth 8 in
-      let g = Room.few-ops (start .pre .1 .1 .1 .0) in
-      omega arith
-
-  cast-push-6 : here lts.Need-cast-push-6
-  cast-push-6 c =
-      let start : here lts.Start = search ways depth 8 in
-      let l₀ = Room.low (start .pre .1 .1 .0 .0) in
-      let l₁ = start .pre .1 .1 .1 .3 in
-      let l₂ = start .pre .1 .1 .1 .1 in
-      let l₃ = start .pre .1 .1 .1 .2 in
-      omega arith
-
-  cast-push-7 : here lts.Need-cast-push-7
-  cast-push-7 c =
-      let start : here lts.Start = search ways depth 8 in
-      let l₀ = Room.low (start .pre .1 .1 .0 .0) in
-      let l₁ = start .pre .1 .1 .1 .3 in
-      let l₂ = start .pre .1 .1 .1 .1 in
-      let l₃ = start .pre .1 .1 .1 .2 in
-      omega arith
+  filter-requires : here lts.Need-filter-requires
+  filter-requires c κs =
+      let start : here lts.Start = search ways depth 10 in
+      let l₀ = Room.names-low (start .pre .1 .asked .words) (start .pre .1 .asked .tree .tree) in
+      let l₂ = start .pre .1 .asked .depth in
+      let n₀ = start .pre .1 .read .first in
+      let g = Room.few-ops (start .pre .1 .asked .room) in
+      (Room.fits (start .pre .1 .asked .pass) (omega arith) (omega arith), omega arith)
 
   push-requires-2 : here lts.Need-push-requires-2
   push-requires-2 c κs =
-      let after-lower-expr : here lts.After-lower-expr = search ways depth 8 in
-      let after-push : here lts.After-push = search ways depth 8 in
-      let after-count : here lts.After-count = search ways depth 8 in
-      let start : here lts.Start = search ways depth 8 in
-      let l₀ = Room.names-low (start .pre .1 .0) (start .pre .1 .1 .0 .0) in
-      let l₁ = start .pre .1 .1 .1 .3 in
-      let l₂ = start .pre .1 .1 .1 .1 in
-      let l₃ = start .pre .1 .1 .1 .2 in
-      let n₀ = after-count .count .ensures .0 in
+      let after-lower-expr : here lts.After-lower-expr = search ways depth 10 in
+      let after-push : here lts.After-push = search ways depth 10 in
+      let start : here lts.Start = search ways depth 10 in
+      let l₀ = Room.names-low (start .pre .1 .asked .words) (start .pre .1 .asked .tree .tree) in
+      let l = Room.element-bounds (start .pre .1 .asked) in
+      let n₀ = start .pre .1 .read .first in
       Room.can-push
       (Exprs.good-after
       (after-lower-expr .lower-expr .ensures .moved)
-      (Room.pushed-on (start .pre .1 .1 .1 .0) _ _ (after-push .push .ensures) (after-push .push .kept .1 .0) (le-refl _) (omega arith) (omega arith)))
+      (Room.pushed-on (start .pre .1 .asked .room) _ _ (after-push .push .ensures) (after-push .push .kept .1 .0) (le-refl _) (omega arith) (omega arith)))
 
   same-length-2 : here lts.Need-same-length-2
   same-length-2 c =
-      let after-push2 : here lts.After-push2 = search ways depth 8 in
-      let after-lower-expr : here lts.After-lower-expr = search ways depth 8 in
-      let after-push : here lts.After-push = search ways depth 8 in
+      let after-push2 : here lts.After-push2 = search ways depth 10 in
+      let after-lower-expr : here lts.After-lower-expr = search ways depth 10 in
+      let after-push : here lts.After-push = search ways depth 10 in
       (after-push2 .push2 .kept .1 .0) ∙ (after-lower-expr .lower-expr .kept .1 .1 .0) ∙ (after-push .push .kept .1 .0)
 
   same-length-3 : here lts.Need-same-length-3
   same-length-3 c =
-      let after-lower-expr : here lts.After-lower-expr = search ways depth 8 in
+      let after-lower-expr : here lts.After-lower-expr = search ways depth 10 in
       after-lower-expr .lower-expr .kept .1 .1 .1 .0
 
   returns-2 : here lts.Need-returns-2
   returns-2 c =
-      let after-push2 : here lts.After-push2 = c .before .before in
-      let after-lower-expr : here lts.After-lower-expr = c .before .before .before .before .before .before .before .before .before in
-      let else1 : here lts.Else1 = c .before .before .before .before .before .before .before .before .before .before .before .before in
-      let after-push : here lts.After-push =
-      c .before .before .before .before .before .before .before .before .before .before .before .before .before .before .before
-      in
-      let after-word : here lts.After-word =
-      c .before .before .before .before .before .before .before .before .before .before .before .before .before .before .before .before .before
-      in
-      let after-count : here lts.After-count =
-      c .before .before .before .before .before .before .before .before .before .before .before .before .before .before .before .before .before
-      .before
-      in
-      let start : here lts.Start =
-      c .before .before .before .before .before .before .before .before .before .before .before .before .before .before .before .before .before
-      .before .before .before .before .before .before
-      in
-      Start.filtered-law
+      let after-push2 : here lts.After-push2 = search ways depth 10 in
+      let after-filter : here lts.After-filter = search ways depth 10 in
+      let after-lower-expr : here lts.After-lower-expr = search ways depth 10 in
+      let else1 : here lts.Else1 = search ways depth 10 in
+      let after-push : here lts.After-push = search ways depth 10 in
+      let after-source : here lts.After-source = search ways depth 10 in
+      let start : here lts.Start = search ways depth 10 in
+      Start.filtered-read
       _
       _
-      (start .pre .1 .0)
-      (start .pre .1 .1 .0 .1)
-      (start .pre .1 .1 .1 .1, start .pre .1 .1 .1 .2)
-      (after-push .push .ensures)
+      _
+      (start .pre .1 .asked .words)
+      (start .pre .1 .asked .tree .is)
+      (start .pre .1 .asked .depth, start .pre .1 .asked .pass)
+      (start .pre .1 .read .first)
+      (pushed-as (after-source .source .ensures) (after-push .push .ensures))
       (after-push .push .kept .1 .0)
-      (λ e. (else1 .if1 .left) ((after-word .word .ensures) ∙ e))
-      (rw (ap (λ z. (start .args .i) + 1 + z) (after-count .count .ensures .0)) at (after-lower-expr .lower-expr .ensures))
-      (rw (ap (λ z. (start .args .i) + 1 + z) (after-count .count .ensures .0)) at (after-push2 .push2 .ensures))
+      (λ e. (else1 .if1 .left) (start .pre .1 .read .props ∙ e))
+      (after-lower-expr .lower-expr .ensures)
+      (pushed-as (after-filter .filter .ensures) (after-push2 .push2 .ensures))
       (after-push2 .push2 .kept .1 .0)
 
   pub meets : {M : Type 1} → lts.Closed (start-node-calls t) (start-node-at t) reads.Post M
@@ -277,22 +173,13 @@ module _ (t : ℕ) where
       (start-node-calls t)
       (start-node-at t)
       reads.Post
-      count-requires
-      word-requires
-      add-first
-      add-first-2
       sub-less
-      cast-push
-      cast-push-2
-      cast-push-3
+      source-requires
       push-requires
       same-length
       returns
       lower-expr-requires
-      cast-push-4
-      cast-push-5
-      cast-push-6
-      cast-push-7
+      filter-requires
       push-requires-2
       same-length-2
       same-length-3

@@ -1,6 +1,6 @@
 -- `keyword_number` meets its contract: each keyword as a number. Assumes nothing.
 use borrow.Author.Needs.{needs}
-use Rattle.line.specs.LastLaws.{last-is}
+use Rattle.words.specs.LastLaws.{last-is}
 use Rattle.plan_line.proofs.keyword.keyword_number.Statement.{statement}
 use Rattle.plan_line.proofs.keyword.keyword_number.Tie as tie
 

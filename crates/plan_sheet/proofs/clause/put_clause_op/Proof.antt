@@ -99,12 +99,12 @@ ruleset ways = (
 put-with-requires : tie.Need-put-with-requires
 put-with-requires c κs =
     let start : tie.Start = search ways in
-    (start .pre .0, (start .pre .1 .1) .stored .sane .low)
+    (start .pre .0, (start .pre .1 .1) .stored .bounded .low)
 
 put-project-requires : tie.Need-put-project-requires
 put-project-requires c κs =
     let start : tie.Start = search ways in
-    (start .pre .0, (start .pre .1 .1) .stored .sane .low)
+    (start .pre .0, (start .pre .1 .1) .stored .bounded .low)
 
 put-procedure-requires : tie.Need-put-procedure-requires
 put-procedure-requires c κs =
@@ -113,7 +113,7 @@ put-procedure-requires c κs =
     let r = at-match-rest .match .rest in (
       start .pre .0,
       (
-        (start .pre .1 .1) .stored .sane .low,
+        (start .pre .1 .1) .stored .bounded .low,
         OpLaws.procedure-in
             (start .pre .0)
             (start .pre .1 .1)

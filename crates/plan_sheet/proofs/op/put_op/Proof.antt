@@ -67,14 +67,14 @@ ruleset ways = (
 put-source-requires : tie.Need-put-source-requires
 put-source-requires c κs =
     let start : tie.Start = search ways in
-    (start .pre .0, (start .pre .1 .1) .stored .sane .low)
+    (start .pre .0, (start .pre .1 .1) .stored .bounded .low)
 
 put-expand-requires : tie.Need-put-expand-requires
 put-expand-requires c κs =
     let at-match-keys4 : tie.At-match-keys4 = search ways in
     let start : tie.Start = search ways in
     let l = OpLaws.expand-low (start .pre .1 .1) (at-match-keys4 .match .keys4) in
-    ((l .0, l .1, (start .pre .1 .1) .stored .sane .near), start .pre .1 .0)
+    ((l .0, l .1, (start .pre .1 .1) .stored .bounded .near), start .pre .1 .0)
 
 put-short-requires : tie.Need-put-short-requires
 put-short-requires c κs =
@@ -83,9 +83,9 @@ put-short-requires c κs =
       start .pre .0,
       (
         (
-          (start .pre .1 .1) .stored .sane .low,
-          (start .pre .1 .1) .stored .sane .far (at-match-keys5 .match .keys5),
-          (start .pre .1 .1) .stored .sane .near,
+          (start .pre .1 .1) .stored .bounded .low,
+          (start .pre .1 .1) .stored .bounded .far (at-match-keys5 .match .keys5),
+          (start .pre .1 .1) .stored .bounded .near,
         ),
         start .pre .1 .0,
       ),

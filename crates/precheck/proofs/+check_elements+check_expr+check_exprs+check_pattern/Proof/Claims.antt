@@ -16,8 +16,8 @@ use Rattle.precheck.proofs.check_pattern.Reads as check-pattern
 use Rattle.precheck.proofs.check_pattern.Kinds as check-pattern-kinds
 use Rattle.precheck.proofs.+check_elements+check_expr+check_exprs+check_pattern.Lts-check_pattern as check-pattern-lts
 use Rattle.precheck.proofs.begins_with_node.Reads as begins-with-node-reads
-use Rattle.precheck.proofs.children_of.Reads as children-of-reads
-use Rattle.precheck.proofs.count.Reads as count-reads
+use Rattle.words.proofs.records.children_of.Reads as children-of-reads
+use Rattle.words.proofs.records.count.Reads as count-reads
 use Rattle.precheck.proofs.props_of.Reads as props-of-reads
 
 abbrev pub μ-check-elements : Measures 2 check-elements-kinds.ps ℕ

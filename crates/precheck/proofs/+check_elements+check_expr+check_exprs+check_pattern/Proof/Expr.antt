@@ -19,7 +19,7 @@ module _ (t : ℕ) where
       let n : here lts.After-children-of = search in
       let w : here lts.After-word = search in
       let s : here lts.Start = search in
-      let plain = as-plain (s .pre .1 .0) (w .word .ensures) (n .children-of .ensures) (c .match .rest) in
+      let plain = as-plain (s .pre .1 .0) (w .word .ensures) (n .children-of .ensures .0) (c .match .rest) in
       (omega arith, (s .pre .1 .0, some-turned plain (s .pre .1 .1 .some)))
 
   returns-3 : here lts.Need-returns-3
@@ -27,7 +27,7 @@ module _ (t : ℕ) where
       let n : here lts.After-children-of = search in
       let w : here lts.After-word = search in
       let s : here lts.Start = search in
-      as-unresolved (s .pre .1 .0) (w .word .ensures) (n .children-of .ensures) (c .match .keys3)
+      as-unresolved (s .pre .1 .0) (w .word .ensures) (n .children-of .ensures .0) (c .match .keys3)
 
   returns-4 : here lts.Need-returns-4
   returns-4 c =
@@ -35,7 +35,7 @@ module _ (t : ℕ) where
       let x : here lts.After-word2 = search in
       let w : here lts.After-word = search in
       let s : here lts.Start = search in
-      as-undesugared (s .pre .1 .0) (w .word .ensures) (n .children-of .ensures) (x .word2 .ensures) (c .match .keys4)
+      as-undesugared (s .pre .1 .0) (w .word .ensures) (n .children-of .ensures .0) (x .word2 .ensures) (c .match .keys4)
 
   returns-5 : here lts.Need-returns-5
   returns-5 c =
@@ -43,7 +43,7 @@ module _ (t : ℕ) where
       let n : here lts.After-children-of = search in
       let w : here lts.After-word = search in
       let s : here lts.Start = search in
-      walks-turned (as-plain (s .pre .1 .0) (w .word .ensures) (n .children-of .ensures) (m .match .rest)) (c .check-exprs2 .ensures)
+      walks-turned (as-plain (s .pre .1 .0) (w .word .ensures) (n .children-of .ensures .0) (m .match .rest)) (c .check-exprs2 .ensures)
 
   pub meets : {M : Type 1} → lts.Closed (check-expr-calls t) (check-expr-at t) reads.Post M
   meets =

@@ -27,9 +27,9 @@ use Rattle.plan_sheet.proofs.write.write_op.Reads as write-op
 use Rattle.plan_sheet.proofs.write.write_op.Kinds as write-op-kinds
 use Rattle.plan_sheet.proofs.write.+write_aggregate+write_aggregates+write_element+write_expr+write_exprs+write_key+write_keys+write_op.Lts-write_op as write-op-lts
 use Rattle.aggregate.proofs.is_aggregate.Reads as is-aggregate-reads
-use Rattle.lower.proofs.records.children.Reads as children-reads
-use Rattle.lower.proofs.records.count.Reads as count-reads
-use Rattle.lower.proofs.records.skip.Reads as skip-reads
+use Rattle.words.proofs.records.children.Reads as children-reads
+use Rattle.words.proofs.records.count.Reads as count-reads
+use Rattle.words.proofs.records.skip.Reads as skip-reads
 use Rattle.plan_sheet.proofs.behind.first_of.Reads as first-of-reads
 use Rattle.plan_sheet.proofs.behind.many_of.Reads as many-of-reads
 use Rattle.plan_sheet.proofs.behind.put_tail.Reads as put-tail-reads

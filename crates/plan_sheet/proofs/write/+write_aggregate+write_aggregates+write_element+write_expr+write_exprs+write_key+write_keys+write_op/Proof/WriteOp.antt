@@ -89,7 +89,7 @@ module _ (t : ℕ) where
       let arm : here lts.At-match-keys1 = search ways depth 9 in
       let w : here lts.After-read-op = search ways depth 9 in
       let s : here lts.Start = search ways depth 9 in
-      let v = OpLaws.sane-at _ (s .pre .1 .1 .planned) (w .read-op .ensures) in
+      let v = OpLaws.bounded-at _ (s .pre .1 .1 .planned) (w .read-op .ensures) in
       (omega (arith, s .pre .0, v .shallow), (s .pre .1 .0, (record { near = v .near; shallow = v .shallow }, OpLaws.rel-of _ (s .pre .1 .1 .planned) (w .read-op .ensures) (arm .match .keys1))))
 
   write-element-requires-2 : here lts.Need-write-element-requires-2
@@ -97,7 +97,7 @@ module _ (t : ℕ) where
       let arm : here lts.At-match-keys1 = search ways depth 9 in
       let w : here lts.After-read-op = search ways depth 9 in
       let s : here lts.Start = search ways depth 9 in
-      let v = OpLaws.sane-at _ (s .pre .1 .1 .planned) (w .read-op .ensures) in
+      let v = OpLaws.bounded-at _ (s .pre .1 .1 .planned) (w .read-op .ensures) in
       (omega (arith, s .pre .0, v .shallow), (s .pre .1 .0, (record { near = v .near; shallow = v .shallow }, OpLaws.far-of _ (s .pre .1 .1 .planned) (w .read-op .ensures) (arm .match .keys1))))
 
   write-element-requires-3 : here lts.Need-write-element-requires-3
@@ -105,7 +105,7 @@ module _ (t : ℕ) where
       let arm : here lts.At-match-keys2 = search ways depth 9 in
       let w : here lts.After-read-op = search ways depth 9 in
       let s : here lts.Start = search ways depth 9 in
-      let v = OpLaws.sane-at _ (s .pre .1 .1 .planned) (w .read-op .ensures) in
+      let v = OpLaws.bounded-at _ (s .pre .1 .1 .planned) (w .read-op .ensures) in
       (omega (arith, s .pre .0, v .shallow), (s .pre .1 .0, (record { near = v .near; shallow = v .shallow }, OpLaws.short-rel _ (s .pre .1 .1 .planned) (w .read-op .ensures) (arm .match .keys2))))
 
   write-op-requires : here lts.Need-write-op-requires
@@ -121,13 +121,13 @@ module _ (t : ℕ) where
   count-requires c κs =
       let w : here lts.After-read-op = search ways depth 9 in
       let s : here lts.Start = search ways depth 9 in
-      (OpLaws.sane-at _ (s .pre .1 .1 .planned) (w .read-op .ensures) .low, (omega arith, s .pre .1 .0 .records))
+      (OpLaws.bounded-at _ (s .pre .1 .1 .planned) (w .read-op .ensures) .low, (omega arith, s .pre .1 .0 .records))
 
   add-t37 : here lts.Need-add-t37
   add-t37 c =
       let w : here lts.After-read-op = search ways depth 9 in
       let s : here lts.Start = search ways depth 9 in
-      omega (arith, OpLaws.sane-at _ (s .pre .1 .1 .planned) (w .read-op .ensures) .low)
+      omega (arith, OpLaws.bounded-at _ (s .pre .1 .1 .planned) (w .read-op .ensures) .low)
 
   write-keys-requires : here lts.Need-write-keys-requires
   write-keys-requires c κs =
@@ -135,7 +135,7 @@ module _ (t : ℕ) where
       let arm : here lts.At-match-keys4 = search ways depth 9 in
       let w : here lts.After-read-op = search ways depth 9 in
       let s : here lts.Start = search ways depth 9 in
-      let v = OpLaws.sane-at _ (s .pre .1 .1 .planned) (w .read-op .ensures) in
+      let v = OpLaws.bounded-at _ (s .pre .1 .1 .planned) (w .read-op .ensures) in
       (omega (arith, s .pre .0, v .shallow), (s .pre .1 .0, (record { near = v .near; shallow = v .shallow }, PartedLaws.items-of _ (s .pre .1 .1 .planned) (w .read-op .ensures) (arm .match .keys4) (count .count .ensures .0))))
 
   write-aggregates-requires : here lts.Need-write-aggregates-requires
@@ -144,20 +144,20 @@ module _ (t : ℕ) where
       let arm : here lts.At-match-keys4 = search ways depth 9 in
       let w : here lts.After-read-op = search ways depth 9 in
       let s : here lts.Start = search ways depth 9 in
-      let v = OpLaws.sane-at _ (s .pre .1 .1 .planned) (w .read-op .ensures) in
+      let v = OpLaws.bounded-at _ (s .pre .1 .1 .planned) (w .read-op .ensures) in
       (omega (arith, s .pre .0, v .shallow), (s .pre .1 .0, (record { near = v .near; shallow = v .shallow }, PartedLaws.items-of _ (s .pre .1 .1 .planned) (w .read-op .ensures) (arm .match .keys4) (count .count .ensures .0))))
 
   first-of-requires : here lts.Need-first-of-requires
   first-of-requires c κs =
       let w : here lts.After-read-op = search ways depth 9 in
       let s : here lts.Start = search ways depth 9 in
-      OpLaws.sane-at _ (s .pre .1 .1 .planned) (w .read-op .ensures) .low
+      OpLaws.bounded-at _ (s .pre .1 .1 .planned) (w .read-op .ensures) .low
 
   many-of-requires : here lts.Need-many-of-requires
   many-of-requires c κs =
       let w : here lts.After-read-op = search ways depth 9 in
       let s : here lts.Start = search ways depth 9 in
-      (s .pre .1 .0 .records, OpLaws.sane-at _ (s .pre .1 .1 .planned) (w .read-op .ensures) .low)
+      (s .pre .1 .0 .records, OpLaws.bounded-at _ (s .pre .1 .1 .planned) (w .read-op .ensures) .low)
 
   write-exprs-requires : here lts.Need-write-exprs-requires
   write-exprs-requires c κs =
@@ -166,7 +166,7 @@ module _ (t : ℕ) where
       let arm : here lts.At-match-rest = search ways depth 9 in
       let w : here lts.After-read-op = search ways depth 9 in
       let s : here lts.Start = search ways depth 9 in
-      let v = OpLaws.sane-at _ (s .pre .1 .1 .planned) (w .read-op .ensures) in (
+      let v = OpLaws.bounded-at _ (s .pre .1 .1 .planned) (w .read-op .ensures) in (
         omega (arith, s .pre .0, v .shallow),
         (
           s .pre .1 .0,
@@ -195,7 +195,7 @@ module _ (t : ℕ) where
       let arm : here lts.At-match-rest = search ways depth 9 in
       let w : here lts.After-read-op = search ways depth 9 in
       let s : here lts.Start = search ways depth 9 in
-      let v = OpLaws.sane-at _ (s .pre .1 .1 .planned) (w .read-op .ensures) in (
+      let v = OpLaws.bounded-at _ (s .pre .1 .1 .planned) (w .read-op .ensures) in (
         s .pre .1 .0 .records,
         (
           (s .pre .1 .0 .in-rest, v .near, v .low),

@@ -1,0 +1,31 @@
+-- `size_list::show_list` is safe and ends: each case lies behind the one before, and the slices' lengths stay. Assumes nothing.
+use mathlib.Core.Path.{_≡_, refl}
+use Prim.Native.Nat.{_-_}
+use native.Mathlib.Omega.{arith}
+use lib.ListN.{length}
+use borrow.Author.Needs.{needs}
+use Rattle.gate_size.proofs.show_list.Statement.{statement}
+use Rattle.gate_size.proofs.show_list.Tie as tie
+
+abbrev Inv-loop : tie.InvT-loop
+Inv-loop list page₀ a₀ b₀ c₀ d₀ at₀ page a b c d at = (length page ≡ length page₀) × (length a ≡ length a₀) × (length b ≡ length b₀) × (length c ≡ length c₀) × (length d ≡ length d₀)
+
+abbrev μ-loop : tie.MeasureT-loop
+μ-loop list page₀ a₀ b₀ c₀ d₀ at₀ page a b c d at = 32769 - at
+
+pub show-list-spec : {M : Type 1} → statement M
+show-list-spec =
+    tie.close
+    (tie.spec
+    Inv-loop
+    μ-loop
+    (λ c. (refl, refl, refl, refl, refl))
+    (λ c κs. (omega arith, omega arith))
+    (λ c. omega arith)
+    (λ c. (omega arith, omega arith, omega arith, omega arith, omega arith))
+    (λ c. search needs)
+    (λ c. search needs)
+    (λ c. search needs)
+    (λ c. search needs)
+    (λ c. search needs)
+    (λ c. tt))
