@@ -15,7 +15,8 @@ use Rattle.model.specs.Field
 use Rattle.laws.specs.TextLaws.{join-split, and-left, and-right}
 use Rattle.output.specs.Page.{Page, Puts}
 use Rattle.output.specs.Writes.{_⨾_, stay, same}
-use Rattle.words.specs.Words.{fieldOf, fieldsOf, piecesOf, intOf, part}
+use Rattle.words.specs.Words.{fieldOf, fieldsOf, piecesOf, intOf, part, cell}
+use Rattle.plan_line.proofs.WordLaws.{part-at}
 use Rattle.words.specs.Held.{Flag, Flags, Text, Texts, PlaceAt}
 use Rattle.words.specs.TableLaws.{code-row}
 use Rattle.words.specs.Table.{codes, codeAt, otherForms, formOf, formsIn, formsFrom, formsAt}
@@ -172,3 +173,17 @@ module _ {sheet : Bytes} {ws : List ℕ} {kind : ℕ} {start : Page} {g code : �
   pub finish : code ≡ 0 → Puts (fieldsText (formsAt kind) sheet ws 0) start p
   unfolding fieldsText spellFields fieldsOf behind
   finish z = h .rest p (rw (forms-none kind g (h .low) (omega (arith, h .few)) (rw z at (sym (h .is)))) stay)
+
+-- the same, by the two words that were read
+module _ (a b : List ℕ) (i : ℕ) {sheet : Bytes} {kind : ℕ} {start : Page} {g code x y : ℕ} {p : Page} (ex : x ≡ cell a b i (g + g + 2)) (ey : y ≡ cell a b i (g + g + 3)) (h : Left sheet (part a b i) kind start g code p) (n : code ≡ 0 → ⊥) where
+  low-word : x ≡ getD (part a b i) (g + g + 2) 0
+  low-word = ex ∙ sym (part-at a b i (g + g + 2) (omega (arith, there h n .few)))
+
+  high-word : y ≡ getD (part a b i) (g + g + 3) 0
+  high-word = ey ∙ sym (part-at a b i (g + g + 3) (omega (arith, there h n .few)))
+
+  pub at-words : Flag (formOf code) x × (Text (formOf code) sheet x y × (plain (formOf code) ≡ true))
+  at-words = let t = there h n in rw (low-word, high-word) (t .flag, (t .text, t .plain))
+
+  pub on-words : {code′ : ℕ} {p′ : Page} → Puts (fieldText (formOf code) sheet x y) p p′ → code′ ≡ codeAt kind (g + 1) → Left sheet (part a b i) kind start (g + 1) code′ p′
+  on-words put e = again h n low-word high-word put e

@@ -12,6 +12,7 @@ ghost use Rattle.words.specs.Held.{Flag, Text};
 ghost use Rattle.words.specs.Table.{formOf, formsAt};
 ghost use Rattle.plan_line.specs.Keywords.{word, wordCount};
 ghost use Rattle.plan_line.specs.Field.{plain, fieldText, fieldsText, Fielded, lineText};
+use words::form;
 use words::table::form_code;
 
 // The 64 bits of two words.
@@ -76,10 +77,10 @@ fn put_field(plan: &mut [u8], out: usize, sheet: &[u8], code: u32, x: u32, y: u3
     ensures { λ r. ⌜ Puts (fieldText (formOf code) (now (sheet .entry)) x y) (on (now (plan .entry)) out) (on (now (plan .exit)) r) ⌝ }
 {
     match code {
-        4 => put_int(plan, out, x, y),
-        5 => put_float(plan, out, x, y),
-        6 => put_text(plan, out, sheet, x, y),
-        9 => put_text(plan, out, sheet, x, y),
+        form::INT => put_int(plan, out, x, y),
+        form::FLOAT => put_float(plan, out, x, y),
+        form::TEXT => put_text(plan, out, sheet, x, y),
+        form::LENGTH => put_text(plan, out, sheet, x, y),
         _ => put_number(plan, out, x),
     }
 }
@@ -101,7 +102,7 @@ pub fn put_fields(
     let mut o = out;
     let mut g = 0;
     let mut code = form_code(kind, 0);
-    while code != 0 {
+    while code != form::NONE {
         let x = words::word(a, b, i, g + g + 2);
         let y = words::word(a, b, i, g + g + 3);
         o = put_field(plan, o, sheet, code, x, y);

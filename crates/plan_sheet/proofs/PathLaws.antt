@@ -127,17 +127,18 @@ first-element sheet a b d i z (node patternElement line k f kids ∷ᵗ ts) h = 
 pub element-starts : {sheet : Bytes} {a b : List ℕ} {n i : ℕ} → (n ≡ 0 → ⊥) → Elements sheet a b n i → Starts a b i × (i < 2048)
 element-starts {sheet = sheet} {a = a} {b = b} {i = i} z h = first-element sheet a b (h .depth) i z (h .trees) (h .held)
 
-pub walk-on : {sheet : Bytes} {a b rest : List ℕ} {base n i m at kind next waits waits′ : ℕ} {seen seen′ : Bool} {start p q : Page} → Roomy a b → (m ≡ 0 → ⊥) → Walking sheet a b rest base n i start m at seen waits p → kind ≡ cell a b at 0 → Stepped rest base at kind seen waits p q seen′ waits′ → Ends a b at next → length (q .bytes) ≡ length (p .bytes) → Walking sheet a b rest base n i start (m - 1) next seen′ waits′ q
-walk-on room z g k s ends l =
-    record {
-      some = walk room k s ends z (g .some .depth) (g .some .trees) (g .some .held) .others;
-      each = λ h.
-          let o = g .each h in
-          let w = walk room k s ends z (o .others .depth) (o .others .trees) (o .others .held) in
-          record { others = w .others; text = λ r v. o .text r (w .text r v) };
-      low = s .low;
-      long = l ∙ g .long;
-    }
+module _ {sheet : Bytes} {a b rest : List ℕ} {base n i : ℕ} {start : Page} where
+  pub walk-on : {m at kind next waits waits′ : ℕ} {seen seen′ : Bool} {p q : Page} → Roomy a b → (m ≡ 0 → ⊥) → Walking sheet a b rest base n i start m at seen waits p → kind ≡ cell a b at 0 → Stepped rest base at kind seen waits p q seen′ waits′ → Ends a b at next → length (q .bytes) ≡ length (p .bytes) → Walking sheet a b rest base n i start (m - 1) next seen′ waits′ q
+  walk-on room z g k s ends l =
+      record {
+        some = walk room k s ends z (g .some .depth) (g .some .trees) (g .some .held) .others;
+        each = λ h.
+            let o = g .each h in
+            let w = walk room k s ends z (o .others .depth) (o .others .trees) (o .others .held) in
+            record { others = w .others; text = λ r v. o .text r (w .text r v) };
+        low = s .low;
+        long = l ∙ g .long;
+      }
 
 kept-end : (N : Notes) (seen : Bool) (waits : Option ℕ) {m : ℕ} → m ≡ 0 → (ts : Trees patternElement m) → keptFrom N seen waits ts ≡ []
 unfolding keptFrom

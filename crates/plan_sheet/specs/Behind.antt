@@ -13,7 +13,9 @@ use Rattle.model.specs.Lower.{Recs, pathElements}
 use Rattle.output.specs.Page.{Page, Puts}
 use Rattle.words.specs.Words.{cell}
 use Rattle.words.specs.Held.{RecordAt}
+use Rattle.words.specs.Places.{itemsAt, withFilterAt, callArgsAt, callYieldsAt, nodeLabelsAt, partElementsAt}
 use Rattle.context.specs.declared.op.Op.{Op}
+use Rattle.context.specs.Ops.{sourceKind, filterKind, bindPathKind, withKind, projectKind, orderByKind, skipKind, limitKind, unwindKind, procedureCallKind}
 use Rattle.lower.specs.Render.{Notes, keptFrom}
 use Rattle.lower.specs.Shows.{shift}
 use Rattle.plan_sheet.specs.Due.{noted, Names, namesRecs}
@@ -22,27 +24,27 @@ use Rattle.plan_sheet.specs.Path.{Elements}
 -- how many expressions an operator of a kind has; items and filter are words of its record, args another
 unfoldable pub manyBy : (kind items filter args x : ℕ) → ℕ
 manyBy kind items filter args x =
-    cond (eqb kind 2) 1
-    (cond (eqb kind 7) (items + filter)
-    (cond (eqb kind 8) items
-    (cond (eqb kind 10) x
-    (cond (eqb kind 11) 1
-    (cond (eqb kind 12) 1
-    (cond (eqb kind 14) 1
-    (cond (eqb kind 16) args
+    cond (eqb kind filterKind) 1
+    (cond (eqb kind withKind) (items + filter)
+    (cond (eqb kind projectKind) items
+    (cond (eqb kind orderByKind) x
+    (cond (eqb kind skipKind) 1
+    (cond (eqb kind limitKind) 1
+    (cond (eqb kind unwindKind) 1
+    (cond (eqb kind procedureCallKind) args
     0)))))))
 
 abbrev pub manyOf : List ℕ → List ℕ → Op → ℕ
-manyOf a b o = manyBy (o .kind) (cell a b (o .idx) 2) (cell a b (o .idx) 4) (cell a b (o .idx) 4) (o .x)
+manyOf a b o = manyBy (o .kind) (cell a b (o .idx) itemsAt) (cell a b (o .idx) withFilterAt) (cell a b (o .idx) callArgsAt) (o .x)
 
 -- the record that they begin at: that of the operator, or the next
 unfoldable pub firstBy : (kind i : ℕ) → ℕ
 firstBy kind i =
-    cond (eqb kind 2) i
-    (cond (eqb kind 10) i
-    (cond (eqb kind 11) i
-    (cond (eqb kind 12) i
-    (cond (eqb kind 14) i
+    cond (eqb kind filterKind) i
+    (cond (eqb kind orderByKind) i
+    (cond (eqb kind skipKind) i
+    (cond (eqb kind limitKind) i
+    (cond (eqb kind unwindKind) i
     (i + 1)))))
 
 abbrev pub firstOf : Op → ℕ
@@ -63,10 +65,10 @@ WroteYields sheet a b rest base n i p q = (h : Yields sheet a b n i) → Puts (s
 
 -- what is behind the expressions, from record i on
 pub data Tail (sheet : Bytes) (a b rest : List ℕ) (o : Op) (i : ℕ) : Recs → Type 0 where
-  nothing : (o .kind ≡ 1 → ⊥) → (o .kind ≡ 5 → ⊥) → (o .kind ≡ 16 → ⊥) → Tail sheet a b rest o i []
-  labels : o .kind ≡ 1 → (h : Names sheet a b (cell a b (o .idx) 4) i) → Tail sheet a b rest o i (namesRecs h)
-  path : o .kind ≡ 5 → (h : Elements sheet a b (cell a b (o .idx) 6) i) → Tail sheet a b rest o i (pathElements (keptFrom (shift (noted rest) (o .base)) false none (h .trees)))
-  yields : o .kind ≡ 16 → (h : Yields sheet a b (cell a b (o .idx) 6) i) → Tail sheet a b rest o i (yieldsRecs (shift (noted rest) (o .base)) h)
+  nothing : (o .kind ≡ sourceKind → ⊥) → (o .kind ≡ bindPathKind → ⊥) → (o .kind ≡ procedureCallKind → ⊥) → Tail sheet a b rest o i []
+  labels : o .kind ≡ sourceKind → (h : Names sheet a b (cell a b (o .idx) nodeLabelsAt) i) → Tail sheet a b rest o i (namesRecs h)
+  path : o .kind ≡ bindPathKind → (h : Elements sheet a b (cell a b (o .idx) partElementsAt) i) → Tail sheet a b rest o i (pathElements (keptFrom (shift (noted rest) (o .base)) false none (h .trees)))
+  yields : o .kind ≡ procedureCallKind → (h : Yields sheet a b (cell a b (o .idx) callYieldsAt) i) → Tail sheet a b rest o i (yieldsRecs (shift (noted rest) (o .base)) h)
 
 pub record SomeTail (sheet : Bytes) (a b rest : List ℕ) (o : Op) (i : ℕ) : Type 0 where
   pub recs : Recs

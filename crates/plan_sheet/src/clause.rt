@@ -8,6 +8,7 @@ ghost use Rattle.model.specs.Field.{spellOption};
 ghost use Rattle.output.specs.Page.{on, Puts};
 ghost use Rattle.words.specs.Words.{Roomy, cell, optionOf};
 ghost use Rattle.words.specs.Places.{itemsAt, withFilterAt, callArgsAt, callYieldsAt, callOptionalAt};
+ghost use Rattle.context.specs.Ops.{bindPathKind};
 ghost use Rattle.plan_line.specs.Keywords.{withWord, projectWord};
 ghost use Rattle.plan_line.specs.Row.{numbersText, rowText, callText};
 ghost use Rattle.plan_sheet.specs.Due.{OpShown, WroteFirst};
@@ -98,7 +99,7 @@ pub fn put_clause_op(
     w: Op,
 ) -> usize
     requires { ⌜ Roomy (now a) (now b) ⌝ }
-    requires { ⌜ 5 < w .kind ⌝ }
+    requires { ⌜ bindPathKind < w .kind ⌝ }
     requires { ⌜ OpShown (now sheet) (now a) (now b) (now rest) w ⌝ }
     ensures { λ r. ⌜ WroteFirst (now (sheet .entry)) (now (a .entry)) (now (b .entry)) (now (rest .entry)) w (on (now (plan .entry)) out) (on (now (plan .exit)) r) ⌝ }
 {

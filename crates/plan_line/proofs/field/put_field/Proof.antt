@@ -3,70 +3,45 @@ use Rattle.plan_line.proofs.FieldLaws
 use borrow.Author.Needs.{needs}
 use Rattle.plan_line.proofs.field.put_field.Statement.{statement}
 use Rattle.plan_line.proofs.field.put_field.Tie as tie
-use Rattle.plan_line.proofs.field.put_field.Reads as reads
-use Rattle.plan_line.proofs.field.put_field.Lts as lts
-use Rattle.plan_line.proofs.field.put_float.Reads as put-float-reads
-use Rattle.plan_line.proofs.field.put_int.Reads as put-int-reads
-use Rattle.plan_line.proofs.field.put_number.Reads as put-number-reads
-use Rattle.plan_line.proofs.field.put_text.Reads as put-text-reads
 
--- src/field.rt:89:14
-put-int-requires : tie.Need-put-int-requires
-put-int-requires c κs = search needs
-
--- src/field.rt:90:14
-put-float-requires : tie.Need-put-float-requires
-put-float-requires c κs = search needs
-
--- src/field.rt:91:14
 put-text-requires : tie.Need-put-text-requires
-put-text-requires c κs = FieldLaws.text-in _ _ _ _ (c .before .match .keys3) ((c .before .before .before .before .pre .1 .0))
+put-text-requires c κs =
+    let arm : tie.At-match-keys3 = search in
+    let start : tie.Start = search in
+    FieldLaws.text-in _ _ _ _ (arm .match .keys3) (start .pre .1 .0)
 
--- src/field.rt:92:14
 put-text-requires-2 : tie.Need-put-text-requires-2
-put-text-requires-2 c κs = FieldLaws.length-in _ _ _ _ (c .before .match .keys4) ((c .before .before .before .before .pre .1 .0))
+put-text-requires-2 c κs =
+    let arm : tie.At-match-keys4 = search in
+    let start : tie.Start = search in
+    FieldLaws.length-in _ _ _ _ (arm .match .keys4) (start .pre .1 .0)
 
--- src/field.rt:93:14
-put-number-requires : tie.Need-put-number-requires
-put-number-requires c κs = search needs
-
--- src/field.rt:82:1
-same-length : tie.Need-same-length
-same-length c = search needs
-
--- src/field.rt:82:1
 returns : tie.Need-returns
-returns c = FieldLaws.field-int _ _ _ _ (c .before .before .before .before .match .keys1) (c .before .before .put-int .ensures)
+returns c =
+    let put : tie.After-put-int = search in
+    let arm : tie.At-match-keys1 = search in
+    FieldLaws.field-int _ _ _ _ (arm .match .keys1) (put .put-int .ensures)
 
--- src/field.rt:82:1
-same-length-2 : tie.Need-same-length-2
-same-length-2 c = search needs
-
--- src/field.rt:82:1
 returns-2 : tie.Need-returns-2
-returns-2 c = FieldLaws.field-float _ _ _ _ (c .before .before .before .before .match .keys2) (c .before .before .put-float .ensures)
+returns-2 c =
+    let put : tie.After-put-float = search in
+    let arm : tie.At-match-keys2 = search in
+    FieldLaws.field-float _ _ _ _ (arm .match .keys2) (put .put-float .ensures)
 
--- src/field.rt:82:1
-same-length-3 : tie.Need-same-length-3
-same-length-3 c = search needs
-
--- src/field.rt:82:1
 returns-3 : tie.Need-returns-3
-returns-3 c = FieldLaws.field-text _ _ _ _ (c .before .before .before .before .match .keys3) ((c .before .before .before .before .before .before .before .pre .1 .0)) (c .before .before .put-text .ensures)
+returns-3 c =
+    let put : tie.After-put-text = search in
+    let arm : tie.At-match-keys3 = search in
+    let start : tie.Start = search in
+    FieldLaws.field-text _ _ _ _ (arm .match .keys3) (start .pre .1 .0) (put .put-text .ensures)
 
--- src/field.rt:82:1
-same-length-4 : tie.Need-same-length-4
-same-length-4 c = search needs
-
--- src/field.rt:82:1
 returns-4 : tie.Need-returns-4
-returns-4 c = FieldLaws.field-length _ _ _ _ (c .before .before .before .before .match .keys4) ((c .before .before .before .before .before .before .before .pre .1 .0)) (c .before .before .put-text2 .ensures)
+returns-4 c =
+    let put : tie.After-put-text2 = search in
+    let arm : tie.At-match-keys4 = search in
+    let start : tie.Start = search in
+    FieldLaws.field-length _ _ _ _ (arm .match .keys4) (start .pre .1 .0) (put .put-text2 .ensures)
 
--- src/field.rt:82:1
-same-length-5 : tie.Need-same-length-5
-same-length-5 c = search needs
-
--- src/field.rt:82:1
 returns-5 : tie.Need-returns-5
 returns-5 c = search (FieldLaws.field-other, needs)
 
@@ -74,18 +49,18 @@ pub put-field-spec : {M : Type 1} → statement M
 put-field-spec =
     tie.close
     (tie.spec
-    put-int-requires
-    put-float-requires
+    (λ c κs. search needs)
+    (λ c κs. search needs)
     put-text-requires
     put-text-requires-2
-    put-number-requires
-    same-length
+    (λ c κs. search needs)
+    (λ c. search needs)
     returns
-    same-length-2
+    (λ c. search needs)
     returns-2
-    same-length-3
+    (λ c. search needs)
     returns-3
-    same-length-4
+    (λ c. search needs)
     returns-4
-    same-length-5
+    (λ c. search needs)
     returns-5)

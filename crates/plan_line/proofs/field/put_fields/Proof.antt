@@ -1,17 +1,12 @@
 -- `put_fields` meets its contract. Assumes nothing.
-use Rattle.plan_line.proofs.WordLaws.{part-at}
 use Rattle.plan_line.proofs.FieldLaws
 use Rattle.words.specs.Words.{part}
 use Rattle.output.specs.Page.{on}
-use mathlib.Core.Path.{sym, _∙_}
 use native.Mathlib.Omega.{arith}
 use Prim.Native.Nat.{_-_}
+use borrow.Author.Needs.{needs}
 use Rattle.plan_line.proofs.field.put_fields.Statement.{statement}
 use Rattle.plan_line.proofs.field.put_fields.Tie as tie
-use Rattle.plan_line.proofs.field.put_fields.Reads as reads
-use Rattle.plan_line.proofs.field.put_fields.Lts as lts
-use Rattle.plan_line.proofs.field.put_field.Reads as put-field-reads
-use Rattle.words.proofs.word.Reads as word-reads
 
 abbrev Inv-loop : tie.InvT-loop
 Inv-loop plan₀ out sheet a b i kind o₀ g₀ code₀ plan o g code = FieldLaws.Left sheet (part a b i) kind (on plan₀ o₀) g code (on plan o)
@@ -19,65 +14,127 @@ Inv-loop plan₀ out sheet a b i kind o₀ g₀ code₀ plan o g code = FieldLaw
 abbrev μ-loop : tie.MeasureT-loop
 μ-loop plan₀ out sheet a b i kind o₀ g₀ code₀ plan o g code = 7 - g
 
--- src/field.rt:105:9
-form-code-requires : tie.Need-form-code-requires Inv-loop μ-loop
-form-code-requires c κs = let f = (c .before .before .before .before .pre .1 .1) in (f .low, omega arith)
+-- a place or a need, at the loop's invariant and measure
+abbrev here : (tie.InvT-loop → tie.MeasureT-loop → Type 0) → Type 0
+here X = X Inv-loop μ-loop
 
--- src/field.rt:106:5
-loop-holds : tie.Need-loop-holds Inv-loop μ-loop
-loop-holds c = FieldLaws.begin ((c .before .before .before .before .before .pre .1 .1)) (c .form-code .ensures)
+-- the ways back, from place to place
+abbrev back-form-code2 : here tie.After-form-code2 → here tie.After-put-field
+back-form-code2 c = search
 
--- src/field.rt:107:38
-add-word : tie.Need-add-word Inv-loop μ-loop
-add-word c = let t = FieldLaws.there (c .before .loop .inv) (c .loop-test .taken) in omega (arith, t .few)
+abbrev back-put-field : here tie.After-put-field → here tie.After-word2
+back-put-field c = search
 
--- src/field.rt:107:38
-add-word-2 : tie.Need-add-word-2 Inv-loop μ-loop
-add-word-2 c = let t = FieldLaws.there (c .before .loop .inv) (c .loop-test .taken) in omega (arith, t .few)
+abbrev back-word2 : here tie.After-word2 → here tie.After-word
+back-word2 c = search
 
--- src/field.rt:107:13
-word-requires : tie.Need-word-requires Inv-loop μ-loop
-word-requires c κs = let t = FieldLaws.there (c .before .loop .inv) (c .loop-test .taken) in ((c .before .before .before .before .before .before .before .pre .1 .0), (omega (arith, t .few), (c .before .before .before .before .before .before .before .pre .0)))
+abbrev back-word : here tie.After-word → here tie.In-loop
+back-word c = search
 
--- src/field.rt:108:38
-add-word-3 : tie.Need-add-word-3 Inv-loop μ-loop
-add-word-3 c = let t = FieldLaws.there (c .before .before .loop .inv) (c .before .loop-test .taken) in omega (arith, t .few)
+abbrev back-in-loop : here tie.In-loop → here tie.At-loop
+back-in-loop c = search
 
--- src/field.rt:108:38
-add-word-4 : tie.Need-add-word-4 Inv-loop μ-loop
-add-word-4 c = let t = FieldLaws.there (c .before .before .loop .inv) (c .before .loop-test .taken) in omega (arith, t .few)
+abbrev back-at-loop : here tie.At-loop → here tie.After-form-code
+back-at-loop c = search
 
--- src/field.rt:108:13
-word-requires-2 : tie.Need-word-requires-2 Inv-loop μ-loop
-word-requires-2 c κs = let t = FieldLaws.there (c .before .before .loop .inv) (c .before .loop-test .taken) in ((c .before .before .before .before .before .before .before .before .pre .1 .0), (omega (arith, t .few), (c .before .before .before .before .before .before .before .before .pre .0)))
+abbrev back-form-code : here tie.After-form-code → here tie.Start
+back-form-code c = search
 
--- src/field.rt:109:9
-put-field-requires : tie.Need-put-field-requires Inv-loop μ-loop
-put-field-requires c κs = let t = FieldLaws.there (c .before .before .before .before .loop .inv) (c .before .before .before .loop-test .taken) in let ex = (c .before .before .word .ensures) ∙ sym (part-at ((c .before .before .before .before .before .before .before .before .before .before .args .a .now)) ((c .before .before .before .before .before .before .before .before .before .before .args .b .now)) ((c .before .before .before .before .before .before .before .before .before .before .args .i)) _ (omega (arith, t .few))) in let ey = (c .before .word2 .ensures) ∙ sym (part-at ((c .before .before .before .before .before .before .before .before .before .before .args .a .now)) ((c .before .before .before .before .before .before .before .before .before .before .args .b .now)) ((c .before .before .before .before .before .before .before .before .before .before .args .i)) _ (omega (arith, t .few))) in rw (ex, ey) (t .flag, (t .text, t .plain))
+ruleset ways = (back-form-code2, back-put-field, back-word2, back-word, back-in-loop, back-at-loop, back-form-code)
 
--- src/field.rt:110:9
-add-g : tie.Need-add-g Inv-loop μ-loop
-add-g c = let t = FieldLaws.there (c .before .before .before .before .before .before .before .loop .inv) (c .before .before .before .before .before .before .loop-test .taken) in omega (arith, t .few)
+form-code-requires : here tie.Need-form-code-requires
+form-code-requires c κs =
+    let start : here tie.Start = search ways depth 8 in
+    (start .pre .1 .1 .low, omega arith)
 
--- src/field.rt:111:9
-form-code-requires-2 : tie.Need-form-code-requires-2 Inv-loop μ-loop
-form-code-requires-2 c κs = let t = FieldLaws.there (c .before .before .before .before .before .before .before .loop .inv) (c .before .before .before .before .before .before .loop-test .taken) in ((c .before .before .before .before .before .before .before .loop .inv .low), omega (arith, t .few))
+loop-holds : here tie.Need-loop-holds
+loop-holds c =
+    let start : here tie.Start = search ways depth 8 in
+    FieldLaws.begin (start .pre .1 .1) (c .form-code .ensures)
 
--- src/field.rt:106:5
-loop-less : tie.Need-loop-less Inv-loop μ-loop
-loop-less c = let t = FieldLaws.there (c .before .before .before .before .before .before .before .before .loop .inv) (c .before .before .before .before .before .before .before .loop-test .taken) in omega (arith, t .few)
+add-word : here tie.Need-add-word
+add-word c =
+    let turn : here tie.In-loop = search ways depth 8 in
+    let l : here tie.At-loop = search ways depth 8 in
+    omega (arith, FieldLaws.there (l .loop .inv) (turn .loop-test .taken) .few)
 
--- src/field.rt:106:5
-loop-again : tie.Need-loop-again Inv-loop μ-loop
-loop-again c = let t = FieldLaws.there (c .before .before .before .before .before .before .before .before .loop .inv) (c .before .before .before .before .before .before .before .loop-test .taken) in FieldLaws.again (c .before .before .before .before .before .before .before .before .loop .inv) (c .before .before .before .before .before .before .before .loop-test .taken) ((c .before .before .before .before .before .before .word .ensures) ∙ sym (part-at ((c .before .before .before .before .before .before .before .before .before .before .before .before .before .before .args .a .now)) ((c .before .before .before .before .before .before .before .before .before .before .before .before .before .before .args .b .now)) ((c .before .before .before .before .before .before .before .before .before .before .before .before .before .before .args .i)) _ (omega (arith, t .few)))) ((c .before .before .before .before .before .word2 .ensures) ∙ sym (part-at ((c .before .before .before .before .before .before .before .before .before .before .before .before .before .before .args .a .now)) ((c .before .before .before .before .before .before .before .before .before .before .before .before .before .before .args .b .now)) ((c .before .before .before .before .before .before .before .before .before .before .before .before .before .before .args .i)) _ (omega (arith, t .few)))) (c .before .before .before .put-field .ensures) (c .form-code2 .ensures)
+add-word-2 : here tie.Need-add-word-2
+add-word-2 c =
+    let turn : here tie.In-loop = search ways depth 8 in
+    let l : here tie.At-loop = search ways depth 8 in
+    omega (arith, FieldLaws.there (l .loop .inv) (turn .loop-test .taken) .few)
 
--- src/field.rt:98:1
-same-length : tie.Need-same-length Inv-loop μ-loop
-same-length c = (c .before .loop .inv .long)
+add-word-3 : here tie.Need-add-word-3
+add-word-3 c =
+    let turn : here tie.In-loop = search ways depth 8 in
+    let l : here tie.At-loop = search ways depth 8 in
+    omega (arith, FieldLaws.there (l .loop .inv) (turn .loop-test .taken) .few)
 
--- src/field.rt:98:1
-returns : tie.Need-returns Inv-loop μ-loop
-returns c = FieldLaws.finish (c .before .loop .inv) (c .loop-test .left)
+add-word-4 : here tie.Need-add-word-4
+add-word-4 c =
+    let turn : here tie.In-loop = search ways depth 8 in
+    let l : here tie.At-loop = search ways depth 8 in
+    omega (arith, FieldLaws.there (l .loop .inv) (turn .loop-test .taken) .few)
+
+add-g : here tie.Need-add-g
+add-g c =
+    let turn : here tie.In-loop = search ways depth 8 in
+    let l : here tie.At-loop = search ways depth 8 in
+    omega (arith, FieldLaws.there (l .loop .inv) (turn .loop-test .taken) .few)
+
+loop-less : here tie.Need-loop-less
+loop-less c =
+    let turn : here tie.In-loop = search ways depth 8 in
+    let l : here tie.At-loop = search ways depth 8 in
+    omega (arith, FieldLaws.there (l .loop .inv) (turn .loop-test .taken) .few)
+
+word-requires : here tie.Need-word-requires
+word-requires c κs =
+    let turn : here tie.In-loop = search ways depth 8 in
+    let l : here tie.At-loop = search ways depth 8 in
+    let start : here tie.Start = search ways depth 8 in
+    (start .pre .1 .0, (omega (arith, FieldLaws.there (l .loop .inv) (turn .loop-test .taken) .few), start .pre .0))
+
+word-requires-2 : here tie.Need-word-requires-2
+word-requires-2 c κs =
+    let turn : here tie.In-loop = search ways depth 8 in
+    let l : here tie.At-loop = search ways depth 8 in
+    let start : here tie.Start = search ways depth 8 in
+    (start .pre .1 .0, (omega (arith, FieldLaws.there (l .loop .inv) (turn .loop-test .taken) .few), start .pre .0))
+
+put-field-requires : here tie.Need-put-field-requires
+put-field-requires c κs =
+    let y : here tie.After-word2 = search ways depth 8 in
+    let x : here tie.After-word = search ways depth 8 in
+    let turn : here tie.In-loop = search ways depth 8 in
+    let l : here tie.At-loop = search ways depth 8 in
+    FieldLaws.at-words _ _ _ (x .word .ensures) (y .word2 .ensures) (l .loop .inv) (turn .loop-test .taken)
+
+form-code-requires-2 : here tie.Need-form-code-requires-2
+form-code-requires-2 c κs =
+    let turn : here tie.In-loop = search ways depth 8 in
+    let l : here tie.At-loop = search ways depth 8 in
+    (l .loop .inv .low, omega (arith, FieldLaws.there (l .loop .inv) (turn .loop-test .taken) .few))
+
+loop-again : here tie.Need-loop-again
+loop-again c =
+    let code : here tie.After-form-code2 = search ways depth 8 in
+    let put : here tie.After-put-field = search ways depth 8 in
+    let y : here tie.After-word2 = search ways depth 8 in
+    let x : here tie.After-word = search ways depth 8 in
+    let turn : here tie.In-loop = search ways depth 8 in
+    let l : here tie.At-loop = search ways depth 8 in
+    FieldLaws.on-words _ _ _ (x .word .ensures) (y .word2 .ensures) (l .loop .inv) (turn .loop-test .taken) (put .put-field .ensures) (code .form-code2 .ensures)
+
+same-length : here tie.Need-same-length
+same-length c =
+    let l : here tie.At-loop = search ways depth 8 in
+    l .loop .inv .long
+
+returns : here tie.Need-returns
+returns c =
+    let l : here tie.At-loop = search ways depth 8 in
+    FieldLaws.finish (l .loop .inv) (c .loop-test .left)
 
 pub put-fields-spec : {M : Type 1} → statement M
 put-fields-spec =

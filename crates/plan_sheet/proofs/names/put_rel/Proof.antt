@@ -55,69 +55,31 @@ ruleset ways = (
 
 put-text-requires : tie.Need-put-text-requires
 put-text-requires c κs =
-    let after-word4 : tie.After-word4 =
-    c .before .before .before .before .before .before .before .before .before .before .before .before .before .before
-    in
-    let after-word3 : tie.After-word3 =
-    c .before .before .before .before .before .before .before .before .before .before .before .before .before .before .before
-    in
-    let start : tie.Start =
-    c .before .before .before .before .before .before .before .before .before .before .before .before .before .before .before .before .before
-    .before .before .before .before .before
-    in
-    rw (after-word3 .word3 .ensures, after-word4 .word4 .ensures) (start .pre .1 .1)
+    let to : tie.After-word4 = search ways depth 12 in
+    let from : tie.After-word3 = search ways depth 12 in
+    let start : tie.Start = search ways depth 12 in
+    rw (from .word3 .ensures, to .word4 .ensures) (start .pre .1 .1)
 
 returns : tie.Need-returns
 unfolding relText
 returns c =
-    let after-put-byte : tie.After-put-byte = c .before .before in
-    let after-put-number3 : tie.After-put-number3 = c .before .before .before .before .before .before in
-    let after-put-text : tie.After-put-text = c .before .before .before .before .before .before .before .before .before .before in
-    let after-put-number2 : tie.After-put-number2 =
-    c .before .before .before .before .before .before .before .before .before .before .before .before .before .before
-    in
-    let after-put-number : tie.After-put-number =
-    c .before .before .before .before .before .before .before .before .before .before .before .before .before .before .before .before .before
-    .before
-    in
-    let after-put-keyword : tie.After-put-keyword =
-    c .before .before .before .before .before .before .before .before .before .before .before .before .before .before .before .before .before
-    .before .before .before .before .before
-    in
-    let after-word5 : tie.After-word5 =
-    c .before .before .before .before .before .before .before .before .before .before .before .before .before .before .before .before .before
-    .before .before .before .before .before .before .before
-    in
-    let after-word4 : tie.After-word4 =
-    c .before .before .before .before .before .before .before .before .before .before .before .before .before .before .before .before .before
-    .before .before .before .before .before .before .before .before
-    in
-    let after-word3 : tie.After-word3 =
-    c .before .before .before .before .before .before .before .before .before .before .before .before .before .before .before .before .before
-    .before .before .before .before .before .before .before .before .before
-    in
-    let after-word2 : tie.After-word2 =
-    c .before .before .before .before .before .before .before .before .before .before .before .before .before .before .before .before .before
-    .before .before .before .before .before .before .before .before .before .before
-    in
-    let after-word : tie.After-word =
-    c .before .before .before .before .before .before .before .before .before .before .before .before .before .before .before .before .before
-    .before .before .before .before .before .before .before .before .before .before .before
-    in
-    rw
-    (after-word .word .ensures, after-word2 .word2 .ensures, after-word3 .word3 .ensures, after-word4 .word4 .ensures, after-word5 .word5 .ensures)
-    at
-    ((after-put-keyword .put-keyword .ensures)
-    ⨾
-    (after-put-number .put-number .ensures)
-    ⨾
-    (after-put-number2 .put-number2 .ensures)
-    ⨾
-    (after-put-text .put-text .ensures)
-    ⨾
-    (after-put-number3 .put-number3 .ensures)
-    ⨾
-    (after-put-byte .put-byte .ensures))
+    let line-feed : tie.After-put-byte = search ways depth 12 in
+    let n3 : tie.After-put-number3 = search ways depth 12 in
+    let length : tie.After-put-text = search ways depth 12 in
+    let n2 : tie.After-put-number2 = search ways depth 12 in
+    let n1 : tie.After-put-number = search ways depth 12 in
+    let keyword : tie.After-put-keyword = search ways depth 12 in
+    let props : tie.After-word5 = search ways depth 12 in
+    let to : tie.After-word4 = search ways depth 12 in
+    let from : tie.After-word3 = search ways depth 12 in
+    let direction : tie.After-word2 = search ways depth 12 in
+    let types : tie.After-word = search ways depth 12 in
+    keyword .put-keyword .ensures
+    ⨾ rw (types .word .ensures) at (n1 .put-number .ensures)
+    ⨾ rw (direction .word2 .ensures) at (n2 .put-number2 .ensures)
+    ⨾ rw (from .word3 .ensures, to .word4 .ensures) at (length .put-text .ensures)
+    ⨾ rw (props .word5 .ensures) at (n3 .put-number3 .ensures)
+    ⨾ line-feed .put-byte .ensures
 
 pub put-rel-spec : {M : Type 1} → statement M
 put-rel-spec =

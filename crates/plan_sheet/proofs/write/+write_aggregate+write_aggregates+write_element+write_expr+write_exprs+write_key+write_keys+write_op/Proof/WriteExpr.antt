@@ -50,7 +50,7 @@ module _ (t : ℕ) where
   note-of-requires : here lts.Need-note-of-requires
   note-of-requires c κs =
       let s : here lts.Start = search ways depth 9 in
-      (s .pre .1 .1 .0 .near, omega (arith, CycleLaws.one-low (s .pre .1 .1 .1)), s .pre .1 .0 .in-rest)
+      (omega (arith, s .pre .1 .1 .0 .near), omega (arith, CycleLaws.one-low (s .pre .1 .1 .1)), s .pre .1 .0 .in-rest)
 
   put-expr-requires : here lts.Need-put-expr-requires
   put-expr-requires c κs =
