@@ -82,12 +82,12 @@ unfolding yieldsRecs
 no-more rest base z no-yields = refl
 no-more rest base {m = suc m} z (yield-more f h c) = let e : suc m ≡ 0 = z in absurd (omega arith)
 
-module _ {sheet : Bytes} {a b rest : List ℕ} {base : ℕ} where
-  -- the yields h take the page p to q
-  abbrev Lists : {n i : ℕ} → Yields sheet a b n i → Page → Page → Type 0
-  Lists h p q = Puts (spellRecs (yieldsRecs (shift (noted rest) base) h)) p q
+-- the yields h take the page p to q
+abbrev Lists : (rest : List ℕ) (base : ℕ) {sheet : Bytes} {a b : List ℕ} {n i : ℕ} → Yields sheet a b n i → Page → Page → Type 0
+Lists rest base h p q = Puts (spellRecs (yieldsRecs (shift (noted rest) base) h)) p q
 
-  yields-step : {n i m at number : ℕ} {start p q : Page} (h : Yields sheet a b n i) → Roomy a b → (m ≡ 0 → ⊥) → (others : Yields sheet a b m at) → ((q : Page) → Lists others p q → Lists h start q) → number ≡ noteOf rest base at → Puts (namedText yieldWord (slice (cell a b at 2) (cell a b at 3) sheet) (number ∷ [])) p q → YieldsStill rest base h start (m - 1) (at + 1) q
+module _ {sheet : Bytes} {a b rest : List ℕ} {base : ℕ} where
+  yields-step : {n i m at number : ℕ} {start p q : Page} (h : Yields sheet a b n i) → Roomy a b → (m ≡ 0 → ⊥) → (others : Yields sheet a b m at) → ((q : Page) → Lists rest base others p q → Lists rest base h start q) → number ≡ noteOf rest base at → Puts (namedText yieldWord (slice (cell a b at 2) (cell a b at 3) sheet) (number ∷ [])) p q → YieldsStill rest base h start (m - 1) (at + 1) q
   unfolding yieldsRecs spellRecs
   yields-step h room z no-yields far e w = absurd (z refl)
   yields-step {m = suc m} {at} {number} h room z (yield-more f r c) far e w =

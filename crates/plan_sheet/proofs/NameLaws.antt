@@ -168,3 +168,14 @@ module _ {sheet : Bytes} {a b : List ℕ} {i : ℕ} (room : Roomy a b) where
     rel-line e =
         let n : elementNumber (h .kind) ≡ 12 → ⊥ = λ x. e (element-number h ∙ x) in
         rel-fields (rel-place (h .kind) (h .fields) (h .at) n) (h .kind) (h .fields) (h .at) n
+
+-- ── pieces of a line, by the words that were read ──
+
+pub number-as : {n m : ℕ} {g g′ : Page} → n ≡ m → Puts (tab ∷ decimal n) g g′ → Puts (tab ∷ decimal m) g g′
+number-as e p = rw e at p
+
+pub text-as : (sheet : Bytes) {s e x y : ℕ} {g g′ : Page} → s ≡ x → e ≡ y → Puts (tab ∷ slice s e sheet) g g′ → Puts (tab ∷ slice x y sheet) g g′
+text-as sheet p q w = rw (p, q) at w
+
+pub within-as : {n s e x y : ℕ} → s ≡ x → e ≡ y → (x ≤ y) × (y ≤ n) → (s ≤ e) × (e ≤ n)
+within-as p q h = rw (p, q) h

@@ -256,8 +256,8 @@ module _ (k : ℕ) {sheet : Bytes} {a b os rest : List ℕ} {A : Ops} {o : Op} (
   unfoldable pub shown-at : OpShown sheet a b rest o
   shown-at = record { ops = A; number = k; recs = A k; stored = rw e (p .stored k (omega arith)) }
 
-  pub sane-at : InBounds o
-  sane-at = rw e (p .stored k (omega arith) .bounded)
+  pub bounded-at : InBounds o
+  bounded-at = rw e (p .stored k (omega arith) .bounded)
 
   pub here : Shows sheet a b (noted rest) A k o (A k)
   here = rw e (p .stored k (omega arith) .shows)

@@ -104,13 +104,13 @@ pub record ElementParts (sheet : Bytes) (a b : List ℕ) (N : Notes) (below left
   pub list : Carried sheet a b N below (left - 1) (propsAt a b i) (i + 1 + cell a b i 4)
   pub recs : (A : Ops) → specRecs N A t ≡ specRec (at .kind) (at .fields) ∷ (namesRecs names ++ carriedRecs A list)
 
-module _ {sheet : Bytes} {a b : List ℕ} (N : Notes) (below left i : ℕ) where
-  -- names and so many props, and the records that they come to
-  abbrev ElementMade : ℕ → (Ops → Recs) → Type 0
-  ElementMade props R = (names : Names sheet a b (cell a b i 4) (i + 1)) × (list : Carried sheet a b N below (left - 1) props (i + 1 + cell a b i 4)) × ((A : Ops) → R A ≡ namesRecs names ++ carriedRecs A list)
+-- names and so many props, and the records that they come to
+abbrev ElementMade : (sheet : Bytes) (a b : List ℕ) (N : Notes) (below left i props : ℕ) → (Ops → Recs) → Type 0
+ElementMade sheet a b N below left i props R = (names : Names sheet a b (cell a b i 4) (i + 1)) × (list : Carried sheet a b N below (left - 1) props (i + 1 + cell a b i 4)) × ((A : Ops) → R A ≡ namesRecs names ++ carriedRecs A list)
 
+module _ {sheet : Bytes} {a b : List ℕ} (N : Notes) (below left i : ℕ) where
   -- counted by the words
-  element-made : {n p props : ℕ} (labels : Trees name n) (ps : Trees expr p) → n ≡ cell a b i 4 → p ≡ props → HeldOf sheet a b labels (left - 1) (i + 1) → HeldOf sheet a b ps (left - 1) (i + 1 + sizeOf labels) → BelowOf N below ps → ElementMade props (λ A. renderOf N A labels ++ (renderOf N A ps ++ []))
+  element-made : {n p props : ℕ} (labels : Trees name n) (ps : Trees expr p) → n ≡ cell a b i 4 → p ≡ props → HeldOf sheet a b labels (left - 1) (i + 1) → HeldOf sheet a b ps (left - 1) (i + 1 + sizeOf labels) → BelowOf N below ps → ElementMade sheet a b N below left i props (λ A. renderOf N A labels ++ (renderOf N A ps ++ []))
   element-made {n} {p} {props} labels ps e q hl hp u =
       let m : NamesMade sheet a b n (i + 1) (renderOf N (λ k. []) labels) (i + 1 + sizeOf labels) = names-made N (λ k. []) (left - 1) labels (i + 1) hl in
       let hp′ : HeldOf sheet a b ps (left - 1) (i + 1 + n) = rw (m .stop-is) hp in

@@ -9,8 +9,8 @@ ghost use Rattle.plan_sheet.specs.Behind.{manyOf, firstOf, Yields, Wrote
 use context::op;
 use context::op::Op;
 use context::read::note_of;
-use words::records::count;
 use words::field;
+use words::records::count;
 
 // How many expressions an operator has.
 pub fn many_of(a: &[u32], b: &[u32], w: Op) -> usize

@@ -7,10 +7,10 @@ use crate::head::Wrote;
 use aggregate::is_aggregate;
 use context::op;
 use context::read::note_of;
-use words::records::count;
-use words::records::skip;
 use words::field;
 use words::kind;
+use words::records::count;
+use words::records::skip;
 
 // What is at record i: its tree is at most `left` deep, the notes of its pass begin at `base`, and it copies operators below `below`.
 pub struct At {

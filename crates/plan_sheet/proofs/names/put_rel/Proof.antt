@@ -1,6 +1,7 @@
 -- `put_rel` meets its contract. Assumes nothing.
 use Rattle.plan_line.specs.Row.{relText}
 use Rattle.output.specs.Writes.{_⨾_}
+use Rattle.plan_sheet.proofs.NameLaws.{number-as, text-as, within-as}
 use borrow.Author.Needs.{needs}
 use Rattle.plan_sheet.proofs.names.put_rel.Statement.{statement}
 use Rattle.plan_sheet.proofs.names.put_rel.Tie as tie
@@ -58,7 +59,7 @@ put-text-requires c κs =
     let to : tie.After-word4 = search ways depth 12 in
     let from : tie.After-word3 = search ways depth 12 in
     let start : tie.Start = search ways depth 12 in
-    rw (from .word3 .ensures, to .word4 .ensures) (start .pre .1 .1)
+    within-as (from .word3 .ensures) (to .word4 .ensures) (start .pre .1 .1)
 
 returns : tie.Need-returns
 unfolding relText
@@ -75,10 +76,10 @@ returns c =
     let direction : tie.After-word2 = search ways depth 12 in
     let types : tie.After-word = search ways depth 12 in
     keyword .put-keyword .ensures
-    ⨾ rw (types .word .ensures) at (n1 .put-number .ensures)
-    ⨾ rw (direction .word2 .ensures) at (n2 .put-number2 .ensures)
-    ⨾ rw (from .word3 .ensures, to .word4 .ensures) at (length .put-text .ensures)
-    ⨾ rw (props .word5 .ensures) at (n3 .put-number3 .ensures)
+    ⨾ number-as (types .word .ensures) (n1 .put-number .ensures)
+    ⨾ number-as (direction .word2 .ensures) (n2 .put-number2 .ensures)
+    ⨾ text-as _ (from .word3 .ensures) (to .word4 .ensures) (length .put-text .ensures)
+    ⨾ number-as (props .word5 .ensures) (n3 .put-number3 .ensures)
     ⨾ line-feed .put-byte .ensures
 
 pub put-rel-spec : {M : Type 1} → statement M
