@@ -90,5 +90,5 @@ pub record ExpandAsked (a b : List ℕ) (base left : ℕ) (ch : Chain) (link : L
   pub chain : ChainAsked a b base left ch os rs
   pub is : cell a b (ch .next) kindAt ≡ nodeKind
   pub read : ReadAt a b (ch .next) nodePropsAt (link .node)
-  pub waits : ch .pending ≡ pending.Rel (link .rel)
+  pub waits : ch .pending ≡ pending.Rel (link .rel) (link .between)
   pub has : ch .last ≡ last.Op (link .input) (link .origin)
