@@ -18,8 +18,6 @@ use Rattle.lower.proofs.Linking.{rel-kind, rel-waits}
 use Rattle.lower.specs.declared.Pending.{Pending}
 use Rattle.lower.specs.declared.Read.{Read}
 use Rattle.lower.specs.declared.Pending.the-variants as pending
-use mathlib.Core.Option.{Option}
-use Rattle.model.specs.Lower.{RelStep}
 use Rattle.model.specs.Record.{one}
 use Rattle.words.specs.Count.{Ends}
 use Rattle.lower.specs.Chains.{fromOf, from, ReadAt, LowersRel, LowersStart, OrSource, Anchored}
@@ -27,7 +25,7 @@ use Rattle.lower.specs.declared.Chain.{Chain}
 use Rattle.model.specs.Tree.{Tree, node}
 use Rattle.words.specs.Words.{cell, Roomy, optionOf}
 use Rattle.words.specs.Held.{Held, size}
-use Rattle.context.specs.Tables.{Pushed, Issued, CanNumber, Numbers, varsAt, maxVars, maxCount}
+use Rattle.context.specs.Tables.{Pushed, Issued, CanNumber, Numbers, varsAt, maxCount}
 use Rattle.context.specs.declared.op.Op.{Op}
 use Rattle.context.specs.declared.LowerCtx.{LowerCtx}
 use Rattle.context.specs.declared.Numbered.{Numbered}

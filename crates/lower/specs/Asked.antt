@@ -3,7 +3,7 @@ use mathlib.Core.Path.{_≡_}
 use Prim.Native.Nat.{ℕ, _+_, _-_, _≤_, _<_}
 use mathlib.Core.List.{List}
 use Rattle.model.specs.Call.{maxDepth}
-use Rattle.model.specs.Kind.{Sort, expr, patternPart, patternElement}
+use Rattle.model.specs.Kind.{Sort, patternPart, patternElement}
 use Rattle.words.specs.Words.{Roomy, cell, maxRecords}
 use Rattle.words.specs.Places.{kindAt, nodeKind, relKind, nodePropsAt, relPropsAt}
 use Rattle.context.specs.Tables.{secondPass}

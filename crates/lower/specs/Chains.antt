@@ -1,7 +1,7 @@
 -- What the lowering of a part's elements promises, one after another: the chain so far, as the code has it and as the definition has it. Assumes nothing: these are definitions.
 use mathlib.Core.Path.{_≡_}
-use Prim.Native.Nat.{ℕ, zero, suc, _+_, _*_, _-_, _≤_, _<_}
-use mathlib.Core.Bool.{Bool, true, false, cond}
+use Prim.Native.Nat.{ℕ, suc, _+_, _*_, _-_, _≤_, _<_}
+use mathlib.Core.Bool.{Bool, true, false}
 use mathlib.Core.List.{List, _∷_, _++_}
 use mathlib.Core.Option.{Option, none, some}
 use mathlib.Core.Logic.{_⊎_}
@@ -30,7 +30,6 @@ use Rattle.lower.specs.declared.Element.{Element}
 use Rattle.lower.specs.declared.Element.the-variants as element
 use Rattle.lower.specs.declared.Read.{Read}
 use Rattle.context.specs.Ops.{bindOf}
-use lib.Dec.{eqb}
 use Rattle.words.specs.Places.{kindAt, nodeKind, relKind, elementNamedAt, elementVarAt, relTypesAt, relPropsAt, partShortestAt, partElementsAt, nodeLabelsAt, nodePropsAt}
 
 -- the last operator and its node's number, as the definition has them

@@ -1,11 +1,11 @@
 -- `expand_to`, of the cycle.
-use Prim.Native.Nat.{_+_, ℕ}
+use Prim.Native.Nat.{ℕ}
 use Rattle.context.specs.OpLaws.{pushed-as}
 use Rattle.lower.proofs.Reading.{endpoint-read, exprs-read}
 use Rattle.lower.proofs.Linking
 use Rattle.lower.specs.Exprs
 use Rattle.lower.proofs.Room
-use mathlib.Core.Path.{refl, ap, _∙_}
+use mathlib.Core.Path.{refl, _∙_}
 use native.Mathlib.Omega.{arith}
 use borrow.Fn.Kinds.{In, Out}
 use Rattle.lower.proofs.expand_to.Reads as reads
