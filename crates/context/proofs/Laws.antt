@@ -10,7 +10,6 @@ use lib.Seq.{take-all, getD-set-same, getD-set-other, drop-set-lt, drop-at, leng
 use lib.ListN.{List·getD-append, length-drop, drop-of-length-le}
 use borrow.Author.Tests.{eq-eqb, ne-eqb}
 use Rattle.model.specs.Lower.{lookup, issue, mapVar, numbered, fresh, endpointVar}
-use Rattle.words.specs.Words.{optionOf}
 use Rattle.context.specs.Tables.{varsOf, foundOf, Op, opAt, maxStored, opWords, Indexed, Issued, NoteWritten, Numbers, Pushed, varsAt}
 use Rattle.context.specs.Ops.{bindOf}
 use Rattle.context.specs.declared.Bind.{Bind}

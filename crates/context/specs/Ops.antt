@@ -1,7 +1,6 @@
 -- The stored operators, one for each kind, and what stands before one. Assumes nothing: these are definitions.
 use mathlib.Core.Path.{_≡_}
 use Prim.Native.Nat.{ℕ, _<_}
-use mathlib.Core.List.{List}
 use mathlib.Core.Option.{Option, none, some}
 use Rattle.words.specs.Words.{two32}
 use Rattle.context.specs.declared.At.{At}

@@ -4,7 +4,7 @@ use Prim.Native.Nat.{ℕ, suc, _+_, _-_, _≤_, _<_}
 use native.Mathlib.Nat.{le-refl}
 use native.Mathlib.Omega.{arith}
 use mathlib.Core.Bool.{Bool}
-use mathlib.Core.List.{List, [], _∷_, append-nil}
+use mathlib.Core.List.{List, _∷_, append-nil}
 use Rattle.model.specs.Text.{Bytes}
 use Rattle.model.specs.Field.{Fields}
 use Rattle.model.specs.Kind.{Same, Expr, PlanExpr, expr}

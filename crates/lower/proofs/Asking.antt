@@ -1,10 +1,8 @@
 -- What a special part asks gives for its elements. Assumes nothing.
-use Prim.Native.Nat.{ℕ, _+_, _-_, _≤_}
+use Prim.Native.Nat.{ℕ, _+_, _-_}
 use native.Mathlib.Omega.{arith}
 use mathlib.Core.List.{List}
-use Rattle.model.specs.Kind.{patternElement}
 use Rattle.words.specs.Places.{nodeKind, relKind}
-use Rattle.words.specs.Words.{maxRecords}
 use Rattle.model.specs.Lower.{Lowering}
 use Rattle.context.specs.Tables.{Numbers}
 use Rattle.context.specs.declared.At.{At}
@@ -15,7 +13,6 @@ use Rattle.context.specs.declared.Numbered.{Numbered}
 use lib.ListN.{length}
 use mathlib.Core.Path.{_≡_}
 use Rattle.lower.specs.Rep.{Mem, mem, RoomFor}
-use Rattle.lower.specs.Pieces.{SomeTree}
 use Rattle.lower.specs.Chains.{LowersStart, LowersRel}
 use Rattle.lower.specs.Asked.{SomeElement, SpecialAsked}
 use Rattle.lower.specs.Exprs.{good-after}

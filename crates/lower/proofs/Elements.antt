@@ -3,7 +3,7 @@ use mathlib.Core.Path.{_≡_, refl, sym, ap}
 use Prim.Native.Nat.{ℕ, suc, _+_, _-_, _≤_}
 use native.Mathlib.Omega.{arith}
 use mathlib.Core.Bool.{Bool, true, false}
-use mathlib.Core.List.{List, [], _∷_, _++_, append-nil}
+use mathlib.Core.List.{List, _∷_, _++_, append-nil}
 use mathlib.Core.Option.{none, some}
 use lib.ListN.{length}
 use lib.Dec.{eqb}

@@ -24,10 +24,11 @@ use Rattle.lower.specs.Render.{Notes, keptRel, keptFrom}
 use Rattle.lower.specs.Shows.{shift}
 use Rattle.lower.specs.Rep.{atPlace, State, Mem, mem, notes, Written, Sub, Blank, Rep, Moved}
 use Rattle.lower.specs.Pieces.{SomeTree, LowersExprs}
-use Rattle.lower.specs.Chains.{lastOf, hasLast, pendingLine, fromOf, from, LastUnder, stepOf, Waiting, no-rel, a-rel, SameChain, ChainInBounds, Anchored, Chained, LowersElement, startL, LowersStart, StartsAnew}
+use Rattle.lower.specs.Chains.{lastOf, ReadAt, hasLast, pendingLine, fromOf, from, LastUnder, stepOf, Waiting, no-rel, a-rel, SameChain, ChainInBounds, Anchored, Chained, LowersElement, startL, LowersStart, StartsAnew}
 use Rattle.lower.specs.declared.Last.{Last}
 use Rattle.lower.specs.declared.Last.the-variants as last
 use Rattle.lower.specs.declared.Pending.{Pending}
+use Rattle.lower.specs.declared.Read.{Read}
 use Rattle.lower.specs.declared.Pending.the-variants as pending
 use Rattle.lower.specs.declared.Chain.{Chain}
 use Rattle.lower.specs.State.{sub-more, sub-within, blank-within, blank-behind, back, to-refl, to-then, to-wider, Given, number-to}
@@ -63,33 +64,33 @@ module _ {a b : List ℕ} (room : Roomy a b) (sheet : Bytes) (d i : ℕ) (N : No
 
 -- ── a rel ──
 
-abbrev pub relChain : Chain → ℕ → Chain
-relChain ch stop = record { next = stop; ctx = ch .ctx; last = ch .last; pending = pending.Rel (ch .next); kept = ch .kept }
+abbrev pub relChain : Chain → ℕ → Read → Chain
+relChain ch stop x = record { next = stop; ctx = ch .ctx; last = ch .last; pending = pending.Rel (ch .next) x; kept = ch .kept }
 
-module _ {a b : List ℕ} (d base : ℕ) (ch : Chain) (stop : ℕ) (os rs : List ℕ) (room : Roomy a b) (st : ChainInBounds ch) (k13 : cell a b (ch .next) kindAt ≡ relKind) (en : Ends a b (ch .next) stop) where
-  rel-same : (sheet : Bytes) (t : Tree patternElement) → Held sheet a b t d (ch .next) → (c : Lower.Chain) → SameChain sheet a b d ch c → (r : RelStep) → stepOf t ≡ ofRel r → SameChain sheet a b d (relChain ch stop) (record { last = c .last; pending = some r; path = c .path })
-  rel-same sheet t hd c l r e = record { last = l .last; waiting = a-rel (ch .next) refl t r hd e (en .each sheet patternElement d t tt hd) refl; kept = l .kept }
+module _ {a b : List ℕ} (d base : ℕ) (ch : Chain) (stop : ℕ) (os rs : List ℕ) (room : Roomy a b) (st : ChainInBounds ch) (k13 : cell a b (ch .next) kindAt ≡ relKind) (en : Ends a b (ch .next) stop) {x : Read} (rd : ReadAt a b (ch .next) relPropsAt x) where
+  rel-same : (sheet : Bytes) (t : Tree patternElement) → Held sheet a b t d (ch .next) → (c : Lower.Chain) → SameChain sheet a b d ch c → (r : RelStep) → stepOf t ≡ ofRel r → SameChain sheet a b d (relChain ch stop x) (record { last = c .last; pending = some r; path = c .path })
+  rel-same sheet t hd c l r e = record { last = l .last; waiting = a-rel (ch .next) x refl rd t r hd e (en .each sheet patternElement d t tt hd) refl; kept = l .kept }
 
-  rel-run : (sheet : Bytes) (t : Tree patternElement) → Held sheet a b t d (ch .next) → (W : Written) (s : State) (c : Lower.Chain) → Rep sheet a b W s (mem (ch .ctx) os rs) → SameChain sheet a b d ch c → Chained sheet a b W d base ch (relChain ch stop) t (stepOf t) c s (mem (ch .ctx) os rs) (mem (ch .ctx) os rs)
+  rel-run : (sheet : Bytes) (t : Tree patternElement) → Held sheet a b t d (ch .next) → (W : Written) (s : State) (c : Lower.Chain) → Rep sheet a b W s (mem (ch .ctx) os rs) → SameChain sheet a b d ch c → Chained sheet a b W d base ch (relChain ch stop x) t (stepOf t) c s (mem (ch .ctx) os rs) (mem (ch .ctx) os rs)
   unfolding lowerElement ret
   rel-run sheet t hd W s c r l =
       let v = Elements.a-rel room t hd k13 in
-      subst (λ (x : Lower.Step). Chained sheet a b W d base ch (relChain ch stop) t x c s (mem (ch .ctx) os rs) (mem (ch .ctx) os rs)) (sym (v .step))
+      subst (λ (z : Lower.Step). Chained sheet a b W d base ch (relChain ch stop x) t z c s (mem (ch .ctx) os rs) (mem (ch .ctx) os rs)) (sym (v .step))
       (record {
         to = to-wider (sub-more (base + suc (from ch), base + suc (ch .next)) W) (to-refl r);
         same = rel-same sheet t hd c l _ (v .step);
-        path = λ N A f ts. ap (λ (x : List ℕ). c .path ++ x) (sym (kept-rel room sheet d (ch .next) (shift N base) (hasLast (ch .last)) (pendingLine (ch .pending)) ts t hd k13));
+        path = λ N A f ts. ap (λ (z : List ℕ). c .path ++ z) (sym (kept-rel room sheet d (ch .next) (shift N base) (hasLast (ch .last)) (pendingLine (ch .pending)) ts t hd k13));
       })
 
-  pub rel-law : SomeTree a b patternElement d (ch .next) → LowersElement a b d base ch (relChain ch stop) os os rs rs
-  rel-law x =
-      let z = en .each (x .sheet) patternElement d (x .tree) tt (x .held) in
-      let f = tree-fits (x .sheet) a b (x .tree) d (ch .next) (x .held) in
+  pub rel-law : SomeTree a b patternElement d (ch .next) → LowersElement a b d base ch (relChain ch stop x) os os rs rs
+  rel-law y =
+      let z = en .each (y .sheet) patternElement d (y .tree) tt (y .held) in
+      let f = tree-fits (y .sheet) a b (y .tree) d (ch .next) (y .held) in
       let k = st .kept in
       record {
         moved = moved-within (le-refl _) (st .from) (st .next) (moved-refl (let q = st .from in let q′ = st .next in omega arith));
         bounded = record { from = omega arith; next = omega arith; last = st .last; kept = omega arith };
-        anchored = record { sheet = x .sheet; pending = some _; waiting = a-rel (ch .next) refl (x .tree) _ (x .held) (Elements.a-rel room (x .tree) (x .held) k13 .step) z refl };
+        anchored = record { sheet = y .sheet; pending = some _; waiting = a-rel (ch .next) x refl rd (y .tree) _ (y .held) (Elements.a-rel room (y .tree) (y .held) k13 .step) z refl };
         ahead = omega arith;
         next = λ sheet t hd. en .each sheet patternElement d t tt hd;
         run = λ sheet t hd W s c r l bl. rel-run sheet t hd W s c r l;
@@ -100,11 +101,19 @@ module _ {a b : List ℕ} (d base : ℕ) (ch : Chain) (stop : ℕ) (os rs : List
 abbrev pub nodeChain : Chain → (next : ℕ) → LowerCtx → (k origin more : ℕ) → Chain
 nodeChain ch next c k origin more = record { next = next; ctx = c; last = last.Op k origin; pending = pending.Nothing; kept = ch .kept + more }
 
-pending-apart : {i : ℕ} → pending.Nothing ≡ pending.Rel i → ⊥
+pending-apart : {i : ℕ} {x : Read} → pending.Nothing ≡ pending.Rel i x → ⊥
 pending-apart {i} e = let z : suc i ≡ i = ap (λ (p : Pending). fromOf p (suc i)) e in absurd (omega arith)
 
-same-rel : {i j : ℕ} → pending.Rel i ≡ pending.Rel j → i ≡ j
+same-rel : {i j : ℕ} {x y : Read} → pending.Rel i x ≡ pending.Rel j y → i ≡ j
 same-rel e = ap (λ (p : Pending). fromOf p 0) e
+
+readOr : Pending → Read → Read
+readOr pending.Nothing x = x
+readOr (pending.Rel i x) y = x
+
+same-read : {i j : ℕ} {x y : Read} → pending.Rel i x ≡ pending.Rel j y → x ≡ y
+unfolding readOr
+same-read {x = x} e = ap (λ (p : Pending). readOr p x) e
 
 opOr : Last → ℕ
 opOr last.Nothing = 0
@@ -116,7 +125,8 @@ unfolding opOr
 op-under {k} l = record { op = λ j o e. (let z : k ≡ j = ap opOr e in omega arith) }
 
 -- the rel that waits, at its record
-pub record RelWaits (sheet : Bytes) (a b : List ℕ) (d : ℕ) (ch : Chain) (rel : ℕ) (o : Option RelStep) : Type 0 where
+pub record RelWaits (sheet : Bytes) (a b : List ℕ) (d : ℕ) (ch : Chain) (rel : ℕ) (x : Read) (o : Option RelStep) : Type 0 where
+  pub read : ReadAt a b rel relPropsAt x
   pub tree : Tree patternElement
   pub step : RelStep
   pub held : Held sheet a b tree d rel
@@ -124,9 +134,9 @@ pub record RelWaits (sheet : Bytes) (a b : List ℕ) (d : ℕ) (ch : Chain) (rel
   pub ends : ch .next ≡ rel + size tree
   pub there : o ≡ some step
 
-pub rel-waits : {sheet : Bytes} {a b : List ℕ} {d : ℕ} {ch : Chain} {rel : ℕ} {o : Option RelStep} → ch .pending ≡ pending.Rel rel → Waiting sheet a b d ch o → RelWaits sheet a b d ch rel o
+pub rel-waits : {sheet : Bytes} {a b : List ℕ} {d : ℕ} {ch : Chain} {rel : ℕ} {x : Read} {o : Option RelStep} → ch .pending ≡ pending.Rel rel x → Waiting sheet a b d ch o → RelWaits sheet a b d ch rel x o
 rel-waits h (no-rel w e) = absurd (pending-apart (sym w ∙ h))
-rel-waits h (a-rel i w t r hd st nx e) = let z = same-rel (sym w ∙ h) in record { tree = t; step = r; held = rw z at hd; is = st; ends = rw z at nx; there = e }
+rel-waits h (a-rel i y w rd t r hd st nx e) = let z = same-rel (sym w ∙ h) in let z′ = same-read (sym w ∙ h) in record { read = rw (z, z′) at rd; tree = t; step = r; held = rw z at hd; is = st; ends = rw z at nx; there = e }
 
 no-last : (c : Lower.Chain) (n : NodeStep) (k : ℕ) (o : Option RelStep) → reach c n k o none ≡ startNode c n k
 unfolding reach
@@ -135,7 +145,7 @@ no-last c n k (some r) = refl
 
 nothing-waits : {sheet : Bytes} {a b : List ℕ} {d : ℕ} {ch : Chain} {o : Option RelStep} → ch .pending ≡ pending.Nothing → Waiting sheet a b d ch o → o ≡ none
 nothing-waits h (no-rel w e) = e
-nothing-waits h (a-rel i w t r hd st nx e) = absurd (pending-apart (sym h ∙ w))
+nothing-waits h (a-rel i y w rd t r hd st nx e) = absurd (pending-apart (sym h ∙ w))
 
 starts-def : {sheet : Bytes} {a b : List ℕ} {d : ℕ} {ch : Chain} (c : Lower.Chain) (n : NodeStep) (k : ℕ) → StartsAnew ch → SameChain sheet a b d ch c → reach c n k (c .pending) (c .last) ≡ startNode c n k
 unfolding reach
@@ -161,9 +171,9 @@ path-one p cp rest K kr x y ep eK ek ey = rw (ep, eK, ek, ey) (append-assoc cp (
 path-two : (p cp rest K kr : List ℕ) (x x′ y y′ : ℕ) → p ≡ cp ++ (x ∷ y ∷ []) → K ≡ kr ++ (y′ ∷ rest) → kr ≡ x′ ∷ [] → x′ ≡ x → y′ ≡ y → p ++ rest ≡ cp ++ K
 path-two p cp rest K kr x x′ y y′ ep eK ek ex ey = rw (ep, eK, ek, ex, ey) (append-assoc cp (x ∷ y ∷ []) rest)
 
-kept-one : (N : Notes) (l : Last) (p : Pending) (k n rel : ℕ) → l ≡ last.Op k n → p ≡ pending.Rel rel → keptRel N (hasLast l) (pendingLine p) ≡ N (suc rel) ∷ []
+kept-one : (N : Notes) (l : Last) (p : Pending) (k n rel : ℕ) (x : Read) → l ≡ last.Op k n → p ≡ pending.Rel rel x → keptRel N (hasLast l) (pendingLine p) ≡ N (suc rel) ∷ []
 unfolding keptRel
-kept-one N l p k n rel el ep = rw (el, ep)
+kept-one N l p k n rel x el ep = rw (el, ep)
 
 abbrev started : Lower.Chain → ℕ → ℕ → Lower.Chain
 started c k x = record { last = some (k, x); pending = none; path = c .path ++ (x ∷ []) }
@@ -249,8 +259,8 @@ unfolding Held elementNumber fold made elementStep
 rel-kind room sheet d i (node patternElement line PatternElement.Node (bind, (n, (p, (span, u)))) (names ▸ props ▸ end)) r hd e = absurd (step-apart e)
 rel-kind room sheet d i (node patternElement line PatternElement.Rel f kids) r hd e = element-number room (hd .1)
 
-module _ {a b : List ℕ} (d base : ℕ) (ch : Chain) {rel input origin e₁ e₂ n₁ n₂ p₁ p₂ : ℕ} {os rest rest₁ rest₂ : List ℕ} {r₁ r₂ : Numbered} {m₃ m₄ : Mem} {c₅ : LowerCtx} {os₅ : List ℕ}
-    (room : Roomy a b) (lb : base ≤ secondPass) (sh : d ≤ maxDepth) (st : ChainInBounds ch) (w1 : ch .pending ≡ pending.Rel rel) (h1 : ch .last ≡ last.Op input origin)
+module _ {a b : List ℕ} (d base : ℕ) (ch : Chain) {between : Read} {rel input origin e₁ e₂ n₁ n₂ p₁ p₂ : ℕ} {os rest rest₁ rest₂ : List ℕ} {r₁ r₂ : Numbered} {m₃ m₄ : Mem} {c₅ : LowerCtx} {os₅ : List ℕ}
+    (room : Roomy a b) (lb : base ≤ secondPass) (sh : d ≤ maxDepth) (st : ChainInBounds ch) (w1 : ch .pending ≡ pending.Rel rel between) (h1 : ch .last ≡ last.Op input origin)
     (k12 : cell a b (ch .next) kindAt ≡ nodeKind) (la : ch .next < maxRecords) (ep₁ : p₁ ≡ base + (ch .next + 1)) (nm₁ : Numbers (endpointVar (optionOf (cell a b (ch .next) elementNamedAt)
     (cell a b (ch .next) elementVarAt))) p₁ (ch .ctx) rest rest₁ r₁) (lr₁ : length rest₁ ≡ length rest) (ep₂ : p₂ ≡ base + (rel + 1))
     (nm₂ : Numbers (endpointVar (optionOf (cell a b rel elementNamedAt) (cell a b rel elementVarAt))) p₂ (r₁ .ctx) rest₁ rest₂ r₂) (lr₂ : length rest₂ ≡ length rest₁)
@@ -265,10 +275,10 @@ module _ {a b : List ℕ} (d base : ℕ) (ch : Chain) {rel input origin e₁ e�
   from-is = ap (λ (p : Pending). fromOf p (ch .next)) w1
 
   -- the rel that waits is a rel
-  waiting-kind : {sheet : Bytes} {o : Option RelStep} → RelWaits sheet a b d ch rel o → cell a b rel kindAt ≡ relKind
+  waiting-kind : {sheet : Bytes} {o : Option RelStep} → RelWaits sheet a b d ch rel between o → cell a b rel kindAt ≡ relKind
   waiting-kind {sheet} w = rel-kind room sheet d rel (w .tree) (w .step) (w .held) (w .is)
 
-  expand-end : {sheet : Bytes} {o : Option RelStep} → RelWaits sheet a b d ch rel o → e₁ ≡ ch .next
+  expand-end : {sheet : Bytes} {o : Option RelStep} → RelWaits sheet a b d ch rel between o → e₁ ≡ ch .next
   expand-end {sheet} w = rel-end d base (ch .next) rel room k12 (waiting-kind w) lb sh la ep₁ nm₁ ep₂ nm₂ en₁ x₁ en₂ x₂ pe sheet (w .tree) (w .held) ∙ sym (w .ends)
 
   expand-moved : e₁ ≡ ch .next → Moved (from ch) e₂ (mem (ch .ctx) os rest) (mem c₅ os₅ (m₄ .rest))
@@ -290,7 +300,7 @@ module _ {a b : List ℕ} (d base : ℕ) (ch : Chain) {rel input origin e₁ e�
       }
 
   expanded-run : (sheet : Bytes) (t : Tree patternElement) → Held sheet a b t d (ch .next) → (W : Written) (s : State) (c : Lower.Chain) → Rep sheet a b W s (mem (ch .ctx) os rest) →
-      SameChain sheet a b d ch c → RelWaits sheet a b d ch rel (c .pending) → Blank W (base + suc (from ch)) (base + suc e₂) →
+      SameChain sheet a b d ch c → RelWaits sheet a b d ch rel between (c .pending) → Blank W (base + suc (from ch)) (base + suc e₂) →
       Chained sheet a b W d base ch ch″ t (stepOf t) c s (mem (ch .ctx) os rest) (mem c₅ os₅ (m₄ .rest))
   unfolding keptRel
   expanded-run sheet t hd W s c rp l w bl =
@@ -305,7 +315,7 @@ module _ {a b : List ℕ} (d base : ℕ) (ch : Chain) {rel input origin e₁ e�
         same = rw (x .is) (record { last = ap (λ (z : ℕ). some (m₄ .ctx .ops, z)) (sym (x .number)); waiting = no-rel refl refl; kept = length-append (c .path) (x .bindRel ∷ x .bindTo ∷ []) ∙ ap (λ (z : ℕ). z + 2) (l .kept) });
         path = λ N A f ts.
             (let y = x .notes N A (rw fr at f) in
-            path-two _ (c .path) _ _ _ _ _ _ _ (ap (λ (z : Lower.Chain). z .path) (x .is)) (kept-node room sheet d (ch .next) (shift N base) (hasLast (ch .last)) (pendingLine (ch .pending)) ts t hd k12) (kept-one (shift N base) (ch .last) (ch .pending) input origin rel h1 w1) (y .0) (y .1));
+            path-two _ (c .path) _ _ _ _ _ _ _ (ap (λ (z : Lower.Chain). z .path) (x .is)) (kept-node room sheet d (ch .next) (shift N base) (hasLast (ch .last)) (pendingLine (ch .pending)) ts t hd k12) (kept-one (shift N base) (ch .last) (ch .pending) input origin rel between h1 w1) (y .0) (y .1));
       })
 
   pub expand-law : SomeTree a b patternElement d (ch .next) → Anchored a b d ch → LowersElement a b d base ch ch″ os os₅ rest (m₄ .rest)

@@ -3,7 +3,7 @@ use mathlib.Core.Path.{_≡_, refl, sym, _∙_}
 use Prim.Native.Nat.{ℕ, zero, suc, _+_, _-_}
 use native.Mathlib.Nat.{le-refl}
 use native.Mathlib.Omega.{arith}
-use mathlib.Core.List.{List, [], _∷_, append-nil}
+use mathlib.Core.List.{List, _∷_, append-nil}
 use mathlib.Core.Option.{some}
 use Rattle.model.specs.Text.{Bytes}
 use Rattle.model.specs.Kind.{patternElement}

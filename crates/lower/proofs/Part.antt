@@ -1,11 +1,8 @@
 -- A part by its shape: a chain, unless it is a shortest part of exactly node, rel, node. Assumes nothing.
-use mathlib.Core.Path.{_≡_, refl, sym, ap, _∙_}
-use Prim.Native.Nat.{ℕ, _+_, _-_, _≤_, _<_}
+use mathlib.Core.Path.{_≡_, sym, ap, _∙_}
+use Prim.Native.Nat.{ℕ, _+_, _-_, _<_}
 use native.Mathlib.Omega.{arith}
-use mathlib.Core.Bool.{Bool, true, false, cond}
 use mathlib.Core.List.{List, [], _∷_}
-use lib.Dec.{eqb}
-use borrow.Author.Tests.{eqb-true, eqb-false}
 use Rattle.model.specs.Text.{Bytes}
 use Rattle.model.specs.Kind.{patternPart, patternElement}
 use Rattle.model.specs.Tree.{Tree}

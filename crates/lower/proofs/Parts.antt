@@ -12,7 +12,6 @@ use Rattle.model.specs.Lower.{Lowering, Lowered, made, _>>=_, ret, push, source
 use Rattle.model.specs.Lower
 use Rattle.words.specs.Held.{Held, HeldOf, size, sizeOf}
 use Rattle.context.specs.Tables.{Pushed}
-use Rattle.context.specs.declared.op.Op.{Op}
 use Rattle.context.specs.declared.LowerCtx.{LowerCtx}
 use Rattle.context.specs.declared.Numbered.{Numbered}
 use Rattle.context.specs.Ops.{sourceAllOp}

@@ -16,17 +16,16 @@ use Rattle.lower.proofs.Elements.{a-node, other-element}
 use Rattle.lower.proofs.Elements
 use Rattle.lower.proofs.Linking.{rel-kind, rel-waits}
 use Rattle.lower.specs.declared.Pending.{Pending}
+use Rattle.lower.specs.declared.Read.{Read}
 use Rattle.lower.specs.declared.Pending.the-variants as pending
-use mathlib.Core.Option.{Option}
-use Rattle.model.specs.Lower.{RelStep}
 use Rattle.model.specs.Record.{one}
 use Rattle.words.specs.Count.{Ends}
-use Rattle.lower.specs.Chains.{fromOf, from, LowersRel, LowersStart, OrSource, Anchored}
+use Rattle.lower.specs.Chains.{fromOf, from, ReadAt, LowersRel, LowersStart, OrSource, Anchored}
 use Rattle.lower.specs.declared.Chain.{Chain}
 use Rattle.model.specs.Tree.{Tree, node}
 use Rattle.words.specs.Words.{cell, Roomy, optionOf}
 use Rattle.words.specs.Held.{Held, size}
-use Rattle.context.specs.Tables.{Pushed, Issued, CanNumber, Numbers, varsAt, maxVars, maxCount}
+use Rattle.context.specs.Tables.{Pushed, Issued, CanNumber, Numbers, varsAt, maxCount}
 use Rattle.context.specs.declared.op.Op.{Op}
 use Rattle.context.specs.declared.LowerCtx.{LowerCtx}
 use Rattle.context.specs.declared.Numbered.{Numbered}
@@ -149,7 +148,10 @@ module _ {L : Lowering ℕ} {k d i : ℕ} {c c′ : LowerCtx} {os os′ rs : Lis
   source-few = (let x = g .few in let y = g .here in let z = q .few in omega arith, let x = g .few in let y = g .here in let z = q .few in let w = q .low in omega arith)
 
 -- the rel that waits
-module _ {a b : List ℕ} {d : ℕ} {ch : Chain} {rel : ℕ} (room : Roomy a b) (w1 : ch .pending ≡ pending.Rel rel) (x : Anchored a b d ch) where
+module _ {a b : List ℕ} {d : ℕ} {ch : Chain} {rel : ℕ} {between : Read} (room : Roomy a b) (w1 : ch .pending ≡ pending.Rel rel between) (x : Anchored a b d ch) where
+  pub waiting-read : ReadAt a b rel relPropsAt between
+  waiting-read = rel-waits w1 (x .waiting) .read
+
   pub waiting-rel : SomeElement a b relKind d rel
   waiting-rel =
       let w = rel-waits w1 (x .waiting) in
@@ -161,7 +163,7 @@ module _ {a b : List ℕ} {d : ℕ} {ch : Chain} {rel : ℕ} (room : Roomy a b) 
       rel-end room d rel (waiting-rel .is) p (x .sheet) (w .tree) (w .held) ∙ sym (w .ends)
 
 -- the record from which on nothing is lowered, where a rel waits
-pub from-rel : (ch : Chain) {rel : ℕ} → ch .pending ≡ pending.Rel rel → from ch ≡ rel
+pub from-rel : (ch : Chain) {rel : ℕ} {between : Read} → ch .pending ≡ pending.Rel rel between → from ch ≡ rel
 from-rel ch e = ap (λ (p : Pending). fromOf p (ch .next)) e
 
 -- behind a rel

@@ -1,6 +1,6 @@
 -- A shortest part of exactly node, rel, node. Assumes nothing.
 use mathlib.Core.Path.{_≡_, refl, sym, ap}
-use Prim.Native.Nat.{ℕ, zero, suc, _+_, _-_, _≤_, _<_}
+use Prim.Native.Nat.{ℕ, zero, suc, _+_, _≤_, _<_}
 use native.Mathlib.Omega.{arith}
 use mathlib.Core.Bool.{Bool}
 use mathlib.Core.List.{List, [], _∷_, _++_}
@@ -12,16 +12,13 @@ use Rattle.model.specs.Kind.{ReadOp, patternElement, name, expr, inPlan, relSpe
 use Rattle.model.specs.Record.{Rec, rec, one}
 use Rattle.model.specs.Tree.{Tree, Trees, []ᵗ, _∷ᵗ_, toList, fold, foldOf}
 use Rattle.model.specs.Lower.{Recs, Lowered, made, _>>=_, ret, push, op, endpointVar, propsOf, lowerRelElement, lowerShortestPathPart, shapeOf, lowerShaped, lowerPatternPart, lowerChain, NodeStep, RelStep, Step, ofNode, ofRel, nodeRelNode, other}
-use Rattle.model.specs.Lower
 use Rattle.words.specs.Held.{Held, HeldOf, size, sizeOf}
-use Rattle.context.specs.declared.op.Op.{Op}
 use Rattle.lower.specs.Render.{Notes, Ops, renderOf, specRecs}
 use Rattle.lower.specs.Rep.{State}
 use Rattle.lower.specs.Pieces.{lowerC, renderC}
 use Rattle.lower.specs.Chains.{stepOf, stepsOf, startL}
 use Rattle.lower.specs.Carry.{plainC, plain-render}
 use Rattle.lower.proofs.Elements.{names-render, names-count, props-lower, props-has}
-use Rattle.lower.proofs.Elements
 use Rattle.words.specs.Words.{maxRecords}
 use Rattle.context.specs.Tables.{varsAt}
 

@@ -14,7 +14,6 @@ use Rattle.model.specs.Kind.{patternPart, patternElement}
 use Rattle.model.specs.Record.{Rec, one}
 use Rattle.model.specs.Tree.{Tree, toList, foldOf}
 use Rattle.model.specs.Lower.{Recs, Lowered, made, push, endpointVar, propsOf, shapeOf, NodeStep, RelStep, Step, ofNode, ofRel, nodeRelNode}
-use Rattle.model.specs.Lower
 use Rattle.words.specs.Words.{Roomy, cell, optionOf, maxRecords}
 use Rattle.words.specs.Held.{Held, size}
 use Rattle.context.specs.Tables.{Pushed, Numbers, secondPass}
@@ -33,7 +32,6 @@ use Rattle.lower.specs.Below.{carried-more}
 use Rattle.words.specs.Fits.{tree-fits, tree-low}
 use Rattle.lower.specs.Carry.{plainC, plain-held, plain-size, plain-below}
 use Rattle.lower.proofs.Elements.{a-node, a-rel}
-use Rattle.lower.proofs.Elements
 use Rattle.lower.proofs.Chaining.{IsPart, a-part}
 use Rattle.lower.proofs.Shortest.{shortRecs, short-def, short-is, special-part, Three, three, spots, at-place, place-at}
 use Rattle.words.specs.Places.{kindAt, nodeKind, relKind, elementNamedAt, elementVarAt, relTypesAt, partNamedAt, partVarAt, partShortestAt, partElementsAt}

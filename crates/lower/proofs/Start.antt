@@ -13,7 +13,6 @@ use Rattle.model.specs.Lower.{Recs, Lowered, made, _>>=_, ret, push, op, source
 use Rattle.words.specs.Words.{Roomy, cell, optionOf, maxRecords}
 use Rattle.words.specs.Held.{Held}
 use Rattle.context.specs.Tables.{Pushed, secondPass}
-use Rattle.context.specs.declared.op.Op.{Op}
 use Rattle.context.specs.declared.LowerCtx.{LowerCtx}
 use Rattle.context.specs.Ops.{filterOp, sourceOp}
 use Rattle.lower.specs.Shows.{shift, shows-source, shows-filter}

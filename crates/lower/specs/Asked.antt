@@ -3,7 +3,7 @@ use mathlib.Core.Path.{_≡_}
 use Prim.Native.Nat.{ℕ, _+_, _-_, _≤_, _<_}
 use mathlib.Core.List.{List}
 use Rattle.model.specs.Call.{maxDepth}
-use Rattle.model.specs.Kind.{Sort, expr, patternPart, patternElement}
+use Rattle.model.specs.Kind.{Sort, patternPart, patternElement}
 use Rattle.words.specs.Words.{Roomy, cell, maxRecords}
 use Rattle.words.specs.Places.{kindAt, nodeKind, relKind, nodePropsAt, relPropsAt}
 use Rattle.context.specs.Tables.{secondPass}
@@ -90,5 +90,5 @@ pub record ExpandAsked (a b : List ℕ) (base left : ℕ) (ch : Chain) (link : L
   pub chain : ChainAsked a b base left ch os rs
   pub is : cell a b (ch .next) kindAt ≡ nodeKind
   pub read : ReadAt a b (ch .next) nodePropsAt (link .node)
-  pub waits : ch .pending ≡ pending.Rel (link .rel)
+  pub waits : ch .pending ≡ pending.Rel (link .rel) (link .between)
   pub has : ch .last ≡ last.Op (link .input) (link .origin)

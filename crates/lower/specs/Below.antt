@@ -1,7 +1,7 @@
 -- Copies that are below a number are below a larger one. Assumes nothing.
 use Prim.Native.Nat.{ℕ, _≤_}
 use native.Mathlib.Omega.{arith}
-use mathlib.Core.List.{List, [], _∷_}
+use mathlib.Core.List.{List}
 use Rattle.model.specs.Kind.{Sort, Kind, Expr, statement, unionArm, clause, projection, orderItem, patternPart, patternElement, name, yieldItem, entry, expr, inPlan}
 use Rattle.model.specs.Record.{Group}
 use Rattle.model.specs.Tree.{Tree, Trees, Forest, node, []ᵗ, _∷ᵗ_, end, _▸_}

@@ -1,6 +1,6 @@
 -- Children of a record as expressions one after another: those of an expression, and those of a map's keys. Assumes nothing.
 use mathlib.Core.Path.{_≡_, refl, ap, _∙_}
-use Prim.Native.Nat.{ℕ, suc, _+_, _-_}
+use Prim.Native.Nat.{ℕ, suc, _+_}
 use native.Mathlib.Omega.{arith}
 use mathlib.Core.List.{List, [], _∷_, _++_, append-nil}
 use Rattle.model.specs.Text.{Bytes}

@@ -1,7 +1,7 @@
 -- What the lowering of a part's elements promises, one after another: the chain so far, as the code has it and as the definition has it. Assumes nothing: these are definitions.
 use mathlib.Core.Path.{_≡_}
-use Prim.Native.Nat.{ℕ, zero, suc, _+_, _*_, _-_, _≤_, _<_}
-use mathlib.Core.Bool.{Bool, true, false, cond}
+use Prim.Native.Nat.{ℕ, suc, _+_, _*_, _-_, _≤_, _<_}
+use mathlib.Core.Bool.{Bool, true, false}
 use mathlib.Core.List.{List, _∷_, _++_}
 use mathlib.Core.Option.{Option, none, some}
 use mathlib.Core.Logic.{_⊎_}
@@ -30,7 +30,6 @@ use Rattle.lower.specs.declared.Element.{Element}
 use Rattle.lower.specs.declared.Element.the-variants as element
 use Rattle.lower.specs.declared.Read.{Read}
 use Rattle.context.specs.Ops.{bindOf}
-use lib.Dec.{eqb}
 use Rattle.words.specs.Places.{kindAt, nodeKind, relKind, elementNamedAt, elementVarAt, relTypesAt, relPropsAt, partShortestAt, partElementsAt, nodeLabelsAt, nodePropsAt}
 
 -- the last operator and its node's number, as the definition has them
@@ -46,11 +45,11 @@ hasLast (last.Op k n) = true
 -- the line of the rel that waits
 abbrev pub pendingLine : Pending → Option ℕ
 pendingLine pending.Nothing = none
-pendingLine (pending.Rel i) = some (suc i)
+pendingLine (pending.Rel i x) = some (suc i)
 
 abbrev pub fromOf : Pending → ℕ → ℕ
 fromOf pending.Nothing next = next
-fromOf (pending.Rel i) next = i
+fromOf (pending.Rel i x) next = i
 
 -- the record from which on nothing is lowered yet
 abbrev pub from : Chain → ℕ
@@ -59,10 +58,16 @@ from ch = fromOf (ch .pending) (ch .next)
 abbrev pub stepOf : Tree patternElement → Step
 stepOf t = fold Lowered made t
 
+-- what is read of the element at record i, whose props are counted by word c
+pub record ReadAt (a b : List ℕ) (i c : ℕ) (x : Read) : Type 0 where
+  pub bind : bindOf (x .bind) ≡ optionOf (cell a b i elementNamedAt) (cell a b i elementVarAt)
+  pub first : x .first ≡ i + 1 + cell a b i nodeLabelsAt
+  pub props : x .props ≡ cell a b i c
+
 -- the rel that waits, whose records end where the next element stands
 pub data Waiting (sheet : Bytes) (a b : List ℕ) (d : ℕ) (ch : Chain) (o : Option RelStep) : Type 0 where
   no-rel : ch .pending ≡ pending.Nothing → o ≡ none → Waiting sheet a b d ch o
-  a-rel : (rel : ℕ) → ch .pending ≡ pending.Rel rel → (t : Tree patternElement) (r : RelStep) → Held sheet a b t d rel → stepOf t ≡ ofRel r → ch .next ≡ rel + size t → o ≡ some r → Waiting sheet a b d ch o
+  a-rel : (rel : ℕ) (x : Read) → ch .pending ≡ pending.Rel rel x → ReadAt a b rel relPropsAt x → (t : Tree patternElement) (r : RelStep) → Held sheet a b t d rel → stepOf t ≡ ofRel r → ch .next ≡ rel + size t → o ≡ some r → Waiting sheet a b d ch o
 
 -- the chain as the code has it is the one that the definition has
 pub record SameChain (sheet : Bytes) (a b : List ℕ) (d : ℕ) (ch : Chain) (c : Lower.Chain) : Type 0 where
@@ -168,12 +173,6 @@ pub record LowersRel (a b : List ℕ) (d base i e : ℕ) (c : LowerCtx) (os rest
   pub noted : Numbers (endpointVar (optionOf (cell a b i elementNamedAt) (cell a b i elementVarAt))) (base + (i + 1)) c rest between named
   pub kept : length between ≡ length rest
   pub props : LowersExprs a b (cell a b i relPropsAt) 0 (d - 1) base (i + 1 + cell a b i relTypesAt) e (mem (named .ctx) os between) m′
-
--- what is read of the element at record i, whose props are counted by word c
-pub record ReadAt (a b : List ℕ) (i c : ℕ) (x : Read) : Type 0 where
-  pub bind : bindOf (x .bind) ≡ optionOf (cell a b i elementNamedAt) (cell a b i elementVarAt)
-  pub first : x .first ≡ i + 1 + cell a b i nodeLabelsAt
-  pub props : x .props ≡ cell a b i c
 
 -- the element at record i
 pub data ElementAt (a b : List ℕ) (i : ℕ) (r : Element) : Type 0 where

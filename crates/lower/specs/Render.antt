@@ -1,5 +1,5 @@
 -- What trees come to in the plan, read off the numbers that are noted at their records: a note is kept by the record's line, and a pattern's copy is of the operator noted at it. Assumes nothing: these are definitions.
-use Prim.Native.Nat.{ℕ, _+_, _<_}
+use Prim.Native.Nat.{ℕ, _<_}
 use mathlib.Core.Bool.{Bool, true, false, cond}
 use mathlib.Core.List.{List, [], _∷_, _++_}
 use mathlib.Core.Option.{Option, none, some}

@@ -30,10 +30,17 @@ pub enum Last {
     Op(usize, u32),
 }
 
-// The rel that waits for its far node, at its record, if one does.
+// What is read of an element: its variable, the record behind its names, and how many props it has there, one or none.
+pub struct Read {
+    pub bind: Bind,
+    pub first: usize,
+    pub props: usize,
+}
+
+// The rel that waits for its far node, its record and what is read of it, if one does.
 pub enum Pending {
     Nothing,
-    Rel(usize),
+    Rel(usize, Read),
 }
 
 // Elements of a part, so far: the next one's record; the last operator; the rel that waits, from which on nothing is lowered yet; how many numbers the path has.
@@ -45,19 +52,13 @@ pub struct Chain {
     pub kept: u32,
 }
 
-// A node behind a rel: what is read of it, the rel's record, the operator before and its node's number.
+// A node behind a rel: what is read of it, the rel's record and what is read of that, the operator before and its node's number.
 pub struct Link {
     pub node: Read,
     pub rel: usize,
+    pub between: Read,
     pub input: usize,
     pub origin: u32,
-}
-
-// What is read of an element: its variable, the record behind its names, and how many props it has there, one or none.
-pub struct Read {
-    pub bind: Bind,
-    pub first: usize,
-    pub props: usize,
 }
 
 // An element of a part.
@@ -494,33 +495,38 @@ fn lower_element(
     ensures { λ r. ⌜ LowersElement (now (a .entry)) (now (b .entry)) left base ch r (now (ops .entry)) (now (ops .exit)) (now (rest .entry)) (now (rest .exit)) ⌝ }
 {
     let i = ch.next;
-    let Element::Node(node) = read_element(a, b, i) else {
-        let end = records::skip(a, b, i);
-        let c = ch.ctx;
-        let last = ch.last;
-        return Chain {
-            next: end,
-            ctx: c,
-            last,
-            pending: Pending::Rel(i),
-            kept: ch.kept,
-        };
-    };
-    let pending = ch.pending;
-    let Pending::Rel(rel) = pending else {
-        return start_chain(a, b, ops, rest, ch, base, left, node);
-    };
-    let last = ch.last;
-    let Last::Op(input, origin) = last else {
-        return start_chain(a, b, ops, rest, ch, base, left, node);
-    };
-    let link = Link {
-        node,
-        rel,
-        input,
-        origin,
-    };
-    expand_to(a, b, ops, rest, ch, base, left, link)
+    match read_element(a, b, i) {
+        Element::Rel(between) => {
+            let end = records::skip(a, b, i);
+            let c = ch.ctx;
+            let last = ch.last;
+            Chain {
+                next: end,
+                ctx: c,
+                last,
+                pending: Pending::Rel(i, between),
+                kept: ch.kept,
+            }
+        }
+        Element::Node(node) => {
+            let pending = ch.pending;
+            let Pending::Rel(rel, between) = pending else {
+                return start_chain(a, b, ops, rest, ch, base, left, node);
+            };
+            let last = ch.last;
+            let Last::Op(input, origin) = last else {
+                return start_chain(a, b, ops, rest, ch, base, left, node);
+            };
+            let link = Link {
+                node,
+                rel,
+                between,
+                input,
+                origin,
+            };
+            expand_to(a, b, ops, rest, ch, base, left, link)
+        }
+    }
 }
 
 // A node at the start, or with no rel pending.
@@ -577,7 +583,7 @@ fn expand_to(
     let m = cur.endpoint_var(rest, bind, base + (i + 1));
     let c = m.ctx;
     let place = At { base, i: rel, left };
-    let between = read_at(a, b, rel, field::REL_PROPS);
+    let between = link.between;
     let s = lower_rel_element(a, b, ops, rest, c, place, between);
     let d = s.ctx;
     let less = left - 1;

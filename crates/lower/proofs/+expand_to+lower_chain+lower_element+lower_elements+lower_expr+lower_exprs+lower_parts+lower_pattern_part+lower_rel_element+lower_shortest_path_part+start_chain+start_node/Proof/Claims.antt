@@ -51,7 +51,6 @@ use Rattle.lower.proofs.lower_no_parts.Reads as lower-no-parts-reads
 use Rattle.lower.proofs.or_source_all.Reads as or-source-all-reads
 use Rattle.lower.proofs.root_of.Reads as root-of-reads
 use Rattle.lower.proofs.read_element.Reads as read-element-reads
-use Rattle.lower.proofs.read_at.Reads as read-at-reads
 use Rattle.lower.proofs.read_bind.Reads as read-bind-reads
 use Rattle.words.proofs.records.children_of.Reads as children-of-reads
 use Rattle.words.proofs.records.count.Reads as count-reads
@@ -229,8 +228,6 @@ abbrev pub expand-to-calls : ℕ → expand-to-lts.Claims
 expand-to-calls t = (
   endpoint-var-reads.Asked,
   endpoint-var-reads.Learnt,
-  read-at-reads.Asked,
-  read-at-reads.Learnt,
   lower-rel-element-below t,
   lower-rel-element.Post,
   lower-exprs-below t,

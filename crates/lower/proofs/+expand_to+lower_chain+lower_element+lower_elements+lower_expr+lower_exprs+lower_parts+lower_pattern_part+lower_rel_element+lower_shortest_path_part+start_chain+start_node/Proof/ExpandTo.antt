@@ -1,11 +1,11 @@
 -- `expand_to`, of the cycle.
-use Prim.Native.Nat.{_+_, ℕ}
+use Prim.Native.Nat.{ℕ}
 use Rattle.context.specs.OpLaws.{pushed-as}
 use Rattle.lower.proofs.Reading.{endpoint-read, exprs-read}
 use Rattle.lower.proofs.Linking
 use Rattle.lower.specs.Exprs
 use Rattle.lower.proofs.Room
-use mathlib.Core.Path.{refl, ap, _∙_}
+use mathlib.Core.Path.{refl, _∙_}
 use native.Mathlib.Omega.{arith}
 use borrow.Fn.Kinds.{In, Out}
 use Rattle.lower.proofs.expand_to.Reads as reads
@@ -28,16 +28,13 @@ module _ (t : ℕ) where
   abbrev back-lower-exprs : here lts.After-lower-exprs → here lts.After-lower-rel-element
   back-lower-exprs c = search
 
-  abbrev back-lower-rel-element : here lts.After-lower-rel-element → here lts.After-read-at
+  abbrev back-lower-rel-element : here lts.After-lower-rel-element → here lts.After-endpoint-var
   back-lower-rel-element c = search
-
-  abbrev back-read-at : here lts.After-read-at → here lts.After-endpoint-var
-  back-read-at c = search
 
   abbrev back-endpoint-var : here lts.After-endpoint-var → here lts.Start
   back-endpoint-var c = search
 
-  ruleset ways = (back-push, back-expand, back-lower-exprs, back-lower-rel-element, back-read-at, back-endpoint-var)
+  ruleset ways = (back-push, back-expand, back-lower-exprs, back-lower-rel-element, back-endpoint-var)
 
   add-endpoint-var : here lts.Need-add-endpoint-var
   add-endpoint-var c =
@@ -55,15 +52,8 @@ module _ (t : ℕ) where
       let l = Room.chain-bounds (start .pre .1 .chain) in
       Room.can-number (start .pre .1 .chain .room) _ _ _ (start .pre .1 .chain .pass) (omega arith) refl
 
-  read-at-requires : here lts.Need-read-at-requires
-  read-at-requires c κs =
-      let start : here lts.Start = search ways depth 12 in
-      let w = Room.waiting-rel (start .pre .1 .chain .words) (start .pre .1 .waits) (start .pre .1 .chain .anchored) in
-      (start .pre .1 .chain .words, (Room.low (w .tree), omega arith))
-
   lower-rel-element-requires : here lts.Need-lower-rel-element-requires
   lower-rel-element-requires c κs =
-      let after-read-at : here lts.After-read-at = search ways depth 12 in
       let after-endpoint-var : here lts.After-endpoint-var = search ways depth 12 in
       let start : here lts.Start = search ways depth 12 in (
         omega (arith, start .pre .0),
@@ -82,7 +72,7 @@ module _ (t : ℕ) where
             depth = start .pre .1 .chain .depth;
             pass = start .pre .1 .chain .pass;
           };
-          read = after-read-at .read-at .ensures;
+          read = Room.waiting-read (start .pre .1 .chain .words) (start .pre .1 .waits) (start .pre .1 .chain .anchored);
         },
       )
 
@@ -244,7 +234,6 @@ module _ (t : ℕ) where
       add-endpoint-var
       add-endpoint-var-2
       endpoint-var-requires
-      read-at-requires
       lower-rel-element-requires
       sub-less
       lower-exprs-requires

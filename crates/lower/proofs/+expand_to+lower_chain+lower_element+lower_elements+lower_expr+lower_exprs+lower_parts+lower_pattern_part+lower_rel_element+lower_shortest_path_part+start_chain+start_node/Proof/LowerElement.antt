@@ -18,35 +18,35 @@ module _ (t : ℕ) where
   here X = X (lower-element-calls t) (lower-element-at t) reads.Post
 
   -- the ways back, from place to place
-  abbrev back-start-chain2 : here lts.After-start-chain2 → here lts.After-enum-told3
+  abbrev back-start-chain2 : here lts.After-start-chain2 → here lts.After-enum-told2
   back-start-chain2 c = search
 
   abbrev back-expand-to : here lts.After-expand-to → here lts.After-last
   back-expand-to c = search
 
-  abbrev back-start-chain : here lts.After-start-chain → here lts.After-enum-told2
+  abbrev back-start-chain : here lts.After-start-chain → here lts.After-enum-told
   back-start-chain c = search
 
-  abbrev back-enum-told3 : here lts.After-enum-told3 → here lts.After-pending
-  back-enum-told3 c = search
+  abbrev back-enum-told2 : here lts.After-enum-told2 → here lts.After-pending
+  back-enum-told2 c = search
 
   abbrev back-last : here lts.After-last → here lts.After-pending
   back-last c = search
 
-  abbrev back-enum-told2 : here lts.After-enum-told2 → here lts.After-node
-  back-enum-told2 c = search
+  abbrev back-enum-told : here lts.After-enum-told → here lts.After-node
+  back-enum-told c = search
 
   abbrev back-pending : here lts.After-pending → here lts.After-node
   back-pending c = search
 
-  abbrev back-skip : here lts.After-skip → here lts.After-enum-told
+  abbrev back-skip : here lts.After-skip → here lts.After-between
   back-skip c = search
 
   abbrev back-node : here lts.After-node → here lts.After-read-element
   back-node c = search
 
-  abbrev back-enum-told : here lts.After-enum-told → here lts.After-read-element
-  back-enum-told c = search
+  abbrev back-between : here lts.After-between → here lts.After-read-element
+  back-between c = search
 
   abbrev back-read-element : here lts.After-read-element → here lts.Start
   back-read-element c = search
@@ -55,13 +55,13 @@ module _ (t : ℕ) where
     back-start-chain2,
     back-expand-to,
     back-start-chain,
-    back-enum-told3,
-    back-last,
     back-enum-told2,
+    back-last,
+    back-enum-told,
     back-pending,
     back-skip,
     back-node,
-    back-enum-told,
+    back-between,
     back-read-element,
   )
 
@@ -75,10 +75,10 @@ module _ (t : ℕ) where
       let start : here lts.Start = search ways depth 7 in
       (start .pre .1 .words, Part.starts (start .pre .1 .tree))
 
-  returns : here lts.Need-returns
-  returns c =
+  returns-3 : here lts.Need-returns-3
+  returns-3 c =
       let after-skip : here lts.After-skip = search ways depth 7 in
-      let after-enum-told : here lts.After-enum-told = search ways depth 7 in
+      let after-between : here lts.After-between = search ways depth 7 in
       let after-read-element : here lts.After-read-element = search ways depth 7 in
       let start : here lts.Start = search ways depth 7 in
       Linking.rel-law
@@ -93,18 +93,19 @@ module _ (t : ℕ) where
       (Part.other-kind
       (start .pre .1 .words)
       (start .pre .1 .tree)
-      (Part.rel-read (after-read-element .read-element .ensures) (after-enum-told .enum-told .given .1) .is))
+      (Part.rel-read (after-read-element .read-element .ensures) (after-between .between .given .1) .is))
       (after-skip .skip .ensures)
+      (Part.rel-read (after-read-element .read-element .ensures) (after-between .between .given .1) .read)
       (start .pre .1 .tree)
 
   start-chain-requires : here lts.Need-start-chain-requires
   start-chain-requires c κs =
-      let after-enum-told2 : here lts.After-enum-told2 = search ways depth 7 in
+      let after-enum-told : here lts.After-enum-told = search ways depth 7 in
       let after-node : here lts.After-node = search ways depth 7 in
       let after-read-element : here lts.After-read-element = search ways depth 7 in
       let start : here lts.Start = search ways depth 7 in (
         omega arith,
-        record { chain = start .pre .1; is = Part.node-read (after-read-element .read-element .ensures) (after-node .node .given .1) .is; read = Part.node-read (after-read-element .read-element .ensures) (after-node .node .given .1) .read; anew = inl (after-enum-told2 .enum-told2 .given .1) },
+        record { chain = start .pre .1; is = Part.node-read (after-read-element .read-element .ensures) (after-node .node .given .1) .is; read = Part.node-read (after-read-element .read-element .ensures) (after-node .node .given .1) .read; anew = inl (after-enum-told .enum-told .given .1) },
       )
 
   same-length : here lts.Need-same-length
@@ -117,19 +118,19 @@ module _ (t : ℕ) where
       let after-start-chain : here lts.After-start-chain = search ways depth 7 in
       after-start-chain .start-chain .kept .1 .1 .1 .0
 
-  returns-2 : here lts.Need-returns-2
-  returns-2 c =
+  returns : here lts.Need-returns
+  returns c =
       let after-start-chain : here lts.After-start-chain = search ways depth 7 in
       after-start-chain .start-chain .ensures
 
   start-chain-requires-2 : here lts.Need-start-chain-requires-2
   start-chain-requires-2 c κs =
-      let after-enum-told3 : here lts.After-enum-told3 = search ways depth 7 in
+      let after-enum-told2 : here lts.After-enum-told2 = search ways depth 7 in
       let after-node : here lts.After-node = search ways depth 7 in
       let after-read-element : here lts.After-read-element = search ways depth 7 in
       let start : here lts.Start = search ways depth 7 in (
         omega arith,
-        record { chain = start .pre .1; is = Part.node-read (after-read-element .read-element .ensures) (after-node .node .given .1) .is; read = Part.node-read (after-read-element .read-element .ensures) (after-node .node .given .1) .read; anew = inr (after-enum-told3 .enum-told3 .given .1) },
+        record { chain = start .pre .1; is = Part.node-read (after-read-element .read-element .ensures) (after-node .node .given .1) .is; read = Part.node-read (after-read-element .read-element .ensures) (after-node .node .given .1) .read; anew = inr (after-enum-told2 .enum-told2 .given .1) },
       )
 
   same-length-3 : here lts.Need-same-length-3
@@ -142,8 +143,8 @@ module _ (t : ℕ) where
       let after-start-chain2 : here lts.After-start-chain2 = search ways depth 7 in
       after-start-chain2 .start-chain2 .kept .1 .1 .1 .0
 
-  returns-3 : here lts.Need-returns-3
-  returns-3 c =
+  returns-2 : here lts.Need-returns-2
+  returns-2 c =
       let after-start-chain2 : here lts.After-start-chain2 = search ways depth 7 in
       after-start-chain2 .start-chain2 .ensures
 
@@ -187,22 +188,22 @@ module _ (t : ℕ) where
       reads.Post
       read-element-requires
       (λ c. search needs)
-      (λ c. search needs)
       skip-requires
-      returns
+      (λ c. search needs)
       (λ c. search needs)
       (λ c. search needs)
       start-chain-requires
       same-length
       same-length-2
-      returns-2
+      returns
       (λ c. search needs)
       (λ c. search needs)
       start-chain-requires-2
       same-length-3
       same-length-4
-      returns-3
+      returns-2
       expand-to-requires
+      returns-3
       same-length-5
       same-length-6
       returns-4

@@ -1,9 +1,9 @@
 -- `lower_rel_element`, of the cycle.
 use native.Mathlib.Nat.{le-refl}
-use Prim.Native.Nat.{_+_, ℕ}
+use Prim.Native.Nat.{ℕ}
 use Rattle.lower.proofs.Reading.{endpoint-read}
 use Rattle.lower.proofs.Room
-use mathlib.Core.Path.{refl, ap, _∙_}
+use mathlib.Core.Path.{refl, _∙_}
 use native.Mathlib.Omega.{arith}
 use borrow.Fn.Kinds.{In, Out}
 use Rattle.lower.proofs.lower_rel_element.Reads as reads

@@ -1,11 +1,10 @@
 -- `lower_shortest_path_part`, of the cycle.
-use Prim.Native.Nat.{_-_, _+_, ℕ}
+use Prim.Native.Nat.{ℕ}
 use Rattle.context.specs.OpLaws.{pushed-as}
 use Rattle.lower.proofs.Asking
 use Rattle.lower.proofs.Reading.{endpoint-read}
 use Rattle.lower.proofs.Part
 use Rattle.lower.proofs.Special
-use Rattle.lower.specs.Exprs
 use Rattle.lower.proofs.Room
 use mathlib.Core.Path.{refl, _∙_}
 use native.Mathlib.Omega.{arith}

@@ -1,11 +1,11 @@
 -- `start_node`, of the cycle.
 use native.Mathlib.Nat.{le-refl}
-use Prim.Native.Nat.{_+_, ℕ}
+use Prim.Native.Nat.{ℕ}
 use Rattle.context.specs.OpLaws.{pushed-as}
 use Rattle.lower.proofs.Start
 use Rattle.lower.specs.Exprs
 use Rattle.lower.proofs.Room
-use mathlib.Core.Path.{sym, ap, _∙_}
+use mathlib.Core.Path.{sym, _∙_}
 use native.Mathlib.Omega.{arith}
 use borrow.Fn.Kinds.{In, Out}
 use Rattle.lower.proofs.start_node.Reads as reads
