@@ -17,7 +17,7 @@ use Rattle.lower.specs.Render.{Notes, Ops, render, renderOf, recsOver, exprRecs
 use Rattle.lower.specs.Shows.{shift}
 use Rattle.lower.specs.Rep.{State, Mem, Written, Sub, Blank, Rep, Ran, RoomFor}
 use Rattle.lower.specs.Pieces.{exprPiece, SomeTree, LowersExpr}
-use Rattle.words.specs.Fits.{trees-fits, tree-low}
+use Rattle.words.specs.Fits.{tree-low}
 use Rattle.lower.specs.Carry.{plain-lower}
 use Rattle.lower.specs.State.{sub-more, sub-within, blank-within, blank-behind, back, to-refl, to-then, to-wider}
 use Rattle.lower.specs.Exprs.{moved-refl, moved-then, moved-within, good-after, good-from, narrow}
@@ -215,9 +215,6 @@ module _ {sheet : Bytes} {a b : List ℕ} {n d : ℕ} {Done : ℕ → ℕ → Me
 
   pub done-few : {k i g : ℕ} {m : Mem} → k ≡ 0 → Left sheet a b n d Done k i g m → g ≤ n
   done-few h p = omega (arith, p .few)
-
-pub few-items : {sheet : Bytes} {a b : List ℕ} {n d i : ℕ} → HeldMany sheet a b projection n d i → i ≤ maxRecords → n ≤ maxRecords
-few-items {sheet} {a} {b} {d = d} {i = i} x l = let f = trees-fits sheet a b (x .trees) d i l (x .are) in omega (arith, f .0, f .1)
 
 pub start : {sheet : Bytes} {a b : List ℕ} {n d i : ℕ} {m : Mem} → HeldMany sheet a b projection n d i → RoomFor d i m → Left sheet a b n d (λ e g m′. LowersSplit sheet a b n d i e g m m′) n i 0 m
 start x g = record { some = x; room = g; few = omega arith; rest = λ e h m′ r. (let z : 0 + h ≡ h = omega arith in rw z r) }

@@ -25,7 +25,7 @@ exprs-lower (t ∷ᵗ ts) s = rw (exprs-lower ts (lowerExpr t s .1))
 
 unfoldable pub itemsC : {n : ℕ} → Trees projection n → Carried n
 itemsC []ᵗ = []ᶜ
-itemsC (node projection line k (alias, _) ((e ∷ᵗ []ᵗ) ▸ end) ∷ᵗ ts) = (rec (inPlan planProjection) tt (aliasOr alias (synthesiseAlias e), tt) ∷ [], e) ∷ᶜ itemsC ts
+itemsC (node projection line k (alias, _) ((e ∷ᵗ []ᵗ) ▸ end) ∷ᵗ ts) = (item (aliasOr alias (synthesiseAlias e)) [], e) ∷ᶜ itemsC ts
 
 pub items-lower : {n : ℕ} (ts : Trees projection n) (s : State) → lowerProjections ts s ≡ lowerC (itemsC ts) s
 unfolding itemsC lowerC lowerProjections item _>>=_ ret

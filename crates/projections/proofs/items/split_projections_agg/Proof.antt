@@ -2,6 +2,7 @@
 use native.Mathlib.Omega.{arith}
 use Rattle.lower.specs.Rep.{mem}
 use Rattle.projections.specs.Promises.{LowersSplit}
+use Rattle.projections.specs.Room
 use Rattle.projections.proofs.PartLaws
 use Rattle.projections.proofs.items.split_projections_agg.Statement.{statement}
 use Rattle.projections.proofs.items.split_projections_agg.Tie as tie
@@ -70,7 +71,7 @@ plus-if-requires : here tie.Need-plus-if-requires
 plus-if-requires c κs =
     let l : here tie.At-loop = search ways depth 7 in
     let s : here tie.Start = search ways depth 7 in
-    omega (arith, PartLaws.few-items (s .pre .items) (s .pre .room .here), l .loop .inv .few)
+    omega (arith, Room.few-trees (s .pre .room .here) (Room.some-trees (s .pre .items)), l .loop .inv .few)
 
 sub-m : here tie.Need-sub-m
 sub-m c =

@@ -4,7 +4,6 @@ use native.Mathlib.Omega.{arith}
 use native.Mathlib.Nat.{le-refl}
 use Rattle.lower.specs.Exprs
 use Rattle.projections.specs.Room
-use Rattle.projections.proofs.PartLaws
 use Rattle.projections.proofs.PassLaws
 use Rattle.projections.proofs.passes.first_pass.Statement.{statement}
 use Rattle.projections.proofs.passes.first_pass.Tie as tie
@@ -50,7 +49,7 @@ aggregate-if-requires c κs =
     let s : tie.Start = search ways in
     let good = Room.good-source (s .pre .ready) (q .or-source-all .ensures .1 _) _ (le-refl _) (omega (arith, s .pre .low)) (s .pre .depth) in
     let room = Room.can-push (Exprs.good-after (p .split-projections-agg .ensures .0 .moved) good) in
-    let few = PartLaws.few-items (s .pre .items) (omega (arith, s .pre .low)) in
+    let few = Room.few-trees (omega (arith, s .pre .low)) (Room.some-trees (s .pre .items)) in
     let aggs = p .split-projections-agg .ensures .1 in
     let input = Room.few-source (s .pre .ready) (q .or-source-all .ensures .1 _) in
     (room .0, room .1, Room.fits (omega arith) (omega (arith, s .pre .low)) (s .pre .depth), omega (arith, input), omega (arith, few), omega (arith, few, aggs))
