@@ -100,7 +100,8 @@ module _ (R : ℕ → ℕ → Type 0) where
   writeIn~ []ᵗ~ = equal
   writeIn~ (c ∷ᵗ~ cs) = orElse~ _ _ _ _ (isWrite~ c) (writeIn~ cs)
 
-  armStep~ : (line : ℕ) (f g : Fields (forms unionArm tt)) {x : Forest (children unionArm tt f)} {y : Forest (children unionArm tt g)} → Forest~ R (children unionArm tt f) (children unionArm tt g) x y → {n m : ℕ} (xs : Trees unionArm n) (ys : Trees unionArm m) → Equal (writeInArms xs) (writeInArms ys) → Equal (writeInArms (node unionArm line tt f x ∷ᵗ xs)) (writeInArms (node unionArm line tt g y ∷ᵗ ys))
+  armStep~ : (line : ℕ) (f g : Fields (forms unionArm tt)) {x : Forest (children unionArm tt f)} {y : Forest (children unionArm tt g)} →
+      Forest~ R (children unionArm tt f) (children unionArm tt g) x y → {n m : ℕ} (xs : Trees unionArm n) (ys : Trees unionArm m) → Equal (writeInArms xs) (writeInArms ys) → Equal (writeInArms (node unionArm line tt f x ∷ᵗ xs)) (writeInArms (node unionArm line tt g y ∷ᵗ ys))
   unfolding writeInArms
   armStep~ line (_, (_, _)) (_, (_, _)) (cs ▸~ end~) xs ys rest = orElse~ _ _ _ _ (writeIn~ cs) rest
 

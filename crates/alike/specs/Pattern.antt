@@ -7,7 +7,8 @@ use mathlib.Core.Option.{Option, none, some}
 use lib.Dec.{eqb}
 use lib.ListN.{length}
 use Rattle.model.specs.Field.{RelLength}
-use Rattle.model.specs.Lower.{Recs, Lowering, _>>=_, source, filter, orSourceAll, Props, has, lowerProps, NodeStep, RelStep, Step, ofNode, ofRel, lowerRelElement, nodeRecs, filterByProps, Chain, startNode, expandTo, reach, lowerElement, lowerElements, rootOf, bindPath, lowerChain, lowerShortestPathPart, Shape, nodeRelNode, other, shapeOf, lowerShaped, lowerPatternPart, furtherPart, lowerFurther, lowerParts, optionalJoin, lowerMatchPattern}
+use Rattle.model.specs.Lower.{Recs, Lowering, _>>=_, source, filter, orSourceAll, Props, has, lowerProps, NodeStep, RelStep, Step, ofNode, ofRel}
+use Rattle.model.specs.Lower.{lowerRelElement, nodeRecs, filterByProps, Chain, startNode, expandTo, reach, lowerElement, lowerElements, rootOf, bindPath, lowerChain, lowerShortestPathPart, Shape, nodeRelNode, other, shapeOf, lowerShaped, lowerPatternPart, furtherPart, lowerFurther, lowerParts, optionalJoin, lowerMatchPattern}
 use Rattle.alike.specs.Relation.{Option~, none~, some~, List~, []~, _∷~_}
 use Rattle.alike.specs.Action.{Action~, Does~, bind~, then~, gives~, ret~, push~, copy~, fresh~, orSourceAll~, mapVar~, endpointVar~}
 

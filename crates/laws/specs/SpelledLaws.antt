@@ -110,8 +110,20 @@ mutual
 
   pub trees-got : {s : Sort} {m : ℕ} (ts : Trees s m) (d n : ℕ) (p : Pieces) → depthOf ts ≤ d → Each Fits (recordsOf ts) → n + length (recordsOf ts) ≤ suc maxLines → readMany (λ q. readTree d s q) m (place n (ahead (recordsOf ts) p)) ≡ got (numberedOf ts n) (place (n + length (recordsOf ts)) p)
   trees-got []ᵗ d n p deep fit few = ap (λ m. got []ᵗ (place m p)) (omega arith)
-  trees-got (t ∷ᵗ ts) d n p deep fit few = rw (ahead-append (records t) (recordsOf ts) p, tree-got t d n (ahead (recordsOf ts) p) (omega arith) (each-left (records t) (recordsOf ts) fit) (omega (arith, length-append (records t) (recordsOf ts))), trees-got ts d (n + length (records t)) p (omega arith) (each-right (records t) (recordsOf ts) fit) (omega (arith, length-append (records t) (recordsOf ts)))) (ap (λ q. got (numbered t n ∷ᵗ numberedOf ts (n + length (records t))) q) (behind-both n (records t) (recordsOf ts) p))
+  trees-got (t ∷ᵗ ts) d n p deep fit few =
+      rw (
+        ahead-append (records t) (recordsOf ts) p,
+        tree-got t d n (ahead (recordsOf ts) p) (omega arith) (each-left (records t) (recordsOf ts) fit) (omega (arith, length-append (records t) (recordsOf ts))),
+        trees-got ts d (n + length (records t)) p (omega arith) (each-right (records t) (recordsOf ts) fit) (omega (arith, length-append (records t) (recordsOf ts))),
+      )
+      (ap (λ q. got (numbered t n ∷ᵗ numberedOf ts (n + length (records t))) q) (behind-both n (records t) (recordsOf ts) p))
 
   pub forest-got : {gs : List Group} (f : Forest gs) (d n : ℕ) (p : Pieces) → depthIn f ≤ d → Each Fits (recordsIn f) → n + length (recordsIn f) ≤ suc maxLines → readGroups (λ c q. readTree d c q) gs (place n (ahead (recordsIn f) p)) ≡ got (numberedIn f n) (place (n + length (recordsIn f)) p)
   forest-got end d n p deep fit few = ap (λ m. got end (place m p)) (omega arith)
-  forest-got (ts ▸ f) d n p deep fit few = rw (ahead-append (recordsOf ts) (recordsIn f) p, trees-got ts d n (ahead (recordsIn f) p) (omega arith) (each-left (recordsOf ts) (recordsIn f) fit) (omega (arith, length-append (recordsOf ts) (recordsIn f))), forest-got f d (n + length (recordsOf ts)) p (omega arith) (each-right (recordsOf ts) (recordsIn f) fit) (omega (arith, length-append (recordsOf ts) (recordsIn f)))) (ap (λ q. got (numberedOf ts n ▸ numberedIn f (n + length (recordsOf ts))) q) (behind-both n (recordsOf ts) (recordsIn f) p))
+  forest-got (ts ▸ f) d n p deep fit few =
+      rw (
+        ahead-append (recordsOf ts) (recordsIn f) p,
+        trees-got ts d n (ahead (recordsIn f) p) (omega arith) (each-left (recordsOf ts) (recordsIn f) fit) (omega (arith, length-append (recordsOf ts) (recordsIn f))),
+        forest-got f d (n + length (recordsOf ts)) p (omega arith) (each-right (recordsOf ts) (recordsIn f) fit) (omega (arith, length-append (recordsOf ts) (recordsIn f))),
+      )
+      (ap (λ q. got (numberedOf ts n ▸ numberedIn f (n + length (recordsOf ts))) q) (behind-both n (recordsOf ts) (recordsIn f) p))

@@ -17,7 +17,28 @@ use Rattle.model.specs.Call.{Answer, Outcome, lowerCall, lineRefusal, tr
 
 -- the lowering call with four work slices that are long enough, opened down to what computes
 unfoldable pub compute : Bytes → Bytes → Outcome
-unfolding Text.bytesFrom Text.bytes Text.sameBy Text.same Text.split Text.behind Text.join Text.digits Text.decimal Text.valueOn Text.value Text.signed Text.negative Text.signedValue Text.hexDigit Text.hexDigits Text.hexDigitValue Text.hexValueOn Text.hexValue Text.escapeByte Text.escape Text.unescapeByte Text.meant Text.unescapeOn Text.unescape Field.width Field.spellFlag Field.spellOption Field.spellAlias Field.spellLength Field.spell Field.fitsOption Field.fitsInt Field.fitsLength Field.fits Field.optionValue Field.aliasValue Field.lengthValue Field.piece Field.meaning Field.read Field.spellFields Field.both Field.readFields Record.sameKeyword Record.exprKeyword Record.clauseKeyword Record.elementKeyword Record.opKeyword Record.planExprKeyword Record.planKeyword Record.keyword Record.sames Record.planKinds Record.kinds Record.spellRec Record.spellRecs Record.kindNamed Record.withFields Record.readAs Record.readRec Tree.toList Tree.records Tree.fold Sheet.next Sheet.formed Sheet.lineAt Sheet.readLine Sheet.readMany Sheet.readGroups Sheet.readNode Sheet.readTree Sheet.atEnd Sheet.readSheet Sheet.orElse Sheet.isWrite Sheet.writeIn Sheet.writeInArms Sheet.firstWrite Check.andThen Check.ofExpr Check.ofElements Check.ofPart Check.ofRecord Check.noSpan Check.precheckStatement Check.check Lower._>>=_ Lower.ret Lower.push Lower.at Lower.copy Lower.lookup Lower.issue Lower.numbered Lower.mapVar Lower.fresh Lower.upcoming Lower.endpointVar Lower.inOrder Lower.source Lower.filter Lower.pushSourceAll Lower.orSourceAll Lower.has Lower.lowerProps Lower.lowerRelElement Lower.nodeRecs Lower.filterByProps Lower.startNode Lower.expandTo Lower.reach Lower.lowerElement Lower.lowerElements Lower.rootOf Lower.pathElements Lower.bindPath Lower.lowerChain Lower.lowerShortestPathPart Lower.shapeOf Lower.lowerShaped Lower.lowerPatternPart Lower.furtherPart Lower.lowerFurther Lower.lowerParts Lower.optionalJoin Lower.lowerMatchPattern Lower.propsOf Lower.over Lower.exprStep Lower.elementStep Lower.made Lower.lowerExpr Lower.lowerExprs Lower.lowerPattern Lower.sameAlias Lower.synthesiseAlias Lower.aliasOr Lower.item Lower.lowerProjections Lower.lowercase Lower.aggregates Lower.among Lower.isAggregateFunc Lower.noSplit Lower.withKey Lower.withAgg Lower.lowerKey Lower.lowerCallItem Lower.lowerItem Lower.splitProjectionsAgg Lower.lowerKeys Lower.orderBy Lower.overExpr Lower.lowerTrailers Lower.lowerYields Lower.distinctIf Lower.aggregateIf Lower.lowerClause Lower.lowerClauses Lower.lowerArms Lower.lower Lower.empty Lower.lowerStatement Plan.operatorRecs Plan.mappedRecs Plan.firstRec Plan.planRecs Plan.planSheet Call.then Call.short Call.testWork Call.testBytes Call.testReading Call.testWrite Call.testCheck Call.testPlan Call.checked Call.planned Call.written Call.outcome Call.lowerCall Call.recordCount
+unfolding Text.bytesFrom Text.bytes Text.sameBy Text.same Text.split Text.behind Text.join Text.digits Text.decimal Text.valueOn Text.value
+    Text.signed Text.negative Text.signedValue Text.hexDigit Text.hexDigits Text.hexDigitValue Text.hexValueOn Text.hexValue Text.escapeByte
+    Text.escape Text.unescapeByte Text.meant Text.unescapeOn Text.unescape Field.width Field.spellFlag Field.spellOption Field.spellAlias
+    Field.spellLength Field.spell Field.fitsOption Field.fitsInt Field.fitsLength Field.fits Field.optionValue Field.aliasValue
+    Field.lengthValue Field.piece Field.meaning Field.read Field.spellFields Field.both Field.readFields Record.sameKeyword
+    Record.exprKeyword Record.clauseKeyword Record.elementKeyword Record.opKeyword Record.planExprKeyword Record.planKeyword Record.keyword
+    Record.sames Record.planKinds Record.kinds Record.spellRec Record.spellRecs Record.kindNamed Record.withFields Record.readAs
+    Record.readRec Tree.toList Tree.records Tree.fold Sheet.next Sheet.formed Sheet.lineAt Sheet.readLine Sheet.readMany Sheet.readGroups
+    Sheet.readNode Sheet.readTree Sheet.atEnd Sheet.readSheet Sheet.orElse Sheet.isWrite Sheet.writeIn Sheet.writeInArms Sheet.firstWrite
+    Check.andThen Check.ofExpr Check.ofElements Check.ofPart Check.ofRecord Check.noSpan Check.precheckStatement Check.check Lower._>>=_
+    Lower.ret Lower.push Lower.at Lower.copy Lower.lookup Lower.issue Lower.numbered Lower.mapVar Lower.fresh Lower.upcoming
+    Lower.endpointVar Lower.inOrder Lower.source Lower.filter Lower.pushSourceAll Lower.orSourceAll Lower.has Lower.lowerProps
+    Lower.lowerRelElement Lower.nodeRecs Lower.filterByProps Lower.startNode Lower.expandTo Lower.reach Lower.lowerElement
+    Lower.lowerElements Lower.rootOf Lower.pathElements Lower.bindPath Lower.lowerChain Lower.lowerShortestPathPart Lower.shapeOf
+    Lower.lowerShaped Lower.lowerPatternPart Lower.furtherPart Lower.lowerFurther Lower.lowerParts Lower.optionalJoin Lower.lowerMatchPattern
+    Lower.propsOf Lower.over Lower.exprStep Lower.elementStep Lower.made Lower.lowerExpr Lower.lowerExprs Lower.lowerPattern Lower.sameAlias
+    Lower.synthesiseAlias Lower.aliasOr Lower.item Lower.lowerProjections Lower.lowercase Lower.aggregates Lower.among Lower.isAggregateFunc
+    Lower.noSplit Lower.withKey Lower.withAgg Lower.lowerKey Lower.lowerCallItem Lower.lowerItem Lower.splitProjectionsAgg Lower.lowerKeys
+    Lower.orderBy Lower.overExpr Lower.lowerTrailers Lower.lowerYields Lower.distinctIf Lower.aggregateIf Lower.lowerClause
+    Lower.lowerClauses Lower.lowerArms Lower.lower Lower.empty Lower.lowerStatement Plan.operatorRecs Plan.mappedRecs Plan.firstRec
+    Plan.planRecs Plan.planSheet Call.then Call.short Call.testWork Call.testBytes Call.testReading Call.testWrite Call.testCheck
+    Call.testPlan Call.checked Call.planned Call.written Call.outcome Call.lowerCall Call.recordCount
 compute sheet slice = lowerCall (replicate 4 workWords) sheet slice
 
 -- a sheet, and what the call gives
