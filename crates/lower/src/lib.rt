@@ -24,6 +24,9 @@ use words::field;
 use words::kind;
 use words::records;
 
+// A special part has exactly node, rel, node.
+const SPECIAL_ELEMENTS: u32 = 3;
+
 // The last operator of a chain and its node's number, if there is one.
 pub enum Last {
     Nothing,
@@ -330,7 +333,7 @@ fn lower_pattern_part(
         return lower_chain(a, b, ops, rest, ctx, at);
     }
     let n = words::word(a, b, i, field::PART_ELEMENTS);
-    if n != 3 {
+    if n != SPECIAL_ELEMENTS {
         return lower_chain(a, b, ops, rest, ctx, at);
     }
     let first = i + 1;
@@ -366,7 +369,7 @@ fn lower_shortest_path_part(
     let i = at.i;
     let base = at.base;
     let first = i + 1;
-    let less = at.left - 1;
+    let left = at.left - 1;
     let rel = ends.rel;
     let far = ends.far;
     let node = ends.near;
@@ -376,15 +379,11 @@ fn lower_shortest_path_part(
     let near = At {
         base,
         i: first,
-        left: less,
+        left,
     };
     let r = start_node(a, b, ops, rest, c, near, from.number, node);
     let d = r.ctx;
-    let place = At {
-        base,
-        i: rel,
-        left: less,
-    };
+    let place = At { base, i: rel, left };
     let s = lower_rel_element(a, b, ops, rest, d, place, between);
     let to_node = ends.to;
     let to_bind = to_node.bind;
@@ -395,11 +394,7 @@ fn lower_shortest_path_part(
     let path = f.endpoint_var(rest, bind, base + first);
     let g = path.ctx;
     let k = g.ops;
-    let whole = At {
-        base,
-        i,
-        left: less,
-    };
+    let whole = At { base, i, left };
     let z = g.push(ops, op::shortest_path(whole, r.op, rel, far));
     let end = records::skip(a, b, far);
     Root {
