@@ -71,7 +71,7 @@ pub enum Element {
 }
 
 // The elements of a special part: what is read of its near node and of its far one, and the records of the rel and of the far node.
-pub struct Ends {
+pub struct NodeRelNode {
     pub near: Read,
     pub rel: usize,
     pub far: usize,
@@ -348,7 +348,7 @@ fn lower_pattern_part(
     let Element::Node(to) = read_element(a, b, far) else {
         return lower_chain(a, b, ops, rest, ctx, at);
     };
-    let ends = Ends { near, rel, far, to };
+    let ends = NodeRelNode { near, rel, far, to };
     lower_shortest_path_part(a, b, ops, rest, ctx, at, ends, between)
 }
 
@@ -360,7 +360,7 @@ fn lower_shortest_path_part(
     rest: &mut [u32],
     ctx: LowerCtx,
     at: At,
-    ends: Ends,
+    ends: NodeRelNode,
     between: Read,
 ) -> Root
     requires { ⌜ SpecialAsked (now a) (now b) at ends between (mem ctx (now ops) (now rest)) ⌝ }
