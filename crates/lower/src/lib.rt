@@ -191,31 +191,21 @@ pub fn lower_expr(
     let i = at.i;
     let kind = words::word(a, b, i, field::KIND);
     let n = records::children_of(a, b, i, kind);
-    let first = i + 1;
-    let place = at.base + first;
-    let less = at.left - 1;
-    let below = At {
-        base: at.base,
-        i: first,
-        left: less,
-    };
+    let base = at.base;
+    let kid = i + 1;
+    let place = base + kid;
+    let left = at.left - 1;
+    let below = At { base, i: kid, left };
     match kind {
         kind::VAR => {
             let id = words::word(a, b, i, field::VAR_ID);
             let m = ctx.number(rest, id, place);
             let c = m.ctx;
-            Reached {
-                next: first,
-                ctx: c,
-            }
+            Reached { next: kid, ctx: c }
         }
         kind::MAP => lower_exprs(a, b, ops, rest, ctx, below, n, 1),
         kind::PAT => {
-            let here = At {
-                base: at.base,
-                i,
-                left: less,
-            };
+            let here = At { base, i, left };
             let r = lower_parts(a, b, ops, rest, ctx, here, n);
             context::note(rest, place, r.op as u32);
             let c = r.ctx;
