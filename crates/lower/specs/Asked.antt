@@ -15,7 +15,7 @@ use Rattle.lower.specs.Chains.{from, ReadAt, ChainInBounds, Anchored, St
 use Rattle.lower.specs.declared.Chain.{Chain}
 use Rattle.lower.specs.declared.Link.{Link}
 use Rattle.lower.specs.declared.Read.{Read}
-use Rattle.lower.specs.declared.Ends.{Ends}
+use Rattle.lower.specs.declared.NodeRelNode.{NodeRelNode}
 use Rattle.lower.specs.declared.Last.the-variants as last
 use Rattle.lower.specs.declared.Pending.the-variants as pending
 
@@ -61,7 +61,7 @@ pub record RelAsked (a b : List ℕ) (at : At) (rel : Read) (m : Mem) : Type 0 w
   pub read : ReadAt a b (at .i) relPropsAt rel
 
 -- a part, and that it is a special one, with what was read of its elements
-pub record SpecialAsked (a b : List ℕ) (at : At) (ends : Ends) (between : Read) (m : Mem) : Type 0 where
+pub record SpecialAsked (a b : List ℕ) (at : At) (ends : NodeRelNode) (between : Read) (m : Mem) : Type 0 where
   pub part : TreeAsked patternPart a b at m
   pub special : Special a b (at .i) (ends .rel) (ends .far)
   pub near : ReadAt a b (at .i + 1) nodePropsAt (ends .near)

@@ -24,6 +24,9 @@ use words::field;
 use words::kind;
 use words::records;
 
+// A special part has exactly node, rel, node.
+const SPECIAL_ELEMENTS: u32 = 3;
+
 // The last operator of a chain and its node's number, if there is one.
 pub enum Last {
     Nothing,
@@ -68,7 +71,7 @@ pub enum Element {
 }
 
 // The elements of a special part: what is read of its near node and of its far one, and the records of the rel and of the far node.
-pub struct Ends {
+pub struct NodeRelNode {
     pub near: Read,
     pub rel: usize,
     pub far: usize,
@@ -188,31 +191,21 @@ pub fn lower_expr(
     let i = at.i;
     let kind = words::word(a, b, i, field::KIND);
     let n = records::children_of(a, b, i, kind);
-    let first = i + 1;
-    let place = at.base + first;
-    let less = at.left - 1;
-    let below = At {
-        base: at.base,
-        i: first,
-        left: less,
-    };
+    let base = at.base;
+    let kid = i + 1;
+    let place = base + kid;
+    let left = at.left - 1;
+    let below = At { base, i: kid, left };
     match kind {
         kind::VAR => {
             let id = words::word(a, b, i, field::VAR_ID);
             let m = ctx.number(rest, id, place);
             let c = m.ctx;
-            Reached {
-                next: first,
-                ctx: c,
-            }
+            Reached { next: kid, ctx: c }
         }
         kind::MAP => lower_exprs(a, b, ops, rest, ctx, below, n, 1),
         kind::PAT => {
-            let here = At {
-                base: at.base,
-                i,
-                left: less,
-            };
+            let here = At { base, i, left };
             let r = lower_parts(a, b, ops, rest, ctx, here, n);
             context::note(rest, place, r.op as u32);
             let c = r.ctx;
@@ -330,7 +323,7 @@ fn lower_pattern_part(
         return lower_chain(a, b, ops, rest, ctx, at);
     }
     let n = words::word(a, b, i, field::PART_ELEMENTS);
-    if n != 3 {
+    if n != SPECIAL_ELEMENTS {
         return lower_chain(a, b, ops, rest, ctx, at);
     }
     let first = i + 1;
@@ -345,7 +338,7 @@ fn lower_pattern_part(
     let Element::Node(to) = read_element(a, b, far) else {
         return lower_chain(a, b, ops, rest, ctx, at);
     };
-    let ends = Ends { near, rel, far, to };
+    let ends = NodeRelNode { near, rel, far, to };
     lower_shortest_path_part(a, b, ops, rest, ctx, at, ends, between)
 }
 
@@ -357,7 +350,7 @@ fn lower_shortest_path_part(
     rest: &mut [u32],
     ctx: LowerCtx,
     at: At,
-    ends: Ends,
+    ends: NodeRelNode,
     between: Read,
 ) -> Root
     requires { ⌜ SpecialAsked (now a) (now b) at ends between (mem ctx (now ops) (now rest)) ⌝ }
@@ -366,7 +359,7 @@ fn lower_shortest_path_part(
     let i = at.i;
     let base = at.base;
     let first = i + 1;
-    let less = at.left - 1;
+    let left = at.left - 1;
     let rel = ends.rel;
     let far = ends.far;
     let node = ends.near;
@@ -376,15 +369,11 @@ fn lower_shortest_path_part(
     let near = At {
         base,
         i: first,
-        left: less,
+        left,
     };
     let r = start_node(a, b, ops, rest, c, near, from.number, node);
     let d = r.ctx;
-    let place = At {
-        base,
-        i: rel,
-        left: less,
-    };
+    let place = At { base, i: rel, left };
     let s = lower_rel_element(a, b, ops, rest, d, place, between);
     let to_node = ends.to;
     let to_bind = to_node.bind;
@@ -395,11 +384,7 @@ fn lower_shortest_path_part(
     let path = f.endpoint_var(rest, bind, base + first);
     let g = path.ctx;
     let k = g.ops;
-    let whole = At {
-        base,
-        i,
-        left: less,
-    };
+    let whole = At { base, i, left };
     let z = g.push(ops, op::shortest_path(whole, r.op, rel, far));
     let end = records::skip(a, b, far);
     Root {

@@ -97,8 +97,8 @@ module _ (t : ℕ) where
       let start : here lts.Start = search ways depth 8 in
       (Room.low (start .pre .1 .tree), (start .pre .1 .words, after-word .word .ensures))
 
-  add-first : here lts.Need-add-first
-  add-first c =
+  add-kid : here lts.Need-add-kid
+  add-kid c =
       let start : here lts.Start = search ways depth 8 in
       omega (arith, Room.bounds (start .pre .1))
 
@@ -107,8 +107,8 @@ module _ (t : ℕ) where
       let start : here lts.Start = search ways depth 8 in
       omega (arith, Room.bounds (start .pre .1))
 
-  sub-less : here lts.Need-sub-less
-  sub-less c =
+  sub-left : here lts.Need-sub-left
+  sub-left c =
       let start : here lts.Start = search ways depth 8 in
       omega (arith, Room.bounds (start .pre .1))
 
@@ -386,9 +386,9 @@ module _ (t : ℕ) where
       reads.Post
       word-requires
       children-of-requires
-      add-first
+      add-kid
       add-place
-      sub-less
+      sub-left
       word-requires-2
       number-requires
       lower-exprs-requires

@@ -62,8 +62,8 @@ module _ (t : ℕ) where
       let l₄ = Room.low (Asking.first-of (start .pre .1) .tree) in
       omega arith
 
-  sub-less : here lts.Need-sub-less
-  sub-less c =
+  sub-left : here lts.Need-sub-left
+  sub-left c =
       let start : here lts.Start = search ways depth 16 in
       let l = Room.bounds (start .pre .1 .part) in
       let l₄ = Room.low (Asking.first-of (start .pre .1) .tree) in
@@ -378,7 +378,7 @@ module _ (t : ℕ) where
       (lower-shortest-path-part-at t)
       reads.Post
       add-first
-      sub-less
+      sub-left
       add-endpoint-var
       add-endpoint-var-2
       endpoint-var-requires
