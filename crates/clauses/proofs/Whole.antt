@@ -91,6 +91,10 @@ start = record { ops = 0; next = 0; mapped = 0 }
 pub start-ready : (c : LowerCtx) (os rs : List ℕ) → c .ops ≤ maxStart → c .next ≤ maxStart → workWords ≤ length os → workWords ≤ length rs → Ready 1 (mem (forgetting c) os rs)
 start-ready c os rs lc ln lo lr = record { few = omega arith; low = omega arith; met = omega arith; here = omega arith; in-ops = lo; in-rest = lr; index = none-indexed (drop varsAt rs) }
 
+-- so behind one statement from nothing, over tables of its own
+pub ready-behind : {sheet : Bytes} {a b : List ℕ} {d e : ℕ} {o : Option ℕ} {os rs : List ℕ} {m : Mem} (os′ rs′ : List ℕ) → LowersFrom sheet a b d e o (mem start os rs) m → workWords ≤ length os′ → workWords ≤ length rs′ → Ready 1 (mem (forgetting (m .ctx)) os′ rs′)
+ready-behind {m = m} os′ rs′ p lo lr = let v = p .moved in start-ready (m .ctx) os′ rs′ (omega (arith, v .few, v .here)) (omega (arith, v .low, v .here)) lo lr
+
 start-rep : (sheet : Bytes) (a b os rs : List ℕ) → Rep sheet a b [] empty (mem start os rs)
 unfolding empty varsOf
 start-rep sheet a b os rs = record { count = refl; state = refl; shows = λ k h. absurd (omega arith) }
