@@ -10,8 +10,6 @@ PAGE = open("docs/FORMAT.md", encoding="utf-8").read()
 
 # what a table calls a type: the forms of the definitions, where they have another name
 TYPES = {"id": "var", "id?": "varOrAbsent", "op": "opId", "op?": "numberOrAbsent operator", "variable": "varId"}
-if "opId" not in SPEC:  # one form for both numbers
-    TYPES.update({"op": "number", "op?": "numOrAbsent u32", "variable": "number"})
 # what a table calls a group of children: their sorts in the statement sheet and in the plan sheet
 SORTS = {
     "clauses": ("clause", None), "arms": ("unionArm", None), "parts": ("patternPart", None),
