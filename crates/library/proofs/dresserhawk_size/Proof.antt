@@ -4,11 +4,38 @@ use Rattle.library.specs.Told.{noted}
 use borrow.Author.Needs.{needs}
 use Rattle.library.proofs.dresserhawk_size.Statement.{statement}
 use Rattle.library.proofs.dresserhawk_size.Tie as tie
-use Rattle.library.proofs.dresserhawk_size.Reads as reads
-use Rattle.library.proofs.dresserhawk_size.Lts as lts
-use Rattle.library.proofs.put_answer.Reads as put-answer-reads
-use Rattle.statement.proofs.size_statement.Reads as size-statement-reads
-use Rattle.values.proofs.values_of.Reads as values-of-reads
+
+-- the ways back, from place to place
+abbrev back-put-answer : tie.After-put-answer → tie.After-values-of
+back-put-answer c = search
+
+abbrev back-values-of : tie.After-values-of → tie.After-size-statement
+back-values-of c = search
+
+abbrev back-size-statement : tie.After-size-statement → tie.Else1
+back-size-statement c = search
+
+abbrev back-else1 : tie.Else1 → tie.Start
+back-else1 c = search
+
+ruleset ways = (back-put-answer, back-values-of, back-size-statement, back-else1)
+
+returns-2 : tie.Need-returns-2
+returns-2 c =
+    let after-put-answer : tie.After-put-answer = search ways in
+    let after-values-of : tie.After-values-of = search ways in
+    let after-size-statement : tie.After-size-statement = search ways in
+    let else1 : tie.Else1 = search ways in
+    let start : tie.Start = search ways in (
+      else1 .if1 .left,
+      (
+        _,
+        (
+          after-size-statement .size-statement .ensures,
+          ((after-put-answer .put-answer .ensures) ∙ ap (λ (x : Answer). noted x (start .args .answer .now)) (after-values-of .values-of .ensures)),
+        ),
+      ),
+    )
 
 pub dresserhawk-size-spec : {M : Type 1} → statement M
 dresserhawk-size-spec =
@@ -23,4 +50,4 @@ dresserhawk-size-spec =
     (λ c. search needs)
     (λ c. search needs)
     (λ c. search needs)
-    (λ c. ((c .before .before .before .before .before .before .before .before .before .before .before .before .before .before .before .before .before .before .if1 .left), (_, ((c .before .before .before .before .before .before .before .before .before .before .before .before .size-statement .ensures), ((c .before .before .put-answer .ensures) ∙ ap (λ (x : Answer). noted x ((c .before .before .before .before .before .before .before .before .before .before .before .before .before .before .before .before .before .before .before .before .before .before .before .before .before .args .answer .now))) ((c .before .before .before .values-of .ensures))))))))
+    returns-2)

@@ -2,35 +2,34 @@ use Rattle.statement.specs.Sizing.{check-fine, check-refused}
 use borrow.Author.Needs.{needs}
 use Rattle.statement.proofs.size_checked.Statement.{statement}
 use Rattle.statement.proofs.size_checked.Tie as tie
-use Rattle.statement.proofs.size_checked.Reads as reads
-use Rattle.statement.proofs.size_checked.Lts as lts
-use Rattle.precheck.proofs.precheck_statement.Reads as precheck-statement-reads
 
--- src/lib.rt:56:11
-precheck-statement-requires : tie.Need-precheck-statement-requires
-precheck-statement-requires c κs = search needs
+-- the ways back, from place to place
+abbrev back-e : tie.After-e → tie.After-precheck-statement
+back-e c = search
 
--- src/lib.rt:57:43
-enum-told : tie.Need-enum-told
-enum-told c = search needs
+abbrev back-precheck-statement : tie.After-precheck-statement → tie.Start
+back-precheck-statement c = search
 
--- src/lib.rt:57:43
-mul-t7 : tie.Need-mul-t7
-mul-t7 c = search needs
+ruleset ways = (back-e, back-precheck-statement)
 
--- src/lib.rt:58:26
-enum-known-e : tie.Need-enum-known-e
-enum-known-e c = search needs
-
--- src/lib.rt:50:1
 returns : tie.Need-returns
-returns c = λ sheet t h k. check-fine t _ _ ((c .enum-told .given .1)) ((c .before .before .precheck-statement .ensures) sheet t h) k
+returns c =
+    let after-precheck-statement : tie.After-precheck-statement = search ways in
+    λ sheet t h k. check-fine t _ _ (c .enum-told .given .1) ((after-precheck-statement .precheck-statement .ensures) sheet t h) k
 
--- src/lib.rt:50:1
 returns-2 : tie.Need-returns-2
-returns-2 c = λ sheet t h k. check-refused t _ _ ((c .before .e .given .1)) ((c .before .before .before .precheck-statement .ensures) sheet t h)
+returns-2 c =
+    let after-e : tie.After-e = search ways in
+    let after-precheck-statement : tie.After-precheck-statement = search ways in
+    λ sheet t h k. check-refused t _ _ (after-e .e .given .1) ((after-precheck-statement .precheck-statement .ensures) sheet t h)
 
 pub size-checked-spec : {M : Type 1} → statement M
 size-checked-spec =
     tie.close
-    (tie.spec precheck-statement-requires enum-told mul-t7 enum-known-e returns returns-2)
+    (tie.spec
+    (λ c κs. search needs)
+    (λ c. search needs)
+    (λ c. search needs)
+    (λ c. search needs)
+    returns
+    returns-2)

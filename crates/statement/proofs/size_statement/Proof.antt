@@ -2,72 +2,55 @@ use Rattle.statement.specs.Sizing.{yes, none-short, no-size}
 use borrow.Author.Needs.{needs}
 use Rattle.statement.proofs.size_statement.Statement.{statement}
 use Rattle.statement.proofs.size_statement.Tie as tie
-use Rattle.statement.proofs.size_statement.Reads as reads
-use Rattle.statement.proofs.size_statement.Lts as lts
-use Rattle.statement.proofs.long_enough.Reads as long-enough-reads
-use Rattle.statement.proofs.size_read.Reads as size-read-reads
 
--- src/lib.rt:83:8
-long-enough-requires : tie.Need-long-enough-requires
-long-enough-requires c κs = search needs
+-- the ways back, from place to place
+abbrev back-size-read : tie.After-size-read → tie.Then1
+back-size-read c = search
 
--- src/lib.rt:84:9
+abbrev back-then1 : tie.Then1 → tie.After-long-enough
+back-then1 c = search
+
+abbrev back-long-enough : tie.After-long-enough → tie.Start
+back-long-enough c = search
+
+ruleset ways = (back-size-read, back-then1, back-long-enough)
+
 size-read-requires : tie.Need-size-read-requires
-size-read-requires c κs = (record { first = yes _ _ _ _ _ ((c .before .before .before .if1 .taken)) ((c .before .before .before .before .long-enough .ensures)) .0; second = yes _ _ _ _ _ ((c .before .before .before .if1 .taken)) ((c .before .before .before .before .long-enough .ensures)) .1 }, yes _ _ _ _ _ ((c .before .before .before .if1 .taken)) ((c .before .before .before .before .long-enough .ensures)) .2)
+size-read-requires c κs =
+    let then1 : tie.Then1 = search ways in
+    let after-long-enough : tie.After-long-enough = search ways in (
+      record {
+        first = yes _ _ _ _ _ (then1 .if1 .taken) (after-long-enough .long-enough .ensures) .0;
+        second = yes _ _ _ _ _ (then1 .if1 .taken) (after-long-enough .long-enough .ensures) .1;
+      },
+      yes _ _ _ _ _ (then1 .if1 .taken) (after-long-enough .long-enough .ensures) .2,
+    )
 
--- src/lib.rt:84:9
-same-length : tie.Need-same-length
-same-length c = search needs
-
--- src/lib.rt:84:9
-same-length-2 : tie.Need-same-length-2
-same-length-2 c = search needs
-
--- src/lib.rt:84:9
-same-length-3 : tie.Need-same-length-3
-same-length-3 c = search needs
-
--- src/lib.rt:84:9
-same-length-4 : tie.Need-same-length-4
-same-length-4 c = search needs
-
--- src/lib.rt:84:9
 returns : tie.Need-returns
-returns c = (c .before .before .before .before .before .before .size-read .ensures) _ (none-short _ _ _ _ (yes _ _ _ _ _ ((c .before .before .before .before .before .before .before .before .before .before .if1 .taken)) ((c .before .before .before .before .before .before .before .before .before .before .before .long-enough .ensures))))
+returns c =
+    let after-size-read : tie.After-size-read = search ways in
+    let then1 : tie.Then1 = search ways in
+    let after-long-enough : tie.After-long-enough = search ways in
+    (after-size-read .size-read .ensures) _ (none-short _ _ _ _ (yes _ _ _ _ _ (then1 .if1 .taken) (after-long-enough .long-enough .ensures)))
 
--- src/lib.rt:80:1
-same-length-5 : tie.Need-same-length-5
-same-length-5 c = search needs
-
--- src/lib.rt:80:1
-same-length-6 : tie.Need-same-length-6
-same-length-6 c = search needs
-
--- src/lib.rt:80:1
-same-length-7 : tie.Need-same-length-7
-same-length-7 c = search needs
-
--- src/lib.rt:80:1
-same-length-8 : tie.Need-same-length-8
-same-length-8 c = search needs
-
--- src/lib.rt:80:1
 returns-2 : tie.Need-returns-2
-returns-2 c = no-size _ _ _ _ _ _ ((c .if1 .left)) ((c .before .long-enough .ensures))
+returns-2 c =
+    let after-long-enough : tie.After-long-enough = search ways in
+    no-size _ _ _ _ _ _ (c .if1 .left) (after-long-enough .long-enough .ensures)
 
 pub size-statement-spec : {M : Type 1} → statement M
 size-statement-spec =
     tie.close
     (tie.spec
-    long-enough-requires
+    (λ c κs. search needs)
     size-read-requires
-    same-length
-    same-length-2
-    same-length-3
-    same-length-4
+    (λ c. search needs)
+    (λ c. search needs)
+    (λ c. search needs)
+    (λ c. search needs)
     returns
-    same-length-5
-    same-length-6
-    same-length-7
-    same-length-8
+    (λ c. search needs)
+    (λ c. search needs)
+    (λ c. search needs)
+    (λ c. search needs)
     returns-2)

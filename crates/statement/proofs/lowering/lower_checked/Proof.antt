@@ -3,11 +3,55 @@ use Rattle.statement.specs.Tables.{lowered}
 use borrow.Author.Needs.{needs}
 use Rattle.statement.proofs.lowering.lower_checked.Statement.{statement}
 use Rattle.statement.proofs.lowering.lower_checked.Tie as tie
-use Rattle.statement.proofs.lowering.lower_checked.Reads as reads
-use Rattle.statement.proofs.lowering.lower_checked.Lts as lts
-use Rattle.clauses.proofs.lower.Reads as lower-reads
-use Rattle.precheck.proofs.precheck_statement.Reads as precheck-statement-reads
-use Rattle.statement.proofs.lowering.write_lowered.Reads as write-lowered-reads
+
+-- the ways back, from place to place
+abbrev back-write-lowered : tie.After-write-lowered → tie.After-lower
+back-write-lowered c = search
+
+abbrev back-lower : tie.After-lower → tie.After-enum-told
+back-lower c = search
+
+abbrev back-enum-told : tie.After-enum-told → tie.After-precheck-statement
+back-enum-told c = search
+
+abbrev back-e : tie.After-e → tie.After-precheck-statement
+back-e c = search
+
+abbrev back-precheck-statement : tie.After-precheck-statement → tie.Start
+back-precheck-statement c = search
+
+ruleset ways = (back-write-lowered, back-lower, back-enum-told, back-e, back-precheck-statement)
+
+write-lowered-requires : tie.Need-write-lowered-requires
+write-lowered-requires c κs =
+    let after-lower : tie.After-lower = search ways in
+    let start : tie.Start = search ways in (
+      record { records = (start .pre .0 .records); in-ops = (after-lower .lower .ensures .in-ops); in-rest = (after-lower .lower .ensures .in-rest) },
+      lowered (start .pre .1) (after-lower .lower .ensures),
+    )
+
+returns : tie.Need-returns
+returns c =
+    let after-write-lowered : tie.After-write-lowered = search ways in
+    let after-lower : tie.After-lower = search ways in
+    let after-enum-told : tie.After-enum-told = search ways in
+    let after-precheck-statement : tie.After-precheck-statement = search ways in
+    λ t h.
+    tree-fine
+    _
+    _
+    t
+    _
+    (after-write-lowered .write-lowered .result)
+    (after-enum-told .enum-told .given .1)
+    ((after-precheck-statement .precheck-statement .ensures) _ t h)
+    (let R = (after-lower .lower .ensures .run) t h in (after-write-lowered .write-lowered .ensures) (R .written) _ (R .rep))
+
+returns-2 : tie.Need-returns-2
+returns-2 c =
+    let after-e : tie.After-e = search ways in
+    let after-precheck-statement : tie.After-precheck-statement = search ways in
+    λ t h. tree-refused _ t _ _ (after-e .e .given .1) ((after-precheck-statement .precheck-statement .ensures) _ t h)
 
 pub lower-checked-spec : {M : Type 1} → statement M
 lower-checked-spec =
@@ -16,10 +60,10 @@ lower-checked-spec =
     (λ c κs. search needs)
     (λ c. search needs)
     (λ c κs. search needs)
-    (λ c κs. (record { records = (c .before .before .before .before .before .before .before .before .before .before .before .before .before .before .before .before .before .before .before .pre .0 .records); in-ops = (c .before .before .before .before .before .before .before .lower .ensures .in-ops); in-rest = (c .before .before .before .before .before .before .before .lower .ensures .in-rest) }, lowered ((c .before .before .before .before .before .before .before .before .before .before .before .before .before .before .before .before .before .before .before .pre .1)) (c .before .before .before .before .before .before .before .lower .ensures)))
+    write-lowered-requires
     (λ c. search needs)
     (λ c. search needs)
     (λ c. search needs)
     (λ c. search needs)
-    (λ c. λ t h. tree-fine _ _ t _ ((c .before .before .write-lowered .result)) (c .before .before .before .before .before .before .before .before .before .before .before .before .before .enum-told .given .1) ((c .before .before .before .before .before .before .before .before .before .before .before .before .before .before .before .precheck-statement .ensures) _ t h) (let R = (c .before .before .before .before .before .before .before .before .before .before .lower .ensures .run) t h in (c .before .before .write-lowered .ensures) (R .written) _ (R .rep)))
-    (λ c. λ t h. tree-refused _ t _ _ (c .before .e .given .1) ((c .before .before .before .precheck-statement .ensures) _ t h)))
+    returns
+    returns-2)

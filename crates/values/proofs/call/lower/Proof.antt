@@ -6,10 +6,19 @@ use Rattle.statement.specs.Fits.{answer-fits}
 use borrow.Author.Needs.{needs}
 use Rattle.values.proofs.call.lower.Statement.{statement}
 use Rattle.values.proofs.call.lower.Tie as tie
-use Rattle.values.proofs.call.lower.Reads as reads
-use Rattle.values.proofs.call.lower.Lts as lts
-use Rattle.values.proofs.values_of.Reads as values-of-reads
-use Rattle.statement.proofs.lowering.lower_statement.Reads as lower-statement-reads
+
+-- the ways back, from place to place
+abbrev back-lower-statement : tie.After-lower-statement → tie.Start
+back-lower-statement c = search
+
+ruleset ways = (back-lower-statement)
+
+returns : tie.Need-returns
+returns c =
+    let after-lower-statement : tie.After-lower-statement = search ways in (
+      with-values (c .values-of .ensures) (after-lower-statement .lower-statement .ensures),
+      omega (arith, ap (λ (a : Answer). a .length) (c .values-of .ensures), answer-fits _ _ _ _ _ (after-lower-statement .lower-statement .ensures)),
+    )
 
 pub lower-spec : {M : Type 1} → statement M
 lower-spec =
@@ -22,4 +31,4 @@ lower-spec =
     (λ c. search needs)
     (λ c. search needs)
     (λ c. search needs)
-    (λ c. (with-values ((c .values-of .ensures)) ((c .before .before .before .before .before .before .before .before .before .before .before .lower-statement .ensures)), omega (arith, ap (λ (a : Answer). a .length) ((c .values-of .ensures)), answer-fits _ _ _ _ _ ((c .before .before .before .before .before .before .before .before .before .before .before .lower-statement .ensures))))))
+    returns)

@@ -4,10 +4,47 @@ use native.Mathlib.Omega.{arith}
 use borrow.Author.Needs.{needs}
 use Rattle.values.proofs.text.write_refusal.Statement.{statement}
 use Rattle.values.proofs.text.write_refusal.Tie as tie
-use Rattle.values.proofs.text.write_refusal.Reads as reads
-use Rattle.values.proofs.text.write_refusal.Lts as lts
-use Rattle.values.proofs.text.put_refusal.Reads as put-refusal-reads
+
+-- the ways back, from place to place
+abbrev back-put-refusal : tie.After-put-refusal → tie.Start
+back-put-refusal c = search
+
+ruleset ways = (back-put-refusal)
+
+returns : tie.Need-returns
+returns c =
+    let after-put-refusal : tie.After-put-refusal = search ways in (
+      omega arith,
+      too-long
+          _
+          _
+          _
+          _
+          (after-put-refusal .put-refusal .ensures)
+          (omega arith)
+          (omega (arith, c .if1 .taken, same (after-put-refusal .put-refusal .ensures))),
+    )
+
+returns-2 : tie.Need-returns-2
+returns-2 c =
+    let after-put-refusal : tie.After-put-refusal = search ways in (
+      omega (arith, c .if1 .left, same (after-put-refusal .put-refusal .ensures)),
+      long-enough
+          _
+          _
+          _
+          _
+          (after-put-refusal .put-refusal .ensures)
+          (omega arith)
+          (omega (arith, c .if1 .left, same (after-put-refusal .put-refusal .ensures))),
+    )
 
 pub write-refusal-spec : {M : Type 1} → statement M
 write-refusal-spec =
-    tie.close (tie.spec (λ c κs. search needs) (λ c. search needs) (λ c. (omega arith, too-long _ _ _ _ (c .before .before .before .put-refusal .ensures) (omega arith) (omega (arith, (c .if1 .taken), same (c .before .before .before .put-refusal .ensures))))) (λ c. search needs) (λ c. (omega (arith, (c .if1 .left), same (c .before .before .before .put-refusal .ensures)), long-enough _ _ _ _ (c .before .before .before .put-refusal .ensures) (omega arith) (omega (arith, (c .if1 .left), same (c .before .before .before .put-refusal .ensures))))))
+    tie.close
+    (tie.spec
+    (λ c κs. search needs)
+    (λ c. search needs)
+    returns
+    (λ c. search needs)
+    returns-2)
