@@ -15,7 +15,7 @@ use Rattle.words.specs.Words.{Roomy, cell, maxRecords}
 use Rattle.words.specs.Held.{Held, RecordAt, size}
 use Rattle.words.specs.Cells.{shown}
 use Rattle.words.specs.Count.{countAt}
-use Rattle.lower.specs.Render.{Ops, render, renderOf, recsOver, exprRecs, Below, belowIn, copiesBelow}
+use Rattle.lower.specs.Render.{Ops, render, renderOf, recsOver, exprRecs, exprRest, Below, belowIn, copiesBelow}
 use Rattle.lower.specs.Render
 use Rattle.lower.specs.Shows.{shift}
 use Rattle.lower.specs.Rep.{State, Mem, Written, Sub, Ran}
@@ -67,7 +67,7 @@ pub record Headed (sheet : Bytes) (a b : List ℕ) (gap d i : ℕ) (t : Tree exp
 
 module _ {sheet : Bytes} {a b : List ℕ} {d i : ℕ} (room : Roomy a b) where
   pub plainly : (t : Tree expr) → Held sheet a b t d i → ((cell a b i kindAt ≡ varKind) → ⊥) → ((cell a b i kindAt ≡ mapKind) → ⊥) → ((cell a b i kindAt ≡ patKind) → ⊥) → ((cell a b i kindAt ≡ listPredicateKind) → ⊥) → Headed sheet a b 0 d i t
-  unfolding Held size exprNumber lowerExpr fold made exprStep over _>>=_ ret render recsOver exprRecs Below belowIn copiesBelow lowerC renderC sizeC HeldC
+  unfolding Held size exprNumber lowerExpr fold made exprStep over _>>=_ ret render recsOver exprRecs exprRest Below belowIn copiesBelow lowerC renderC sizeC HeldC
   plainly (node expr line (Expr.Over h) f (ts ▸ end)) hd n32 n33 n35 n36 = record {
     n = _;
     list = plainC ts;
@@ -98,7 +98,7 @@ module _ {sheet : Bytes} {a b : List ℕ} {d i : ℕ} (room : Roomy a b) where
   plainly (node expr line Expr.Undesugared f end) hd n32 n33 n35 n36 = record { n = 0; list = []ᶜ; total = counted room tt (hd .1); held = tt; sized = refl; head = planned (PlanExpr.Over Same.Null) tt; lower = λ s. refl; shown = λ N A. refl; below = λ N k b. tt }
 
   pub mapped : (t : Tree expr) → Held sheet a b t d i → cell a b i kindAt ≡ mapKind → Headed sheet a b 1 d i t
-  unfolding Held size exprNumber lowerExpr fold made exprStep over _>>=_ ret render recsOver exprRecs Below belowIn copiesBelow
+  unfolding Held size exprNumber lowerExpr fold made exprStep over _>>=_ ret render recsOver exprRecs exprRest Below belowIn copiesBelow
   mapped (node expr line (Expr.Over h) f kids) hd e = let z = number-at room (hd .1) in let l = same-low h in absurd (omega arith)
   mapped (node expr line Expr.Var f kids) hd e = let z = number-at room (hd .1) in absurd (omega arith)
   mapped (node expr line Expr.Map (n, t) (ts ▸ end)) hd e = record {

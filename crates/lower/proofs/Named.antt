@@ -19,7 +19,7 @@ use Rattle.context.specs.declared.LowerCtx.{LowerCtx}
 use Rattle.context.specs.declared.Numbered.{Numbered}
 use Rattle.words.specs.Cells.{shown}
 use Rattle.words.specs.Count.{countAt, countBy}
-use Rattle.lower.specs.Render.{Ops, render, renderOf, recsOver, exprRecs, Below, belowIn, copiesBelow}
+use Rattle.lower.specs.Render.{Ops, render, renderOf, recsOver, exprRecs, exprRest, Below, belowIn, copiesBelow}
 use Rattle.lower.specs.Render
 use Rattle.lower.specs.Shows.{shift}
 use Rattle.lower.specs.Rep.{State, Mem, mem, notes, Written, Sub, Blank, Future, Rep, Ran}
@@ -48,7 +48,7 @@ pub record Naming (sheet : Bytes) (a b : List ℕ) (d i id : ℕ) (t : Tree expr
 
 module _ {sheet : Bytes} {a b : List ℕ} {d i : ℕ} (room : Roomy a b) where
   pub variable : (t : Tree expr) → Held sheet a b t d i → cell a b i kindAt ≡ varKind → Naming sheet a b d i (cell a b i varIdAt) t
-  unfolding Held size exprNumber lowerExpr fold made exprStep _>>=_ ret render recsOver exprRecs Below belowIn copiesBelow lowerC renderC sizeC HeldC fieldsOf fieldOf
+  unfolding Held size exprNumber lowerExpr fold made exprStep _>>=_ ret render recsOver exprRecs exprRest Below belowIn copiesBelow lowerC renderC sizeC HeldC fieldsOf fieldOf
   variable (node expr line (Expr.Over h) f kids) hd e = let z = number-at room (hd .1) in let l = same-low h in absurd (omega arith)
   variable (node expr line Expr.Var (id, t) end) hd e =
       let ei : id ≡ cell a b i varIdAt = ap (λ (x : Fields (exprForms Expr.Var)). x .0) (shown room (hd .1) .fields) in
@@ -61,7 +61,7 @@ module _ {sheet : Bytes} {a b : List ℕ} {d i : ℕ} (room : Roomy a b) where
   variable (node expr line Expr.Undesugared f kids) hd e = let z = number-at room (hd .1) in absurd (omega arith)
 
   pub predicate : (t : Tree expr) → Held sheet a b t d i → cell a b i kindAt ≡ listPredicateKind → Naming sheet a b d i (cell a b i listPredicateVarAt) t
-  unfolding Held size exprNumber lowerExpr fold made exprStep over _>>=_ ret render recsOver exprRecs Below belowIn copiesBelow fieldsOf fieldOf
+  unfolding Held size exprNumber lowerExpr fold made exprStep over _>>=_ ret render recsOver exprRecs exprRest Below belowIn copiesBelow fieldsOf fieldOf
   predicate (node expr line (Expr.Over h) f kids) hd e = let z = number-at room (hd .1) in let l = same-low h in absurd (omega arith)
   predicate (node expr line Expr.Var f kids) hd e = let z = number-at room (hd .1) in absurd (omega arith)
   predicate (node expr line Expr.Map f kids) hd e = let z = number-at room (hd .1) in absurd (omega arith)
@@ -141,7 +141,7 @@ pub record Matched (sheet : Bytes) (a b : List ℕ) (d i : ℕ) (t : Tree expr) 
 
 module _ {sheet : Bytes} {a b : List ℕ} {d i : ℕ} (room : Roomy a b) where
   pub pattern : (t : Tree expr) → Held sheet a b t d i → cell a b i kindAt ≡ patKind → Matched sheet a b d i t
-  unfolding Held size exprNumber lowerExpr fold made exprStep lowerMatchPattern optionalJoin copy _>>=_ ret render recsOver exprRecs Below belowIn copiesBelow fieldsOf fieldOf
+  unfolding Held size exprNumber lowerExpr fold made exprStep lowerMatchPattern optionalJoin copy _>>=_ ret render recsOver exprRecs exprRest Below belowIn copiesBelow fieldsOf fieldOf
   pattern (node expr line (Expr.Over h) f kids) hd e = let z = number-at room (hd .1) in let l = same-low h in absurd (omega arith)
   pattern (node expr line Expr.Var f kids) hd e = let z = number-at room (hd .1) in absurd (omega arith)
   pattern (node expr line Expr.Map f kids) hd e = let z = number-at room (hd .1) in absurd (omega arith)

@@ -5,12 +5,12 @@ use mathlib.Core.List.{List, [], _∷_, _++_}
 use mathlib.Core.Option.{Option, none, some}
 use Rattle.model.specs.Text.{Bytes}
 use Rattle.model.specs.Field.{Fields}
-use Rattle.model.specs.Kind.{Sort, Kind, PatternElement, Same, Expr, PlanExpr}
+use Rattle.model.specs.Kind.{Sort, Kind, PatternElement, Expr}
 use Rattle.model.specs.Kind.{statement, unionArm, clause, projection, orderItem, patternPart, patternElement, name, yieldItem, entry, expr, inPlan}
 use Rattle.model.specs.Kind.{relSpec, nodeSpec, aggExpr, orderKey, planEntry}
 use Rattle.model.specs.Record.{Rec, rec, Group, forms, exprForms, elementForms, children}
 use Rattle.model.specs.Tree.{Tree, Trees, Forest, node, []ᵗ, _∷ᵗ_, end, _▸_}
-use Rattle.model.specs.Lower.{Recs, planned, item, aliasOr, synthesiseAlias, isAggregateFunc}
+use Rattle.model.specs.Lower.{Recs, exprHead, item, aliasOr, synthesiseAlias, isAggregateFunc}
 
 -- what is noted at a line: the number issued at its record, or a pattern's root operator
 abbrev pub Notes : Type 0
@@ -20,16 +20,20 @@ Notes = ℕ → ℕ
 abbrev pub Ops : Type 0
 Ops = ℕ → Recs
 
+-- what stands behind an expression's first record, out of what its children come to: a pattern's is the copy of its operator
+unfoldable pub exprRest : Ops → (n : ℕ) → Expr → Recs → Recs
+exprRest A n (Expr.Over h) rs = rs
+exprRest A n Expr.Var rs = []
+exprRest A n Expr.Map rs = rs
+exprRest A n Expr.Call rs = rs
+exprRest A n Expr.PatternPredicate rs = A n
+exprRest A n Expr.ListPredicate rs = rs
+exprRest A n Expr.Unresolved rs = []
+exprRest A n Expr.Undesugared rs = []
+
 -- an expression, over what its children come to
 unfoldable pub exprRecs : Notes → Ops → (line : ℕ) (k : Expr) → Fields (exprForms k) → Recs → Recs
-exprRecs N A line (Expr.Over h) f rs = planned (PlanExpr.Over h) f ∷ rs
-exprRecs N A line Expr.Var f rs = planned PlanExpr.Var (N line, tt) ∷ []
-exprRecs N A line Expr.Map (n, _) rs = planned PlanExpr.Map (n, tt) ∷ rs
-exprRecs N A line Expr.Call (func, (n, _)) rs = planned PlanExpr.Call (func, (n, tt)) ∷ rs
-exprRecs N A line Expr.PatternPredicate f rs = planned PlanExpr.Exists tt ∷ A (N line)
-exprRecs N A line Expr.ListPredicate (kind, (id, (pred, _))) rs = planned PlanExpr.ListPredicate (kind, (N line, (pred, tt))) ∷ rs
-exprRecs N A line Expr.Unresolved f rs = planned (PlanExpr.Over Same.Null) tt ∷ []
-exprRecs N A line Expr.Undesugared f rs = planned (PlanExpr.Over Same.Null) tt ∷ []
+exprRecs N A line k f rs = exprHead (N line) k f ∷ exprRest A (N line) k rs
 
 -- the name of an item without an alias
 unfoldable pub nameOf : Forest ((expr, 1) ∷ []) → Bytes

@@ -310,23 +310,38 @@ over r n es = do
   rs ← inOrder (toList n es)
   ret (r ∷ rs)
 
+-- where nothing is noted at an expression
+abbrev pub noNote : ℕ
+noNote = 0
+
+-- the first record of an expression in the plan; n is what is noted at it, a variable's number
+abbrev pub exprHead : ℕ → (k : Expr) → Fields (exprForms k) → Rec
+exprHead n (Expr.Over h) f = planned (PlanExpr.Over h) f
+exprHead n Expr.Var f = planned PlanExpr.Var (n, tt)
+exprHead n Expr.Map (m, _) = planned PlanExpr.Map (m, tt)
+exprHead n Expr.Call (func, (m, _)) = planned PlanExpr.Call (func, (m, tt))
+exprHead n Expr.PatternPredicate f = planned PlanExpr.Exists tt
+exprHead n Expr.ListPredicate (kind, (id, (pred, _))) = planned PlanExpr.ListPredicate (kind, (n, (pred, tt)))
+exprHead n Expr.Unresolved f = planned (PlanExpr.Over Same.Null) tt
+exprHead n Expr.Undesugared f = planned (PlanExpr.Over Same.Null) tt
+
 -- the arms of lower_expr. What the check refuses does not come here.
 unfoldable pub exprStep : (k : Expr) (f : Fields (exprForms k)) → Results Lowered (exprChildren k f) → Lowering Recs
-exprStep (Expr.Over h) f (es, _) = over (planned (PlanExpr.Over h) f) (arity h f) es
-exprStep Expr.Var (id, _) _ = do
+exprStep (Expr.Over h) f (es, _) = over (exprHead noNote (Expr.Over h) f) (arity h f) es
+exprStep Expr.Var (id, t) _ = do
   n ← mapVar id
-  ret (planned PlanExpr.Var (n, tt) ∷ [])
-exprStep Expr.Map (n, _) (es, _) = over (planned PlanExpr.Map (n, tt)) n es
-exprStep Expr.Call (func, (n, _)) (args, _) = over (planned PlanExpr.Call (func, (n, tt))) n args
-exprStep Expr.PatternPredicate (n, _) (parts, _) = do
+  ret (exprHead n Expr.Var (id, t) ∷ [])
+exprStep Expr.Map (n, t) (es, _) = over (exprHead noNote Expr.Map (n, t)) n es
+exprStep Expr.Call (func, (n, t)) (args, _) = over (exprHead noNote Expr.Call (func, (n, t))) n args
+exprStep Expr.PatternPredicate (n, t) (parts, _) = do
   k ← lowerMatchPattern (toList n parts) none false
   inner ← copy k
-  ret (planned PlanExpr.Exists tt ∷ inner)
-exprStep Expr.ListPredicate (kind, (id, (pred, _))) (es, _) = do
+  ret (exprHead k Expr.PatternPredicate (n, t) ∷ inner)
+exprStep Expr.ListPredicate (kind, (id, (pred, t))) (es, _) = do
   n ← mapVar id
-  over (planned PlanExpr.ListPredicate (kind, (n, (pred, tt)))) (suc (one pred)) es
-exprStep Expr.Unresolved f _ = ret (planned (PlanExpr.Over Same.Null) tt ∷ [])
-exprStep Expr.Undesugared f _ = ret (planned (PlanExpr.Over Same.Null) tt ∷ [])
+  over (exprHead n Expr.ListPredicate (kind, (id, (pred, t)))) (suc (one pred)) es
+exprStep Expr.Unresolved f _ = ret (exprHead noNote Expr.Unresolved f ∷ [])
+exprStep Expr.Undesugared f _ = ret (exprHead noNote Expr.Undesugared f ∷ [])
 
 unfoldable pub elementStep : (k : PatternElement) (f : Fields (elementForms k)) → Results Lowered (elementChildren k f) → Step
 elementStep PatternElement.Node (bind, (n, (p, _))) (labels, (props, _)) = ofNode (record { bind = bind; labels = toList n labels; props = propsOf p props })
@@ -381,15 +396,19 @@ sameAlias Same.Case f = bytes "_"
 sameAlias Same.IsNull f = bytes "_"
 sameAlias Same.InList f = bytes "_"
 
+-- the name of an item without an alias, by its expression's own record
+abbrev pub exprAlias : (k : Expr) → Fields (exprForms k) → Bytes
+exprAlias (Expr.Over h) f = sameAlias h f
+exprAlias Expr.Var (id, _) = bytes "_v" ++ decimal id
+exprAlias Expr.Map f = bytes "_"
+exprAlias Expr.Call (func, _) = func
+exprAlias Expr.PatternPredicate f = bytes "_"
+exprAlias Expr.ListPredicate f = bytes "_"
+exprAlias Expr.Unresolved f = bytes "_"
+exprAlias Expr.Undesugared f = bytes "_"
+
 unfoldable pub synthesiseAlias : Tree expr → Bytes
-synthesiseAlias (node expr line (Expr.Over h) f kids) = sameAlias h f
-synthesiseAlias (node expr line Expr.Var (id, _) kids) = bytes "_v" ++ decimal id
-synthesiseAlias (node expr line Expr.Map f kids) = bytes "_"
-synthesiseAlias (node expr line Expr.Call (func, _) kids) = func
-synthesiseAlias (node expr line Expr.PatternPredicate f kids) = bytes "_"
-synthesiseAlias (node expr line Expr.ListPredicate f kids) = bytes "_"
-synthesiseAlias (node expr line Expr.Unresolved f kids) = bytes "_"
-synthesiseAlias (node expr line Expr.Undesugared f kids) = bytes "_"
+synthesiseAlias (node expr line k f kids) = exprAlias k f
 
 unfoldable pub aliasOr : Option Bytes → Bytes → Bytes
 aliasOr none t = t

@@ -16,7 +16,8 @@ use Rattle.context.specs.Read.{noteOf}
 use Rattle.lower.specs.Render.{render, specRec}
 use Rattle.lower.specs.Shows.{shift}
 use Rattle.words.specs.Count.{countAt, Starts, Ends}
-use Rattle.plan_sheet.specs.Due.{noted, Near, Planned, SomePlan, exprHead, ExprAt, ElementAt, One, oneText, Many, Element, elementText, Names, namesRecs, carriedRecs, WroteMany, WroteOp}
+use Rattle.model.specs.Lower.{exprHead}
+use Rattle.plan_sheet.specs.Due.{noted, Near, Planned, SomePlan, ExprAt, ElementAt, One, oneText, Many, Element, elementText, Names, namesRecs, carriedRecs, WroteMany, WroteOp}
 use Rattle.plan_sheet.proofs.DueLaws.{expr-of, planned-less, spell-append}
 use Rattle.plan_sheet.proofs.PartLaws.{Parts, parts, Copy, copied, deep, propsAt, ElementParts, element-parts}
 

@@ -10,13 +10,13 @@ use Rattle.model.specs.Text.{Bytes}
 use Rattle.model.specs.Kind.{Sort, Expr, projection, orderItem, entry, expr, inPlan, orderKey, planEntry}
 use Rattle.model.specs.Record.{Group, rec, beside, spellRec, spellRecs}
 use Rattle.model.specs.Tree.{Tree, Trees, Forest, node, []ᵗ, _∷ᵗ_, end, _▸_}
-use Rattle.model.specs.Lower.{Recs, item, synthesiseAlias}
+use Rattle.model.specs.Lower.{Recs, item, synthesiseAlias, exprAlias}
 use Rattle.output.specs.Page.{Page, Puts}
 use Rattle.output.specs.Writes.{_⨾_, stay}
 use Rattle.words.specs.Held.{Held, HeldOf, HeldIn, size, sizeOf, roomIn}
 use Rattle.lower.specs.Render.{Notes, Ops, recsOver, render, renderOf, nameOf, Below, BelowOf, belowIn}
 use Rattle.lower.specs.Shows.{shift}
-use Rattle.plan_sheet.specs.Due.{Planned, noted, ExprAt, nameBy, ItemAt, namedRec, itemName, Line, SomeLine, One, Carried, carriedRecs, carriedEnd, Many, manyText, WroteOne, WroteMany, WroteLine}
+use Rattle.plan_sheet.specs.Due.{Planned, noted, ExprAt, ItemAt, namedRec, itemName, Line, SomeLine, One, Carried, carriedRecs, carriedEnd, Many, manyText, WroteOne, WroteMany, WroteLine}
 use Rattle.plan_sheet.specs.Due
 
 pub spell-append : (rs ss : Recs) → spellRecs (rs ++ ss) ≡ spellRecs rs ++ spellRecs ss
@@ -158,8 +158,8 @@ module _ (sheet : Bytes) (a b : List ℕ) where
     forest-deeper (ts ▸ f) d e i l h = (trees-deeper ts d e i l (h .0), forest-deeper f d e (i + sizeOf ts) l (h .1))
 
 -- the name of an expression, by its first record
-pub name-by : (sheet : Bytes) (a b : List ℕ) (left : ℕ) (t : Tree expr) (i : ℕ) (h : Held sheet a b t left i) → synthesiseAlias t ≡ nameBy (expr-of left t i h .kind) (expr-of left t i h .fields)
-unfolding expr-of nameBy synthesiseAlias
+pub name-by : (sheet : Bytes) (a b : List ℕ) (left : ℕ) (t : Tree expr) (i : ℕ) (h : Held sheet a b t left i) → synthesiseAlias t ≡ exprAlias (expr-of left t i h .kind) (expr-of left t i h .fields)
+unfolding expr-of synthesiseAlias
 name-by sheet a b left (node expr line (Expr.Over o) f kids) i h = refl
 name-by sheet a b left (node expr line Expr.Var f kids) i h = refl
 name-by sheet a b left (node expr line Expr.Map f kids) i h = refl

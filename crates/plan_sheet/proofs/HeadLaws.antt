@@ -13,7 +13,7 @@ use Rattle.model.specs.Field.{Fields, text, spell, spellFields}
 use Rattle.model.specs.Field
 use Rattle.model.specs.Kind.{Sort, Kind, Same, Expr, projection, orderItem, entry, expr, inPlan, orderKey, planEntry}
 use Rattle.model.specs.Record.{Rec, rec, forms, sameForms, exprForms, kinds, sames, keyword, planKeyword, planExprKeyword, sameKeyword, spellRec, spellRecs}
-use Rattle.model.specs.Lower.{Recs}
+use Rattle.model.specs.Lower.{Recs, exprHead}
 use Rattle.output.specs.Page.{Page, Puts}
 use Rattle.output.specs.Writes.{stay}
 use Rattle.words.specs.Words.{Roomy, cell, part, kindOf, firstKind, nth, fieldOf, fieldsOf}
@@ -26,7 +26,7 @@ use Rattle.words.specs.Numbers.{sameNumber, exprNumber}
 use Rattle.plan_line.specs.Keywords.{word, letters, varWord, existsWord, nullWord, listPredicateWord, fnWord, mapWord, nameWord, keyWord, sameFrom, wordCount}
 use Rattle.plan_line.specs.Field.{plain, allPlain, fieldsText, Fielded, lineText}
 use Rattle.plan_line.specs.Row.{rowText, namedText}
-use Rattle.plan_sheet.specs.Due.{exprHead, ExprAt, ItemAt, namedRec, itemName, Line}
+use Rattle.plan_sheet.specs.Due.{ExprAt, ItemAt, namedRec, itemName, Line}
 use Rattle.plan_line.proofs.FieldLaws.{flag-decimal}
 use Rattle.plan_line.proofs.RowLaws.{record-line, row-rec, named-rec, place-escape}
 
@@ -118,23 +118,23 @@ module _ {sheet : Bytes} {a b : List ℕ} {i : ℕ} (room : Roomy a b) where
 
   module _ (n : ℕ) (h : ExprAt sheet a b i) where
     pub var-head : cell a b i 0 ≡ 32 → spellRec (exprHead n (h .kind) (h .fields)) ≡ rowText varWord (n ∷ [])
-    unfolding kindOf firstKind nth kinds sames exprHead keyword planKeyword planExprKeyword word letters bytes bytesFrom spellFields spell
+    unfolding kindOf firstKind nth kinds sames keyword planKeyword planExprKeyword word letters bytes bytesFrom spellFields spell
     var-head e = at-kind Expr.Var (h .kind) (λ k f. spellRec (exprHead n k f) ≡ rowText varWord (n ∷ [])) (kind-is h 32 Expr.Var e refl) (λ f. row-rec _ varWord (n ∷ []) refl refl) (h .fields)
 
     pub exists-head : cell a b i 0 ≡ 35 → spellRec (exprHead n (h .kind) (h .fields)) ≡ rowText existsWord []
-    unfolding kindOf firstKind nth kinds sames exprHead keyword planKeyword planExprKeyword word letters bytes bytesFrom spellFields spell
+    unfolding kindOf firstKind nth kinds sames keyword planKeyword planExprKeyword word letters bytes bytesFrom spellFields spell
     exists-head e = at-kind Expr.PatternPredicate (h .kind) (λ k f. spellRec (exprHead n k f) ≡ rowText existsWord []) (kind-is h 35 Expr.PatternPredicate e refl) (λ f. row-rec _ existsWord [] refl refl) (h .fields)
 
     pub unresolved-head : cell a b i 0 ≡ 37 → spellRec (exprHead n (h .kind) (h .fields)) ≡ rowText nullWord []
-    unfolding kindOf firstKind nth kinds sames exprHead keyword planKeyword planExprKeyword sameKeyword word letters bytes bytesFrom spellFields spell
+    unfolding kindOf firstKind nth kinds sames keyword planKeyword planExprKeyword sameKeyword word letters bytes bytesFrom spellFields spell
     unresolved-head e = at-kind Expr.Unresolved (h .kind) (λ k f. spellRec (exprHead n k f) ≡ rowText nullWord []) (kind-is h 37 Expr.Unresolved e refl) (λ f. row-rec _ nullWord [] refl refl) (h .fields)
 
     pub undesugared-head : cell a b i 0 ≡ 38 → spellRec (exprHead n (h .kind) (h .fields)) ≡ rowText nullWord []
-    unfolding kindOf firstKind nth kinds sames exprHead keyword planKeyword planExprKeyword sameKeyword word letters bytes bytesFrom spellFields spell
+    unfolding kindOf firstKind nth kinds sames keyword planKeyword planExprKeyword sameKeyword word letters bytes bytesFrom spellFields spell
     undesugared-head e = at-kind Expr.Undesugared (h .kind) (λ k f. spellRec (exprHead n k f) ≡ rowText nullWord []) (kind-is h 38 Expr.Undesugared e refl) (λ f. row-rec _ nullWord [] refl refl) (h .fields)
 
     any-fields : (f : Fields (exprForms Expr.ListPredicate)) → RecordAt sheet a b i expr Expr.ListPredicate f → spellRec (exprHead n Expr.ListPredicate f) ≡ rowText listPredicateWord (cell a b i 2 ∷ n ∷ cell a b i 6 ∷ [])
-    unfolding exprHead keyword planKeyword planExprKeyword word letters bytes bytesFrom spellFields spell fieldsOf fieldOf
+    unfolding keyword planKeyword planExprKeyword word letters bytes bytesFrom spellFields spell fieldsOf fieldOf
     any-fields f at =
         let s = shown room at in
         row-rec _ listPredicateWord (cell a b i 2 ∷ n ∷ cell a b i 6 ∷ []) refl (rw (s .fields) (rw (flag-decimal (cell a b i 6) (s .flags .1 .1 .0))))
@@ -151,7 +151,7 @@ module _ {sheet : Bytes} {a b : List ℕ} {i : ℕ} (room : Roomy a b) where
     call-in e = let p = call-place e in (p .from, p .to)
 
     call-fields : PlaceAt text sheet (cell a b i 2) (cell a b i 3) → (f : Fields (exprForms Expr.Call)) → RecordAt sheet a b i expr Expr.Call f → spellRec (exprHead n Expr.Call f) ≡ namedText fnWord (slice (cell a b i 2) (cell a b i 3) sheet) (cell a b i 4 ∷ [])
-    unfolding exprHead keyword planKeyword planExprKeyword word letters bytes bytesFrom spellFields spell fieldsOf fieldOf
+    unfolding keyword planKeyword planExprKeyword word letters bytes bytesFrom spellFields spell fieldsOf fieldOf
     call-fields p f at = named-rec _ fnWord (slice (cell a b i 2) (cell a b i 3) sheet) (cell a b i 4 ∷ []) refl (rw (shown room at .fields) (rw (place-escape p)))
 
     pub call-head : cell a b i 0 ≡ 34 → spellRec (exprHead n (h .kind) (h .fields)) ≡ namedText fnWord (slice (cell a b i 2) (cell a b i 3) sheet) (cell a b i 4 ∷ [])
@@ -160,7 +160,7 @@ module _ {sheet : Bytes} {a b : List ℕ} {i : ℕ} (room : Roomy a b) where
 
   module _ (n : ℕ) where
     map-fields : cell a b i 0 ≡ 33 → (f : Fields (exprForms Expr.Map)) → RecordAt sheet a b i expr Expr.Map f → Lined sheet a b i 33 mapWord (exprHead n Expr.Map f)
-    unfolding sorts sortOf exprHead allPlain plain spellRec keyword planKeyword planExprKeyword word letters bytes bytesFrom
+    unfolding sorts sortOf allPlain plain spellRec keyword planKeyword planExprKeyword word letters bytes bytesFrom
     map-fields e f at =
         record {
           fields = rw e at (fielded 10 (omega arith) room at refl);
@@ -173,7 +173,7 @@ module _ {sheet : Bytes} {a b : List ℕ} {i : ℕ} (room : Roomy a b) where
     map-head e h = at-kind Expr.Map (h .kind) (λ k f. RecordAt sheet a b i expr k f → Lined sheet a b i 33 mapWord (exprHead n k f)) (kind-is h 33 Expr.Map e refl) (map-fields e) (h .fields) (h .at)
 
     over-fields : (o : Same) → cell a b i 0 ≡ sameNumber o → (f : Fields (sameForms o)) → RecordAt sheet a b i expr (Expr.Over o) f → Lined sheet a b i (cell a b i 0) (cell a b i 0 - sameFrom) (exprHead n (Expr.Over o) f)
-    unfolding sorts sortOf exprHead spellRec keyword planKeyword planExprKeyword
+    unfolding sorts sortOf spellRec keyword planKeyword planExprKeyword
     over-fields o e f at =
         let s = same-row o in
         let w : word (cell a b i 0 - sameFrom) ≡ sameKeyword o = rw e (s .keyword) in

@@ -13,7 +13,7 @@ use Rattle.model.specs.Text.{Bytes, behind, decimal, digits, bytes, bytesFrom, 
 use Rattle.model.specs.Field.{Fields, text, spell, spellFields}
 use Rattle.model.specs.Kind.{Same, Expr, projection, expr}
 use Rattle.model.specs.Record.{forms, sameForms, exprForms, kinds, sames, keyword, planKeyword, spellRec}
-use Rattle.model.specs.Lower.{sameAlias, aliasOr}
+use Rattle.model.specs.Lower.{sameAlias, aliasOr, exprAlias}
 use Rattle.output.specs.Page.{Page, Puts}
 use Rattle.output.specs.Writes.{_⨾_}
 use Rattle.words.specs.Words.{Roomy, cell, kindOf, firstKind, nth, aliasOf, fieldOf, fieldsOf}
@@ -22,7 +22,7 @@ use Rattle.words.specs.Cells.{shown}
 use Rattle.words.specs.Numbers.{sameNumber, exprNumber}
 use Rattle.plan_line.specs.Keywords.{word, letters, itemWord}
 use Rattle.plan_line.specs.Row.{numbersText, namedText}
-use Rattle.plan_sheet.specs.Due.{ExprAt, nameBy, ItemAt, namedRec, itemName}
+use Rattle.plan_sheet.specs.Due.{ExprAt, ItemAt, namedRec, itemName}
 use Rattle.plan_line.proofs.RowLaws.{named-rec, place-escape}
 use Rattle.plan_sheet.proofs.HeadLaws.{at-kind, texts-at, number-is, kind-is, call-place}
 
@@ -90,8 +90,8 @@ same-none Same.Case z f = refl
 same-none Same.IsNull z f = refl
 same-none Same.InList z f = refl
 
-kind-none : (k : Expr) → (exprNumber k ≡ 23 → ⊥) → (exprNumber k ≡ 32 → ⊥) → (exprNumber k ≡ 34 → ⊥) → (f : Fields (exprForms k)) → nameBy k f ≡ bytes "_"
-unfolding nameBy exprNumber
+kind-none : (k : Expr) → (exprNumber k ≡ 23 → ⊥) → (exprNumber k ≡ 32 → ⊥) → (exprNumber k ≡ 34 → ⊥) → (f : Fields (exprForms k)) → exprAlias k f ≡ bytes "_"
+unfolding exprNumber
 kind-none (Expr.Over h) x y z f = same-none h x f
 kind-none Expr.Var x y z f = absurd (y refl)
 kind-none Expr.Map x y z f = refl
@@ -111,19 +111,19 @@ module _ {sheet : Bytes} {a b : List ℕ} {i : ℕ} (room : Roomy a b) (h : Expr
   pub prop-in : cell a b i 0 ≡ 23 → (cell a b i 2 ≤ cell a b i 3) × (cell a b i 3 ≤ length sheet)
   prop-in e = let p = prop-place e in (p .from, p .to)
 
-  pub prop-named : cell a b i 0 ≡ 23 → spellRec (namedRec (nameBy (h .kind) (h .fields))) ≡ namedText itemWord (slice (cell a b i 2) (cell a b i 3) sheet) []
-  unfolding kindOf firstKind nth kinds sames nameBy sameAlias fieldsOf fieldOf
-  prop-named e = named-is _ _ (at-kind (Expr.Over Same.Prop) (h .kind) (λ k f. RecordAt sheet a b i expr k f → escape (nameBy k f) ≡ slice (cell a b i 2) (cell a b i 3) sheet) (kind-is room h 23 (Expr.Over Same.Prop) e refl) (λ f at. rw (shown room at .fields) (place-escape (prop-place e))) (h .fields) (h .at))
+  pub prop-named : cell a b i 0 ≡ 23 → spellRec (namedRec (exprAlias (h .kind) (h .fields))) ≡ namedText itemWord (slice (cell a b i 2) (cell a b i 3) sheet) []
+  unfolding kindOf firstKind nth kinds sames sameAlias fieldsOf fieldOf
+  prop-named e = named-is _ _ (at-kind (Expr.Over Same.Prop) (h .kind) (λ k f. RecordAt sheet a b i expr k f → escape (exprAlias k f) ≡ slice (cell a b i 2) (cell a b i 3) sheet) (kind-is room h 23 (Expr.Over Same.Prop) e refl) (λ f at. rw (shown room at .fields) (place-escape (prop-place e))) (h .fields) (h .at))
 
-  pub call-named : cell a b i 0 ≡ 34 → spellRec (namedRec (nameBy (h .kind) (h .fields))) ≡ namedText itemWord (slice (cell a b i 2) (cell a b i 3) sheet) []
-  unfolding kindOf firstKind nth kinds sames nameBy fieldsOf fieldOf
-  call-named e = named-is _ _ (at-kind Expr.Call (h .kind) (λ k f. RecordAt sheet a b i expr k f → escape (nameBy k f) ≡ slice (cell a b i 2) (cell a b i 3) sheet) (kind-is room h 34 Expr.Call e refl) (λ f at. rw (shown room at .fields) (place-escape (call-place room 0 h e))) (h .fields) (h .at))
+  pub call-named : cell a b i 0 ≡ 34 → spellRec (namedRec (exprAlias (h .kind) (h .fields))) ≡ namedText itemWord (slice (cell a b i 2) (cell a b i 3) sheet) []
+  unfolding kindOf firstKind nth kinds sames fieldsOf fieldOf
+  call-named e = named-is _ _ (at-kind Expr.Call (h .kind) (λ k f. RecordAt sheet a b i expr k f → escape (exprAlias k f) ≡ slice (cell a b i 2) (cell a b i 3) sheet) (kind-is room h 34 Expr.Call e refl) (λ f at. rw (shown room at .fields) (place-escape (call-place room 0 h e))) (h .fields) (h .at))
 
-  pub id-named : cell a b i 0 ≡ 32 → spellRec (namedRec (nameBy (h .kind) (h .fields))) ≡ namedText itemWord (bytes "_v" ++ decimal (cell a b i 2)) []
-  unfolding kindOf firstKind nth kinds sames nameBy fieldsOf fieldOf
-  id-named e = named-is _ _ (at-kind Expr.Var (h .kind) (λ k f. RecordAt sheet a b i expr k f → escape (nameBy k f) ≡ bytes "_v" ++ decimal (cell a b i 2)) (kind-is room h 32 Expr.Var e refl) (λ f at. rw (shown room at .fields) (id-escape (cell a b i 2))) (h .fields) (h .at))
+  pub id-named : cell a b i 0 ≡ 32 → spellRec (namedRec (exprAlias (h .kind) (h .fields))) ≡ namedText itemWord (bytes "_v" ++ decimal (cell a b i 2)) []
+  unfolding kindOf firstKind nth kinds sames fieldsOf fieldOf
+  id-named e = named-is _ _ (at-kind Expr.Var (h .kind) (λ k f. RecordAt sheet a b i expr k f → escape (exprAlias k f) ≡ bytes "_v" ++ decimal (cell a b i 2)) (kind-is room h 32 Expr.Var e refl) (λ f at. rw (shown room at .fields) (id-escape (cell a b i 2))) (h .fields) (h .at))
 
-  pub none-named : (cell a b i 0 ≡ 23 → ⊥) → (cell a b i 0 ≡ 32 → ⊥) → (cell a b i 0 ≡ 34 → ⊥) → spellRec (namedRec (nameBy (h .kind) (h .fields))) ≡ namedText itemWord (bytes "_") []
+  pub none-named : (cell a b i 0 ≡ 23 → ⊥) → (cell a b i 0 ≡ 32 → ⊥) → (cell a b i 0 ≡ 34 → ⊥) → spellRec (namedRec (exprAlias (h .kind) (h .fields))) ≡ namedText itemWord (bytes "_") []
   none-named x y z = let n = number-is room h in named-is _ _ (rw (kind-none (h .kind) (λ e. x (n ∙ e)) (λ e. y (n ∙ e)) (λ e. z (n ∙ e)) (h .fields)) no-escape)
 
 -- ── an item ──
@@ -152,6 +152,6 @@ module _ {sheet : Bytes} {a b : List ℕ} {i : ℕ} (room : Roomy a b) (h : Item
   unfolding aliasOr
   alias-named z = named-is _ _ (rw (alias-is, alias-some sheet (cell a b i 2) (cell a b i 3) z) (place-escape (alias-place z)))
 
-  pub plain-named : cell a b i 2 ≡ 0 → itemName h ≡ nameBy (h .expr .kind) (h .expr .fields)
+  pub plain-named : cell a b i 2 ≡ 0 → itemName h ≡ exprAlias (h .expr .kind) (h .expr .fields)
   unfolding aliasOr
   plain-named z = rw (alias-is, alias-none sheet (cell a b i 2) (cell a b i 3) z)

@@ -12,15 +12,15 @@ use Rattle.model.specs.Field.{Fields}
 use Rattle.model.specs.Kind.{Expr, PatternElement, patternElement, name, expr}
 use Rattle.model.specs.Record.{one, arity, exprForms, elementForms}
 use Rattle.model.specs.Tree.{Tree, Trees, node, end, _▸_}
-use Rattle.model.specs.Lower.{Recs}
+use Rattle.model.specs.Lower.{Recs, exprHead}
 use Rattle.words.specs.Words.{Roomy, cell, fieldOf, fieldsOf}
 use Rattle.words.specs.Held.{Held, HeldOf, RecordAt, size, sizeOf}
 use Rattle.words.specs.Cells.{shown}
-use Rattle.lower.specs.Render.{Notes, Ops, exprRecs, recsOver, render, renderOf, renderIn, Below, BelowOf, BelowIn, belowIn, copiesBelow, specRec, specRecs, KidsBelow}
+use Rattle.lower.specs.Render.{Notes, Ops, exprRecs, exprRest, recsOver, render, renderOf, renderIn, Below, BelowOf, BelowIn, belowIn, copiesBelow, specRec, specRecs, KidsBelow}
 use Rattle.words.specs.Count.{countAt}
 use Rattle.words.proofs.Counting.{counted, flag-one}
 use Rattle.words.specs.Numbers.{sameNumber, exprNumber, elementNumber}
-use Rattle.plan_sheet.specs.Due.{exprHead, ExprAt, ElementAt, Carried, carriedRecs, carriedEnd, Names, namesRecs}
+use Rattle.plan_sheet.specs.Due.{ExprAt, ElementAt, Carried, carriedRecs, carriedEnd, Names, namesRecs}
 use Rattle.plan_sheet.specs.Due
 use Rattle.plan_sheet.proofs.HeadLaws.{number-is, same-row}
 use Rattle.plan_sheet.proofs.DueLaws.{Made, expr-of, exprs-made, entries-made}
@@ -44,7 +44,7 @@ bare N below d j e = rw e (record { list = Due.none; recs-are = λ A. refl; stop
 
 module _ {sheet : Bytes} {a b : List ℕ} (N : Notes) (below left i n : ℕ) where
   pub parts : Roomy a b → n ≡ countAt a b i → (t : Tree expr) (h : Held sheet a b t left i) → Below N below t → (cell a b i 0 ≡ 35 → ⊥) → Parts sheet a b N below left i n t (expr-of left t i h)
-  unfolding Held Below render size belowIn copiesBelow recsOver exprRecs exprHead expr-of exprNumber
+  unfolding Held Below render size belowIn copiesBelow recsOver exprRecs exprRest expr-of exprNumber
   parts room e (node expr line (Expr.Over o) f (ts ▸ end)) h u z =
       let m = grouped (e ∙ counted room tt (h .1) ∙ add-zero (arity o f)) (exprs-made N below (left - 1) ts (i + 1) (h .3 .0) (u .0)) in
       record { list = m .list; recs = λ A. rw (m .recs-are A, append-nil (renderOf N A ts)); stop = m .stop-is ∙ omega arith }
@@ -78,7 +78,7 @@ no-copy room k f h e z = absurd (z (sym (number-is room (record { kind = k; fiel
 
 module _ {sheet : Bytes} {a b : List ℕ} (N : Notes) (below left i : ℕ) where
   pub copied : Roomy a b → (t : Tree expr) (h : Held sheet a b t left i) → Below N below t → cell a b i 0 ≡ 35 → Copy N below i t (expr-of left t i h)
-  unfolding Held Below render belowIn copiesBelow recsOver exprRecs exprHead expr-of exprNumber
+  unfolding Held Below render belowIn copiesBelow recsOver exprRecs exprRest expr-of exprNumber
   copied room (node expr line (Expr.Over o) f kids) h u e = no-copy room (Expr.Over o) f (h .1) e (λ x. let s = same-row o in let y : sameNumber o ≡ 35 = x in omega (arith, s .to))
   copied room (node expr line Expr.Var f kids) h u e = no-copy room Expr.Var f (h .1) e (λ x. let y : _≡_ {A = ℕ} 32 35 = x in omega arith)
   copied room (node expr line Expr.Map f kids) h u e = no-copy room Expr.Map f (h .1) e (λ x. let y : _≡_ {A = ℕ} 33 35 = x in omega arith)

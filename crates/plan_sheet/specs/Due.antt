@@ -8,7 +8,7 @@ use Rattle.model.specs.Field.{Fields}
 use Rattle.model.specs.Kind.{Same, Expr, PatternElement, PlanExpr, projection, orderItem, patternElement, name, entry, expr, inPlan, planProjection, orderKey, planEntry}
 use Rattle.model.specs.Record.{Rec, rec, forms, exprForms, elementForms, spellRecs}
 use Rattle.model.specs.Tree.{Tree}
-use Rattle.model.specs.Lower.{Recs, planned, sameAlias, aliasOr}
+use Rattle.model.specs.Lower.{Recs, exprAlias, aliasOr}
 use Rattle.output.specs.Page.{Page, Puts}
 use Rattle.words.specs.Words.{Roomy}
 use Rattle.words.specs.Held.{Held, RecordAt, size}
@@ -37,33 +37,11 @@ pub record Planned (sheet : Bytes) (a b os rest : List ℕ) (n : ℕ) (A : Ops) 
   pub few : n ≤ 2048
   pub stored : (k : ℕ) → k < n → Stored sheet a b (noted rest) A k (opAt os k) (A k)
 
--- the first record of an expression in the plan; n is what is noted at it
-unfoldable pub exprHead : ℕ → (k : Expr) → Fields (exprForms k) → Rec
-exprHead n (Expr.Over h) f = planned (PlanExpr.Over h) f
-exprHead n Expr.Var f = planned PlanExpr.Var (n, tt)
-exprHead n Expr.Map (m, _) = planned PlanExpr.Map (m, tt)
-exprHead n Expr.Call (func, (m, _)) = planned PlanExpr.Call (func, (m, tt))
-exprHead n Expr.PatternPredicate f = planned PlanExpr.Exists tt
-exprHead n Expr.ListPredicate (kind, (id, (pred, _))) = planned PlanExpr.ListPredicate (kind, (n, (pred, tt)))
-exprHead n Expr.Unresolved f = planned (PlanExpr.Over Same.Null) tt
-exprHead n Expr.Undesugared f = planned (PlanExpr.Over Same.Null) tt
-
 -- some expression begins at record i
 pub record ExprAt (sheet : Bytes) (a b : List ℕ) (i : ℕ) : Type 0 where
   pub kind : Expr
   pub fields : Fields (exprForms kind)
   pub at : RecordAt sheet a b i expr kind fields
-
--- the name of an item without an alias, by its expression's first record
-unfoldable pub nameBy : (k : Expr) → Fields (exprForms k) → Bytes
-nameBy (Expr.Over h) f = sameAlias h f
-nameBy Expr.Var (id, _) = bytes "_v" ++ decimal id
-nameBy Expr.Map f = bytes "_"
-nameBy Expr.Call (func, _) = func
-nameBy Expr.PatternPredicate f = bytes "_"
-nameBy Expr.ListPredicate f = bytes "_"
-nameBy Expr.Unresolved f = bytes "_"
-nameBy Expr.Undesugared f = bytes "_"
 
 -- an item begins at record i, with its expression behind it
 pub record ItemAt (sheet : Bytes) (a b : List ℕ) (i : ℕ) : Type 0 where
@@ -75,7 +53,7 @@ abbrev pub namedRec : Bytes → Rec
 namedRec alias = rec (inPlan planProjection) tt (alias, tt)
 
 abbrev pub itemName : {sheet : Bytes} {a b : List ℕ} {i : ℕ} → ItemAt sheet a b i → Bytes
-itemName h = aliasOr (h .fields .0) (nameBy (h .expr .kind) (h .expr .fields))
+itemName h = aliasOr (h .fields .0) (exprAlias (h .expr .kind) (h .expr .fields))
 
 -- the line that stands before an expression, and the record behind it
 pub data Line (sheet : Bytes) (a b : List ℕ) (i : ℕ) : Recs → ℕ → Type 0 where

@@ -10,7 +10,8 @@ ghost use Rattle.words.specs.Words.{Roomy, cell};
 ghost use Rattle.words.specs.Places.{fnArgsAt, fnDistinctAt};
 ghost use Rattle.plan_line.specs.Keywords.{itemWord, aggFnWord};
 ghost use Rattle.plan_line.specs.Row.{namedText};
-ghost use Rattle.plan_sheet.specs.Due.{ExprAt, nameBy, ItemAt, namedRec, itemName};
+ghost use Rattle.model.specs.Lower.{exprAlias};
+ghost use Rattle.plan_sheet.specs.Due.{ExprAt, ItemAt, namedRec, itemName};
 use output::put_byte;
 use plan_line::keyword::put_keyword;
 use plan_line::row;
@@ -63,7 +64,7 @@ fn put_synthesised(
 ) -> usize
     requires { ⌜ Roomy (now a) (now b) ⌝ }
     requires { ⌜ ExprAt (now sheet) (now a) (now b) i ⌝ }
-    ensures { λ r. ⌜ ((h : ExprAt (now (sheet .entry)) (now (a .entry)) (now (b .entry)) i) → Puts (spellRec (namedRec (nameBy (h .kind) (h .fields)))) (on (now (plan .entry)) out) (on (now (plan .exit)) r)) ⌝ }
+    ensures { λ r. ⌜ ((h : ExprAt (now (sheet .entry)) (now (a .entry)) (now (b .entry)) i) → Puts (spellRec (namedRec (exprAlias (h .kind) (h .fields)))) (on (now (plan .entry)) out) (on (now (plan .exit)) r)) ⌝ }
 {
     let kind = words::word(a, b, i, field::KIND);
     let id = words::word(a, b, i, field::VAR_ID);

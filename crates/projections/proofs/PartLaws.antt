@@ -13,7 +13,7 @@ use Rattle.model.specs.Tree.{Tree, Trees, node, []ᵗ, _∷ᵗ_, end, _▸_, fo
 use Rattle.model.specs.Lower.{Recs, made, _>>=_, ret, over, exprStep, planned, lowerExpr, lowerExprs, Split, noSplit, withKey, withAgg, lowerKey, lowerCallItem, lowerItem, isAggregateFunc, splitProjectionsAgg}
 use Rattle.words.specs.Held.{Held, HeldOf, HeldSome, HeldMany, size, sizeOf}
 use Rattle.words.specs.Words.{maxRecords}
-use Rattle.lower.specs.Render.{Notes, Ops, render, renderOf, recsOver, exprRecs, Below, belowIn, isAggregate, aggOf, keyRecs, aggRecs}
+use Rattle.lower.specs.Render.{Notes, Ops, render, renderOf, recsOver, exprRecs, exprRest, Below, belowIn, isAggregate, aggOf, keyRecs, aggRecs}
 use Rattle.lower.specs.Shows.{shift}
 use Rattle.lower.specs.Rep.{State, Mem, Written, Sub, Blank, Rep, Ran, RoomFor}
 use Rattle.lower.specs.Pieces.{exprPiece, SomeTree, LowersExpr}
@@ -49,7 +49,7 @@ unfolding lowerExpr fold made exprStep over _>>=_ ret
 call-lower line n func distinct u args s = rw (plain-lower args s, exprs-lower args s)
 
 agg-adds : (line n : ℕ) (func : Bytes) (distinct : Bool) (u : Unit {0}) (args : Trees expr n) (s : State) → isAggregateFunc func ≡ true → Adds (node expr line Expr.Call (func, (n, (distinct, u))) (args ▸ end)) s
-unfolding lowerItem lowerCallItem isAggregate aggOf withAgg render recsOver exprRecs _>>=_ ret tailOf
+unfolding lowerItem lowerCallItem isAggregate aggOf withAgg render recsOver exprRecs exprRest _>>=_ ret tailOf
 agg-adds line n func distinct u args s e =
     let c = call-lower line n func distinct u args s in
     record {
