@@ -113,18 +113,14 @@ fn a_command_that_went_stale_is_found() {
         (
             "named and stale",
             "words\nand `make\n-C nowhere`\n",
-            Some("stale.md:2: no ```sh block has this command: make -C nowhere"),
+            Some("stale.md:2: nothing runs this command: make -C nowhere"),
         ),
-        (
-            "no such call",
-            "`rt proof NAME`\n",
-            Some("no ```sh block has this command: rt proof NAME"),
-        ),
+        ("no such call", "`rt proof NAME`\n", Some("nothing runs this command: rt proof NAME")),
         ("other order", "`make b a`\n```sh\ntrue || make a b\n```\n", Some("make b a")),
         ("in two", "`make b`\n```sh\ntrue || make a && echo b\n```\n", Some("make b")),
         ("in a table", "```text\ncompare nothing FILE\n```\n", Some("compare nothing FILE")),
         ("script", "`tools/archive.sh`\n", None),
-        ("no script", "`tools/nothing.sh`\n", Some("no ```sh block has this command")),
+        ("no script", "`tools/nothing.sh`\n", Some("nothing runs this command")),
     ];
     for (name, text, due) in cases {
         let document = folder.join(format!("{name}.md"));
