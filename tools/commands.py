@@ -2,6 +2,8 @@
 """Runs the commands of the documents, so that none goes stale. The tests of the Rust crate call it.
 
   python3 tools/commands.py [--list] [--times] [DOCUMENT..]     all documents of the repository if none is named
+  --list      runs nothing, and says which documents it looks at and which commands they have
+  --times     says how long each block takes
 
 It looks at every file *.md of the repository, in all folders but target/. In each it looks at
 
@@ -341,7 +343,7 @@ def main(words):
         if "--times" in options:
             print(f"{time.monotonic() - at:6.1f} s  {block.place()}")
     count = {kind: [place for _, script in scripts for place in getattr(script, kind)] for kind in ("run", "held", "left_out")}
-    for place in count["run"] if listing else []:
+    for place in [f"document: {path.relative_to(ROOT)}" for path in paths] + count["run"] if listing else []:
         print(place)
     for place in count["held"]:
         print(f"held to .ci/run: {place}")

@@ -42,6 +42,23 @@ fn each_command_in_a_document_runs() {
     assert!(ended.status.success(), "{said}{}", String::from_utf8_lossy(&ended.stderr));
 }
 
+/// Every document that git knows is looked at, and none of their commands is left to a reader.
+#[test]
+fn each_document_is_looked_at() {
+    let known = Command::new("git").args(["-C", ROOT, "ls-files", "*.md", "*.MD"]).output();
+    let Some(known) = known.ok().filter(|known| known.status.success() && at_hand()) else {
+        eprintln!("left out: no git, or no repository of its");
+        return;
+    };
+    let listed = commands(&[Path::new("--list")]);
+    let listed = String::from_utf8_lossy(&listed.stdout).into_owned();
+    let known = String::from_utf8_lossy(&known.stdout).into_owned();
+    assert!(known.lines().count() > 10, "{known}");
+    for name in known.lines().filter(|name| Path::new(ROOT).join(name).exists()) {
+        assert!(listed.contains(&format!("document: {name}\n")), "{name}: {listed}");
+    }
+}
+
 /// A document with one fault each is found out.
 #[test]
 fn a_command_that_went_stale_is_found() {
