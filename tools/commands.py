@@ -51,7 +51,7 @@ LONGEST = 300
 # What the commands use of what rt makes.
 PLAN, ARCHIVE = "target/bin/plan", "target/staticlib/libdresserhawk.a"
 # What a block may be called.
-NAMES = ("sh", "text", "c", "rust")
+NAMES = ("sh", "text", "c", "rust", "toml")
 PROGRAMS = ("rt", "cargo", "rustc", "python3", "bash", "make", "cc", "git", "dresserhawk", "compare", "valgrind",
             "callgrind_annotate", "ulimit", "nm")
 SCRIPT = re.compile(r"((tools|oracle|rust)/\w+\.(py|sh)|\.ci/\w+|tools/proof)$")
