@@ -9,7 +9,12 @@ set -euo pipefail
 
 here="$(cd "$(dirname "${BASH_SOURCE[0]}")" && pwd)"
 root="$(dirname "$here")"
-src="$(cd "${CYRS_SRC:-$root/../shared/docs/src}" && pwd)"
+src="${CYRS_SRC:-$root/../shared/docs/src}"
+if [ ! -d "$src/crates" ]; then
+    echo "build.sh: no source of cyrs at $src: CYRS_SRC names the folder that holds its crates" >&2
+    exit 1
+fi
+src="$(cd "$src" && pwd)"
 out="${1:?build.sh OUT}"
 read -r -a flags <<<"${ORACLE_FLAGS:-}"
 

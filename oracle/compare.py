@@ -1,13 +1,13 @@
 #!/usr/bin/env python3
 """Holds the definitions of crates/model against the Rust: every sheet and the Rust's answer to it become one equation, which the checker computes.
 
-  python3 oracle/compare.py DIR      DIR has sheets, NAME.sheet
+  python3 oracle/compare.py DIR [--first N]      DIR has sheets, NAME.sheet: all of them, or the first N by name
 
 `compare answer DIR` (rust/compare) is asked for the Rust's answers, NAME.answer, unless they are all there. A scratch repository below
 target/ gets a copy of crates/model and a crate of equations `compute sheet slice ≡ what the Rust answered`, each proved by `refl`. Prints
 each sheet whose equation is refused, and the counts last. Exit status 1 where there is one.
 """
-import glob, os, re, shutil, subprocess, sys
+import argparse, glob, os, re, shutil, subprocess, sys
 
 COMPARE = "target/rust/release/compare"
 SCRATCH = "target/oracle/compare"
@@ -35,9 +35,15 @@ def answer_to(sheet):
 
 
 def main():
-    sheets = sorted(glob.glob(os.path.join(sys.argv[1], "*.sheet")))
+    words = argparse.ArgumentParser()
+    words.add_argument("folder")
+    words.add_argument("--first", type=int)
+    words = words.parse_args()
+    sheets = sorted(glob.glob(os.path.join(words.folder, "*.sheet")))[: words.first]
+    if not sheets:
+        raise SystemExit(f"{words.folder}: no sheets")
     if not all(os.path.exists(answer_to(path)) for path in sheets):
-        subprocess.run([COMPARE, "answer", sys.argv[1]], check=True)
+        subprocess.run([COMPARE, "answer", words.folder], check=True)
     shutil.rmtree(SCRATCH, ignore_errors=True)
     specs = f"{SCRATCH}/crates/compare/specs"
     os.makedirs(specs)

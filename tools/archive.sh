@@ -7,6 +7,10 @@
 set -euo pipefail
 cd "$(dirname "${BASH_SOURCE[0]}")/.."
 
+if ! command -v rt >/dev/null; then
+    echo "archive.sh: no rt on the path: the Rattle kit is needed to prove the library" >&2
+    exit 1
+fi
 folder=target/staticlib
 rt staticlib library >&2
 cp "$folder/liblibrary.a" "$folder/libdresserhawk.a.new"

@@ -1,23 +1,33 @@
 #!/usr/bin/env python3
 """Whether the cost of a record grows with the sheet.
 
-    python3 tools/growth.py
+    python3 tools/growth.py [--page docs/PERFORMANCE.md] [--quick]
 
 makes sheets of many shapes, each in three sizes, has valgrind's callgrind count
 the instructions of target/bin/plan on each (`rt check plan` makes it), and
 prints them for one record of the sheet and for one byte read or written, less
 what the program needs for a sheet with no clause. A record's cost rises with the
 length of the plan lines that it makes (numbers get more digits, copies nest);
-the figure for a byte leaves that out. A figure that is more than a tenth larger
-for the largest sheet than for the smallest is marked.
+the figure for a byte leaves that out. For both it prints the rise from the
+smallest sheet to the largest, and whether that is within a tenth; what rises the
+most for a record comes first.
+
+`--page` puts the table into the page too, between the comments `growth` and
+`end`. `--quick` counts three shapes: to see that it works.
 """
 
+import argparse
 import re
 import subprocess
+
+import measure
 
 SIZES = [94, 375, 1500]
 SPAN = (0, 1)
 PROGRAM = "target/bin/plan"
+# A rise of so much is within the aim.
+TENTH = 0.1
+QUICK = ["a chain", "yields", "55 deep"]
 
 
 def record(*fields):
@@ -102,26 +112,73 @@ def count(sheet):
     return int(re.search(r"Collected : (\d+)", run.stderr.decode()).group(1)), run.stdout
 
 
-def shown(figures):
-    mark = "*" if figures[-1] > 1.1 * figures[0] else " "
-    return "".join(f"{f:7.0f}" for f in figures) + mark
+class Shape:
+    """A shape's name, and its instructions for a record and for a byte at each size."""
 
-
-def main():
-    start, _ = count(record("stmt", 0, 0))
-    sheets = [shapes(n) for n in SIZES]
-    heads = "".join(f"{n:>7}" for n in SIZES) + " "
-    print(f"{'instructions':24}   for a record:{'':12}for a byte:\n{'':24}{heads}   {heads}")
-    for name in sheets[0]:
-        records, octets = [], []
-        for of_size in sheets:
-            sheet = of_size[name]
+    def __init__(self, name, sheets, start):
+        self.name, self.record, self.octet = name, [], []
+        for sheet in sheets:
             instructions, printed = count(sheet)
             if printed.startswith(b"refused"):
                 raise SystemExit(f"{name}: {printed.decode()}")
-            records.append((instructions - start) / sheet.count("\n"))
-            octets.append((instructions - start) / (len(sheet) + len(printed)))
-        print(f"{name:24}{shown(records)}   {shown(octets)}", flush=True)
+            self.record.append((instructions - start) / sheet.count("\n"))
+            self.octet.append((instructions - start) / (len(sheet) + len(printed)))
+
+
+def rise(figures):
+    return figures[-1] / figures[0] - 1
+
+
+def verdict(figures):
+    return "yes" if rise(figures) <= TENTH else "no"
+
+
+def row(shape):
+    """The cells of a shape's row."""
+    records = [f"{figure:,.0f}" for figure in shape.record]
+    octets = [f"{shape.octet[place]:.1f}" for place in (0, -1)]
+    return [
+        shape.name,
+        *records,
+        f"{rise(shape.record):.1%}",
+        verdict(shape.record),
+        *octets,
+        f"{rise(shape.octet):.1%}",
+        verdict(shape.octet),
+    ]
+
+
+def heads():
+    sizes = [f"{size:,}" for size in SIZES]
+    return ["for a record", *sizes, "rise", "in a tenth", f"a byte, {sizes[0]}", sizes[-1], "rise", "in a tenth"]
+
+
+def summary(found):
+    """A sentence for what rises by more than a tenth."""
+
+    def beyond(what, figures):
+        names = [shape.name for shape in found if verdict(figures(shape)) == "no"]
+        return f"{len(names)} for {what}" + (f" ({'; '.join(names)})" if names else "")
+
+    records = beyond("a record", lambda shape: shape.record)
+    octets = beyond("a byte", lambda shape: shape.octet)
+    return f"Counted at commit {measure.commit()}. Of {len(found)} shapes more than a tenth dearer at {SIZES[-1]:,} records than at {SIZES[0]}: {records}; {octets}."
+
+
+def main():
+    words = argparse.ArgumentParser()
+    words.add_argument("--page")
+    words.add_argument("--quick", action="store_true")
+    words = words.parse_args()
+    start, _ = count(record("stmt", 0, 0))
+    sheets = [shapes(size) for size in SIZES]
+    names = QUICK if words.quick else list(sheets[0])
+    found = [Shape(name, [of_size[name] for of_size in sheets], start) for name in names]
+    found.sort(key=lambda shape: rise(shape.record), reverse=True)
+    table = "\n".join(f"{first:<24}" + "".join(f"{cell:>14}" for cell in rest) for first, *rest in [heads(), *map(row, found)])
+    print(f"{summary(found)}\n\n{table}")
+    if words.page and not measure.put(words.page, "growth", f"{summary(found)}\n\n{measure.as_markdown(table)}"):
+        raise SystemExit(f"{words.page}: no comment `growth`")
 
 
 if __name__ == "__main__":

@@ -6,7 +6,7 @@
     python3 tools/measure.py --page docs/PERFORMANCE.md docs/speed.txt
     python3 rust/plot.py docs/speed.txt docs/speed.svg
 
-The second puts the tables of the first into the page, each between a comment
+The third puts the tables of the second into the page, each between a comment
 with the first words of the table and the comment `end`.
 
 Times come from `compare speed`, where the sides take turns and the best time of
@@ -20,6 +20,9 @@ compiler put in place of calls.
 
     python3 tools/measure.py --seconds 10     each row of times in so long
     python3 tools/measure.py --no-times       instructions alone
+    python3 tools/measure.py --quick          times that are not to be trusted, and the
+                                              instructions of a few small rows, in
+                                              seconds: to see that it works
 """
 import argparse
 import collections
@@ -30,10 +33,11 @@ import subprocess
 import tempfile
 
 COMPARE = 'target/rust/release/compare'
-LOADS = ['16', '64', '256', '1024', '2048', 'distinct', 'same', 'multiples', 'chain', 'text']
-# The load whose instructions are told by part and by function.
-PROFILED = '2048'
-ROUNDS = 3
+# What is counted: the loads, the one of them whose instructions are told by part and
+# by function, and how many times each sheet is gone over.
+Count = collections.namedtuple('Count', 'loads profiled rounds')
+WHOLE = Count(['16', '64', '256', '1024', '2048', 'distinct', 'same', 'multiples', 'chain', 'text'], '2048', 3)
+QUICK = Count(['16', '64'], '64', 1)
 # A function is told if it costs so many instructions a record itself.
 LEAST = 8
 # What is counted: the function of each side, by the head of its column.
@@ -117,14 +121,14 @@ def part_of(name):
     return 'the rest'
 
 
-def profile(load, side='all'):
+def profile(load, rounds, side='all'):
     """The load's name, its records in all, and callgrind's figures."""
     with tempfile.NamedTemporaryFile() as file:
         command = ['valgrind', '--tool=callgrind', f'--callgrind-out-file={file.name}', '--toggle-collect=compare::speed::side_*',
-                   COMPARE, 'speed', '--count', side, '--load', load, '--rounds', str(ROUNDS)]
+                   COMPARE, 'speed', '--count', side, '--load', load, '--rounds', str(rounds)]
         out = subprocess.run(command, capture_output=True, text=True, check=True).stdout
         name, records = re.search(r'(.*): (\d+) records in all', out).groups()
-        return name, int(records) * ROUNDS, Profile(file.name)
+        return name, int(records) * rounds, Profile(file.name)
 
 
 def instructions(profiles):
@@ -145,8 +149,8 @@ def by_part(name, records, found):
     print(f"{'in all':<25}" + ''.join(f'{sum(parts.values()) / records:>14,.1f}' for parts in each.values()))
 
 
-def by_function(side):
-    name, records, found = profile(PROFILED, side)
+def by_function(side, count):
+    name, records, found = profile(count.profiled, count.rounds, side)
     own = collections.Counter()
     for function, cost in found.own.items():
         own['allocation' if ALLOCATION.match(function) else function.split("'")[0]] += cost / records
@@ -163,18 +167,48 @@ def as_markdown(block):
     return ''.join('| ' + ' | '.join(row) + ' |\n' for row in [rows[0], rule, *rows[1:]])
 
 
+def put(page, title, shown):
+    """Puts a text into a page, between the comments for it; whether they are there."""
+    with open(page, encoding='utf-8') as file:
+        text = file.read()
+    place = re.compile(rf'(<!-- {re.escape(title)} -->\n).*?(<!-- end -->)', re.DOTALL)
+    text, times = place.subn(lambda match: match[1] + shown + match[2], text)
+    with open(page, 'w', encoding='utf-8') as file:
+        file.write(text)
+    return times > 0
+
+
 def put_into(page, source):
     """The tables of a file that this program has printed, put into the page."""
     with open(source, encoding='utf-8') as file:
         head, *blocks = file.read().strip().split('\n\n')
-    with open(page, encoding='utf-8') as file:
-        text = file.read()
     tables = {block.split(',')[0].split('  ')[0].strip(): as_markdown(block) for block in blocks}
-    for title, shown in [('measured at', f'{head}\n'), *tables.items()]:
-        place = re.compile(rf'(<!-- {re.escape(title)} -->\n).*?(<!-- end -->)', re.DOTALL)
-        text = place.sub(lambda match: match[1] + shown + match[2], text)
-    with open(page, 'w', encoding='utf-8') as file:
-        file.write(text)
+    put(page, 'measured at', f'{head}\n')
+    for title, shown in tables.items():
+        put(page, title, shown)
+
+
+def commit():
+    """The commit that is at hand, and whether something is changed."""
+    changed = ' and changes' if said('git', 'status', '--porcelain', 'crates', 'rust') else ''
+    return f"{said('git', 'rev-parse', '--short', 'HEAD')}{changed}"
+
+
+def measure(count, seconds):
+    """Prints all tables, those of times if they are to take some seconds a row."""
+    model = re.search(r'model name\s*: (.*)', open('/proc/cpuinfo', encoding='utf-8').read())
+    print(f"commit {commit()}; {said('rustc', '--version')}")
+    print(f'{model[1] if model else platform.machine()}, {os.cpu_count()} cores, load {os.getloadavg()[0]:.1f} at the start\n', flush=True)
+    if seconds is not None:
+        subprocess.run([COMPARE, 'speed', '--seconds', seconds], check=True)
+        print(flush=True)
+    profiles = [profile(load, count.rounds) for load in count.loads]
+    instructions(profiles)
+    print()
+    by_part(*profiles[count.loads.index(count.profiled)])
+    for side in ('ours', 'rust-reading'):
+        print()
+        by_function(side, count)
 
 
 def main():
@@ -182,24 +216,14 @@ def main():
     words.add_argument('--page', nargs=2, metavar=('PAGE', 'SOURCE'))
     words.add_argument('--seconds', default='5')
     words.add_argument('--no-times', action='store_true')
+    words.add_argument('--quick', action='store_true')
     words = words.parse_args()
     if words.page:
         put_into(*words.page)
-        return
-    changed = ' and changes' if said('git', 'status', '--porcelain', 'crates', 'rust') else ''
-    model = re.search(r'model name\s*: (.*)', open('/proc/cpuinfo', encoding='utf-8').read())
-    print(f"commit {said('git', 'rev-parse', '--short', 'HEAD')}{changed}; {said('rustc', '--version')}")
-    print(f'{model[1] if model else platform.machine()}, {os.cpu_count()} cores, load {os.getloadavg()[0]:.1f} at the start\n', flush=True)
-    if not words.no_times:
-        subprocess.run([COMPARE, 'speed', '--seconds', words.seconds], check=True)
-        print(flush=True)
-    profiles = [profile(load) for load in LOADS]
-    instructions(profiles)
-    print()
-    by_part(*profiles[LOADS.index(PROFILED)])
-    for side in ('ours', 'rust-reading'):
-        print()
-        by_function(side)
+    elif words.quick:
+        measure(QUICK, '0')
+    else:
+        measure(WHOLE, None if words.no_times else words.seconds)
 
 
 if __name__ == '__main__':

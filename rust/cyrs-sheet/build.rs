@@ -19,7 +19,10 @@ fn main() {
         .arg(&out)
         .status()
         .expect("oracle/build.sh can be run");
-    assert!(status.success(), "oracle/build.sh: {status}");
+    if !status.success() {
+        println!("cargo::error=oracle/build.sh did not compile cyrs and says why below");
+        std::process::exit(1);
+    }
     let libraries = out.join("lib");
     println!("cargo::rustc-link-search=all={}", libraries.display());
     println!("cargo::metadata=libraries={}", libraries.display());

@@ -9,7 +9,7 @@
 use std::env;
 use std::fs;
 use std::path::{Path, PathBuf};
-use std::process::Command;
+use std::process::{Command, exit};
 
 fn main() {
     println!("cargo::rerun-if-env-changed=DRESSERHAWK_ARCHIVE");
@@ -20,8 +20,9 @@ fn main() {
         None => prove(root),
     };
     let out = variable("OUT_DIR");
-    fs::copy(&made, out.join("libdresserhawk.a"))
-        .unwrap_or_else(|error| panic!("{}: {error}", made.display()));
+    if let Err(error) = fs::copy(&made, out.join("libdresserhawk.a")) {
+        fail(&format!("{}: {error} (DRESSERHAWK_ARCHIVE is a full path)", made.display()));
+    }
     println!("cargo::rustc-link-search=native={}", out.display());
     println!("cargo::rustc-link-lib=static=dresserhawk");
     println!("cargo::rustc-env=DRESSERHAWK_LINKED={}", out.join("libdresserhawk.a").display());
@@ -30,6 +31,12 @@ fn main() {
 
 fn variable(name: &str) -> PathBuf {
     PathBuf::from(env::var_os(name).unwrap_or_else(|| panic!("cargo sets {name}")))
+}
+
+/// Ends the build with a line for whoever asked for it.
+fn fail(what: &str) -> ! {
+    println!("cargo::error={what}");
+    exit(1)
 }
 
 fn given(archive: PathBuf) -> PathBuf {
@@ -42,11 +49,12 @@ fn prove(root: &Path) -> PathBuf {
     for read in ["crates", "crates.txt", "tools/archive.sh"] {
         println!("cargo::rerun-if-changed={}", root.join(read).display());
     }
-    let status = Command::new(root.join("tools/archive.sh"))
-        .status()
-        .expect("tools/archive.sh can be run; or DRESSERHAWK_ARCHIVE names a ready archive");
-    assert!(status.success(), "tools/archive.sh: {status}");
-    root.join("target/staticlib/libdresserhawk.a")
+    match Command::new(root.join("tools/archive.sh")).status() {
+        Ok(status) if status.success() => root.join("target/staticlib/libdresserhawk.a"),
+        _ => fail(
+            "tools/archive.sh made no archive and says why below; DRESSERHAWK_ARCHIVE names a ready one",
+        ),
+    }
 }
 
 /// The kit that proved the archive; a warning if the repository has another.

@@ -9,9 +9,9 @@ use std::process::Command;
 const ROOT: &str = concat!(env!("CARGO_MANIFEST_DIR"), "/../..");
 
 /// What the scripts use besides.
-const TOOLS: [&str; 14] = [
+const TOOLS: [&str; 15] = [
     "bash", "env", "dirname", "mktemp", "tee", "tail", "rm", "cp", "mv", "cat", "cmp", "mkdir",
-    "make", "python3",
+    "make", "python3", "valgrind",
 ];
 
 const RT: &str = r#"#!/bin/bash
