@@ -1,5 +1,5 @@
 #!/usr/bin/env python3
-"""Writes the list of program gate_plan and what it has to print.
+"""Writes the list of program gate_calls and what it has to print.
 
   python3 oracle/list.py     from the repository's root, after rust/compare is built
 
@@ -8,23 +8,27 @@ records end in `;` and fields are parted by a blank; between three stars stand
 a number and a part that is there so many times. The plans and refusals 6 to 9
 are the oracle's, as `compare answer` writes them; refusals 1 to 5 are given here
 by hand, from document 01, and 2 to 5 are held to what `compare one` has for
-them; 10 is given where the oracle's plan is longer than the room.
+them; 10 is given where the oracle's plan is longer than the room. The cases of
+the sizing call are in sizing.py.
 """
 import pathlib
 import re
 import shutil
 import subprocess
 
+from sizing import SIZED
+
 COMPARE = 'target/rust/release/compare'
-LIST = 'crates/gate_plan/src/list.rt'
-STDOUT = 'crates/gate_plan/stdout'
+LIST = 'crates/gate_calls/stdin'
+STDOUT = 'crates/gate_calls/stdout'
 # Where the answered sheets are left, for sheets.py and compare.py.
 SHEETS = pathlib.Path('target/oracle/list')
-# Bytes of the plan slice that gate_plan prints at most.
+# Bytes of the plan slice that gate_calls prints at most.
 SHOWN = 2048
-# Bytes that a constant may have, so that the compiler takes it; and the constants that gate_plan walks.
-LONGEST = 10000
-NAMES = ['LIST', 'MORE']
+# Bytes that the list may have.
+LONGEST = 32768
+# The two words behind an answer's six, which no call touches.
+BEHIND = [7, 7]
 
 NODE = 'node - 0 0 0 1;'
 REL = 'rel - 0 0 one - - 0 0 1;'
@@ -231,11 +235,21 @@ BY_HAND = [
     ('depth-65', statement(where('*62*list 1;*null;')), 4, 65),
 ]
 
-# The cases that gate_plan has outside its list: short work slices.
-SHORT = ['short-1', 'short-2', 'short-3', 'short-4']
+# What is short: a work slice by a word, the four of them by all their words, or the answer slice.
+SHORT = [
+    ('short-1', 1, 'stmt 0 0;'),
+    ('short-2', 2, 'stmt 0 0;'),
+    ('short-3', 3, 'stmt 0 0;'),
+    ('short-4', 4, 'stmt 0 0;'),
+    ('short-long', 4, 'x*32768*x*'),
+    ('no-words', 5, ''),
+]
+NO_ANSWER = ('short-answer', 6, 'stmt 0 0;')
 
 
 def spelled(text):
+    if isinstance(text, bytes):
+        return text
     return text.replace(' ', '\t').replace(';', '\n').encode()
 
 
@@ -254,68 +268,76 @@ def ask_oracle():
     subprocess.run([COMPARE, 'answer', SHEETS], check=True)
 
 
-def agrees(text, number, line):
+def agrees(text, values):
     """Whether the second reading of document 01 gives this refusal too."""
     run = subprocess.run([COMPARE, 'one', '/dev/stdin'], input=sheet_of(text), capture_output=True)
-    return run.stdout.startswith(b'reading: [%d, %d, 0, 0, 0, 0],' % (number, line))
-
-
-def entry(label, room, text):
-    """A case as a line of the byte string in list.rt."""
-    names = {9: '\\t', 10: '\\n', 13: '\\r', 34: '\\"', 92: '\\\\'}
-    written = ''.join(names.get(b) or (chr(b) if 32 <= b < 127 else f'\\x{b:02x}') for b in text)
-    return f'{label}|{room}|{written}|\\\n', len(f'{label}|{room}||') + len(text)
+    return run.stdout.startswith(f'reading: {values},'.encode())
 
 
 class Output:
     def __init__(self):
-        # the constants: entries, and bytes
-        self.lists, self.printed = [([], 0)], b''
+        self.cases, self.listed, self.printed = 0, b'', b''
 
-    def say(self, label, values, slice_):
-        self.printed += f"{label} {' '.join(map(str, values))}\n".encode() + slice_[:SHOWN] + b'\n'
+    def say(self, label, call, answer, slice_=None):
+        told = 'true' if len(answer) > 6 else 'false'
+        self.printed += f"{label} {call} {told} {' '.join(map(str, answer))}\n".encode()
+        if slice_ is not None:
+            self.printed += slice_[:SHOWN] + b'\n'
 
-    def add(self, label, text, values, slice_):
+    def list(self, label, short, room, text):
         assert text.count(b'*') in (0, 3) and b'|' not in text, label
+        self.listed += f'{label}|{short}|{room}|'.encode() + text + b'|'
+        self.cases += 1
+
+    def both(self, label, short, text, answer):
+        self.list(label, short, 'size', spelled(text))
+        self.say(label, 'size', answer)
+        self.list(label, short, 3, spelled(text))
+        self.say(label, 'lower', answer, b'###')
+
+    def lowered(self, label, text, values, slice_):
         assert len(slice_) <= 65536, (label, len(slice_))
-        line, length = entry(label, len(slice_), text)
-        lines, so_far = self.lists.pop()
-        if so_far + length > LONGEST:
-            self.lists.append((lines, so_far))
-            lines, so_far = [], 0
-        self.lists.append((lines + [line], so_far + length))
-        self.say(label, values, slice_)
+        self.list(label, 0, len(slice_), text)
+        self.say(label, 'lower', values + BEHIND, slice_)
+
+    def sized(self, label, text, values):
+        self.list(label, 0, 'size', text)
+        self.say(label, 'size', values + BEHIND)
 
     def answered(self, label, text, more):
         answer = SHEETS.joinpath(f'{label}.answer').read_bytes()
         if answer.startswith(b'refused\t'):
             values = [int(word) for word in answer.split(b'\t')[1:]] + [0]
-            self.add(label, text, values, b'#' * max(more, 0))
+            self.lowered(label, text, values, b'#' * max(more, 0))
         elif more < 0:
-            self.add(label, text, [10, 0, 0, 0, 0, 0], b'#' * (len(answer) + more))
+            self.lowered(label, text, [10, 0, 0, 0, 0, 0], b'#' * (len(answer) + more))
         else:
-            self.add(label, text, [0, 0, 0, 0, 0, len(answer)], answer + b'#' * more)
+            self.lowered(label, text, [0, 0, 0, 0, 0, len(answer)], answer + b'#' * more)
 
 
 def main():
     ask_oracle()
     out = Output()
-    for label in SHORT:
-        out.say(label, [1, 0, 0, 0, 0, 0], b'###')
+    for case in SHORT:
+        out.both(*case, [1, 0, 0, 0, 0, 0] + BEHIND)
+    out.both(*NO_ANSWER, [7, 7, 7, 7, 7])
     for label, text in ANSWERED:
         out.answered(label, spelled(text), 3)
     for label, text, more in ROOMS:
         out.answered(label, spelled(text), more)
     for label, text, number, line in BY_HAND:
-        assert agrees(spelled(text), number, line), label
-        out.add(label, spelled(text), [number, line, 0, 0, 0, 0], b'###')
-    with open(LIST, 'w', encoding='ascii') as file:
-        file.write('// Made by oracle/list.py. Each case is a label, the length of the plan slice and a sheet, each ended by a bar. Between three stars stand a number and a part of the sheet that is there so many times. There are two lists because a constant may not have more bytes.\n')
-        constants = [f'pub const {name}: [u8; {length}] = *b"\\\n{"".join(lines)}";\n' for name, (lines, length) in zip(NAMES, out.lists, strict=True)]
-        file.write('\n'.join(constants))
+        values = [number, line, 0, 0, 0, 0]
+        assert agrees(spelled(text), values), label
+        out.lowered(label, spelled(text), values, b'###')
+    for label, text, values in SIZED:
+        assert values[0] == 0 or agrees(spelled(text), values), label
+        out.sized(label, spelled(text), values)
+    assert len(out.listed) <= LONGEST, len(out.listed)
+    with open(LIST, 'wb') as file:
+        file.write(out.listed)
     with open(STDOUT, 'wb') as file:
         file.write(out.printed)
-    print(f'{sum(len(lines) for lines, _ in out.lists)} cases, {sum(length for _, length in out.lists)} bytes of lists, {len(out.printed)} bytes printed')
+    print(f'{out.cases} cases, {len(out.listed)} bytes of the list, {len(out.printed)} bytes printed')
 
 
 main()

@@ -12,14 +12,14 @@ use Rattle.model.specs.Tree.{Tree, Trees, node, []ᵗ, _∷ᵗ_, end, _▸_}
 use Rattle.model.specs.Lower.{filter, item, lowerProjections, isAggregateFunc}
 use Rattle.model.specs.Lower.{Split, noSplit, withKey, withAgg, lowerKey, lowerCallItem, lowerItem, splitProjectionsAgg, lowerKeys, orderBy, overExpr, lowerTrailers, lowerYields, distinctIf, aggregateIf, lowerClause, lowerClauses, lowerArms, lower}
 use Rattle.bounds.specs.Earlier.{All, []ᵃ, _∷ᵃ_, all-append, Low, raise}
-use Rattle.bounds.specs.Fine.{Post, Fine, Old, Lows, bind✓, within, ret✓, push✓, mapVar✓, Before, nothing, operator, before-raise, orSourceAll✓}
+use Rattle.bounds.specs.Bounded.{Post, Bounded, Old, Lows, bind✓, within, ret✓, push✓, mapVar✓, Before, nothing, operator, before-raise, orSourceAll✓}
 use Rattle.bounds.specs.Pattern.{lowerMatchPattern✓}
 use Rattle.bounds.specs.Size.{size, sizeOf, sizeOf-pos}
 use Rattle.bounds.specs.Expr.{lowerExpr✓, lowerExprs✓, lowerPattern✓}
 
 -- ── projections ──
 
-pub lowerProjections✓ : {n i : ℕ} (ps : Trees projection i) → Fine n Lows (2 * sizeOf ps) (sizeOf ps) (lowerProjections ps)
+pub lowerProjections✓ : {n i : ℕ} (ps : Trees projection i) → Bounded n Lows (2 * sizeOf ps) (sizeOf ps) (lowerProjections ps)
 unfolding lowerProjections item size
 lowerProjections✓ []ᵗ = within (ret✓ _ []ᵃ) (omega arith) (omega arith)
 lowerProjections✓ (node projection line k (alias, _) (e ∷ᵗ []ᵗ ▸ end) ∷ᵗ ps) =
@@ -37,7 +37,7 @@ pub record SplitLow (s : Split) (n : ℕ) : Type 0 where
 abbrev pub Adds : Post (Split → Split)
 Adds f n = (s : Split) (m : ℕ) → n ≤ m → SplitLow s m → SplitLow (f s) m
 
-pub lowerKey✓ : {n : ℕ} (e : Tree expr) → Fine n Adds (2 * size e) (size e) (lowerKey e)
+pub lowerKey✓ : {n : ℕ} (e : Tree expr) → Bounded n Adds (2 * size e) (size e) (lowerKey e)
 unfolding lowerKey withKey
 lowerKey✓ e =
     within
@@ -45,7 +45,7 @@ lowerKey✓ e =
     ret✓ _ (λ s m le h. record { keys = all-append (raise le low) (h .keys); aggs = h .aggs }))
     (omega arith) (omega arith)
 
-pub lowerCallItem✓ : {n i : ℕ} (b : Bool) (e : Tree expr) (func : Bytes) (distinct : Bool) (args : Trees expr i) → sizeOf args ≤ size e → Fine n Adds (2 * size e) (size e) (lowerCallItem b e func distinct args)
+pub lowerCallItem✓ : {n i : ℕ} (b : Bool) (e : Tree expr) (func : Bytes) (distinct : Bool) (args : Trees expr i) → sizeOf args ≤ size e → Bounded n Adds (2 * size e) (size e) (lowerCallItem b e func distinct args)
 unfolding lowerCallItem withAgg
 lowerCallItem✓ false e func distinct args le = lowerKey✓ e
 lowerCallItem✓ true e func distinct args le =
@@ -54,7 +54,7 @@ lowerCallItem✓ true e func distinct args le =
     ret✓ _ (λ s m le h. record { keys = h .keys; aggs = []ᵃ ∷ᵃ all-append (raise le low) (h .aggs) }))
     (omega arith) (omega arith)
 
-pub lowerItem✓ : {n : ℕ} (e : Tree expr) → Fine n Adds (2 * size e) (size e) (lowerItem e)
+pub lowerItem✓ : {n : ℕ} (e : Tree expr) → Bounded n Adds (2 * size e) (size e) (lowerItem e)
 unfolding lowerItem size
 lowerItem✓ (node expr line (Expr.Over h) f kids) = lowerKey✓ _
 lowerItem✓ (node expr line Expr.Var f kids) = lowerKey✓ _
@@ -65,7 +65,7 @@ lowerItem✓ (node expr line Expr.ListPredicate f kids) = lowerKey✓ _
 lowerItem✓ (node expr line Expr.Unresolved f kids) = lowerKey✓ _
 lowerItem✓ (node expr line Expr.Undesugared f kids) = lowerKey✓ _
 
-pub splitProjectionsAgg✓ : {n i : ℕ} (ps : Trees projection i) → Fine n (λ s m. SplitLow s m) (2 * sizeOf ps) (sizeOf ps) (splitProjectionsAgg ps)
+pub splitProjectionsAgg✓ : {n i : ℕ} (ps : Trees projection i) → Bounded n (λ s m. SplitLow s m) (2 * sizeOf ps) (sizeOf ps) (splitProjectionsAgg ps)
 unfolding splitProjectionsAgg noSplit size
 splitProjectionsAgg✓ []ᵗ = within (ret✓ _ (record { keys = []ᵃ; aggs = []ᵃ })) (omega arith) (omega arith)
 splitProjectionsAgg✓ (node projection line k f (e ∷ᵗ []ᵗ ▸ end) ∷ᵗ ps) =
@@ -77,7 +77,7 @@ splitProjectionsAgg✓ (node projection line k f (e ∷ᵗ []ᵗ ▸ end) ∷ᵗ
 
 -- ── order, skip, limit ──
 
-pub lowerKeys✓ : {n i : ℕ} (ks : Trees orderItem i) → Fine n Lows (2 * sizeOf ks) (sizeOf ks) (lowerKeys ks)
+pub lowerKeys✓ : {n i : ℕ} (ks : Trees orderItem i) → Bounded n Lows (2 * sizeOf ks) (sizeOf ks) (lowerKeys ks)
 unfolding lowerKeys size
 lowerKeys✓ []ᵗ = within (ret✓ _ []ᵃ) (omega arith) (omega arith)
 lowerKeys✓ (node orderItem line k (descending, _) (e ∷ᵗ []ᵗ ▸ end) ∷ᵗ ks) =
@@ -87,7 +87,7 @@ lowerKeys✓ (node orderItem line k (descending, _) (e ∷ᵗ []ᵗ ▸ end) ∷
     ret✓ _ ([]ᵃ ∷ᵃ all-append (raise le₂ low₁) low₂))
     (omega arith) (omega arith)
 
-pub orderBy✓ : {n i input : ℕ} (ks : Trees orderItem i) → input < n → Fine n Old (4 * sizeOf ks) (2 * sizeOf ks) (orderBy input ks)
+pub orderBy✓ : {n i input : ℕ} (ks : Trees orderItem i) → input < n → Bounded n Old (4 * sizeOf ks) (2 * sizeOf ks) (orderBy input ks)
 unfolding orderBy
 orderBy✓ []ᵗ lt = within (ret✓ _ lt) (omega arith) (omega arith)
 orderBy✓ (k ∷ᵗ ks) lt =
@@ -96,7 +96,7 @@ orderBy✓ (k ∷ᵗ ks) lt =
     push✓ ((omega arith ∷ᵃ []ᵃ) ∷ᵃ low))
     (omega (arith, sizeOf-pos k ks)) (omega arith)
 
-pub overExpr✓ : {n i input : ℕ} (r : Rec) (es : Trees expr i) → All (λ k. k < n) (inputs r) → input < n → Fine n Old (4 * sizeOf es) (2 * sizeOf es) (overExpr r input es)
+pub overExpr✓ : {n i input : ℕ} (r : Rec) (es : Trees expr i) → All (λ k. k < n) (inputs r) → input < n → Bounded n Old (4 * sizeOf es) (2 * sizeOf es) (overExpr r input es)
 unfolding overExpr size
 overExpr✓ r []ᵗ low lt = within (ret✓ _ lt) (omega arith) (omega arith)
 overExpr✓ r (e ∷ᵗ es) low lt =
@@ -105,7 +105,7 @@ overExpr✓ r (e ∷ᵗ es) low lt =
     push✓ (all-append (raise le₁ (low ∷ᵃ []ᵃ)) low₁))
     (omega (arith, sizeOf-pos e es)) (omega arith)
 
-pub lowerTrailers✓ : {n i s l input : ℕ} (keys : Trees orderItem i) (skip : Trees expr s) (limit : Trees expr l) → input < n → Fine n Old (4 * (sizeOf keys + sizeOf skip + sizeOf limit)) (2 * (sizeOf keys + sizeOf skip + sizeOf limit)) (lowerTrailers input keys skip limit)
+pub lowerTrailers✓ : {n i s l input : ℕ} (keys : Trees orderItem i) (skip : Trees expr s) (limit : Trees expr l) → input < n → Bounded n Old (4 * (sizeOf keys + sizeOf skip + sizeOf limit)) (2 * (sizeOf keys + sizeOf skip + sizeOf limit)) (lowerTrailers input keys skip limit)
 unfolding lowerTrailers
 lowerTrailers✓ keys skip limit lt =
     within
@@ -116,7 +116,7 @@ lowerTrailers✓ keys skip limit lt =
 
 -- ── clauses ──
 
-pub lowerYields✓ : {n i : ℕ} (ys : Trees yieldItem i) → Fine n Lows 0 (sizeOf ys) (lowerYields ys)
+pub lowerYields✓ : {n i : ℕ} (ys : Trees yieldItem i) → Bounded n Lows 0 (sizeOf ys) (lowerYields ys)
 unfolding lowerYields size
 lowerYields✓ []ᵗ = within (ret✓ _ []ᵃ) (omega arith) (omega arith)
 lowerYields✓ (node yieldItem line k (column, (id, _)) end ∷ᵗ ys) =
@@ -126,12 +126,12 @@ lowerYields✓ (node yieldItem line k (column, (id, _)) end ∷ᵗ ys) =
     ret✓ _ ([]ᵃ ∷ᵃ low))
     (omega arith) (omega arith)
 
-pub distinctIf✓ : {n input : ℕ} (b : Bool) → input < n → Fine n Old 1 0 (distinctIf b input)
+pub distinctIf✓ : {n input : ℕ} (b : Bool) → input < n → Bounded n Old 1 0 (distinctIf b input)
 unfolding distinctIf
 distinctIf✓ false lt = within (ret✓ _ lt) (omega arith) (omega arith)
 distinctIf✓ true lt = push✓ ((lt ∷ᵃ []ᵃ) ∷ᵃ []ᵃ)
 
-pub aggregateIf✓ : {n input : ℕ} {s : Split} (i : ℕ) → input < n → SplitLow s n → Fine n Old 1 0 (aggregateIf i input s)
+pub aggregateIf✓ : {n input : ℕ} {s : Split} (i : ℕ) → input < n → SplitLow s n → Bounded n Old 1 0 (aggregateIf i input s)
 unfolding aggregateIf
 aggregateIf✓ zero lt low = within (ret✓ _ lt) (omega arith) (omega arith)
 aggregateIf✓ (suc i) lt low = push✓ ((lt ∷ᵃ []ᵃ) ∷ᵃ all-append (low .keys) (low .aggs))
@@ -140,7 +140,7 @@ pub call-input : {n : ℕ} {o : Option ℕ} → Before n o → All (λ k. k < n)
 call-input nothing = []ᵃ
 call-input (operator lt) = lt ∷ᵃ []ᵃ
 
-pub lowerClause✓ : {n : ℕ} {o : Option ℕ} (c : Tree clause) → Before n o → Fine n (λ p m. Before m p) (4 * size c) (2 * size c) (lowerClause c o)
+pub lowerClause✓ : {n : ℕ} {o : Option ℕ} (c : Tree clause) → Before n o → Bounded n (λ p m. Before m p) (4 * size c) (2 * size c) (lowerClause c o)
 unfolding lowerClause filter size
 lowerClause✓ (node clause line Clause.Match (optional, _) (parts ▸ end)) before =
     within
@@ -191,14 +191,14 @@ lowerClause✓ (node clause line Clause.Call (procedure, (args, (yields, (option
     (omega arith) (omega arith)
 lowerClause✓ (node clause line Clause.Write f kids) before = within (ret✓ _ before) (omega arith) (omega arith)
 
-pub lowerClauses✓ : {n i : ℕ} {o : Option ℕ} (cs : Trees clause i) → Before n o → Fine n (λ p m. Before m p) (4 * sizeOf cs) (2 * sizeOf cs) (lowerClauses cs o)
+pub lowerClauses✓ : {n i : ℕ} {o : Option ℕ} (cs : Trees clause i) → Before n o → Bounded n (λ p m. Before m p) (4 * sizeOf cs) (2 * sizeOf cs) (lowerClauses cs o)
 unfolding lowerClauses size
 lowerClauses✓ []ᵗ before = within (ret✓ _ before) (omega arith) (omega arith)
 lowerClauses✓ (c ∷ᵗ cs) before = within (bind✓ (lowerClause✓ c before) λ left n₁ le₁ before₁. lowerClauses✓ cs before₁) (omega arith) (omega arith)
 
 -- ── the statement ──
 
-pub lowerArms✓ : {n i : ℕ} {o : Option ℕ} (arms : Trees unionArm i) → Before n o → Fine n (λ p m. Before m p) (4 * sizeOf arms) (2 * sizeOf arms) (lowerArms arms o)
+pub lowerArms✓ : {n i : ℕ} {o : Option ℕ} (arms : Trees unionArm i) → Before n o → Bounded n (λ p m. Before m p) (4 * sizeOf arms) (2 * sizeOf arms) (lowerArms arms o)
 unfolding lowerArms size
 lowerArms✓ []ᵗ before = within (ret✓ _ before) (omega arith) (omega arith)
 lowerArms✓ (node unionArm line k (all, _) (cs ▸ end) ∷ᵗ arms) before =
@@ -210,6 +210,6 @@ lowerArms✓ (node unionArm line k (all, _) (cs ▸ end) ∷ᵗ arms) before =
     lowerArms✓ arms (operator lt₄))
     (omega arith) (omega arith)
 
-pub lower✓ : (t : Tree statement) → Fine 0 (λ p m. Before m p) (4 * size t) (2 * size t) (lower t)
+pub lower✓ : (t : Tree statement) → Bounded 0 (λ p m. Before m p) (4 * size t) (2 * size t) (lower t)
 unfolding lower size
 lower✓ (node statement line k f (cs ▸ arms ▸ end)) = within (bind✓ (lowerClauses✓ cs nothing) λ head n₁ le₁ before. lowerArms✓ arms before) (omega arith) (omega arith)

@@ -11,14 +11,14 @@ use Rattle.model.specs.Tree.{Tree}
 use Rattle.model.specs.Lower.{Recs, empty, lowerStatement}
 use Rattle.model.specs.Plan.{mappedRecs}
 use Rattle.model.specs.Call.{recordCount, Figure}
-use Rattle.bounds.specs.Fine.{Spent, Falling, []ᶠ, _∷ᶠ_}
+use Rattle.bounds.specs.Bounded.{Spent, Falling, []ᶠ, _∷ᶠ_}
 use Rattle.bounds.specs.Size.{size, size-records}
 use Rattle.bounds.specs.Clause.{lower✓}
-use Rattle.bounds.specs.Inputs.{good-empty}
+use Rattle.bounds.specs.Inputs.{ordered-empty}
 
 pub spent : (t : Tree statement) → Spent (4 * size t) (2 * size t) empty (lowerStatement t)
 unfolding lowerStatement empty
-spent t = lower✓ t .run empty refl good-empty .spent
+spent t = lower✓ t .run empty refl ordered-empty .spent
 
 pub operators-few : (t : Tree statement) → length (lowerStatement t .ops) ≤ 4 * recordCount t
 unfolding recordCount empty
@@ -33,7 +33,7 @@ numbers-few t = omega (arith, spent t .issued, size-records t)
 
 pub falling : (t : Tree statement) → Falling (lowerStatement t .scope .next) (lowerStatement t .scope .vars)
 unfolding lowerStatement empty
-falling t = lower✓ t .run empty refl good-empty .good .falling
+falling t = lower✓ t .run empty refl ordered-empty .ordered .falling
 
 pub falling-few : {bound : ℕ} {vs : List (ℕ × ℕ)} → Falling bound vs → length vs ≤ bound
 falling-few []ᶠ = omega arith

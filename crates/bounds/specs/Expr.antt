@@ -10,7 +10,7 @@ use Rattle.model.specs.Record.{Rec, Group, one, forms, sameForms, exprForms, el
 use Rattle.model.specs.Tree.{Tree, Trees, Forest, node, []ᵗ, _∷ᵗ_, end, _▸_, Many, toList, Results, fold, foldOf, foldIn}
 use Rattle.model.specs.Lower.{Recs, Lowering, inOrder, planned, propsOf, Lowered, over, exprStep, elementStep, made, lowerExpr, lowerExprs, lowerPattern}
 use Rattle.bounds.specs.Earlier.{All, []ᵃ, _∷ᵃ_, all-append, Low, raise}
-use Rattle.bounds.specs.Fine.{Fine, Old, Lows, bind✓, within, ret✓, copy✓, mapVar✓, nothing}
+use Rattle.bounds.specs.Bounded.{Bounded, Old, Lows, bind✓, within, ret✓, copy✓, mapVar✓, nothing}
 use Rattle.bounds.specs.Pattern.{Cheap, cheaper, Each, []ˢ, each, more, PropsOf, without, with, StepOf, isNode, isRel, lowerPatternPart✓, lowerMatchPattern✓}
 use Rattle.bounds.specs.Size.{size, sizeOf, sizeIn}
 
@@ -34,7 +34,7 @@ abbrev pub MadeIn : (gs : List Group) → ℕ → Results Lowered gs → Type 0
 MadeIn [] w r = Unit {0}
 MadeIn (g ∷ gs) w r = (u : ℕ) × (v : ℕ) × (u + v ≤ w) × Each (λ x m. Made (g .0) x m) u (toList (g .1) (r .0)) × MadeIn gs v (r .1)
 
-pub inOrder✓ : {w : ℕ} {l : List (Lowering Recs)} (n : ℕ) → Each (λ u m. Cheap Lows u m) w l → Fine n Lows (2 * w) w (inOrder l)
+pub inOrder✓ : {w : ℕ} {l : List (Lowering Recs)} (n : ℕ) → Each (λ u m. Cheap Lows u m) w l → Bounded n Lows (2 * w) w (inOrder l)
 unfolding inOrder
 inOrder✓ n []ˢ = within (ret✓ _ []ᵃ) (omega arith) (omega arith)
 inOrder✓ n (each le m ms) =
@@ -44,7 +44,7 @@ inOrder✓ n (each le m ms) =
     ret✓ _ (all-append (raise le₂ low₁) low₂))
     (omega arith) (omega arith)
 
-pub over✓ : {n w : ℕ} (r : Rec) (i : ℕ) (es : Many (Lowering Recs) i) → All (λ k. k < 0) (inputs r) → Each (λ u m. Cheap Lows u m) w (toList i es) → Fine n Lows (2 * w) w (over r i es)
+pub over✓ : {n w : ℕ} (r : Rec) (i : ℕ) (es : Many (Lowering Recs) i) → All (λ k. k < 0) (inputs r) → Each (λ u m. Cheap Lows u m) w (toList i es) → Bounded n Lows (2 * w) w (over r i es)
 unfolding over
 over✓ {n} r i es low h = within (bind✓ (inOrder✓ n h) λ rs n′ le low′. ret✓ _ (all-append (raise (omega arith) (low ∷ᵃ []ᵃ)) low′)) (omega arith) (omega arith)
 
@@ -137,11 +137,11 @@ mutual
 
 -- ── what the clauses call ──
 
-pub lowerExpr✓ : {n : ℕ} (e : Tree expr) → Fine n Lows (2 * size e) (size e) (lowerExpr e)
+pub lowerExpr✓ : {n : ℕ} (e : Tree expr) → Bounded n Lows (2 * size e) (size e) (lowerExpr e)
 unfolding lowerExpr
 lowerExpr✓ {n} e = fold✓ e .from n
 
-pub lowerExprs✓ : {n i : ℕ} (es : Trees expr i) → Fine n Lows (2 * sizeOf es) (sizeOf es) (lowerExprs es)
+pub lowerExprs✓ : {n i : ℕ} (es : Trees expr i) → Bounded n Lows (2 * sizeOf es) (sizeOf es) (lowerExprs es)
 unfolding lowerExprs size
 lowerExprs✓ []ᵗ = within (ret✓ _ []ᵃ) (omega arith) (omega arith)
 lowerExprs✓ (e ∷ᵗ es) =

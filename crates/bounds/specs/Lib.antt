@@ -1,5 +1,5 @@
 pub mod Earlier
-pub mod Fine
+pub mod Bounded
 pub mod Pattern
 pub mod Size
 pub mod Expr

@@ -9,11 +9,11 @@ use lib.Dec.{eqb}
 use Rattle.model.specs.Lower.{Recs, Lowering, source, filter}
 use Rattle.model.specs.Lower.{Props, lowerProps, NodeStep, RelStep, Step, ofNode, ofRel, lowerRelElement, nodeRecs, filterByProps, Chain, startNode, expandTo, reach, lowerElement, lowerElements, rootOf, pathElements, bindPath, lowerChain, lowerShortestPathPart, shapeOf, lowerShaped, lowerPatternPart, furtherPart, lowerFurther, lowerParts, optionalJoin, lowerMatchPattern}
 use Rattle.bounds.specs.Earlier.{[]ᵃ, _∷ᵃ_, all-append, Low, raise}
-use Rattle.bounds.specs.Fine.{Post, Fine, Old, Lows, bind✓, within, ret✓, push✓, copy✓, mapVar✓, fresh✓, endpointVar✓, Before, nothing, operator, before-raise, orSourceAll✓}
+use Rattle.bounds.specs.Bounded.{Post, Bounded, Old, Lows, bind✓, within, ret✓, push✓, copy✓, mapVar✓, fresh✓, endpointVar✓, Before, nothing, operator, before-raise, orSourceAll✓}
 
 -- what is made of w records of a pattern or an expression adds at most two operators and one number for each
 pub record Cheap {A : Type 0} (P : Post A) (w : ℕ) (m : Lowering A) : Type 0 where
-  pub from : (n : ℕ) → Fine n P (2 * w) w m
+  pub from : (n : ℕ) → Bounded n P (2 * w) w m
 
 pub cheaper : {A : Type 0} {P : Post A} {v w : ℕ} {m : Lowering A} → v ≤ w → Cheap P v m → Cheap P w m
 cheaper le h = record { from = λ n. within (h .from n) (omega arith) (omega arith) }
@@ -48,17 +48,17 @@ pub data StepOf (w : ℕ) : Step → Type 0 where
   isNode : {s : NodeStep} → NodeOf w s → StepOf w (ofNode s)
   isRel : {s : RelStep} → RelOf w s → StepOf w (ofRel s)
 
-pub lowerProps✓ : {w : ℕ} {o : Props} {n : ℕ} → PropsOf w o → Fine n Lows (2 * w) w (lowerProps o)
+pub lowerProps✓ : {w : ℕ} {o : Props} {n : ℕ} → PropsOf w o → Bounded n Lows (2 * w) w (lowerProps o)
 unfolding lowerProps
 lowerProps✓ without = within (ret✓ _ []ᵃ) (omega arith) (omega arith)
 lowerProps✓ {n} (with m) = m .from n
 
-pub filterByProps✓ : {n k w : ℕ} {o : Props} → k < n → PropsOf w o → Fine n Old (2 * w + 1) w (filterByProps k o)
+pub filterByProps✓ : {n k w : ℕ} {o : Props} → k < n → PropsOf w o → Bounded n Old (2 * w + 1) w (filterByProps k o)
 unfolding filterByProps filter
 filterByProps✓ lt without = within (ret✓ _ lt) (omega arith) (omega arith)
 filterByProps✓ {n} lt (with m) = within (bind✓ (m .from n) λ rs n′ le low. push✓ ((omega arith ∷ᵃ []ᵃ) ∷ᵃ low)) (omega arith) (omega arith)
 
-pub lowerRelElement✓ : {n w : ℕ} {r : RelStep} → RelOf w r → Fine n (λ s m. Low m (s .1)) (2 * w) w (lowerRelElement r)
+pub lowerRelElement✓ : {n w : ℕ} {r : RelStep} → RelOf w r → Bounded n (λ s m. Low m (s .1)) (2 * w) w (lowerRelElement r)
 unfolding lowerRelElement
 lowerRelElement✓ {r} ok =
     within
@@ -78,7 +78,7 @@ pub record ChainOf (n w : ℕ) (c : Chain) : Type 0 where
   pub last : Before n (rootOf (c .last))
   pub pending : PendingOf w (c .pending)
 
-pub startNode✓ : {n w : ℕ} {s : NodeStep} (c : Chain) (b : ℕ) (ok : NodeOf w s) → Fine n (λ d m. ChainOf m 0 d) (2 * w) (ok .below) (startNode c s b)
+pub startNode✓ : {n w : ℕ} {s : NodeStep} (c : Chain) (b : ℕ) (ok : NodeOf w s) → Bounded n (λ d m. ChainOf m 0 d) (2 * w) (ok .below) (startNode c s b)
 unfolding startNode source rootOf
 startNode✓ c b ok =
     within
@@ -87,7 +87,7 @@ startNode✓ c b ok =
     ret✓ _ (record { last = operator lt₂; pending = noRel }))
     (omega (arith, ok .room)) (omega (arith, ok .room))
 
-pub expandTo✓ : {n w p : ℕ} {s : NodeStep} {r : RelStep} (c : Chain) (k origin b : ℕ) (ok : NodeOf w s) → RelOf p r → k < n → Fine n (λ d m. ChainOf m 0 d) (2 * (p + w)) (p + ok .below) (expandTo c s r k origin b)
+pub expandTo✓ : {n w p : ℕ} {s : NodeStep} {r : RelStep} (c : Chain) (k origin b : ℕ) (ok : NodeOf w s) → RelOf p r → k < n → Bounded n (λ d m. ChainOf m 0 d) (2 * (p + w)) (p + ok .below) (expandTo c s r k origin b)
 unfolding expandTo nodeRecs rootOf
 expandTo✓ c k origin b ok rel lt =
     within
@@ -97,13 +97,13 @@ expandTo✓ c k origin b ok rel lt =
     ret✓ _ (record { last = operator lt₃; pending = noRel }))
     (omega (arith, ok .room)) (omega (arith, ok .room))
 
-pub reach✓ : {n w p : ℕ} {s : NodeStep} (c : Chain) (b : ℕ) (o : Option RelStep) (l : Option (ℕ × ℕ)) (ok : NodeOf w s) → PendingOf p o → Before n (rootOf l) → Fine n (λ d m. ChainOf m 0 d) (2 * (p + w)) (p + ok .below) (reach c s b o l)
+pub reach✓ : {n w p : ℕ} {s : NodeStep} (c : Chain) (b : ℕ) (o : Option RelStep) (l : Option (ℕ × ℕ)) (ok : NodeOf w s) → PendingOf p o → Before n (rootOf l) → Bounded n (λ d m. ChainOf m 0 d) (2 * (p + w)) (p + ok .below) (reach c s b o l)
 unfolding reach rootOf
 reach✓ c b none l ok rel last = within (startNode✓ c b ok) (omega arith) (omega arith)
 reach✓ c b (some r) none ok rel last = within (startNode✓ c b ok) (omega arith) (omega arith)
 reach✓ c b (some r) (some l) ok (waits rel) (operator lt) = expandTo✓ c (l .0) (l .1) b ok rel lt
 
-pub lowerElements✓ : {n p w : ℕ} {c : Chain} {l : List Step} → ChainOf n p c → Each (λ u s. StepOf u s) w l → Fine n (λ d m. Before m (rootOf (d .last))) (2 * (p + w)) (p + w) (lowerElements c l)
+pub lowerElements✓ : {n p w : ℕ} {c : Chain} {l : List Step} → ChainOf n p c → Each (λ u s. StepOf u s) w l → Bounded n (λ d m. Before m (rootOf (d .last))) (2 * (p + w)) (p + w) (lowerElements c l)
 unfolding lowerElements lowerElement
 lowerElements✓ ok []ˢ = within (ret✓ _ (ok .last)) (omega arith) (omega arith)
 lowerElements✓ ok (each {u = u} room (isRel r) rest) =
@@ -124,7 +124,7 @@ unfolding pathElements
 pathElements-low [] = []ᵃ
 pathElements-low (k ∷ l) = []ᵃ ∷ᵃ pathElements-low l
 
-pub bindPath✓ : {n root : ℕ} (o : Option ℕ) (path : List ℕ) → root < n → Fine n Old 1 1 (bindPath o root path)
+pub bindPath✓ : {n root : ℕ} (o : Option ℕ) (path : List ℕ) → root < n → Bounded n Old 1 1 (bindPath o root path)
 unfolding bindPath
 bindPath✓ none path lt = within (ret✓ _ lt) (omega arith) (omega arith)
 bindPath✓ (some id) path lt = bind✓ (mapVar✓ id) λ b n′ le _. push✓ ((omega arith ∷ᵃ []ᵃ) ∷ᵃ pathElements-low path)
@@ -176,22 +176,22 @@ lowerPatternPart✓ o (suc k) steps = lowerShaped✓ o (eqb k 1) steps
 -- ── the parts of a match ──
 
 -- with no parts the record around them pays for the source
-lowerFurther✓ : {w n root : ℕ} {l : List (Lowering ℕ)} → root < n → Each (λ u m. Cheap Old u m) w l → Fine n Old (2 * w) w (lowerFurther root l)
+lowerFurther✓ : {w n root : ℕ} {l : List (Lowering ℕ)} → root < n → Each (λ u m. Cheap Old u m) w l → Bounded n Old (2 * w) w (lowerFurther root l)
 unfolding lowerFurther furtherPart
 lowerFurther✓ lt []ˢ = within (ret✓ _ lt) (omega arith) (omega arith)
 lowerFurther✓ {n = n} lt (each l p ps) = within (bind✓ (p .from n) λ part n₁ le₁ lt₁. bind✓ (ret✓ part lt₁) λ both n₂ le₂ lt₂. lowerFurther✓ lt₂ ps) (omega arith) (omega arith)
 
-pub lowerParts✓ : {w : ℕ} {l : List (Lowering ℕ)} (n : ℕ) → Each (λ u m. Cheap Old u m) w l → Fine n Old (2 * w + 1) (w + 1) (lowerParts l)
+pub lowerParts✓ : {w : ℕ} {l : List (Lowering ℕ)} (n : ℕ) → Each (λ u m. Cheap Old u m) w l → Bounded n Old (2 * w + 1) (w + 1) (lowerParts l)
 unfolding lowerParts source
 lowerParts✓ n []ˢ = within (bind✓ fresh✓ λ b n′ le _. push✓ ([]ᵃ ∷ᵃ []ᵃ)) (omega arith) (omega arith)
 lowerParts✓ n (each l p ps) = within (bind✓ (p .from n) λ root n′ le lt. lowerFurther✓ lt ps) (omega arith) (omega arith)
 
-pub optionalJoin✓ : {n root : ℕ} {o : Option ℕ} (optional : Bool) → Before n o → root < n → Fine n Old 1 0 (optionalJoin optional o root)
+pub optionalJoin✓ : {n root : ℕ} {o : Option ℕ} (optional : Bool) → Before n o → root < n → Bounded n Old 1 0 (optionalJoin optional o root)
 unfolding optionalJoin
 optionalJoin✓ false before lt = within (ret✓ _ lt) (omega arith) (omega arith)
 optionalJoin✓ true nothing lt = within (ret✓ _ lt) (omega arith) (omega arith)
 optionalJoin✓ true (operator k) lt = bind✓ (copy✓ _) λ inner n′ le low. push✓ ((omega arith ∷ᵃ []ᵃ) ∷ᵃ low)
 
-pub lowerMatchPattern✓ : {n w : ℕ} {l : List (Lowering ℕ)} {o : Option ℕ} (optional : Bool) → Each (λ u m. Cheap Old u m) w l → Before n o → Fine n Old (2 * w + 2) (w + 1) (lowerMatchPattern l o optional)
+pub lowerMatchPattern✓ : {n w : ℕ} {l : List (Lowering ℕ)} {o : Option ℕ} (optional : Bool) → Each (λ u m. Cheap Old u m) w l → Before n o → Bounded n Old (2 * w + 2) (w + 1) (lowerMatchPattern l o optional)
 unfolding lowerMatchPattern
 lowerMatchPattern✓ {n} optional parts before = within (bind✓ (lowerParts✓ n parts) λ root n′ le lt. optionalJoin✓ optional (before-raise le before) lt) (omega arith) (omega arith)

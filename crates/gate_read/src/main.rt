@@ -1,15 +1,12 @@
-// The reader on a list of sheets. For each a line: its label, the number of the refusal or 0, and the refusal's line or how many records were read.
+// The reader on the list of cases from standard input: a label and a sheet, each ended by a bar. For each a line: its label, the number of the refusal or 0, and the refusal's line or how many records were read.
 ghost use Prim.Native.Nat.{_≤_, _<_};
 ghost use lib.ListN.{length};
+ghost use Rattle.model.specs.Call.{workWords, maxBytes};
 ghost use Rattle.words.specs.Words.{Roomy};
-
-mod list;
-
 use gate_cases::text::build_sheet;
 use gate_cases::text::next;
+use libc::STDIN_FILENO;
 use libc::STDOUT_FILENO;
-use list::LIST;
-use list::RANGES;
 use sheet::reader::Read;
 use sheet::reader::read_sheet;
 
@@ -25,9 +22,9 @@ fn say(label: &[u8], number: u64, line: u64) {
 
 // What the reader answers to a sheet.
 fn show(label: &[u8], sheet: &[u8], a: &mut [u32], b: &mut [u32], stack: &mut [u32])
-    requires { ⌜ length (now sheet) ≤ 32768 ⌝ }
+    requires { ⌜ length (now sheet) ≤ maxBytes ⌝ }
     requires { ⌜ Roomy (now a) (now b) ⌝ }
-    requires { ⌜ 16384 ≤ length (now stack) ⌝ }
+    requires { ⌜ workWords ≤ length (now stack) ⌝ }
 {
     match read_sheet(sheet, a, b, stack) {
         Read::Records(n) => say(label, 0, n as u64),
@@ -46,10 +43,10 @@ fn show_case(
     b: &mut [u32],
     stack: &mut [u32],
 ) -> usize
-    requires { ⌜ (at < length (now list)) × (length (now list) ≤ 32768) ⌝ }
-    requires { ⌜ length (now sheet) ≤ 32768 ⌝ }
+    requires { ⌜ (at < length (now list)) × (length (now list) ≤ maxBytes) ⌝ }
+    requires { ⌜ length (now sheet) ≤ maxBytes ⌝ }
     requires { ⌜ Roomy (now a) (now b) ⌝ }
-    requires { ⌜ 16384 ≤ length (now stack) ⌝ }
+    requires { ⌜ workWords ≤ length (now stack) ⌝ }
     ensures { λ r. ⌜ at < r ⌝ }
 {
     let label = next(list, at, b'|');
@@ -64,10 +61,10 @@ fn show_case(
 
 // All of a list, with a place for a sheet and three slices for the reader.
 fn show_list(list: &[u8], sheet: &mut [u8], a: &mut [u32], b: &mut [u32], stack: &mut [u32])
-    requires { ⌜ length (now list) ≤ 32768 ⌝ }
-    requires { ⌜ length (now sheet) ≤ 32768 ⌝ }
+    requires { ⌜ length (now list) ≤ maxBytes ⌝ }
+    requires { ⌜ length (now sheet) ≤ maxBytes ⌝ }
     requires { ⌜ Roomy (now a) (now b) ⌝ }
-    requires { ⌜ 16384 ≤ length (now stack) ⌝ }
+    requires { ⌜ workWords ≤ length (now stack) ⌝ }
 {
     let mut at = 0;
     while at < list.len() {
@@ -77,10 +74,11 @@ fn show_list(list: &[u8], sheet: &mut [u8], a: &mut [u32], b: &mut [u32], stack:
 
 // The arrays are here, where nothing returns before they are used: elsewhere the compiler of the kit may lose a register while it makes room for them.
 fn main() {
+    let mut list = [0u8; 32768];
     let mut sheet = [0u8; 32768];
     let mut a = [0u32; 16384];
     let mut b = [0u32; 16384];
     let mut stack = [0u32; 16384];
-    show_list(&LIST, &mut sheet, &mut a, &mut b, &mut stack);
-    show_list(&RANGES, &mut sheet, &mut a, &mut b, &mut stack);
+    let n = io::read_full(STDIN_FILENO, &mut list);
+    show_list(&list[0..n], &mut sheet, &mut a, &mut b, &mut stack);
 }

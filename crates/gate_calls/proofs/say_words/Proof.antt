@@ -1,10 +1,10 @@
--- `gate_library::say_words` is safe and ends: each word lies behind the one before. Assumes nothing.
+-- `gate_calls::say_words` is safe and ends: each word lies behind the one before. Assumes nothing.
 use Prim.Native.Nat.{_-_, _≤_}
 use native.Mathlib.Omega.{arith}
 use lib.ListN.{length}
 use borrow.Author.Needs.{needs}
-use Rattle.gate_library.proofs.say_words.Statement.{statement}
-use Rattle.gate_library.proofs.say_words.Tie as tie
+use Rattle.gate_calls.proofs.say_words.Statement.{statement}
+use Rattle.gate_calls.proofs.say_words.Tie as tie
 
 abbrev Inv-loop : tie.InvT-loop
 Inv-loop words i₀ i = i ≤ length words

@@ -1,11 +1,11 @@
--- `plan_list::show_list` is safe and ends: each case lies behind the one before, and the slices' lengths stay. Assumes nothing.
+-- `gate_calls::show_list` is safe and ends: each case lies behind the one before, and the slices' lengths stay. Assumes nothing.
 use mathlib.Core.Path.{_≡_, refl}
 use Prim.Native.Nat.{_-_}
 use native.Mathlib.Omega.{arith}
 use lib.ListN.{length}
 use borrow.Author.Needs.{needs}
-use Rattle.gate_plan.proofs.show_list.Statement.{statement}
-use Rattle.gate_plan.proofs.show_list.Tie as tie
+use Rattle.gate_calls.proofs.show_list.Statement.{statement}
+use Rattle.gate_calls.proofs.show_list.Tie as tie
 
 abbrev Inv-loop : tie.InvT-loop
 Inv-loop list page₀ a₀ b₀ c₀ d₀ plan₀ at₀ page a b c d plan at = (length page ≡ length page₀) × (length a ≡ length a₀) × (length b ≡ length b₀) × (length c ≡ length c₀) × (length d ≡ length d₀) × (length plan ≡ length plan₀)
