@@ -12,7 +12,7 @@ use Rattle.model.specs.Record.{Rec, rec, Group, forms, clauseForms, elementForm
 use Rattle.model.specs.Tree.{Tree, Trees, Forest, node, []ᵗ, _∷ᵗ_, end, _▸_, records, recordsOf, recordsIn}
 use Rattle.model.specs.Check.{Verdict, fine, violated, andThen, clauseSpan, elementSpan, spanIn, ofExpr, ofElements, ofPart, ofRecord, check, checkOf, checkIn, noSpan, precheckStatement}
 use Rattle.laws.specs.TreeLaws.{numbered, numberedOf, numberedIn}
-use Rattle.demands.specs.Walk.{Line, lines, linesOf, linesIn, Fault, fault, exprFault, isRel, relNext, partFault, faultOf, faultAt, Meets, spanField, ownSpan, orSpan, spanAt, reportOr, firstFault, here, later}
+use Rattle.demands.specs.Walk.{Line, lines, linesOf, linesIn, Fault, refusalAt, exprFault, isRel, relNext, partFault, faultOf, faultAt, Meets, spanField, ownSpan, orSpan, spanAt, reportOr, firstFault, here, later}
 
 -- ── the lines are the records ──
 
@@ -107,7 +107,7 @@ own (inPlan p) line m k f above kids x rest v = refl
 andThen-assoc : (u v w : Verdict) → andThen (andThen u v) w ≡ andThen u (andThen v w)
 unfolding andThen
 andThen-assoc fine v w = refl
-andThen-assoc (violated n l s k) v w = refl
+andThen-assoc (violated r) v w = refl
 
 fine-then : (v : Verdict) → andThen fine v ≡ v
 unfolding andThen
@@ -116,7 +116,7 @@ fine-then v = refl
 andThen-fine : (v : Verdict) → andThen v fine ≡ v
 unfolding andThen
 andThen-fine fine = refl
-andThen-fine (violated n l s k) = refl
+andThen-fine (violated r) = refl
 
 -- ── the walk: the verdict on a tree, and then the first fault behind it ──
 
@@ -183,55 +183,10 @@ first-fault t e outside =
 
 -- ── what is found, if something is ──
 
--- number and kind of a fault
-pub data FaultRow : (number kind : ℕ) → Type 0 where
-  six : FaultRow 6 0
-  seven : {kind : ℕ} → FaultRow 7 kind
-  eight : FaultRow 8 0
-
-pub data Faulty : Option Fault → Type 0 where
-  no-fault : Faulty none
-  a-fault : {x : Fault} → FaultRow (x .number) (x .kind) → Faulty (some x)
-
-expr-faulty : (k : Expr) (f : Fields (exprForms k)) → Faulty (exprFault k f)
-unfolding exprFault
-expr-faulty (Expr.Over h) f = no-fault
-expr-faulty Expr.Var f = no-fault
-expr-faulty Expr.Map f = no-fault
-expr-faulty Expr.Call f = no-fault
-expr-faulty Expr.PatternPredicate f = no-fault
-expr-faulty Expr.ListPredicate f = no-fault
-expr-faulty Expr.Unresolved f = a-fault six
-expr-faulty Expr.Undesugared f = a-fault seven
-
-part-faulty : (n : ℕ) (behind : List Line) → Faulty (partFault n behind)
-unfolding partFault
-part-faulty zero behind = a-fault eight
-part-faulty (suc n) behind = go (relNext behind)
-  where
-    go : (b : Bool) → Faulty (cond b (fault 8 0) none)
-    go true = a-fault eight
-    go false = no-fault
-
-of-faulty : (s : Sort) (k : Kind s) (f : Fields (forms s k)) (behind : List Line) → Faulty (faultOf s k f behind)
-unfolding faultOf
-of-faulty statement k f behind = no-fault
-of-faulty unionArm k f behind = no-fault
-of-faulty clause k f behind = no-fault
-of-faulty projection k f behind = no-fault
-of-faulty orderItem k f behind = no-fault
-of-faulty patternPart k (_, (_, (n, _))) behind = part-faulty n behind
-of-faulty patternElement k f behind = no-fault
-of-faulty name k f behind = no-fault
-of-faulty yieldItem k f behind = no-fault
-of-faulty entry k f behind = no-fault
-of-faulty expr k f behind = expr-faulty k f
-of-faulty (inPlan p) k f behind = no-fault
-
 -- the first fault of some lines that begin with line n
 pub data Walked (n : ℕ) (ls : List Line) : Verdict → Type 0 where
   met-none : (Meets ls → ⊥) → Walked n ls fine
-  met : {number line kind : ℕ} {s : Span} → Meets ls → FaultRow number kind → n ≤ line → Walked n ls (violated number line s kind)
+  met : (line : ℕ) (s : Span) (x : Fault) → Meets ls → n ≤ line → Walked n ls (violated (refusalAt line s x))
 
 some-none : {A : Type 0} {a : A} → some a ≡ none → ⊥
 some-none e = Option·some-ne-none _ e
@@ -255,20 +210,16 @@ not-met e f (later m) = f m
 
 walked-on : {n : ℕ} {l : Line} {ls : List Line} {v : Verdict} → faultAt l ls ≡ none → Walked (suc n) ls v → Walked n (l ∷ ls) v
 walked-on e (met-none f) = met-none (not-met e f)
-walked-on {n} e (met {line = line} m row le) =
+walked-on {n} e (met line s x m le) =
     let earlier : n ≤ line = omega arith in
-    met (later m) row earlier
+    met line s x (later m) earlier
 
-at-faulty : (l : Line) (ls : List Line) → Faulty (faultAt l ls)
-unfolding faultAt
-at-faulty l ls = of-faulty (l .this .sort) (l .this .kind) (l .this .fields) ls
-
-walked-at : (outside : Span) (n : ℕ) (l : Line) (ls : List Line) {o : Option Fault} → faultAt l ls ≡ o → Faulty o → Walked (suc n) ls (firstFault outside (suc n) ls) → Walked n (l ∷ ls) (reportOr n (spanAt outside (l .above)) o (firstFault outside (suc n) ls))
+walked-at : (outside : Span) (n : ℕ) (l : Line) (ls : List Line) (o : Option Fault) → faultAt l ls ≡ o → Walked (suc n) ls (firstFault outside (suc n) ls) → Walked n (l ∷ ls) (reportOr n (spanAt outside (l .above)) o (firstFault outside (suc n) ls))
 unfolding reportOr
-walked-at outside n l ls e no-fault h = walked-on e h
-walked-at outside n l ls e (a-fault row) h = met {line = n} (here e) row (omega arith)
+walked-at outside n l ls none e h = walked-on e h
+walked-at outside n l ls (some x) e h = met n _ x (here e) (omega arith)
 
 pub walked : (outside : Span) (n : ℕ) (ls : List Line) → Walked n ls (firstFault outside n ls)
 unfolding firstFault
 walked outside n [] = met-none nothing-met
-walked outside n (l ∷ ls) = walked-at outside n l ls refl (at-faulty l ls) (walked outside (suc n) ls)
+walked outside n (l ∷ ls) = walked-at outside n l ls (faultAt l ls) refl (walked outside (suc n) ls)
