@@ -6,10 +6,12 @@ use mathlib.Core.Bool.{Bool, true, false, cond}
 use mathlib.Core.List.{List, [], _∷_, _++_, map, append-nil, append-assoc}
 use mathlib.Core.Option.{Option, none, some, Option·some-ne-none}
 use lib.ListN.{length, length-append}
+use Rattle.model.specs.Text.{Bytes}
 use Rattle.model.specs.Field.{Fields, Span}
 use Rattle.model.specs.Kind.{Sort, Kind, Clause, PatternElement, Expr, statement, unionArm, clause, projection, orderItem, patternPart, patternElement, name, yieldItem, entry, expr, inPlan}
 use Rattle.model.specs.Record.{Rec, rec, Group, forms, clauseForms, elementForms, exprForms, children}
 use Rattle.model.specs.Tree.{Tree, Trees, Forest, node, []ᵗ, _∷ᵗ_, end, _▸_, records, recordsOf, recordsIn}
+use Rattle.model.specs.Refusal.{Refusal}
 use Rattle.model.specs.Check.{Verdict, fine, violated, andThen, clauseSpan, elementSpan, spanIn, ofExpr, ofElements, ofPart, ofRecord, check, checkOf, checkIn, noSpan, precheckStatement}
 use Rattle.laws.specs.TreeLaws.{numbered, numberedOf, numberedIn}
 use Rattle.demands.specs.Walk.{Line, lines, linesOf, linesIn, Fault, refusalAt, exprFault, isRel, relNext, partFault, faultOf, faultAt, Meets, spanField, ownSpan, orSpan, spanAt, reportOr, firstFault, here, later}
@@ -223,3 +225,62 @@ pub walked : (outside : Span) (n : ℕ) (ls : List Line) → Walked n ls (firstF
 unfolding firstFault
 walked outside n [] = met-none nothing-met
 walked outside n (l ∷ ls) = walked-at outside n l ls (faultAt l ls) refl (walked outside (suc n) ls)
+
+-- ── the name that is carried ──
+
+-- of some lines that begin with line n, this one has the record r
+pub data OnLine (r : Rec) (line : ℕ) : ℕ → List Line → Type 0 where
+  this-line : {l : Line} {ls : List Line} → l .this ≡ r → OnLine r line line (l ∷ ls)
+  later-line : {n : ℕ} {l : Line} {ls : List Line} → OnLine r line (suc n) ls → OnLine r line n (l ∷ ls)
+
+part-nameless : (n : ℕ) (behind : List Line) (x : Bytes) → partFault n behind ≡ some (Fault.UnresolvedName x) → ⊥
+unfolding partFault
+part-nameless zero behind x e = let z : _≡_ {A = ℕ} 0 1 = cc in omega arith
+part-nameless (suc n) behind x e = go (relNext behind) e
+  where
+    go : (b : Bool) → cond b (some Fault.EmptyPatternPart) none ≡ some (Fault.UnresolvedName x) → ⊥
+    go true q = let z : _≡_ {A = ℕ} 0 1 = cc in omega arith
+    go false q = some-none (sym q)
+
+expr-named : (k : Expr) (f : Fields (exprForms k)) (x : Bytes) → exprFault k f ≡ some (Fault.UnresolvedName x) → rec expr k f ≡ rec expr Expr.Unresolved (x, tt)
+unfolding exprFault
+expr-named (Expr.Over h) f x e = absurd (some-none (sym e))
+expr-named Expr.Var f x e = absurd (some-none (sym e))
+expr-named Expr.Map f x e = absurd (some-none (sym e))
+expr-named Expr.Call f x e = absurd (some-none (sym e))
+expr-named Expr.PatternPredicate f x e = absurd (some-none (sym e))
+expr-named Expr.ListPredicate f x e = absurd (some-none (sym e))
+expr-named Expr.Unresolved (y, _) x e = let z : y ≡ x = cc in rw z
+expr-named Expr.Undesugared f x e = let z : _≡_ {A = ℕ} 0 1 = cc in absurd (omega arith)
+
+of-named : (s : Sort) (k : Kind s) (f : Fields (forms s k)) (behind : List Line) (x : Bytes) → faultOf s k f behind ≡ some (Fault.UnresolvedName x) → rec s k f ≡ rec expr Expr.Unresolved (x, tt)
+unfolding faultOf
+of-named statement k f behind x e = absurd (some-none (sym e))
+of-named unionArm k f behind x e = absurd (some-none (sym e))
+of-named clause k f behind x e = absurd (some-none (sym e))
+of-named projection k f behind x e = absurd (some-none (sym e))
+of-named orderItem k f behind x e = absurd (some-none (sym e))
+of-named patternPart k (_, (_, (n, _))) behind x e = absurd (part-nameless n behind x e)
+of-named patternElement k f behind x e = absurd (some-none (sym e))
+of-named name k f behind x e = absurd (some-none (sym e))
+of-named yieldItem k f behind x e = absurd (some-none (sym e))
+of-named entry k f behind x e = absurd (some-none (sym e))
+of-named expr k f behind x e = expr-named k f x e
+of-named (inPlan p) k f behind x e = absurd (some-none (sym e))
+
+module _ (outside : Span) (line : ℕ) (s : Span) (x : Bytes) where
+  named-at : (n : ℕ) (l : Line) (ls : List Line) (o : Option Fault) → faultAt l ls ≡ o → reportOr n (spanAt outside (l .above)) o (firstFault outside (suc n) ls) ≡ violated (Refusal.UnresolvedName line s x) → (firstFault outside (suc n) ls ≡ violated (Refusal.UnresolvedName line s x) → OnLine (rec expr Expr.Unresolved (x, tt)) line (suc n) ls) → OnLine (rec expr Expr.Unresolved (x, tt)) line n (l ∷ ls)
+  unfolding reportOr faultAt
+  named-at n l ls none e q h = later-line (h q)
+  named-at n l ls (some (Fault.UnresolvedName y)) e q h =
+      let p : n ≡ line = cc in
+      let z : y ≡ x = cc in
+      rw p (this-line (of-named (l .this .sort) (l .this .kind) (l .this .fields) ls x (e ∙ rw z)))
+  named-at n l ls (some (Fault.UndesugaredExpr kind)) e q h = let z : _≡_ {A = ℕ} 0 1 = cc in absurd (omega arith)
+  named-at n l ls (some Fault.EmptyPatternPart) e q h = let z : _≡_ {A = ℕ} 0 1 = cc in absurd (omega arith)
+
+  -- the name of a first fault is the one in the record of its line: so whoever has the line has the name
+  pub carried-name : (n : ℕ) (ls : List Line) → firstFault outside n ls ≡ violated (Refusal.UnresolvedName line s x) → OnLine (rec expr Expr.Unresolved (x, tt)) line n ls
+  unfolding firstFault
+  carried-name n [] e = let z : _≡_ {A = ℕ} 0 1 = cc in absurd (omega arith)
+  carried-name n (l ∷ ls) e = named-at n l ls (faultAt l ls) refl e (carried-name (suc n) ls)

@@ -1,5 +1,5 @@
 -- The steps of the cycle: what each arm of the check of an expression, and each pass of a loop over parts or elements, has to do with the whole. Assumes nothing.
-use mathlib.Core.Path.{_≡_, sym, _∙_}
+use mathlib.Core.Path.{_≡_, _∙_}
 use Prim.Native.Nat.{ℕ, _+_, _-_}
 use native.Mathlib.Numerals.{add-one}
 use native.Mathlib.Omega.{arith}

@@ -78,10 +78,14 @@ checked-answer t (PlanLowerError.UnresolvedName line span) unresolved = refusal
 checked-answer t (PlanLowerError.UndesugaredExpr line span kind) unresolved = refusal
 checked-answer t (PlanLowerError.EmptyPatternPart line span) unresolved = refusal
 
-fits : (t : Tree statement) (n : ℕ) → recordCount t ≡ n → Figure t (n * 4)
+-- the figure of n records
+abbrev pub figureOf : ℕ → ℕ
+figureOf n = n * 4
+
+fits : (t : Tree statement) (n : ℕ) → recordCount t ≡ n → Figure t (figureOf n)
 fits t n k = let f = Counts.figure t in record { enough = omega (arith, f .enough); few = omega arith }
 
-pub check-fine : (t : Tree statement) (n : ℕ) (r : Checked) → r ≡ Checked.Fine → Says r (precheckStatement t) → recordCount t ≡ n → Sized (testCheck t (precheckStatement t)) (accepted (n * 4))
+pub check-fine : (t : Tree statement) (n : ℕ) (r : Checked) → r ≡ Checked.Fine → Says r (precheckStatement t) → recordCount t ≡ n → Sized (testCheck t (precheckStatement t)) (accepted (figureOf n))
 unfolding testCheck
 check-fine t n r e h k = let f = rw e at h in rw f (figure (fits t n k))
 

@@ -21,6 +21,9 @@ use precheck::precheck_statement;
 use sheet::reader::Read;
 use sheet::reader::read_sheet;
 
+// A plan has at most so many operators for each record of its sheet (crate bounds).
+const RECORD_OPERATORS: usize = 4;
+
 // What a call answers: accepted with a length or figure, or a refusal of document 01's table with what it carries. A name is not carried: its record is that of the line.
 pub enum Answer {
     Accepted(usize),
@@ -61,7 +64,7 @@ fn size_checked(a: &[u32], b: &[u32], n: usize) -> Answer
     ensures { λ r. ⌜ ((sheet : Bytes) (t : Tree statement) → Held sheet (now (a .entry)) (now (b .entry)) t maxDepth 0 → recordCount t ≡ n → Sized (testCheck t (precheckStatement t)) (answerOf r)) ⌝ }
 {
     match precheck_statement(a, b) {
-        Checked::Fine => Answer::Accepted(n * 4),
+        Checked::Fine => Answer::Accepted(n * RECORD_OPERATORS),
         Checked::Refused(e) => Answer::Refused(e),
     }
 }
