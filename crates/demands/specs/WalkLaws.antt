@@ -269,7 +269,14 @@ of-named expr k f behind x e = expr-named k f x e
 of-named (inPlan p) k f behind x e = absurd (some-none (sym e))
 
 module _ (outside : Span) (line : ℕ) (s : Span) (x : Bytes) where
-  named-at : (n : ℕ) (l : Line) (ls : List Line) (o : Option Fault) → faultAt l ls ≡ o → reportOr n (spanAt outside (l .above)) o (firstFault outside (suc n) ls) ≡ violated (Refusal.UnresolvedName line s x) → (firstFault outside (suc n) ls ≡ violated (Refusal.UnresolvedName line s x) → OnLine (rec expr Expr.Unresolved (x, tt)) line (suc n) ls) → OnLine (rec expr Expr.Unresolved (x, tt)) line n (l ∷ ls)
+  abbrev pub named-fault : Verdict
+  named-fault = violated (Refusal.UnresolvedName line s x)
+
+  -- the record of the line has the name
+  abbrev pub Named : ℕ → List Line → Type 0
+  Named n ls = OnLine (rec expr Expr.Unresolved (x, tt)) line n ls
+
+  named-at : (n : ℕ) (l : Line) (ls : List Line) (o : Option Fault) → faultAt l ls ≡ o → reportOr n (spanAt outside (l .above)) o (firstFault outside (suc n) ls) ≡ named-fault → (firstFault outside (suc n) ls ≡ named-fault → Named (suc n) ls) → Named n (l ∷ ls)
   unfolding reportOr faultAt
   named-at n l ls none e q h = later-line (h q)
   named-at n l ls (some (Fault.UnresolvedName y)) e q h =
@@ -280,7 +287,7 @@ module _ (outside : Span) (line : ℕ) (s : Span) (x : Bytes) where
   named-at n l ls (some Fault.EmptyPatternPart) e q h = let z : _≡_ {A = ℕ} 0 1 = cc in absurd (omega arith)
 
   -- the name of a first fault is the one in the record of its line: so whoever has the line has the name
-  pub carried-name : (n : ℕ) (ls : List Line) → firstFault outside n ls ≡ violated (Refusal.UnresolvedName line s x) → OnLine (rec expr Expr.Unresolved (x, tt)) line n ls
+  pub carried-name : (n : ℕ) (ls : List Line) → firstFault outside n ls ≡ named-fault → Named n ls
   unfolding firstFault
   carried-name n [] e = let z : _≡_ {A = ℕ} 0 1 = cc in absurd (omega arith)
   carried-name n (l ∷ ls) e = named-at n l ls (faultAt l ls) refl e (carried-name (suc n) ls)
