@@ -17,13 +17,14 @@ use Rattle.model.specs.Sheet.{Place, got, readSheet, firstWrite}
 use Rattle.model.specs.Check.{Verdict, precheckStatement}
 use Rattle.model.specs.Lower.{LowerCtx, lowerStatement}
 use Rattle.model.specs.Plan.{operatorRecs, mappedRecs, firstRec, planRecs, planSheet}
-use Rattle.model.specs.Call.{Outcome, refuse, pass, then, short, maxBytes, maxDepth, maxPlan, testWork, testBytes, testReading, testWrite, testCheck, testPlan, checked, planned, written, outcome, lowerCall, plainRefusal}
+use Rattle.model.specs.Call.{Outcome, refuse, pass, then, short, maxBytes, maxDepth, maxPlan, testWork, testBytes, testReading, testWrite, testCheck, testPlan, checked, planned, written, outcome, lowerCall}
+use Rattle.model.specs.Refusal.{Refusal, valuesOf}
 use Rattle.laws.specs.SheetLaws.{sheet-sound}
-use Rattle.alike.specs.Statement.{ids, Stands, TwoSheets, LongEnough, Paired, unpaired, pair, AcceptedAlike, AlikeOutcomes, refusedAlike, acceptedAlike}
+use Rattle.alike.specs.Statement.{ids, Stands, TwoSheets, LongEnough, Paired, unpaired, pair, RefusedAlike, AcceptedAlike, AlikeOutcomes, refusedAlike, acceptedAlike}
 use Rattle.alike.specs.Relation.{Equal, equal, List~, []~, _∷~_}
 use Rattle.alike.specs.Action.{Var~, var~, Ctx~, ctx~}
 use Rattle.alike.specs.Lowering.{lowerStatement~}
-use Rattle.alike.specs.Checking.{Verdict~, fine~, violated~, precheckStatement~, firstWrite~}
+use Rattle.alike.specs.Checking.{Refusal~, unresolved~, undesugared~, emptyPart~, Verdict~, fine~, violated~, precheckStatement~, firstWrite~}
 use Rattle.alike.specs.Relating.{records~, standing, standing-one}
 use Rattle.alike.specs.Reading.{Read, alike-read}
 
@@ -42,6 +43,12 @@ record Holds (o : Outcome) (text : Bytes) : Type 0 where
 written-holds : (text slice : Bytes) → length text ≤ length slice → Holds (written text slice) text
 unfolding written
 written-holds text slice l = rw (le-ltb (length slice) (length text) l) (record { number = refl; text-is = take-append-seam text (drop (length text) slice) })
+
+-- what differs in its spans alone is refused alike
+pub same-but-spans : {x y : Refusal} {slice slice′ : Bytes} → Refusal~ x y → RefusedAlike (record { answer = valuesOf x; slice = slice }) (record { answer = valuesOf y; slice = slice′ })
+same-but-spans unresolved~ = record { refused = λ e. omega arith; number = refl; line = refl; kind = refl }
+same-but-spans undesugared~ = record { refused = λ e. omega arith; number = refl; line = refl; kind = refl }
+same-but-spans emptyPart~ = record { refused = λ e. omega arith; number = refl; line = refl; kind = refl }
 
 -- ── the maps ──
 
@@ -93,7 +100,7 @@ module _ (s t : List ℕ) where
         d : LowerCtx
         d = record { ops = ops; scope = record { vars = ws; next = next } }
 
-        go : (b : Bool) → ((e : LowerCtx) → cond b (refuse (plainRefusal 9)) (pass c) ≡ pass e → length (planSheet e) ≤ length slice) → ((e : LowerCtx) → cond b (refuse (plainRefusal 9)) (pass d) ≡ pass e → length (planSheet e) ≤ length slice′) → AlikeOutcomes s t (outcome slice (cond b (refuse (plainRefusal 9)) (pass c))) (outcome slice′ (cond b (refuse (plainRefusal 9)) (pass d)))
+        go : (b : Bool) → ((e : LowerCtx) → cond b (refuse Refusal.PlanFull) (pass c) ≡ pass e → length (planSheet e) ≤ length slice) → ((e : LowerCtx) → cond b (refuse Refusal.PlanFull) (pass d) ≡ pass e → length (planSheet e) ≤ length slice′) → AlikeOutcomes s t (outcome slice (cond b (refuse Refusal.PlanFull) (pass c))) (outcome slice′ (cond b (refuse Refusal.PlanFull) (pass d)))
         go true x y = refusedAlike (record { refused = λ e. omega arith; number = refl; line = refl; kind = refl })
         go false x y = acceptedAlike (plans-alike (ctx~ h) (written-holds (planSheet c) slice (x c refl)) (written-holds (planSheet d) slice′ (y d refl)))
 
@@ -101,7 +108,7 @@ module _ (s t : List ℕ) where
         AlikeOutcomes s t (outcome slice (then (testCheck x v) (λ z. testPlan (lowerStatement z)))) (outcome slice′ (then (testCheck y w) (λ z. testPlan (lowerStatement z))))
     unfolding then testCheck outcome
     verdicts-alike x y fine~ c r r′ = full-or-not c r r′
-    verdicts-alike x y violated~ c r r′ = refusedAlike (record { refused = λ e. omega arith; number = refl; line = refl; kind = refl })
+    verdicts-alike x y (violated~ h) c r r′ = refusedAlike (same-but-spans h)
 
 -- ── demand 3 ──
 

@@ -1,24 +1,31 @@
 -- Statements alike are checked alike: the same number, line and kind, and the same first `write`. Assumes nothing but the parameter R, which joins the ids.
-use Prim.Native.Nat.{ℕ, suc}
+use Prim.Native.Nat.{ℕ}
 use mathlib.Core.List.{List, [], _∷_}
 use mathlib.Core.Option.{Option}
+use Rattle.model.specs.Text.{Bytes}
 use Rattle.model.specs.Field.{Span, Fields}
 use Rattle.model.specs.Kind.{Sort, Kind, Clause, PatternElement, Expr, statement, unionArm, clause, projection, orderItem, patternPart, patternElement, name, yieldItem, entry, expr, inPlan}
 use Rattle.model.specs.Record.{Group, forms, exprForms, children}
 use Rattle.model.specs.Tree.{Tree, Trees, Forest, node, _∷ᵗ_}
 use Rattle.model.specs.Sheet.{orElse, isWrite, writeIn, writeInArms, firstWrite}
 use Rattle.model.specs.Check.{Verdict, fine, violated, andThen, spanIn, ofExpr, ofElements, ofPart, ofRecord, check, checkOf, checkIn, precheckStatement, noSpan}
+use Rattle.model.specs.Refusal.{Refusal}
 use Rattle.alike.specs.Relation.{Equal, equal, Fields~, Tree~, Trees~, Forest~, node~, []ᵗ~, _∷ᵗ~_, end~, _▸~_}
 
--- the spans are free, and the number is not 0
+-- what the check refuses with; the spans are free
+pub data Refusal~ : Refusal → Refusal → Type 0 where
+  unresolved~ : {line : ℕ} {s z : Span} {name : Bytes} → Refusal~ (Refusal.UnresolvedName line s name) (Refusal.UnresolvedName line z name)
+  undesugared~ : {line kind : ℕ} {s z : Span} → Refusal~ (Refusal.UndesugaredExpr line s kind) (Refusal.UndesugaredExpr line z kind)
+  emptyPart~ : {line : ℕ} {s z : Span} → Refusal~ (Refusal.EmptyPatternPart line s) (Refusal.EmptyPatternPart line z)
+
 pub data Verdict~ : Verdict → Verdict → Type 0 where
   fine~ : Verdict~ fine fine
-  violated~ : {n line kind : ℕ} {s z : Span} → Verdict~ (violated (suc n) line s kind) (violated (suc n) line z kind)
+  violated~ : {x y : Refusal} → Refusal~ x y → Verdict~ (violated x) (violated y)
 
 andThen~ : {a b c d : Verdict} → Verdict~ a b → Verdict~ c d → Verdict~ (andThen a c) (andThen b d)
 unfolding andThen
 andThen~ fine~ v = v
-andThen~ violated~ v = violated~
+andThen~ (violated~ r) v = violated~ r
 
 orElse~ : {A : Type 0} (a b c d : Option A) → Equal a b → Equal c d → Equal (orElse a c) (orElse b d)
 orElse~ a b c d equal equal = equal
@@ -34,16 +41,16 @@ module _ (R : ℕ → ℕ → Type 0) where
   ofExpr~ line Expr.Call f g v s z = fine~
   ofExpr~ line Expr.PatternPredicate f g v s z = fine~
   ofExpr~ line Expr.ListPredicate f g v s z = fine~
-  ofExpr~ line Expr.Unresolved f g v s z = violated~
-  ofExpr~ line Expr.Undesugared (a, _) (b, _) (equal, _) s z = violated~
+  ofExpr~ line Expr.Unresolved (a, _) (b, _) (equal, _) s z = violated~ unresolved~
+  ofExpr~ line Expr.Undesugared (a, _) (b, _) (equal, _) s z = violated~ undesugared~
 
   headStep~ : (line l : ℕ) (k : PatternElement) (f g : Fields (forms patternElement k)) (x : Forest (children patternElement k f)) (y : Forest (children patternElement k g)) {n m : ℕ} (ts : Trees patternElement n) (us : Trees patternElement m) (s z : Span) → Verdict~ (ofElements line (node patternElement l k f x ∷ᵗ ts) s) (ofElements line (node patternElement l k g y ∷ᵗ us) z)
   unfolding ofElements
   headStep~ line l PatternElement.Node f g x y ts us s z = fine~
-  headStep~ line l PatternElement.Rel f g x y ts us s z = violated~
+  headStep~ line l PatternElement.Rel f g x y ts us s z = violated~ emptyPart~
 
   ofElements~ : (line : ℕ) {n m : ℕ} {ts : Trees patternElement n} {us : Trees patternElement m} → Trees~ R patternElement n m ts us → (s z : Span) → Verdict~ (ofElements line ts s) (ofElements line us z)
-  ofElements~ line []ᵗ~ s z = unfold ofElements in violated~
+  ofElements~ line []ᵗ~ s z = unfold ofElements in violated~ emptyPart~
   ofElements~ line (node~ v kids ∷ᵗ~ ts) s z = headStep~ line _ _ _ _ _ _ _ _ s z
 
   ofPart~ : (line : ℕ) {n m : ℕ} {x : Forest ((patternElement, n) ∷ [])} {y : Forest ((patternElement, m) ∷ [])} → Forest~ R ((patternElement, n) ∷ []) ((patternElement, m) ∷ []) x y → (s z : Span) → Verdict~ (ofPart line x s) (ofPart line y z)

@@ -14,7 +14,8 @@ use Rattle.model.specs.Kind.{statement}
 use Rattle.model.specs.Record.{Rec}
 use Rattle.model.specs.Tree.{Tree, node, []ᵗ, end, _▸_, records}
 use Rattle.model.specs.Sheet.{Place, Reading, got, refused, readSheet, firstWrite}
-use Rattle.model.specs.Call.{Outcome, accepted, short, maxBytes, maxDepth, then, testWork, testBytes, checked, planned, outcome, lowerCall}
+use Rattle.model.specs.Refusal.{accepted}
+use Rattle.model.specs.Call.{Outcome, short, maxBytes, maxDepth, then, testWork, testBytes, checked, planned, outcome, lowerCall}
 use Rattle.model.specs.Examples.{compute, page}
 use Rattle.laws.specs.SheetLaws.{sheet-sound}
 use Rattle.alike.specs.Statement.{blankVal, blankFields, blank, idsVal, idsFields, ids, NotVar, NamedItem, NamedItems, NamedClause, NamedClauses, NamedArms, Named, TwoSheets}
@@ -22,11 +23,11 @@ use Rattle.alike.specs.Statement.{blankVal, blankFields, blank, idsVal, 
 -- the tree of a reading, and the place behind it
 unfoldable pub treeOf : Reading (Tree statement) → Tree statement
 treeOf (got t p) = t
-treeOf (refused n l) = node statement 1 tt (0, (0, tt)) ([]ᵗ ▸ []ᵗ ▸ end)
+treeOf (refused r) = node statement 1 tt (0, (0, tt)) ([]ᵗ ▸ []ᵗ ▸ end)
 
 unfoldable pub placeOf : Reading (Tree statement) → Place
 placeOf (got t p) = p
-placeOf (refused n l) = record { line = l; text = []; more = [] }
+placeOf (refused r) = record { line = 1; text = []; more = [] }
 
 -- ── a pair that meets the premises: M1, and M1 with another id and other spans ──
 

@@ -10,19 +10,21 @@ use lib.ListN.{length, drop}
 use lib.Seq.{drop-append-seam}
 use borrow.Author.Tests.{ltb-false}
 use Rattle.model.specs.Text.{Bytes}
+use Rattle.model.specs.Field.{Span}
 use Rattle.model.specs.Kind.{statement}
 use Rattle.model.specs.Tree.{Tree}
 use Rattle.model.specs.Sheet.{Place, Reading, got, readSheet, firstWrite}
 use Rattle.model.specs.Check.{Verdict, fine, noSpan, precheckStatement}
 use Rattle.model.specs.Lower.{LowerCtx, lowerStatement}
 use Rattle.model.specs.Plan.{planSheet}
-use Rattle.model.specs.Call.{Answer, Outcome, Test, refuse, pass, then, short, testWork, testBytes, testReading, testWrite, testCheck, testPlan, checked, planned, written, outcome, lowerCall, maxBytes, maxDepth, maxPlan}
+use Rattle.model.specs.Refusal.{Refusal, Answer, valuesOf}
+use Rattle.model.specs.Call.{Outcome, Test, refuse, pass, then, short, testWork, testBytes, testReading, testWrite, testCheck, testPlan, checked, planned, written, outcome, lowerCall, maxBytes, maxDepth, maxPlan}
 use Rattle.laws.specs.TreeLaws.{numbered}
 use Rattle.laws.specs.SheetLaws.{sheet-sound}
 use Rattle.demands.specs.Sheets.{WellFormed, ReadOnly, answer}
 use Rattle.demands.specs.Reader.{Numbered, read, three, four, sheet-numbered, AtLeast, nowhere, at-line, write-least}
-use Rattle.demands.specs.Walk.{Line, lines}
-use Rattle.demands.specs.WalkLaws.{FaultRow, six, seven, eight, Walked, met, met-none, walked, first-fault}
+use Rattle.demands.specs.Walk.{Line, lines, Fault, refusalAt}
+use Rattle.demands.specs.WalkLaws.{Walked, met, met-none, walked, first-fault}
 
 -- ── the two ways ──
 
@@ -49,7 +51,7 @@ pub data Ends (slice : Bytes) : Outcome → Type 0 where
 -- ── the tests: each stops with a row of the table, or goes on with something that is known ──
 
 pub data Tested {A : Type 0} (P : A → Type 0) : Test A → Type 0 where
-  stops : {a : Answer} → Row a → Tested P (refuse a)
+  stops : {r : Refusal} → Row (valuesOf r) → Tested P (refuse r)
   goes-on : {x : A} → P x → Tested P (pass x)
 
 then-tested : {A B : Type 0} {P : A → Type 0} {Q : B → Type 0} {m : Test A} {k : A → Test B} → Tested P m → ((x : A) → P x → Tested Q (k x)) → Tested Q (then m k)
@@ -57,9 +59,9 @@ unfolding then
 then-tested (stops r) f = stops r
 then-tested (goes-on {x = x} p) f = f x p
 
-choice-tested : {A : Type 0} (b : Bool) {a : Answer} (x : A) → Row a → Tested (λ y. (b ≡ false) × (x ≡ y)) (cond b (refuse a) (pass x))
-choice-tested true x r = stops r
-choice-tested false x r = goes-on (refl, refl)
+choice-tested : {A : Type 0} (b : Bool) (r : Refusal) (x : A) → Row (valuesOf r) → Tested (λ y. (b ≡ false) × (x ≡ y)) (cond b (refuse r) (pass x))
+choice-tested true r x row = stops row
+choice-tested false r x row = goes-on (refl, refl)
 
 -- behind test 4: the tree that was read
 record Got (sheet : Bytes) (t : Tree statement) : Type 0 where
@@ -80,15 +82,15 @@ unfolding testWrite
 write-tested t e nowhere = goes-on (e, refl)
 write-tested t e (at-line l) = stops (write-clause l)
 
-fault-row : {number line from to kind : ℕ} → FaultRow number kind → 1 ≤ line → Row (answer number line from to kind 0)
-fault-row six l = unresolved l
-fault-row seven l = undesugared l
-fault-row eight l = empty-part l
+fault-row : (line : ℕ) (s : Span) (x : Fault) → 1 ≤ line → Row (valuesOf (refusalAt line s x))
+fault-row line s (Fault.UnresolvedName x) l = unresolved l
+fault-row line s (Fault.UndesugaredExpr kind) l = undesugared l
+fault-row line s Fault.EmptyPatternPart l = empty-part l
 
 check-tested : (t : Tree statement) {ls : List Line} {v : Verdict} → precheckStatement t ≡ v → Walked 1 ls v → Tested (λ u. (precheckStatement t ≡ fine) × (t ≡ u)) (testCheck t v)
 unfolding testCheck
 check-tested t e (met-none f) = goes-on (e, refl)
-check-tested t e (met m row l) = stops (fault-row row l)
+check-tested t e (met line s x m l) = stops (fault-row line s x l)
 
 -- behind test 9: the state that a plan is written of
 pub record Planned (sheet : Bytes) (c : LowerCtx) : Type 0 where
@@ -113,8 +115,8 @@ tree-tested t e =
 pub planned-tested : (work : List ℕ) (sheet : Bytes) → Tested (Planned sheet) (planned maxDepth work sheet)
 unfolding planned checked testWork testBytes testPlan
 planned-tested work sheet =
-    then-tested (then-tested (choice-tested (short work) tt short-work) λ _ _.
-    then-tested (choice-tested (ltb maxBytes (length sheet)) tt long-sheet) λ _ b.
+    then-tested (then-tested (choice-tested (short work) Refusal.ShortWork tt short-work) λ _ _.
+    then-tested (choice-tested (ltb maxBytes (length sheet)) Refusal.LongSheet tt long-sheet) λ _ b.
     then-tested (reading-tested sheet refl (sheet-numbered maxDepth sheet)) λ t g.
     known (ltb-false maxBytes (length sheet) (b .0)) g (tree-tested t (numbers g))) λ t k.
     over-limits t k (ltb maxPlan (length (lowerStatement t .ops)) || ltb maxPlan (lowerStatement t .scope .next))
@@ -126,7 +128,7 @@ planned-tested work sheet =
     known l g (stops r) = stops r
     known l g (goes-on q) = goes-on (subst Known (q .1 .1) (record { bytes = l; behind = g .place; reads = g .reads }, (q .0, q .1 .0)))
 
-    over-limits : (t : Tree statement) → Known t → (b : Bool) → Tested (Planned sheet) (cond b (refuse (answer 9 0 0 0 0 0)) (pass (lowerStatement t)))
+    over-limits : (t : Tree statement) → Known t → (b : Bool) → Tested (Planned sheet) (cond b (refuse Refusal.PlanFull) (pass (lowerStatement t)))
     over-limits t k true = stops plan-full
     over-limits t k false = goes-on (record { tree = t; well-formed = k .0; read-only = k .1 .0; checked = k .1 .1; lowered = refl })
 

@@ -16,11 +16,12 @@ use Rattle.model.specs.Tree.{Tree, records}
 use Rattle.model.specs.Check.{Verdict, fine, violated, noSpan, precheckStatement}
 use Rattle.model.specs.Lower.{LowerCtx, lowerStatement}
 use Rattle.model.specs.Plan.{planSheet}
-use Rattle.model.specs.Call.{Answer, Outcome, refuse, pass, then, testCheck, testPlan, planned, written, outcome, lowerCall, maxDepth, maxPlan}
+use Rattle.model.specs.Refusal.{Refusal, Answer, valuesOf}
+use Rattle.model.specs.Call.{Outcome, refuse, pass, then, testCheck, testPlan, planned, written, outcome, lowerCall, maxDepth, maxPlan}
 use Rattle.laws.specs.SheetLaws.{sheet-sound}
 use Rattle.demands.specs.Sheets.{WellFormed, ReadOnly, LongWork, answer, checked-is}
-use Rattle.demands.specs.Walk.{Line, lines, Meets, firstFault}
-use Rattle.demands.specs.WalkLaws.{lines-records, FaultRow, six, seven, eight, Walked, met, met-none, walked, first-fault}
+use Rattle.demands.specs.Walk.{Line, lines, Fault, refusalAt, Meets, firstFault}
+use Rattle.demands.specs.WalkLaws.{lines-records, Walked, met, met-none, walked, first-fault}
 
 -- ── the demand ──
 
@@ -48,7 +49,7 @@ pub record Demand2 (t : Tree statement) (slice : Bytes) (o : Outcome) : Type 0 w
   -- refused for its tree exactly if the walk meets one of the three
   pub exactly : ForTree (o .answer) ↔ Meets (lines [] t)
   -- with the first met
-  pub first-met : (outside : Span) {s : Span} {number line kind : ℕ} → firstFault outside 1 (lines [] t) ≡ violated number line s kind → o ≡ record { answer = answer number line (s .start) (s .end) kind 0; slice = slice }
+  pub first-met : (outside : Span) {r : Refusal} → firstFault outside 1 (lines [] t) ≡ violated r → o ≡ record { answer = valuesOf r; slice = slice }
   -- otherwise, within the limits, the plan is the defined one
   pub otherwise : (Meets (lines [] t) → ⊥) → WithinLimits (lowerStatement t) slice → o ≡ planIn t slice
 
@@ -67,7 +68,7 @@ module _ (t : Tree statement) (slice : Bytes) where
   fine-written true h = omega (arith, h .high)
   fine-written false h = omega (arith, h .low)
 
-  fine-planned : (b : Bool) → ForTree (outcome slice (cond b (refuse (answer 9 0 0 0 0 0)) (pass (lowerStatement t))) .answer) → ⊥
+  fine-planned : (b : Bool) → ForTree (outcome slice (cond b (refuse Refusal.PlanFull) (pass (lowerStatement t))) .answer) → ⊥
   unfolding outcome written
   fine-planned true h = omega (arith, h .high)
   fine-planned false h = fine-written (ltb (length slice) (length (planSheet (lowerStatement t)))) h
@@ -76,19 +77,19 @@ module _ (t : Tree statement) (slice : Bytes) where
   unfolding behindCheck then testCheck testPlan
   fine-not h = fine-planned (ltb maxPlan (length (lowerStatement t .ops)) || ltb maxPlan (lowerStatement t .scope .next)) h
 
-  row-for-tree : {number kind : ℕ} (line from to : ℕ) → FaultRow number kind → ForTree (answer number line from to kind 0)
-  row-for-tree line from to six = record { low = omega arith; high = omega arith }
-  row-for-tree line from to seven = record { low = omega arith; high = omega arith }
-  row-for-tree line from to eight = record { low = omega arith; high = omega arith }
+  fault-for-tree : (line : ℕ) (s : Span) (x : Fault) → ForTree (valuesOf (refusalAt line s x))
+  fault-for-tree line s (Fault.UnresolvedName x) = record { low = omega arith; high = omega arith }
+  fault-for-tree line s (Fault.UndesugaredExpr kind) = record { low = omega arith; high = omega arith }
+  fault-for-tree line s Fault.EmptyPatternPart = record { low = omega arith; high = omega arith }
 
   met-exactly : {ls : List Line} {v : Verdict} → Walked 1 ls v → ForTree (behindCheck t slice v .answer) ↔ Meets ls
   unfolding behindCheck then testCheck outcome
   met-exactly (met-none f) = (λ h. absurd (fine-not h), λ m. absurd (f m))
-  met-exactly (met m row le) = (λ h. m, λ _. row-for-tree _ _ _ row)
+  met-exactly (met line s x m le) = (λ h. m, λ _. fault-for-tree line s x)
 
-  met-first : (s : Span) (number line kind : ℕ) → behindCheck t slice (violated number line s kind) ≡ record { answer = answer number line (s .start) (s .end) kind 0; slice = slice }
+  met-first : (r : Refusal) → behindCheck t slice (violated r) ≡ record { answer = valuesOf r; slice = slice }
   unfolding behindCheck then testCheck outcome
-  met-first s number line kind = refl
+  met-first r = refl
 
   fine-plan : WithinLimits (lowerStatement t) slice → behindCheck t slice fine ≡ planIn t slice
   unfolding behindCheck then testCheck testPlan outcome written
@@ -96,7 +97,7 @@ module _ (t : Tree statement) (slice : Bytes) where
 
   met-otherwise : {ls : List Line} {v : Verdict} → Walked 1 ls v → (Meets ls → ⊥) → WithinLimits (lowerStatement t) slice → behindCheck t slice v ≡ planIn t slice
   met-otherwise (met-none f) g h = fine-plan h
-  met-otherwise (met m row le) g h = absurd (g m)
+  met-otherwise (met line s x m le) g h = absurd (g m)
 
 pub demand2 : (work : List ℕ) (sheet slice : Bytes) (t : Tree statement) → LongWork work → WellFormed sheet t → ReadOnly t → Demand2 t slice (lowerCall work sheet slice)
 demand2 work sheet slice t w h r =
@@ -106,6 +107,6 @@ demand2 work sheet slice t w h r =
       sheet-lines = lines-records [] t;
       verdict = verdict;
       exactly = subst (λ o. ForTree (o .answer) ↔ Meets (lines [] t)) (sym (call noSpan)) (met-exactly t slice (walked noSpan 1 (lines [] t)));
-      first-met = λ outside {s} {number} {line} {kind} e. call outside ∙ ap (λ v. behindCheck t slice v) e ∙ met-first t slice s number line kind;
+      first-met = λ outside {r} e. call outside ∙ ap (λ v. behindCheck t slice v) e ∙ met-first t slice r;
       otherwise = λ f limits. call noSpan ∙ met-otherwise t slice (walked noSpan 1 (lines [] t)) f limits;
     }

@@ -20,7 +20,8 @@ use Rattle.model.specs.Sheet.{readSheet, firstWrite}
 use Rattle.model.specs.Check.{Verdict, fine, precheckStatement}
 use Rattle.model.specs.Lower.{Recs, LowerCtx, op, lower, empty, lowerStatement, at}
 use Rattle.model.specs.Plan.{mappedRecs, firstRec, planSheet}
-use Rattle.model.specs.Call.{Outcome, Test, refuse, pass, then, testWrite, testCheck, testPlan, checked, planned, written, outcome, lowerCall, plainRefusal, lineRefusal, maxDepth, maxPlan}
+use Rattle.model.specs.Refusal.{Refusal, valuesOf}
+use Rattle.model.specs.Call.{Outcome, Test, refuse, pass, then, testWrite, testCheck, testPlan, checked, planned, written, outcome, lowerCall, maxDepth, maxPlan}
 use Rattle.laws.specs.ReadingLaws.{got-value}
 use Rattle.laws.specs.SheetLaws.{sheet-sound}
 use Rattle.alike.specs.Statement.{blank, ids, Stands, Named, LongEnough, RefusedAlike, Paired}
@@ -30,7 +31,7 @@ use Rattle.alike.specs.Lowering.{lowerStatement~}
 use Rattle.alike.specs.Checking.{Verdict~, fine~, violated~, precheckStatement~, firstWrite~}
 use Rattle.alike.specs.Relating.{records~, standing, standing-one}
 use Rattle.alike.specs.Reading.{Read, alike-read}
-use Rattle.alike.specs.Alike.{mapped-paired, mapped-long}
+use Rattle.alike.specs.Alike.{same-but-spans, mapped-paired, mapped-long}
 use Rattle.alike.specs.Pairs.{first, second, tree-first, records-second, treeOf, placeOf, reads-second, met}
 use Rattle.bounds.specs.Earlier.{All, _∷ᵃ_, at-low}
 use Rattle.bounds.specs.Earlier as Bounds
@@ -197,7 +198,7 @@ module _ (t u : Tree statement) (slice slice′ : Bytes) where
   full-or-not r r′ c l l′ = go (over (lowerStatement t)) (over (lowerStatement u)) same l l′
     where
       nine : Bool → Tree statement → Test LowerCtx
-      nine b x = cond b (refuse (plainRefusal 9)) (pass (lowerStatement x))
+      nine b x = cond b (refuse Refusal.PlanFull) (pass (lowerStatement x))
 
       over : LowerCtx → Bool
       over d = ltb maxPlan (length (d .ops)) || ltb maxPlan (d .scope .next)
@@ -215,7 +216,7 @@ module _ (t u : Tree statement) (slice slice′ : Bytes) where
       Demand3 t u (outcome slice (afterCheck t v)) (outcome slice′ (afterCheck u w))
   unfolding then testCheck outcome
   verdicts-alike fine~ r r′ c l l′ = full-or-not r r′ c l l′
-  verdicts-alike violated~ r r′ c l l′ = refused-alike (record { refused = λ e. omega arith; number = refl; line = refl; kind = refl })
+  verdicts-alike (violated~ x) r r′ c l l′ = refused-alike (same-but-spans x)
 
 same-path : {A : Type 0} {a b : A} → Equal a b → a ≡ b
 same-path equal = refl
@@ -229,7 +230,7 @@ trees-alike S T t u h h′ a =
     let r : Read R maxDepth (spellRecs (records u)) t = alike-read R maxDepth S t (records u) s (records~ R (records t) (records u) (a .same) (standing (ids (records t)) (ids (records u)))) (w .fit) in
     subst (λ x. Tree~ R statement t x) (got-value (sym (r .reads) ∙ ap (λ b. readSheet maxDepth b) (sym (w .spelled)) ∙ h′ .reads)) (r .alike)
 
-refused-write : (t u : Tree statement) (slice slice′ : Bytes) (line : ℕ) → Demand3 t u (outcome slice (then (refuse (lineRefusal 5 line)) λ z. testPlan (lowerStatement z))) (outcome slice′ (then (refuse (lineRefusal 5 line)) λ z. testPlan (lowerStatement z)))
+refused-write : (t u : Tree statement) (slice slice′ : Bytes) (line : ℕ) → Demand3 t u (outcome slice (then (refuse (Refusal.WriteClause line)) λ z. testPlan (lowerStatement z))) (outcome slice′ (then (refuse (Refusal.WriteClause line)) λ z. testPlan (lowerStatement z)))
 unfolding then outcome
 refused-write t u slice slice′ line = refused-alike (record { refused = λ e. omega arith; number = refl; line = refl; kind = refl })
 
@@ -237,8 +238,8 @@ refused-write t u slice slice′ line = refused-alike (record { refused = λ e. 
 writes-alike : (S T : Bytes) (t u : Tree statement) (work work′ : List ℕ) (slice slice′ : Bytes) → WellFormed S t → WellFormed T u → SheetsAlike t u → LongEnough work S slice → LongEnough work′ T slice′ → (o : Option ℕ) → firstWrite t ≡ o → firstWrite u ≡ o → Demand3 t u (lowerCall work S slice) (lowerCall work′ T slice′)
 unfolding lowerCall planned then testWrite
 writes-alike S T t u work work′ slice slice′ h h′ a l l′ (some line) r r′ =
-    let e : checked maxDepth work S ≡ refuse (lineRefusal 5 line) = checked-from work (l .words) h ∙ rw r in
-    let e′ : checked maxDepth work′ T ≡ refuse (lineRefusal 5 line) = checked-from work′ (l′ .words) h′ ∙ rw r′ in
+    let e : checked maxDepth work S ≡ refuse (Refusal.WriteClause line) = checked-from work (l .words) h ∙ rw r in
+    let e′ : checked maxDepth work′ T ≡ refuse (Refusal.WriteClause line) = checked-from work′ (l′ .words) h′ ∙ rw r′ in
     rw (e, e′) (refused-write t u slice slice′ line)
 writes-alike S T t u work work′ slice slice′ h h′ a l l′ none r r′ =
     let R : ℕ → ℕ → Type 0 = λ a b. Standing t u a b in
@@ -265,7 +266,7 @@ room : (text slice : Bytes) → written text slice .answer .number ≡ 0 → len
 unfolding written
 room text slice z = go (ltb (length slice) (length text)) refl z
   where
-    go : (b : Bool) → ltb (length slice) (length text) ≡ b → cond {A = Outcome} b (record { answer = plainRefusal 10; slice = slice }) (record { answer = answer 0 0 0 0 0 (length text); slice = text ++ drop (length text) slice }) .answer .number ≡ 0 → length text ≤ length slice
+    go : (b : Bool) → ltb (length slice) (length text) ≡ b → cond {A = Outcome} b (record { answer = valuesOf Refusal.NoRoom; slice = slice }) (record { answer = answer 0 0 0 0 0 (length text); slice = text ++ drop (length text) slice }) .answer .number ≡ 0 → length text ≤ length slice
     go true e z = absurd (row-number no-room z)
     go false e z = ltb-false (length slice) (length text) e
 

@@ -11,14 +11,15 @@ use Rattle.model.specs.Kind.{Sort, Clause, statement, unionArm, clause}
 use Rattle.model.specs.Record.{Group, RecOf, readRec, children, beside}
 use Rattle.model.specs.Tree.{Tree, Trees, node, []ᵗ, _∷ᵗ_, end, _▸_, records, recordsOf}
 use Rattle.model.specs.Sheet.{maxLines, Place, Reading, got, refused, next, Reader, formed, lineAt, readLine, readMany, readGroups, readNode, readTree, atEnd, readSheet, orElse, isWrite, writeIn, writeInArms, firstWrite}
+use Rattle.model.specs.Refusal.{Refusal}
 use Rattle.laws.specs.TreeLaws.{numbered, numberedOf}
 
 -- ── the reader refuses with 3 or 4, at a line ──
 
 pub data Numbered {A : Type 0} : Reading A → Type 0 where
   read : {a : A} {p : Place} → 1 ≤ p .line → Numbered (got a p)
-  three : {line : ℕ} → 1 ≤ line → Numbered (refused 3 line)
-  four : {line : ℕ} → 1 ≤ line → Numbered (refused 4 line)
+  three : {line : ℕ} → 1 ≤ line → Numbered (refused (Refusal.BadLine line))
+  four : {line : ℕ} → 1 ≤ line → Numbered (refused (Refusal.BigTree line))
 
 next-numbered : {A B : Type 0} {m : Reading A} {k : A → Place → Reading B} → Numbered m → ((a : A) (p : Place) → 1 ≤ p .line → Numbered (k a p)) → Numbered (next m k)
 unfolding next
@@ -36,7 +37,7 @@ unfolding lineAt
 line-numbered s deep line text [] l = three l
 line-numbered s deep line text (m ∷ ms) l = go (deep || ltb maxLines line) (formed-numbered line (record { line = suc line; text = m; more = ms }) (readRec s text) l (omega arith))
   where
-    go : (b : Bool) {r : Reading (RecOf s)} → Numbered r → Numbered (cond b (refused 4 line) r)
+    go : (b : Bool) {r : Reading (RecOf s)} → Numbered r → Numbered (cond b (refused (Refusal.BigTree line)) r)
     go true h = four l
     go false h = h
 

@@ -11,7 +11,8 @@ use Rattle.model.specs.Kind.{statement}
 use Rattle.model.specs.Tree.{Tree}
 use Rattle.model.specs.Sheet.{Place, got, readSheet, firstWrite}
 use Rattle.model.specs.Check.{precheckStatement}
-use Rattle.model.specs.Call.{Answer, short, then, testWork, testBytes, testReading, testWrite, testCheck, checked, maxBytes, maxDepth}
+use Rattle.model.specs.Refusal.{Answer}
+use Rattle.model.specs.Call.{short, then, testWork, testBytes, testReading, testWrite, testCheck, checked, maxBytes, maxDepth}
 
 -- well-formed: the sheet passes the tests 2 to 4, and t is its tree
 pub record WellFormed (sheet : Bytes) (t : Tree statement) : Type 0 where

@@ -4,11 +4,13 @@ use Prim.Native.Nat.{ℕ, zero, suc}
 use mathlib.Core.Bool.{Bool, true, false, cond}
 use mathlib.Core.List.{List, [], _∷_, _++_}
 use mathlib.Core.Option.{Option, none, some}
+use Rattle.model.specs.Text.{Bytes}
 use Rattle.model.specs.Field.{Form, num, flag, var, varOrAbsent, numOrAbsent, numberOrAbsent, int, float, text, alias, span, Fields, Span}
 use Rattle.model.specs.Field as Field
 use Rattle.model.specs.Kind.{Sort, Kind, PatternElement, Expr, statement, unionArm, clause, projection, orderItem, patternPart, patternElement, name, yieldItem, entry, expr, inPlan}
 use Rattle.model.specs.Record.{Rec, rec, Group, forms, clauseForms, elementForms, exprForms}
 use Rattle.model.specs.Tree.{Tree, Trees, Forest, node, []ᵗ, _∷ᵗ_, end, _▸_}
+use Rattle.model.specs.Refusal.{Refusal}
 use Rattle.model.specs.Check.{Verdict, fine, violated}
 
 -- ── the lines of a sheet ──
@@ -33,13 +35,17 @@ unfoldable mutual
 
 -- ── what the walk meets ──
 
--- the number of the refusal, and the kind, which refusal 7 alone has
-pub record Fault : Type 0 where
-  pub number : ℕ
-  pub kind : ℕ
+-- which of the three it is, with what its record says
+pub data Fault : Type 0 where
+  UnresolvedName : (name : Bytes) → Fault
+  UndesugaredExpr : (kind : ℕ) → Fault
+  EmptyPatternPart : Fault
 
-abbrev pub fault : ℕ → ℕ → Option Fault
-fault n k = some (record { number = n; kind = k })
+-- what it is refused with, at a line and with a span
+abbrev pub refusalAt : (line : ℕ) → Span → Fault → Refusal
+refusalAt line s (Fault.UnresolvedName x) = Refusal.UnresolvedName line s x
+refusalAt line s (Fault.UndesugaredExpr kind) = Refusal.UndesugaredExpr line s kind
+refusalAt line s Fault.EmptyPatternPart = Refusal.EmptyPatternPart line s
 
 -- `unres` and `undes`
 unfoldable pub exprFault : (k : Expr) → Fields (exprForms k) → Option Fault
@@ -49,8 +55,8 @@ exprFault Expr.Map f = none
 exprFault Expr.Call f = none
 exprFault Expr.PatternPredicate f = none
 exprFault Expr.ListPredicate f = none
-exprFault Expr.Unresolved f = fault 6 0
-exprFault Expr.Undesugared (kind, _) = fault 7 kind
+exprFault Expr.Unresolved (x, _) = some (Fault.UnresolvedName x)
+exprFault Expr.Undesugared (kind, _) = some (Fault.UndesugaredExpr kind)
 
 unfoldable pub isRel : (s : Sort) → Kind s → Bool
 isRel statement k = false
@@ -74,8 +80,8 @@ relNext (l ∷ ls) = isRel (l .this .sort) (l .this .kind)
 
 -- a `part` with no elements, or with a `rel` on the next line
 unfoldable pub partFault : (elements : ℕ) → List Line → Option Fault
-partFault zero behind = fault 8 0
-partFault (suc n) behind = cond (relNext behind) (fault 8 0) none
+partFault zero behind = some Fault.EmptyPatternPart
+partFault (suc n) behind = cond (relNext behind) (some Fault.EmptyPatternPart) none
 
 -- what a line is, by its record and the line behind it
 unfoldable pub faultOf : (s : Sort) (k : Kind s) → Fields (forms s k) → List Line → Option Fault
@@ -147,7 +153,7 @@ spanAt outside (r ∷ rs) = orSpan (ownSpan (r .sort) (r .kind) (r .fields)) (sp
 
 unfoldable pub reportOr : (line : ℕ) → Span → Option Fault → Verdict → Verdict
 reportOr line s none rest = rest
-reportOr line s (some x) rest = violated (x .number) line s (x .kind)
+reportOr line s (some x) rest = violated (refusalAt line s x)
 
 -- the first of some lines, the first of which has the number n, that is a fault
 unfoldable pub firstFault : (outside : Span) (n : ℕ) → List Line → Verdict

@@ -6,13 +6,15 @@ use mathlib.Core.Bool.{Bool, true, false, cond}
 use mathlib.Core.List.{List, [], _∷_, _++_, map, append-nil, append-assoc}
 use mathlib.Core.Option.{Option, none, some, Option·some-ne-none}
 use lib.ListN.{length, length-append}
+use Rattle.model.specs.Text.{Bytes}
 use Rattle.model.specs.Field.{Fields, Span}
 use Rattle.model.specs.Kind.{Sort, Kind, Clause, PatternElement, Expr, statement, unionArm, clause, projection, orderItem, patternPart, patternElement, name, yieldItem, entry, expr, inPlan}
 use Rattle.model.specs.Record.{Rec, rec, Group, forms, clauseForms, elementForms, exprForms, children}
 use Rattle.model.specs.Tree.{Tree, Trees, Forest, node, []ᵗ, _∷ᵗ_, end, _▸_, records, recordsOf, recordsIn}
+use Rattle.model.specs.Refusal.{Refusal}
 use Rattle.model.specs.Check.{Verdict, fine, violated, andThen, clauseSpan, elementSpan, spanIn, ofExpr, ofElements, ofPart, ofRecord, check, checkOf, checkIn, noSpan, precheckStatement}
 use Rattle.laws.specs.TreeLaws.{numbered, numberedOf, numberedIn}
-use Rattle.demands.specs.Walk.{Line, lines, linesOf, linesIn, Fault, fault, exprFault, isRel, relNext, partFault, faultOf, faultAt, Meets, spanField, ownSpan, orSpan, spanAt, reportOr, firstFault, here, later}
+use Rattle.demands.specs.Walk.{Line, lines, linesOf, linesIn, Fault, refusalAt, exprFault, isRel, relNext, partFault, faultOf, faultAt, Meets, spanField, ownSpan, orSpan, spanAt, reportOr, firstFault, here, later}
 
 -- ── the lines are the records ──
 
@@ -107,7 +109,7 @@ own (inPlan p) line m k f above kids x rest v = refl
 andThen-assoc : (u v w : Verdict) → andThen (andThen u v) w ≡ andThen u (andThen v w)
 unfolding andThen
 andThen-assoc fine v w = refl
-andThen-assoc (violated n l s k) v w = refl
+andThen-assoc (violated r) v w = refl
 
 fine-then : (v : Verdict) → andThen fine v ≡ v
 unfolding andThen
@@ -116,7 +118,7 @@ fine-then v = refl
 andThen-fine : (v : Verdict) → andThen v fine ≡ v
 unfolding andThen
 andThen-fine fine = refl
-andThen-fine (violated n l s k) = refl
+andThen-fine (violated r) = refl
 
 -- ── the walk: the verdict on a tree, and then the first fault behind it ──
 
@@ -183,55 +185,10 @@ first-fault t e outside =
 
 -- ── what is found, if something is ──
 
--- number and kind of a fault
-pub data FaultRow : (number kind : ℕ) → Type 0 where
-  six : FaultRow 6 0
-  seven : {kind : ℕ} → FaultRow 7 kind
-  eight : FaultRow 8 0
-
-pub data Faulty : Option Fault → Type 0 where
-  no-fault : Faulty none
-  a-fault : {x : Fault} → FaultRow (x .number) (x .kind) → Faulty (some x)
-
-expr-faulty : (k : Expr) (f : Fields (exprForms k)) → Faulty (exprFault k f)
-unfolding exprFault
-expr-faulty (Expr.Over h) f = no-fault
-expr-faulty Expr.Var f = no-fault
-expr-faulty Expr.Map f = no-fault
-expr-faulty Expr.Call f = no-fault
-expr-faulty Expr.PatternPredicate f = no-fault
-expr-faulty Expr.ListPredicate f = no-fault
-expr-faulty Expr.Unresolved f = a-fault six
-expr-faulty Expr.Undesugared f = a-fault seven
-
-part-faulty : (n : ℕ) (behind : List Line) → Faulty (partFault n behind)
-unfolding partFault
-part-faulty zero behind = a-fault eight
-part-faulty (suc n) behind = go (relNext behind)
-  where
-    go : (b : Bool) → Faulty (cond b (fault 8 0) none)
-    go true = a-fault eight
-    go false = no-fault
-
-of-faulty : (s : Sort) (k : Kind s) (f : Fields (forms s k)) (behind : List Line) → Faulty (faultOf s k f behind)
-unfolding faultOf
-of-faulty statement k f behind = no-fault
-of-faulty unionArm k f behind = no-fault
-of-faulty clause k f behind = no-fault
-of-faulty projection k f behind = no-fault
-of-faulty orderItem k f behind = no-fault
-of-faulty patternPart k (_, (_, (n, _))) behind = part-faulty n behind
-of-faulty patternElement k f behind = no-fault
-of-faulty name k f behind = no-fault
-of-faulty yieldItem k f behind = no-fault
-of-faulty entry k f behind = no-fault
-of-faulty expr k f behind = expr-faulty k f
-of-faulty (inPlan p) k f behind = no-fault
-
 -- the first fault of some lines that begin with line n
 pub data Walked (n : ℕ) (ls : List Line) : Verdict → Type 0 where
   met-none : (Meets ls → ⊥) → Walked n ls fine
-  met : {number line kind : ℕ} {s : Span} → Meets ls → FaultRow number kind → n ≤ line → Walked n ls (violated number line s kind)
+  met : (line : ℕ) (s : Span) (x : Fault) → Meets ls → n ≤ line → Walked n ls (violated (refusalAt line s x))
 
 some-none : {A : Type 0} {a : A} → some a ≡ none → ⊥
 some-none e = Option·some-ne-none _ e
@@ -255,20 +212,82 @@ not-met e f (later m) = f m
 
 walked-on : {n : ℕ} {l : Line} {ls : List Line} {v : Verdict} → faultAt l ls ≡ none → Walked (suc n) ls v → Walked n (l ∷ ls) v
 walked-on e (met-none f) = met-none (not-met e f)
-walked-on {n} e (met {line = line} m row le) =
+walked-on {n} e (met line s x m le) =
     let earlier : n ≤ line = omega arith in
-    met (later m) row earlier
+    met line s x (later m) earlier
 
-at-faulty : (l : Line) (ls : List Line) → Faulty (faultAt l ls)
-unfolding faultAt
-at-faulty l ls = of-faulty (l .this .sort) (l .this .kind) (l .this .fields) ls
-
-walked-at : (outside : Span) (n : ℕ) (l : Line) (ls : List Line) {o : Option Fault} → faultAt l ls ≡ o → Faulty o → Walked (suc n) ls (firstFault outside (suc n) ls) → Walked n (l ∷ ls) (reportOr n (spanAt outside (l .above)) o (firstFault outside (suc n) ls))
+walked-at : (outside : Span) (n : ℕ) (l : Line) (ls : List Line) (o : Option Fault) → faultAt l ls ≡ o → Walked (suc n) ls (firstFault outside (suc n) ls) → Walked n (l ∷ ls) (reportOr n (spanAt outside (l .above)) o (firstFault outside (suc n) ls))
 unfolding reportOr
-walked-at outside n l ls e no-fault h = walked-on e h
-walked-at outside n l ls e (a-fault row) h = met {line = n} (here e) row (omega arith)
+walked-at outside n l ls none e h = walked-on e h
+walked-at outside n l ls (some x) e h = met n _ x (here e) (omega arith)
 
 pub walked : (outside : Span) (n : ℕ) (ls : List Line) → Walked n ls (firstFault outside n ls)
 unfolding firstFault
 walked outside n [] = met-none nothing-met
-walked outside n (l ∷ ls) = walked-at outside n l ls refl (at-faulty l ls) (walked outside (suc n) ls)
+walked outside n (l ∷ ls) = walked-at outside n l ls (faultAt l ls) refl (walked outside (suc n) ls)
+
+-- ── the name that is carried ──
+
+-- of some lines that begin with line n, this one has the record r
+pub data OnLine (r : Rec) (line : ℕ) : ℕ → List Line → Type 0 where
+  this-line : {l : Line} {ls : List Line} → l .this ≡ r → OnLine r line line (l ∷ ls)
+  later-line : {n : ℕ} {l : Line} {ls : List Line} → OnLine r line (suc n) ls → OnLine r line n (l ∷ ls)
+
+part-nameless : (n : ℕ) (behind : List Line) (x : Bytes) → partFault n behind ≡ some (Fault.UnresolvedName x) → ⊥
+unfolding partFault
+part-nameless zero behind x e = let z : _≡_ {A = ℕ} 0 1 = cc in omega arith
+part-nameless (suc n) behind x e = go (relNext behind) e
+  where
+    go : (b : Bool) → cond b (some Fault.EmptyPatternPart) none ≡ some (Fault.UnresolvedName x) → ⊥
+    go true q = let z : _≡_ {A = ℕ} 0 1 = cc in omega arith
+    go false q = some-none (sym q)
+
+expr-named : (k : Expr) (f : Fields (exprForms k)) (x : Bytes) → exprFault k f ≡ some (Fault.UnresolvedName x) → rec expr k f ≡ rec expr Expr.Unresolved (x, tt)
+unfolding exprFault
+expr-named (Expr.Over h) f x e = absurd (some-none (sym e))
+expr-named Expr.Var f x e = absurd (some-none (sym e))
+expr-named Expr.Map f x e = absurd (some-none (sym e))
+expr-named Expr.Call f x e = absurd (some-none (sym e))
+expr-named Expr.PatternPredicate f x e = absurd (some-none (sym e))
+expr-named Expr.ListPredicate f x e = absurd (some-none (sym e))
+expr-named Expr.Unresolved (y, _) x e = let z : y ≡ x = cc in rw z
+expr-named Expr.Undesugared f x e = let z : _≡_ {A = ℕ} 0 1 = cc in absurd (omega arith)
+
+of-named : (s : Sort) (k : Kind s) (f : Fields (forms s k)) (behind : List Line) (x : Bytes) → faultOf s k f behind ≡ some (Fault.UnresolvedName x) → rec s k f ≡ rec expr Expr.Unresolved (x, tt)
+unfolding faultOf
+of-named statement k f behind x e = absurd (some-none (sym e))
+of-named unionArm k f behind x e = absurd (some-none (sym e))
+of-named clause k f behind x e = absurd (some-none (sym e))
+of-named projection k f behind x e = absurd (some-none (sym e))
+of-named orderItem k f behind x e = absurd (some-none (sym e))
+of-named patternPart k (_, (_, (n, _))) behind x e = absurd (part-nameless n behind x e)
+of-named patternElement k f behind x e = absurd (some-none (sym e))
+of-named name k f behind x e = absurd (some-none (sym e))
+of-named yieldItem k f behind x e = absurd (some-none (sym e))
+of-named entry k f behind x e = absurd (some-none (sym e))
+of-named expr k f behind x e = expr-named k f x e
+of-named (inPlan p) k f behind x e = absurd (some-none (sym e))
+
+module _ (outside : Span) (line : ℕ) (s : Span) (x : Bytes) where
+  abbrev pub named-fault : Verdict
+  named-fault = violated (Refusal.UnresolvedName line s x)
+
+  -- the record of the line has the name
+  abbrev pub Named : ℕ → List Line → Type 0
+  Named n ls = OnLine (rec expr Expr.Unresolved (x, tt)) line n ls
+
+  named-at : (n : ℕ) (l : Line) (ls : List Line) (o : Option Fault) → faultAt l ls ≡ o → reportOr n (spanAt outside (l .above)) o (firstFault outside (suc n) ls) ≡ named-fault → (firstFault outside (suc n) ls ≡ named-fault → Named (suc n) ls) → Named n (l ∷ ls)
+  unfolding reportOr faultAt
+  named-at n l ls none e q h = later-line (h q)
+  named-at n l ls (some (Fault.UnresolvedName y)) e q h =
+      let p : n ≡ line = cc in
+      let z : y ≡ x = cc in
+      rw p (this-line (of-named (l .this .sort) (l .this .kind) (l .this .fields) ls x (e ∙ rw z)))
+  named-at n l ls (some (Fault.UndesugaredExpr kind)) e q h = let z : _≡_ {A = ℕ} 0 1 = cc in absurd (omega arith)
+  named-at n l ls (some Fault.EmptyPatternPart) e q h = let z : _≡_ {A = ℕ} 0 1 = cc in absurd (omega arith)
+
+  -- the name of a first fault is the one in the record of its line: so whoever has the line has the name
+  pub carried-name : (n : ℕ) (ls : List Line) → firstFault outside n ls ≡ named-fault → Named n ls
+  unfolding firstFault
+  carried-name n [] e = let z : _≡_ {A = ℕ} 0 1 = cc in absurd (omega arith)
+  carried-name n (l ∷ ls) e = named-at n l ls (faultAt l ls) refl e (carried-name (suc n) ls)

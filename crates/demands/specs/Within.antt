@@ -41,12 +41,12 @@ pub record Passes {s : Sort} (t : Tree s) : Type 0 where
 
 unfoldable pub is-violated : Verdict → Type 0
 is-violated fine = ⊥
-is-violated (violated n l s k) = Unit {0}
+is-violated (violated r) = Unit {0}
 
 pub both-fine : (u v : Verdict) → andThen u v ≡ fine → (u ≡ fine) × (v ≡ fine)
 unfolding andThen is-violated
 both-fine fine v e = (refl, e)
-both-fine (violated n l s k) v e = absurd (subst is-violated e tt)
+both-fine (violated r) v e = absurd (subst is-violated e tt)
 
 mutual
   unfolding check

@@ -14,6 +14,7 @@ use Rattle.model.specs.Kind.{Sort}
 use Rattle.model.specs.Record.{Rec, RecOf, readRec, children, Group, beside}
 use Rattle.model.specs.Tree.{Tree, Trees, Forest, node, _∷ᵗ_, _▸_, records, recordsOf, recordsIn}
 use Rattle.model.specs.Sheet.{maxLines, Place, Reading, got, refused, next, Reader, formed, lineAt, readLine, readMany, readGroups, readNode, readTree}
+use Rattle.model.specs.Refusal.{Refusal}
 use Rattle.laws.specs.TextLaws.{Each, each[], _each∷_, each-append}
 use Rattle.laws.specs.RecordLaws.{recOf, Fits, lineText, ahead, ahead-append, read-line}
 use Rattle.laws.specs.TreeLaws.{level, level-mono, level-up, level-beside, depth, depthOf, depthIn, numbered, numberedOf, numberedIn}
@@ -22,7 +23,7 @@ use Rattle.laws.specs.TreeLaws.{level, level-mono, level-up, level-besid
 
 pub data Yields {A : Type 0} (P : A → Place → Type 0) : Reading A → Type 0 where
   yields : {a : A} {p : Place} → P a p → Yields P (got a p)
-  refuses : {n l : ℕ} → Yields P (refused n l)
+  refuses : {r : Refusal} → Yields P (refused r)
 
 module _ {A : Type 0} where
   pub got-value : {a b : A} {p q : Place} → got a p ≡ got b q → a ≡ b
@@ -33,9 +34,9 @@ module _ {A : Type 0} where
 
   is-got : Reading A → Type 0
   is-got (got a p) = Unit {0}
-  is-got (refused n l) = ⊥
+  is-got (refused r) = ⊥
 
-  pub refused-got : {a : A} {p : Place} {n l : ℕ} → refused n l ≡ got a p → ⊥
+  pub refused-got : {a : A} {p : Place} {r : Refusal} → refused r ≡ got a p → ⊥
   unfolding is-got
   refused-got e = subst is-got (sym e) tt
 
@@ -91,7 +92,7 @@ unfolding lineAt
 line-took s deep line text [] = refuses
 line-took s deep line text (m ∷ ms) = go deep (ltb maxLines line) refl
   where
-    go : (d b : Bool) → ltb maxLines line ≡ b → Yields (λ x q. Took (recOf s x ∷ []) (record { line = line; text = text; more = m ∷ ms }) q) (cond (d || b) (refused 4 line) (formed line (record { line = suc line; text = m; more = ms }) (readRec s text)))
+    go : (d b : Bool) → ltb maxLines line ≡ b → Yields (λ x q. Took (recOf s x ∷ []) (record { line = line; text = text; more = m ∷ ms }) q) (cond (d || b) (refused (Refusal.BigTree line)) (formed line (record { line = suc line; text = m; more = ms }) (readRec s text)))
     go true b e = refuses
     go false true e = refuses
     go false false e = formed-took s line text m ms (ltb-false maxLines line e) (readRec s text) refl

@@ -52,7 +52,7 @@ beside-once (inPlan p) e k f = plan-beside p e k f
 pub next-same : {A B : Type 0} (m : Reading A) (k l : A → Place → Reading B) → ((a : A) (p : Place) → k a p ≡ l a p) → next m k ≡ next m l
 unfolding next
 next-same (got a p) k l h = h a p
-next-same (refused n i) k l h = refl
+next-same (refused r) k l h = refl
 
 -- groups are read alike by readers that agree on their sorts
 groups-same : (r r′ : (s : Sort) → Reader (Tree s)) (gs : List Group) → Each (λ g. (q : Place) → r (g .0) q ≡ r′ (g .0) q) gs → (p : Place) → readGroups r gs p ≡ readGroups r′ gs p

@@ -4,7 +4,8 @@ use mathlib.Core.Bool.{Bool, true, false}
 use mathlib.Core.List.{List, _∷_}
 use Prim.Native.Nat.{ℕ, _<_, _≤_}
 use lib.ListN.{length, drop}
-use Rattle.model.specs.Call.{Answer, Outcome}
+use Rattle.model.specs.Refusal.{Answer}
+use Rattle.model.specs.Call.{Outcome}
 
 -- number, line, start, end, kind and length, and behind them what stood there
 abbrev pub noted : Answer → List ℕ → List ℕ

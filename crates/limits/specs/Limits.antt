@@ -5,7 +5,8 @@ use Prim.Native.String.{String}
 use mathlib.Core.List.{[], _++_}
 use lib.ListN.{replicate, take}
 use Rattle.model.specs.Text.{Bytes, bytes}
-use Rattle.model.specs.Call.{Answer, Outcome, plainRefusal, accepted, lowerCall, workWords}
+use Rattle.model.specs.Refusal.{Answer, plainRefusal, accepted}
+use Rattle.model.specs.Call.{Outcome, lowerCall, workWords}
 use Rattle.model.specs.Examples.{compute}
 
 -- a lone return of a list of n `pat 0`

@@ -6,9 +6,9 @@ use mathlib.Core.Option.{Option, none, some}
 use lib.Dec.{ltb}
 use lib.ListN.{length, drop}
 use Rattle.model.specs.Text.{Bytes}
-use Rattle.model.specs.Field.{Span}
 use Rattle.model.specs.Kind.{statement}
 use Rattle.model.specs.Tree.{Tree, records}
+use Rattle.model.specs.Refusal.{Refusal, Answer, accepted, valuesOf}
 use Rattle.model.specs.Sheet.{Reading, got, refused, readSheet, firstWrite}
 use Rattle.model.specs.Check.{Verdict, fine, violated, precheckStatement}
 use Rattle.model.specs.Lower.{LowerCtx, lowerStatement}
@@ -30,33 +30,13 @@ maxDepth = 64
 abbrev pub maxPlan : ℕ
 maxPlan = 2048
 
-pub record Answer : Type 0 where
-  pub number : ℕ
-  pub line : ℕ
-  pub start : ℕ
-  pub end : ℕ
-  pub kind : ℕ
-  pub length : ℕ
-
-abbrev pub plainRefusal : ℕ → Answer
-plainRefusal n = record { number = n; line = 0; start = 0; end = 0; kind = 0; length = 0 }
-
-abbrev pub lineRefusal : ℕ → ℕ → Answer
-lineRefusal n l = record { number = n; line = l; start = 0; end = 0; kind = 0; length = 0 }
-
-abbrev pub treeRefusal : ℕ → ℕ → Span → ℕ → Answer
-treeRefusal n l s k = record { number = n; line = l; start = s .start; end = s .end; kind = k; length = 0 }
-
-abbrev pub accepted : ℕ → Answer
-accepted n = record { number = 0; line = 0; start = 0; end = 0; kind = 0; length = n }
-
--- a test refuses with an answer, or passes something on
+-- a test refuses, or passes something on
 pub data Test (A : Type 0) : Type 0 where
-  refuse : Answer → Test A
+  refuse : Refusal → Test A
   pass : A → Test A
 
 unfoldable pub then : {A B : Type 0} → Test A → (A → Test B) → Test B
-then (refuse a) k = refuse a
+then (refuse r) k = refuse r
 then (pass x) k = k x
 
 -- 1
@@ -65,30 +45,30 @@ short [] = false
 short (w ∷ ws) = ltb w workWords || short ws
 
 unfoldable pub testWork : List ℕ → Test (Unit {0})
-testWork ws = cond (short ws) (refuse (plainRefusal 1)) (pass tt)
+testWork ws = cond (short ws) (refuse Refusal.ShortWork) (pass tt)
 
 -- 2
 unfoldable pub testBytes : Bytes → Test (Unit {0})
-testBytes sheet = cond (ltb maxBytes (length sheet)) (refuse (plainRefusal 2)) (pass tt)
+testBytes sheet = cond (ltb maxBytes (length sheet)) (refuse Refusal.LongSheet) (pass tt)
 
 -- 3 and 4
 unfoldable pub testReading : Reading (Tree statement) → Test (Tree statement)
 testReading (got t p) = pass t
-testReading (refused n l) = refuse (lineRefusal n l)
+testReading (refused r) = refuse r
 
 -- 5
 unfoldable pub testWrite : Tree statement → Option ℕ → Test (Tree statement)
 testWrite t none = pass t
-testWrite t (some l) = refuse (lineRefusal 5 l)
+testWrite t (some l) = refuse (Refusal.WriteClause l)
 
 -- 6 to 8
 unfoldable pub testCheck : Tree statement → Verdict → Test (Tree statement)
 testCheck t fine = pass t
-testCheck t (violated n l s k) = refuse (treeRefusal n l s k)
+testCheck t (violated r) = refuse r
 
 -- 9
 unfoldable pub testPlan : LowerCtx → Test LowerCtx
-testPlan c = cond (ltb maxPlan (length (c .ops)) || ltb maxPlan (c .scope .next)) (refuse (plainRefusal 9)) (pass c)
+testPlan c = cond (ltb maxPlan (length (c .ops)) || ltb maxPlan (c .scope .next)) (refuse Refusal.PlanFull) (pass c)
 
 -- tests 1 to 8: the checked tree. `depth` is the depth that a sheet may have, `work` the lengths of the work slices
 unfoldable pub checked : (depth : ℕ) (work : List ℕ) → Bytes → Test (Tree statement)
@@ -114,11 +94,11 @@ pub record Outcome : Type 0 where
 unfoldable pub written : Bytes → Bytes → Outcome
 written text slice =
     cond (ltb (length slice) (length text))
-    (record { answer = plainRefusal 10; slice = slice })
+    (record { answer = valuesOf Refusal.NoRoom; slice = slice })
     (record { answer = accepted (length text); slice = text ++ drop (length text) slice })
 
 unfoldable pub outcome : Bytes → Test LowerCtx → Outcome
-outcome slice (refuse a) = record { answer = a; slice = slice }
+outcome slice (refuse r) = record { answer = valuesOf r; slice = slice }
 outcome slice (pass c) = written (planSheet c) slice
 
 unfoldable pub lowerCall : (work : List ℕ) (sheet slice : Bytes) → Outcome
@@ -136,7 +116,7 @@ pub record Figure (t : Tree statement) (n : ℕ) : Type 0 where
   pub few : n ≤ 4 * recordCount t
 
 pub data Sized : Test (Tree statement) → Answer → Type 0 where
-  refusal : {a : Answer} → Sized (refuse a) a
+  refusal : {r : Refusal} → Sized (refuse r) (valuesOf r)
   figure : {t : Tree statement} {n : ℕ} → Figure t n → Sized (pass t) (accepted n)
 
 -- the answers that the sizing call may give

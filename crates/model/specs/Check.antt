@@ -5,15 +5,16 @@ use Rattle.model.specs.Field.{Span, Fields}
 use Rattle.model.specs.Kind.{Sort, Kind, Clause, PatternElement, Expr, statement, unionArm, clause, projection, orderItem, patternPart, patternElement, name, yieldItem, entry, expr, inPlan}
 use Rattle.model.specs.Record.{Group, forms, clauseForms, elementForms, exprForms, children}
 use Rattle.model.specs.Tree.{Tree, Trees, Forest, node, []ᵗ, _∷ᵗ_, end, _▸_}
+use Rattle.model.specs.Refusal.{Refusal}
 
--- fine; or the number of the refusal, with the line, the span and the kind that it reports
+-- fine; or what the record is refused with
 pub data Verdict : Type 0 where
   fine : Verdict
-  violated : (number line : ℕ) (span : Span) (kind : ℕ) → Verdict
+  violated : Refusal → Verdict
 
 unfoldable pub andThen : Verdict → Verdict → Verdict
 andThen fine v = v
-andThen (violated n l s k) v = violated n l s k
+andThen (violated r) v = violated r
 
 abbrev pub clauseSpan : (k : Clause) → Fields (clauseForms k) → Span
 clauseSpan Clause.Match (_, (_, (span, _))) = span
@@ -50,14 +51,14 @@ ofExpr line Expr.Map f span = fine
 ofExpr line Expr.Call f span = fine
 ofExpr line Expr.PatternPredicate f span = fine
 ofExpr line Expr.ListPredicate f span = fine
-ofExpr line Expr.Unresolved f span = violated 6 line span 0
-ofExpr line Expr.Undesugared (kind, _) span = violated 7 line span kind
+ofExpr line Expr.Unresolved (unresolved, _) span = violated (Refusal.UnresolvedName line span unresolved)
+ofExpr line Expr.Undesugared (kind, _) span = violated (Refusal.UndesugaredExpr line span kind)
 
 -- a part has to begin with a node
 unfoldable pub ofElements : {n : ℕ} → (line : ℕ) → Trees patternElement n → Span → Verdict
-ofElements line []ᵗ span = violated 8 line span 0
+ofElements line []ᵗ span = violated (Refusal.EmptyPatternPart line span)
 ofElements line (node patternElement l PatternElement.Node f kids ∷ᵗ ts) span = fine
-ofElements line (node patternElement l PatternElement.Rel f kids ∷ᵗ ts) span = violated 8 line span 0
+ofElements line (node patternElement l PatternElement.Rel f kids ∷ᵗ ts) span = violated (Refusal.EmptyPatternPart line span)
 
 unfoldable pub ofPart : {n : ℕ} → (line : ℕ) → Forest ((patternElement, n) ∷ []) → Span → Verdict
 ofPart line (ts ▸ end) span = ofElements line ts span

@@ -13,7 +13,8 @@ use Rattle.model.specs.Lower
 use Rattle.model.specs.Plan
 use Rattle.model.specs.Call
 use Rattle.model.specs.Text.{Bytes, bytes}
-use Rattle.model.specs.Call.{Answer, Outcome, lowerCall, lineRefusal, treeRefusal, accepted, workWords}
+use Rattle.model.specs.Refusal.{Refusal, Answer, lineRefusal, treeRefusal, accepted}
+use Rattle.model.specs.Call.{Outcome, refuse, planned, lowerCall, workWords, maxDepth}
 
 -- the lowering call with four work slices that are long enough, opened down to what computes
 unfoldable pub compute : Bytes → Bytes → Outcome
@@ -111,6 +112,11 @@ table =
     -- a part that begins with a rel, inside a node's props, under that node's span
     ∷ refuses "stmt\t1\t0\nmatch\t0\t1\t0\t9\npart\t-\t0\t1\nnode\t-\t0\t1\t2\t3\npat\t1\npart\t-\t0\t1\nrel\t-\t0\t0\tone\t-\t-\t0\t4\t5\n" (treeRefusal 8 6 (record { start = 2; end = 3 }) 0)
     ∷ []
+
+-- what M9 is refused with has the name too, its escape read
+pub named : planned maxDepth (replicate 4 workWords) (bytes "stmt\t1\t0\nwhere\t3\t8\nlist\t2\nunres\tx\\ty\nundes\t0\n") ≡ refuse (Refusal.UnresolvedName 4 (record { start = 3; end = 8 }) (bytes "x\ty"))
+unfolding compute
+named = refl
 
 pub worked : map (λ r. asked r) table ≡ map (λ r. expected r) table
 unfolding asked expected table

@@ -3,6 +3,7 @@ pub mod Field
 pub mod Kind
 pub mod Record
 pub mod Tree
+pub mod Refusal
 pub mod Sheet
 pub mod Check
 pub mod Lower

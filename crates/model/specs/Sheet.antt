@@ -8,6 +8,7 @@ use Rattle.model.specs.Text.{Bytes, split, lineFeed}
 use Rattle.model.specs.Kind.{Sort, Clause, statement, unionArm, clause}
 use Rattle.model.specs.Record.{Group, RecOf, readRec, children, beside}
 use Rattle.model.specs.Tree.{Tree, Trees, Forest, node, []ᵗ, _∷ᵗ_, end, _▸_}
+use Rattle.model.specs.Refusal.{Refusal}
 
 -- a sheet has at most so many lines
 abbrev pub maxLines : ℕ
@@ -22,27 +23,27 @@ pub record Place : Type 0 where
   -- and behind that line feed, piece by piece; nothing where there is none
   pub more : List Bytes
 
--- a value and the place behind it; or a number of the table of refusals and a line
+-- a value and the place behind it; or a refusal
 pub data Reading (A : Type 0) : Type 0 where
   got : A → Place → Reading A
-  refused : (number line : ℕ) → Reading A
+  refused : Refusal → Reading A
 
 unfoldable pub next : {A B : Type 0} → Reading A → (A → Place → Reading B) → Reading B
 next (got a p) k = k a p
-next (refused n l) k = refused n l
+next (refused r) k = refused r
 
 -- a reader of something
 abbrev pub Reader : Type 0 → Type 0
 Reader A = Place → Reading A
 
 unfoldable pub formed : {A : Type 0} → ℕ → Place → Option A → Reading A
-formed line p none = refused 3 line
+formed line p none = refused (Refusal.BadLine line)
 formed line p (some a) = got a p
 
 -- A record is due. No line feed gives 3, then too many lines or too deep gives 4, then another form than the due one 3.
 unfoldable pub lineAt : (s : Sort) (deep : Bool) (line : ℕ) (text : Bytes) → List Bytes → Reading (RecOf s)
-lineAt s deep line text [] = refused 3 line
-lineAt s deep line text (m ∷ ms) = cond (deep || ltb maxLines line) (refused 4 line) (formed line (record { line = suc line; text = m; more = ms }) (readRec s text))
+lineAt s deep line text [] = refused (Refusal.BadLine line)
+lineAt s deep line text (m ∷ ms) = cond (deep || ltb maxLines line) (refused (Refusal.BigTree line)) (formed line (record { line = suc line; text = m; more = ms }) (readRec s text))
 
 unfoldable pub readLine : (s : Sort) → Bool → Reader (RecOf s)
 readLine s deep p = lineAt s deep (p .line) (p .text) (p .more)
@@ -62,14 +63,14 @@ readNode r s p = next (readLine s false p) (λ x p′. next (readGroups r (child
 
 -- a tree, which may be d records deep
 unfoldable pub readTree : ℕ → (s : Sort) → Reader (Tree s)
-readTree zero s p = next (readLine s true p) (λ x p′. refused 4 (p .line))
+readTree zero s p = next (readLine s true p) (λ x p′. refused (Refusal.BigTree (p .line)))
 readTree (suc d) s p = readNode (cond (beside s) (readNode (λ c q. readTree d c q)) (λ c q. readTree d c q)) s p
 
 -- behind the last due record nothing may follow
 unfoldable pub atEnd : {A : Type 0} → A → (line : ℕ) (text : Bytes) → List Bytes → Reading A
 atEnd a line [] [] = got a (record { line = line; text = []; more = [] })
-atEnd a line [] (m ∷ ms) = refused 3 line
-atEnd a line (b ∷ t) ms = refused 3 line
+atEnd a line [] (m ∷ ms) = refused (Refusal.BadLine line)
+atEnd a line (b ∷ t) ms = refused (Refusal.BadLine line)
 
 -- depth d at most
 unfoldable pub readSheet : ℕ → Bytes → Reading (Tree statement)

@@ -10,7 +10,8 @@ use lib.ListN.{length, take, drop}
 use lib.Seq.{sets, sets-eq, take-append-seam}
 use borrow.Author.Tests.{lt-ltb, le-ltb}
 use Rattle.model.specs.Text.{Bytes}
-use Rattle.model.specs.Call.{plainRefusal, accepted, written}
+use Rattle.model.specs.Refusal.{Refusal, accepted, valuesOf}
+use Rattle.model.specs.Call.{written}
 use Rattle.output.specs.Page.{Page, on, most, Fits, Puts}
 
 -- what a text that fits leaves of the slice p: the slice q and the cursor o
@@ -48,7 +49,7 @@ none (b ∷ q) e = absurd (omega arith)
 
 module _ (p : Bytes) (small : length p < most) {t q : Bytes} {o : ℕ} (first : Puts t (on [] 0) (on q o)) where
   -- the measured text is longer than the slice, and the slice is as it was
-  pub refuses : length (q ++ p) < o → record { answer = plainRefusal 10; slice = q ++ p } ≡ written t p
+  pub refuses : length (q ++ p) < o → record { answer = valuesOf Refusal.NoRoom; slice = q ++ p } ≡ written t p
   unfolding written
   refuses h =
       let next = first .next in

@@ -7,7 +7,8 @@ use Rattle.model.specs.Text.{Bytes}
 use Rattle.model.specs.Record.{spellRecs}
 use Rattle.model.specs.Lower.{Recs, LowerCtx, at}
 use Rattle.model.specs.Plan.{mappedRecs, planSheet}
-use Rattle.model.specs.Call.{Answer, plainRefusal, accepted, written}
+use Rattle.model.specs.Refusal.{Refusal, Answer, accepted, valuesOf}
+use Rattle.model.specs.Call.{written}
 use Rattle.output.specs.Page.{Page, Puts}
 use Rattle.context.specs.Tables.{varsOf, varsAt}
 use Rattle.lower.specs.Render.{Ops}
@@ -32,7 +33,7 @@ upTo (suc n) A = upTo n A ++ A n
 
 -- document 01's answer
 unfoldable pub answerOf : Plan → Answer
-answerOf Plan.NoRoom = plainRefusal 10
+answerOf Plan.NoRoom = valuesOf Refusal.NoRoom
 answerOf (Plan.Written n) = accepted n
 
 -- k of n operators are written

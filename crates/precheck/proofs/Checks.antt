@@ -1,5 +1,5 @@
 -- The steps of the cycle: what each arm of the check of an expression, and each pass of a loop over parts or elements, has to do with the whole. Assumes nothing.
-use mathlib.Core.Path.{_≡_, sym, _∙_}
+use mathlib.Core.Path.{_≡_, _∙_}
 use Prim.Native.Nat.{ℕ, _+_, _-_}
 use native.Mathlib.Numerals.{add-one}
 use native.Mathlib.Omega.{arith}
@@ -10,7 +10,7 @@ use Rattle.model.specs.Field.{Span}
 use Rattle.model.specs.Kind.{Sort, expr, patternPart, patternElement}
 use Rattle.model.specs.Check.{Verdict, fine, noSpan, andThen}
 use Rattle.words.specs.Words.{Roomy, cell}
-use Rattle.precheck.specs.Answer.{spanOf, errorOf}
+use Rattle.precheck.specs.Answer.{spanOf, Found}
 use Rattle.precheck.specs.Steps.{Stage, Some, Ends, Walks, Run}
 use Rattle.words.specs.Numbers.{Others, expr-number}
 use Rattle.words.specs.Count.{countAt}
@@ -69,7 +69,7 @@ module _ {a b : List ℕ} (room : Roomy a b) {i c n : ℕ} (kind : c ≡ cell a 
       go (plain p r) = absurd (p .map k)
       go (entries p r) = map-run (of-entry room) r
       go (pattern p r) = absurd (omega arith)
-      go (unresolved p r) = absurd (omega arith)
+      go (unresolved x p r) = absurd (omega arith)
       go (undesugared p r) = absurd (omega arith)
 
   pub as-pattern : c ≡ patKind → Turns (At a b expr d span i) (Run (At a b patternPart (d - 1) span) n (i + 1))
@@ -79,7 +79,7 @@ module _ {a b : List ℕ} (room : Roomy a b) {i c n : ℕ} (kind : c ≡ cell a 
       go (plain p r) = absurd (p .pattern k)
       go (entries p r) = absurd (omega arith)
       go (pattern p r) = r
-      go (unresolved p r) = absurd (omega arith)
+      go (unresolved x p r) = absurd (omega arith)
       go (undesugared p r) = absurd (omega arith)
 
   pub as-plain : Others c (undesKind ∷ unresKind ∷ patKind ∷ mapKind ∷ []) → Turns (At a b expr d span i) (Exprs a b 0 (d - 1) span n (i + 1))
@@ -89,7 +89,7 @@ module _ {a b : List ℕ} (room : Roomy a b) {i c n : ℕ} (kind : c ≡ cell a 
       go (plain p r) = at-once r
       go (entries p r) = absurd (k .0 .0 .0 .1 p)
       go (pattern p r) = absurd (k .0 .0 .1 p)
-      go (unresolved p r) = absurd (k .0 .1 p)
+      go (unresolved x p r) = absurd (k .0 .1 p)
       go (undesugared p r) = absurd (k .1 p)
 
 module _ {a b : List ℕ} (room : Roomy a b) {i c n : ℕ} (kind : c ≡ cell a b i kindAt) (count : n ≡ countAt a b i) {d : ℕ} {span : HirSpan} where
@@ -100,7 +100,7 @@ module _ {a b : List ℕ} (room : Roomy a b) {i c n : ℕ} (kind : c ≡ cell a 
       go (plain p r) = absurd (p .unresolved k)
       go (entries p r) = absurd (omega arith)
       go (pattern p r) = absurd (omega arith)
-      go (unresolved p r) = rw add-one r
+      go (unresolved x p r) = record { unresolved = x; is = rw add-one r }
       go (undesugared p r) = absurd (omega arith)
 
   pub as-undesugared : {x : ℕ} → x ≡ cell a b i undesKindAt → c ≡ undesKind → Walks (Refused (UndesugaredExpr (i + 1) span x)) (At a b expr d (spanOf span) i)
@@ -110,14 +110,14 @@ module _ {a b : List ℕ} (room : Roomy a b) {i c n : ℕ} (kind : c ≡ cell a 
       go (plain p r) = absurd (p .undesugared k)
       go (entries p r) = absurd (omega arith)
       go (pattern p r) = absurd (omega arith)
-      go (unresolved p r) = absurd (omega arith)
-      go (undesugared p r) = rw (add-one, q) r
+      go (unresolved x p r) = absurd (omega arith)
+      go (undesugared p r) = record { unresolved = []; is = rw (add-one, q) r }
 
 -- ── a part ──
 
 pub as-empty : {a b : List ℕ} {i : ℕ} {t : Bool} {d : ℕ} {span : HirSpan} → Begins a b i t → t ≡ false → Walks (Refused (EmptyPatternPart (i + 1) span)) (At a b patternPart d (spanOf span) i)
 unfolding andThen
-as-empty {i = i} {t} {d} {span} h t′ = record { each = λ v e p. (let q = rw t′ at h .each d (spanOf span) v e p in rw add-one (q .both)) }
+as-empty {i = i} {t} {d} {span} h t′ = record { each = λ v e p. (let q = rw t′ at h .each d (spanOf span) v e p in record { unresolved = []; is = rw add-one (q .both) }) }
 
 pub as-elements : {a b : List ℕ} {i n : ℕ} {t : Bool} {d : ℕ} {span : Span} → Begins a b i t → t ≡ true → n ≡ cell a b i partElementsAt → Turns (At a b patternPart d span i) (Run (At a b patternElement (d - 1) noSpan) n (i + 1))
 unfolding andThen
@@ -128,8 +128,8 @@ as-props {d = d} {span = span} h = record { to = λ v e q. h .each d span v e q 
 
 -- ── the answer ──
 
-pub fine-answer : {w : Walk} {k : ℕ} → w ≡ Go k → (v : Verdict) (e : ℕ) → Ends w v e → fine ≡ v
-fine-answer {k = k} g v e h = let q : Ends (Go k) v e = rw g at h in sym (q .0)
+pub fine-answer : {w : Walk} {k : ℕ} → w ≡ Go k → (v : Verdict) (e : ℕ) → Ends w v e → v ≡ fine
+fine-answer {k = k} g v e h = let q : Ends (Go k) v e = rw g at h in q .0
 
-pub refused-answer : {w : Walk} {x : PlanLowerError} → w ≡ Refused x → (v : Verdict) (e : ℕ) → Ends w v e → errorOf x ≡ v
-refused-answer {x = x} g v e h = let q : Ends (Refused x) v e = rw g at h in sym q
+pub refused-answer : {w : Walk} {x : PlanLowerError} → w ≡ Refused x → (v : Verdict) (e : ℕ) → Ends w v e → Found x v
+refused-answer g v e h = rw g at h

@@ -9,9 +9,11 @@ use Rattle.model.specs.Text.{Bytes}
 use Rattle.model.specs.Field.{Span}
 use Rattle.model.specs.Tree.{Tree}
 use Rattle.words.specs.Held.{Held, HeldSome, size}
+use Rattle.words.specs.Places.{matchKind, whereKind, withKind, returnKind, unwindKind, callKind, writeKind, kindAt, stmtClausesAt, stmtArmsAt, armClausesAt, matchPartsAt, projectionSpanAt}
 use Rattle.model.specs.Kind.{Clause, expr, clause, unionArm, statement, orderItem, patternPart}
 use Rattle.model.specs.Record.{one, kinds, clauseForms}
 use Rattle.model.specs.Check.{Verdict, noSpan, ofRecord, precheckStatement}
+use Rattle.model.specs.Call.{maxDepth}
 use Rattle.words.specs.Words.{Roomy, cell, kindOf, firstKind, nth, fieldsOf, fieldOf}
 use Rattle.precheck.specs.Answer.{spanOf}
 use Rattle.precheck.specs.Steps.{Some, Then, Walks, Run}
@@ -42,23 +44,23 @@ module _ {a b : List ℕ} (room : Roomy a b) where
 span-is : {a b : List ℕ} {i c w k : ℕ} {s : HirSpan} → Spans a b i w s → w ≡ spanWord c → c ≡ k → spanOf s ≡ spanIn a b i (spanWord k)
 span-is {a} {b} {i} h e k = span-read h ∙ rw (e, k)
 
-module _ {a b : List ℕ} (room : Roomy a b) {i c w n : ℕ} {s : HirSpan} (kind : c ≡ cell a b i 0) (word4 : n ≡ cell a b i 4) (spans : Spans a b i w s) (at : w ≡ spanWord c) {d : ℕ} where
+module _ {a b : List ℕ} (room : Roomy a b) {i c w n : ℕ} {s : HirSpan} (kind : c ≡ cell a b i kindAt) (word4 : n ≡ cell a b i matchPartsAt) (spans : Spans a b i w s) (at : w ≡ spanWord c) {d : ℕ} where
   clause-as : {v : Verdict} {e : ℕ} (o : Opened a b clause d noSpan i v e) (k : Clause) → kindOf clause c ≡ some k → As (o .sheet) a b clause d noSpan i v e k
   clause-as o k z = open-as o k (rw kind at z)
 
-  pub as-match : c ≡ 2 → Turns (At a b clause d noSpan i) (Run (At a b patternPart (d - 1) (spanOf s)) n (i + 1))
+  pub as-match : c ≡ matchKind → Turns (At a b clause d noSpan i) (Run (At a b patternPart (d - 1) (spanOf s)) n (i + 1))
   unfolding kindOf nth kinds firstKind ofRecord fieldsOf fieldOf
   as-match h = record { to = λ v e p. rw (word4, span-is spans at h) (last-of (kids-of (clause-as (open-at room p) Clause.Match (rw h) .body) refl)) }
 
-  pub as-where : c ≡ 3 → Turns (At a b clause d noSpan i) (Exprs a b 0 (d - 1) (spanOf s) 1 (i + 1))
+  pub as-where : c ≡ whereKind → Turns (At a b clause d noSpan i) (Exprs a b 0 (d - 1) (spanOf s) 1 (i + 1))
   unfolding kindOf nth kinds firstKind ofRecord fieldsOf fieldOf
   as-where h = record { to = λ v e p. rw (span-is spans at h) (at-once (last-of (kids-of (clause-as (open-at room p) Clause.Where (rw h) .body) refl))) }
 
-  pub as-unwind : c ≡ 6 → Turns (At a b clause d noSpan i) (Exprs a b 0 (d - 1) (spanOf s) 1 (i + 1))
+  pub as-unwind : c ≡ unwindKind → Turns (At a b clause d noSpan i) (Exprs a b 0 (d - 1) (spanOf s) 1 (i + 1))
   unfolding kindOf nth kinds firstKind ofRecord fieldsOf fieldOf
   as-unwind h = record { to = λ v e p. rw (span-is spans at h) (at-once (last-of (kids-of (clause-as (open-at room p) Clause.Unwind (rw h) .body) refl))) }
 
-  pub as-with : c ≡ 4 → Turns (At a b clause d noSpan i) (Projected a b i n (d - 1) (spanOf s))
+  pub as-with : c ≡ withKind → Turns (At a b clause d noSpan i) (Projected a b i n (d - 1) (spanOf s))
   unfolding kindOf nth kinds firstKind ofRecord fieldsOf fieldOf
   as-with h =
       record {
@@ -68,7 +70,7 @@ module _ {a b : List ℕ} (room : Roomy a b) {i c w n : ℕ} {s : HirSpan} (kind
             (map-then (λ x j r. map-run (of-item room) r) (λ j x. map-then (λ y k r. flagged room (o .flags .1 .0) r) (λ k y r. trailers room (o .flags .1 .1 .1 .0) (o .flags .1 .1 .1 .1 .0) r)) (kids-of (o .body) refl));
       }
 
-  pub as-return : c ≡ 5 → Turns (At a b clause d noSpan i) (Projected a b i 0 (d - 1) (spanOf s))
+  pub as-return : c ≡ returnKind → Turns (At a b clause d noSpan i) (Projected a b i 0 (d - 1) (spanOf s))
   unfolding kindOf nth kinds firstKind ofRecord fieldsOf fieldOf
   as-return h =
       record {
@@ -78,7 +80,7 @@ module _ {a b : List ℕ} (room : Roomy a b) {i c w n : ℕ} {s : HirSpan} (kind
             (map-then (λ x j r. map-run (of-item room) r) (λ j x r. with-none j x e (trailers room (o .flags .1 .1 .1 .0) (o .flags .1 .1 .1 .1 .0) r)) (kids-of (o .body) refl));
       }
 
-  pub as-call : c ≡ 7 → Turns (At a b clause d noSpan i) (Called a b i (d - 1) (spanOf s))
+  pub as-call : c ≡ callKind → Turns (At a b clause d noSpan i) (Called a b i (d - 1) (spanOf s))
   unfolding kindOf nth kinds firstKind ofRecord fieldsOf fieldOf
   as-call h =
       record {
@@ -90,7 +92,7 @@ module _ {a b : List ℕ} (room : Roomy a b) {i c w n : ℕ} {s : HirSpan} (kind
 
 -- a clause of none of the kinds that the code tells apart is a `write`, which has no children
 module _ {a b : List ℕ} {d i : ℕ} {v : Verdict} {e : ℕ} where
-  childless : (sheet : Bytes) (c : ℕ) (k : Clause) → c ≡ clauseNumber k → Others c (7 ∷ 6 ∷ 5 ∷ 4 ∷ 3 ∷ 2 ∷ []) → Body sheet a b clause d noSpan i v e k (fieldsOf (clauseForms k) sheet (cells a b i) 0) → End (i + 1) v e
+  childless : (sheet : Bytes) (c : ℕ) (k : Clause) → c ≡ clauseNumber k → Others c (callKind ∷ unwindKind ∷ returnKind ∷ withKind ∷ whereKind ∷ matchKind ∷ []) → Body sheet a b clause d noSpan i v e k (fieldsOf (clauseForms k) sheet (cells a b i) 0) → End (i + 1) v e
   unfolding clauseNumber ofRecord
   childless sheet c Clause.Match n r o = absurd (r .0 .0 .0 .0 .0 .1 n)
   childless sheet c Clause.Where n r o = absurd (r .0 .0 .0 .0 .1 n)
@@ -100,28 +102,28 @@ module _ {a b : List ℕ} {d i : ℕ} {v : Verdict} {e : ℕ} where
   childless sheet c Clause.Call n r o = absurd (r .1 n)
   childless sheet c Clause.Write n r o = kids-of o refl
 
-pub as-write : {a b : List ℕ} {i c d : ℕ} → Roomy a b → c ≡ cell a b i 0 → Others c (7 ∷ 6 ∷ 5 ∷ 4 ∷ 3 ∷ 2 ∷ []) → Walks (Go (i + 1)) (At a b clause d noSpan i)
+pub as-write : {a b : List ℕ} {i c d : ℕ} → Roomy a b → c ≡ cell a b i kindAt → Others c (callKind ∷ unwindKind ∷ returnKind ∷ withKind ∷ whereKind ∷ matchKind ∷ []) → Walks (Go (i + 1)) (At a b clause d noSpan i)
 as-write {c = c} room kind h =
     record { each = λ v e p. let o = open-at room p in childless (o .sheet) c (o .kind) (kind ∙ clause-number _ _ (o .number)) h (o .body) }
 
 -- ── an arm, and the statement ──
 
-pub as-arm : {a b : List ℕ} {i n d : ℕ} → Roomy a b → n ≡ cell a b i 4 → Turns (At a b unionArm d noSpan i) (Run (At a b clause (d - 1) noSpan) n (i + 1))
+pub as-arm : {a b : List ℕ} {i n d : ℕ} → Roomy a b → n ≡ cell a b i armClausesAt → Turns (At a b unionArm d noSpan i) (Run (At a b clause (d - 1) noSpan) n (i + 1))
 unfolding ofRecord fieldsOf fieldOf
 as-arm room h = record { to = λ v e p. rw h (last-of (kids-of (open-at room p .body) refl)) }
 
-pub as-statement : {a b : List ℕ} {m n : ℕ} → Roomy a b → m ≡ cell a b 0 2 → n ≡ cell a b 0 4 → Turns (At a b statement 64 noSpan 0) (Then (Run (At a b clause 63 noSpan) m 1) (λ j. Run (At a b unionArm 63 noSpan) n j))
+pub as-statement : {a b : List ℕ} {m n : ℕ} → Roomy a b → m ≡ cell a b 0 stmtClausesAt → n ≡ cell a b 0 stmtArmsAt → Turns (At a b statement maxDepth noSpan 0) (Then (Run (At a b clause (maxDepth - 1) noSpan) m 1) (λ j. Run (At a b unionArm (maxDepth - 1) noSpan) n j))
 unfolding ofRecord fieldsOf fieldOf
 as-statement room hm hn = record { to = λ v e p. rw (hm, hn) (map-then (λ w j r. r) (λ j w r. last-of r) (kids-of (open-at room p .body) refl)) }
 
 -- a tree that is held stands there with its verdict
-pub held-at : {a b : List ℕ} (sheet : Bytes) (t : Tree statement) → Held sheet a b t 64 0 → At a b statement 64 noSpan 0 (precheckStatement t) (0 + size t)
+pub held-at : {a b : List ℕ} (sheet : Bytes) (t : Tree statement) → Held sheet a b t maxDepth 0 → At a b statement maxDepth noSpan 0 (precheckStatement t) (0 + size t)
 unfolding precheckStatement
 held-at sheet t h = record { sheet = sheet; tree = t; held = h; verdict = refl; next = refl }
 
-pub some-held : {a b : List ℕ} → ((sheet : Bytes) × HeldSome sheet a b statement 64 0) → Some (At a b statement 64 noSpan 0)
+pub some-held : {a b : List ℕ} → ((sheet : Bytes) × HeldSome sheet a b statement maxDepth 0) → Some (At a b statement maxDepth noSpan 0)
 some-held (sheet, h) = record { verdict = precheckStatement (h .tree); next = 0 + size (h .tree); is = held-at sheet (h .tree) (h .is) }
 
--- the span of a clause that the code does not name stands at word 12
-pub span-else : {c : ℕ} → Others c (8 ∷ 7 ∷ 6 ∷ 3 ∷ 2 ∷ []) → 12 ≡ spanWord c
-span-else {c} r = rw (ne-eqb c 2 (r .0 .0 .0 .0 .1), ne-eqb c 3 (r .0 .0 .0 .1), ne-eqb c 6 (r .0 .0 .1), ne-eqb c 7 (r .0 .1), ne-eqb c 8 (r .1))
+-- the span of a clause that the code does not name stands where that of a `with` does
+pub span-else : {c : ℕ} → Others c (writeKind ∷ callKind ∷ unwindKind ∷ whereKind ∷ matchKind ∷ []) → projectionSpanAt ≡ spanWord c
+span-else {c} r = rw (ne-eqb c matchKind (r .0 .0 .0 .0 .1), ne-eqb c whereKind (r .0 .0 .0 .1), ne-eqb c unwindKind (r .0 .0 .1), ne-eqb c callKind (r .0 .1), ne-eqb c writeKind (r .1))

@@ -8,6 +8,7 @@ use Rattle.model.specs.Text.{Bytes}
 use Rattle.model.specs.Field.{Span}
 use Rattle.model.specs.Kind.{Expr, expr, entry, projection, orderItem, patternPart}
 use Rattle.model.specs.Record.{exprForms, exprChildren}
+use Rattle.model.specs.Refusal.{Refusal}
 use Rattle.model.specs.Check.{Verdict, violated, andThen, check, ofRecord, ofExpr}
 use Rattle.words.specs.Words.{Roomy, cell, fieldsOf, fieldOf}
 use Rattle.words.specs.Held.{Held, size}
@@ -48,8 +49,8 @@ pub data Seen (a b : List ℕ) (d : ℕ) (span : Span) (i : ℕ) (c n : ℕ) (v 
   plain : Plain c → Run (At a b expr d span) n (i + 1) v e → Seen a b d span i c n v e
   entries : c ≡ mapKind → Run (At a b entry d span) n (i + 1) v e → Seen a b d span i c n v e
   pattern : c ≡ patKind → Run (At a b patternPart d span) n (i + 1) v e → Seen a b d span i c n v e
-  unresolved : c ≡ unresKind → v ≡ violated 6 (suc i) span 0 → Seen a b d span i c n v e
-  undesugared : c ≡ undesKind → v ≡ violated 7 (suc i) span (cell a b i undesKindAt) → Seen a b d span i c n v e
+  unresolved : (x : Bytes) → c ≡ unresKind → v ≡ violated (Refusal.UnresolvedName (suc i) span x) → Seen a b d span i c n v e
+  undesugared : c ≡ undesKind → v ≡ violated (Refusal.UndesugaredExpr (suc i) span (cell a b i undesKindAt)) → Seen a b d span i c n v e
 
 module _ {a b : List ℕ} {d : ℕ} {span : Span} {i : ℕ} {v : Verdict} {e : ℕ} where
   pub see : (sheet : Bytes) (c : ℕ) (k : Expr) → c ≡ exprNumber k → Body sheet a b expr d span i v e k (fieldsOf (exprForms k) sheet (cells a b i) 0) → Seen a b (d - 1) span i c (countOf (exprChildren k (fieldsOf (exprForms k) sheet (cells a b i) 0))) v e
@@ -60,5 +61,5 @@ module _ {a b : List ℕ} {d : ℕ} {span : Span} {i : ℕ} {v : Verdict} {e : �
   see sheet c Expr.Call n o = plain (omega arith) (last-of (kids-of o refl))
   see sheet c Expr.PatternPredicate n o = pattern n (last-of (kids-of o refl))
   see sheet c Expr.ListPredicate n o = plain (omega arith) (last-of (kids-of o refl))
-  see sheet c Expr.Unresolved n o = unresolved n (o .verdict)
+  see sheet c Expr.Unresolved n o = unresolved _ n (o .verdict)
   see sheet c Expr.Undesugared n o = undesugared n (o .verdict)

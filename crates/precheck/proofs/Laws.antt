@@ -4,24 +4,21 @@ use Prim.Native.Nat.{ℕ, _-_}
 use native.Mathlib.Numerals.{sub-one}
 use native.Mathlib.Omega.{arith}
 use Rattle.model.specs.Check.{Verdict, fine, violated, andThen}
-use Rattle.precheck.specs.Answer.{errorOf}
+use Rattle.precheck.specs.Answer.{Found}
 use Rattle.precheck.specs.Steps.{Stage, Some, Ends, firstOf, Walks, Then, Run, no-more, one-more}
 use Rattle.precheck.specs.declared.PlanLowerError.{PlanLowerError}
-use Rattle.precheck.specs.declared.PlanLowerError.the-variants.{UnresolvedName, UndesugaredExpr, EmptyPatternPart}
 use Rattle.precheck.specs.declared.Walk.{Walk}
 use Rattle.precheck.specs.declared.Walk.the-variants.{Go, Refused}
 
 -- what comes after a violation does not count
-pub first-met : (x : PlanLowerError) (w : Verdict) → firstOf (errorOf x) w ≡ errorOf x
+pub first-met : {x : PlanLowerError} {u v : Verdict} (w : Verdict) → v ≡ firstOf u w → Found x u → Found x v
 unfolding andThen
-first-met (UnresolvedName l s) w = refl
-first-met (UndesugaredExpr l s k) w = refl
-first-met (EmptyPatternPart l s) w = refl
+first-met w e f = record { unresolved = f .unresolved; is = e ∙ rw (f .is) }
 
 pub none-after : (v : Verdict) → andThen v fine ≡ v
 unfolding andThen
 none-after fine = refl
-none-after (violated n l s k) = refl
+none-after (violated r) = refl
 
 -- ── one stage, then another ──
 
@@ -42,7 +39,7 @@ module _ {P : Stage} {Q : ℕ → Stage} where
     pub stopped : {x : PlanLowerError} → r ≡ Refused x → {v : Verdict} {e : ℕ} → Then P Q v e → Ends (Refused x) v e
     stopped {x} g h =
         let w : Ends (Refused x) (h .verdict) (h .next) = rw g at (walks .each _ _ (h .first)) in
-        h .both ∙ rw w (first-met x (h .later))
+        first-met (h .later) (h .both) w
 
     -- the same of walks: the first went on, and another walks the second stage; or the first is stopped
     pub after : {k : ℕ} → r ≡ Go k → Some (Then P Q) → Some (Q k)

@@ -12,6 +12,7 @@ use Rattle.model.specs.Record.{Group, forms, children}
 use Rattle.model.specs.Tree.{Tree, Trees, Forest, node, []ᵗ, _∷ᵗ_, end, _▸_}
 use Rattle.model.specs.Check.{Verdict, fine, andThen, check, checkOf, checkIn, ofRecord, spanIn}
 use Rattle.words.specs.Words.{Roomy, cell, kindOf, fieldsOf, maxRecords}
+use Rattle.words.specs.Places.{kindAt}
 use Rattle.words.specs.Held.{Held, HeldOf, HeldIn, Flags, size, sizeOf, sizeIn, roomIn}
 use Rattle.precheck.specs.Steps.{Then, Run, no-more, one-more}
 use Rattle.words.specs.Cells.{cells, Shown, shown}
@@ -67,7 +68,7 @@ pub record Opened (a b : List ℕ) (s : Sort) (d : ℕ) (span : Span) (i : ℕ) 
   pub kind : Kind s
   pub low : i < maxRecords
   pub deep : 0 < d
-  pub number : kindOf s (cell a b i 0) ≡ some kind
+  pub number : kindOf s (cell a b i kindAt) ≡ some kind
   pub flags : Flags (forms s kind) (cells a b i) 0
   pub body : Body sheet a b s d span i v e kind (fieldsOf (forms s kind) sheet (cells a b i) 0)
 
@@ -97,7 +98,7 @@ pub record As (sheet : Bytes) (a b : List ℕ) (s : Sort) (d : ℕ) (span : Span
   pub flags : Flags (forms s k) (cells a b i) 0
   pub body : Body sheet a b s d span i v e k (fieldsOf (forms s k) sheet (cells a b i) 0)
 
-pub open-as : {a b : List ℕ} {s : Sort} {d : ℕ} {span : Span} {i : ℕ} {v : Verdict} {e : ℕ} (o : Opened a b s d span i v e) (k : Kind s) → kindOf s (cell a b i 0) ≡ some k → As (o .sheet) a b s d span i v e k
+pub open-as : {a b : List ℕ} {s : Sort} {d : ℕ} {span : Span} {i : ℕ} {v : Verdict} {e : ℕ} (o : Opened a b s d span i v e) (k : Kind s) → kindOf s (cell a b i kindAt) ≡ some k → As (o .sheet) a b s d span i v e k
 open-as {a} {b} {s} {d} {span} {i} {v} {e} o k h =
     let p : o .kind ≡ k = cc (o .number) in
     subst (λ (x : Kind s). As (o .sheet) a b s d span i v e x) p (record { flags = o .flags; body = o .body })
@@ -108,23 +109,23 @@ module _ (sheet : Bytes) (a b : List ℕ) where
   mutual
     unfolding Held size
 
-    low-tree : {s : Sort} (t : Tree s) (d i : ℕ) → Held sheet a b t d i → i + size t ≤ 2048
+    low-tree : {s : Sort} (t : Tree s) (d i : ℕ) → Held sheet a b t d i → i + size t ≤ maxRecords
     low-tree (node s line k f kids) d i h =
-        let l : i < 2048 = h .1 .low in
-        let r : i + 1 + sizeIn kids ≤ 2048 = low-forest kids (roomIn s d) (i + 1) (omega arith) (h .3) in
+        let l : i < maxRecords = h .1 .low in
+        let r : i + 1 + sizeIn kids ≤ maxRecords = low-forest kids (roomIn s d) (i + 1) (omega arith) (h .3) in
         omega arith
 
-    low-trees : {s : Sort} {n : ℕ} (ts : Trees s n) (d i : ℕ) → i ≤ 2048 → HeldOf sheet a b ts d i → i + sizeOf ts ≤ 2048
+    low-trees : {s : Sort} {n : ℕ} (ts : Trees s n) (d i : ℕ) → i ≤ maxRecords → HeldOf sheet a b ts d i → i + sizeOf ts ≤ maxRecords
     low-trees []ᵗ d i l h = omega arith
     low-trees (t ∷ᵗ ts) d i l h =
-        let r : i + size t + sizeOf ts ≤ 2048 = low-trees ts d (i + size t) (low-tree t d i (h .0)) (h .1) in
+        let r : i + size t + sizeOf ts ≤ maxRecords = low-trees ts d (i + size t) (low-tree t d i (h .0)) (h .1) in
         omega arith
 
-    low-forest : {gs : List Group} (f : Forest gs) (d i : ℕ) → i ≤ 2048 → HeldIn sheet a b f d i → i + sizeIn f ≤ 2048
+    low-forest : {gs : List Group} (f : Forest gs) (d i : ℕ) → i ≤ maxRecords → HeldIn sheet a b f d i → i + sizeIn f ≤ maxRecords
     low-forest end d i l h = omega arith
     low-forest (ts ▸ f) d i l h =
-        let r : i + sizeOf ts + sizeIn f ≤ 2048 = low-forest f d (i + sizeOf ts) (low-trees ts d i l (h .0)) (h .1) in
+        let r : i + sizeOf ts + sizeIn f ≤ maxRecords = low-forest f d (i + sizeOf ts) (low-trees ts d i l (h .0)) (h .1) in
         omega arith
 
-pub low-end : {a b : List ℕ} {s : Sort} {d : ℕ} {span : Span} {i : ℕ} {v : Verdict} {e : ℕ} → At a b s d span i v e → e ≤ 2048
+pub low-end : {a b : List ℕ} {s : Sort} {d : ℕ} {span : Span} {i : ℕ} {v : Verdict} {e : ℕ} → At a b s d span i v e → e ≤ maxRecords
 low-end {a} {b} {d = d} {i = i} h = rw (h .next) (low-tree (h .sheet) a b (h .tree) d i (h .held))

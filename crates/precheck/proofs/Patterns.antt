@@ -12,8 +12,10 @@ use Rattle.model.specs.Field.{Span}
 use Rattle.model.specs.Kind.{PatternElement, expr, name, yieldItem, patternPart, patternElement}
 use Rattle.model.specs.Record.{one, elementForms}
 use Rattle.model.specs.Tree.{Tree, Trees, Forest, node, []ᵗ, _∷ᵗ_, end, _▸_}
+use Rattle.model.specs.Refusal.{Refusal}
 use Rattle.model.specs.Check.{Verdict, fine, violated, andThen, check, checkOf, checkIn, ofRecord, ofPart, ofElements}
-use Rattle.words.specs.Words.{Roomy, cell, fieldsOf, fieldOf}
+use Rattle.words.specs.Words.{Roomy, maxRecords, cell, fieldsOf, fieldOf}
+use Rattle.words.specs.Places.{nodeKind, relKind, kindAt, partElementsAt, nodeLabelsAt, nodePropsAt, nodeSpanAt, relTypesAt, relPropsAt, relSpanAt}
 use Rattle.words.specs.Held.{Held, HeldOf, HeldIn, Flags, size, sizeOf, sizeIn}
 use Rattle.precheck.specs.Answer.{spanOf}
 use Rattle.precheck.specs.Steps.{firstOf, Stage, Then, Run, no-more, one-more}
@@ -62,8 +64,8 @@ behind-names {n = n} room h t = at-once (rw (flag-word n h) at (last-of (past (o
 
 -- what the check looks at in an element of kind number c
 pub record InElement (a b : List ℕ) (d i c : ℕ) (v : Verdict) (e : ℕ) : Type 0 where
-  pub node : c ≡ 12 → Exprs a b 0 (d - 1) (spanIn a b i 8) (cell a b i 6) (i + 1 + cell a b i 4) v e
-  pub rel : (c ≡ 12 → ⊥) → Exprs a b 0 (d - 1) (spanIn a b i 12) (cell a b i 10) (i + 1 + cell a b i 4) v e
+  pub node : c ≡ nodeKind → Exprs a b 0 (d - 1) (spanIn a b i nodeSpanAt) (cell a b i nodePropsAt) (i + 1 + cell a b i nodeLabelsAt) v e
+  pub rel : (c ≡ nodeKind → ⊥) → Exprs a b 0 (d - 1) (spanIn a b i relSpanAt) (cell a b i relPropsAt) (i + 1 + cell a b i relTypesAt) v e
 
 module _ {a b : List ℕ} (room : Roomy a b) {d : ℕ} {around : Span} {i : ℕ} {v : Verdict} {e : ℕ} where
   in-kind : (sheet : Bytes) (k : PatternElement) (c : ℕ) → c ≡ elementNumber k → Flags (elementForms k) (cells a b i) 0 → Body sheet a b patternElement d around i v e k (fieldsOf (elementForms k) sheet (cells a b i) 0) → InElement a b d i c v e
@@ -71,8 +73,8 @@ module _ {a b : List ℕ} (room : Roomy a b) {d : ℕ} {around : Span} {i : ℕ}
   in-kind sheet PatternElement.Node c n f o = record { node = λ h. behind-names room (f .1 .1 .0) (kids-of o refl); rel = λ h. absurd (h n) }
   in-kind sheet PatternElement.Rel c n f o = record { node = λ h. absurd (omega arith); rel = λ h. behind-names room (f .1 .1 .1 .1 .0) (kids-of o refl) }
 
-  pub in-element : At a b patternElement d around i v e → InElement a b d i (cell a b i 0) v e
-  in-element h = let o = open-at room h in in-kind (o .sheet) (o .kind) (cell a b i 0) (element-number _ _ (o .number)) (o .flags) (o .body)
+  pub in-element : At a b patternElement d around i v e → InElement a b d i (cell a b i kindAt) v e
+  in-element h = let o = open-at room h in in-kind (o .sheet) (o .kind) (cell a b i kindAt) (element-number _ _ (o .number)) (o .flags) (o .body)
 
 -- with the numbers that the code has read
 read-off : {a b : List ℕ} {d i i′ n n′ : ℕ} {s s′ : Span} {v : Verdict} {e : ℕ} → i ≡ i′ → n ≡ n′ → s ≡ s′ → Exprs a b 0 d s′ n′ i′ v e → Exprs a b 0 d s n i v e
@@ -81,11 +83,11 @@ read-off hi hn hs h = rw (hi, hn, hs) h
 pub span-read : {a b : List ℕ} {i c : ℕ} {s : HirSpan} → Spans a b i c s → spanOf s ≡ spanIn a b i c
 span-read h = rw (h .start, h .end)
 
-module _ {a b : List ℕ} (room : Roomy a b) {i c l n : ℕ} {s : HirSpan} (kind : c ≡ cell a b i 0) (labels : l ≡ cell a b i 4) where
-  pub inside-node : c ≡ 12 → n ≡ cell a b i 6 → Spans a b i 8 s → Inside a b i (record { first = i + 1 + l; n = n; span = s })
+module _ {a b : List ℕ} (room : Roomy a b) {i c l n : ℕ} {s : HirSpan} (kind : c ≡ cell a b i kindAt) (labels : l ≡ cell a b i nodeLabelsAt) where
+  pub inside-node : c ≡ nodeKind → n ≡ cell a b i nodePropsAt → Spans a b i nodeSpanAt s → Inside a b i (record { first = i + 1 + l; n = n; span = s })
   inside-node h hn hs = record { each = λ d around v e p. read-off (ap (λ x. i + 1 + x) labels) hn (span-read hs) (in-element room p .node (sym kind ∙ h)) }
 
-  pub inside-rel : (c ≡ 12 → ⊥) → n ≡ cell a b i 10 → Spans a b i 12 s → Inside a b i (record { first = i + 1 + l; n = n; span = s })
+  pub inside-rel : (c ≡ nodeKind → ⊥) → n ≡ cell a b i relPropsAt → Spans a b i relSpanAt s → Inside a b i (record { first = i + 1 + l; n = n; span = s })
   inside-rel h hn hs = record { each = λ d around v e p. read-off (ap (λ x. i + 1 + x) labels) hn (span-read hs) (in-element room p .rel (λ z. h (kind ∙ z))) }
 
 -- an element's own span counts, and no span around it
@@ -102,13 +104,13 @@ any-span {s = s} {t = t} i v e h = record { sheet = h .sheet; tree = h .tree; he
 pub record InPart (a b : List ℕ) (d : ℕ) (span : Span) (i n : ℕ) (v : Verdict) (e : ℕ) : Type 0 where
   pub inner : Verdict
   pub elements : Run (At a b patternElement (d - 1) span) n (i + 1) inner e
-  pub low : (n ≡ 0 → ⊥) → i + 1 < 2048
+  pub low : (n ≡ 0 → ⊥) → i + 1 < maxRecords
   pub empty : n ≡ 0 → v ≡ firstOf (ownVerdict false i span) inner
-  pub node : (n ≡ 0 → ⊥) → cell a b (i + 1) 0 ≡ 12 → v ≡ firstOf (ownVerdict true i span) inner
-  pub rel : (n ≡ 0 → ⊥) → (cell a b (i + 1) 0 ≡ 12 → ⊥) → v ≡ firstOf (ownVerdict false i span) inner
+  pub node : (n ≡ 0 → ⊥) → cell a b (i + 1) kindAt ≡ nodeKind → v ≡ firstOf (ownVerdict true i span) inner
+  pub rel : (n ≡ 0 → ⊥) → (cell a b (i + 1) kindAt ≡ nodeKind → ⊥) → v ≡ firstOf (ownVerdict false i span) inner
 
 -- a part that has a verdict of its own is refused for that, whatever its elements have
-own-first : (i : ℕ) (span : Span) (v w : Verdict) → v ≡ violated 8 (suc i) span 0 → v ≡ firstOf (ownVerdict false i span) w
+own-first : (i : ℕ) (span : Span) (v w : Verdict) → v ≡ violated (Refusal.EmptyPatternPart (suc i) span) → v ≡ firstOf (ownVerdict false i span) w
 unfolding andThen
 own-first i span v w h = h
 
@@ -131,7 +133,7 @@ module _ {a b : List ℕ} (room : Roomy a b) {d : ℕ} {span : Span} {i : ℕ} {
         elements = rw he (trees a b (d - 1) span sheet (node patternElement line PatternElement.Rel f kids ∷ᵗ ts) (i + 1) h);
         empty = λ z. absurd (omega arith);
         low = λ z. h .0 .1 .low;
-        node = λ z c. let k : cell a b (i + 1) 0 ≡ 13 = element-number _ _ (shown room (h .0 .1) .kind) in absurd (omega arith);
+        node = λ z c. let k : cell a b (i + 1) kindAt ≡ relKind = element-number _ _ (shown room (h .0 .1) .kind) in absurd (omega arith);
         rel = λ z c. own-first i span v (checkOf (node patternElement line PatternElement.Rel f kids ∷ᵗ ts) span) hv;
       }
 
@@ -139,19 +141,19 @@ module _ {a b : List ℕ} (room : Roomy a b) {d : ℕ} {span : Span} {i : ℕ} {
   unfolding ofPart Held check size
   by-forest sheet n (ts ▸ end) h hv he = by-elements sheet n ts (h .0) (hv ∙ rw none-after) (he ∙ rw add-zero)
 
-  pub in-part : At a b patternPart d span i v e → InPart a b d span i (cell a b i 6) v e
+  pub in-part : At a b patternPart d span i v e → InPart a b d span i (cell a b i partElementsAt) v e
   unfolding ofRecord fieldsOf fieldOf
-  in-part h = let o = open-at room h in by-forest (o .sheet) (cell a b i 6) (o .body .forest) (o .body .held) (o .body .verdict) (o .body .next)
+  in-part h = let o = open-at room h in by-forest (o .sheet) (cell a b i partElementsAt) (o .body .forest) (o .body .held) (o .body .verdict) (o .body .next)
 
-module _ {a b : List ℕ} (room : Roomy a b) {i n : ℕ} (elements : n ≡ cell a b i 6) where
+module _ {a b : List ℕ} (room : Roomy a b) {i n : ℕ} (elements : n ≡ cell a b i partElementsAt) where
   module _ (some : (n ≡ 0) → ⊥) where
-    pub begins-rel : {c : ℕ} → c ≡ cell a b (i + 1) 0 → (c ≡ 12 → ⊥) → Begins a b i false
+    pub begins-rel : {c : ℕ} → c ≡ cell a b (i + 1) kindAt → (c ≡ nodeKind → ⊥) → Begins a b i false
     begins-rel kind h = record { each = λ d span v e p. record { inner = in-part room p .inner; elements = in-part room p .elements; both = in-part room p .rel (λ z. some (elements ∙ z)) (λ z. h (kind ∙ z)) } }
 
-    pub begins-low : SomeAt a b patternPart i → i + 1 < 2048
+    pub begins-low : SomeAt a b patternPart i → i + 1 < maxRecords
     begins-low h = in-part room (h .is) .low (λ z. some (elements ∙ z))
 
-    pub begins-node : {c : ℕ} → c ≡ cell a b (i + 1) 0 → c ≡ 12 → Begins a b i true
+    pub begins-node : {c : ℕ} → c ≡ cell a b (i + 1) kindAt → c ≡ nodeKind → Begins a b i true
     begins-node kind h = record { each = λ d span v e p. record { inner = in-part room p .inner; elements = in-part room p .elements; both = in-part room p .node (λ z. some (elements ∙ z)) (sym kind ∙ h) } }
 
   pub begins-not : n ≡ 0 → Begins a b i false

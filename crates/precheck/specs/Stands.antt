@@ -10,6 +10,7 @@ use Rattle.model.specs.Field.{Span}
 use Rattle.model.specs.Kind.{Sort, expr, patternPart, patternElement}
 use Rattle.model.specs.Record.{Group}
 use Rattle.model.specs.Tree.{Tree}
+use Rattle.model.specs.Refusal.{Refusal}
 use Rattle.model.specs.Check.{Verdict, fine, violated, check}
 use Rattle.words.specs.Words.{cell, maxRecords}
 use Rattle.words.specs.Places.{matchKind, matchSpanAt, whereKind, whereSpanAt, unwindKind, unwindSpanAt, callKind, callSpanAt, callArgsAt, callYieldsAt, writeKind, writeSpanAt, projectionSpanAt, itemsAt, keysAt, skipAt, limitAt, partElementsAt}
@@ -67,7 +68,7 @@ pub record Inside (a b : List ℕ) (i : ℕ) (p : Props) : Type 0 where
 -- what a part is refused for itself, whether it begins with a node or not
 abbrev pub ownVerdict : Bool → ℕ → Span → Verdict
 ownVerdict true i span = fine
-ownVerdict false i span = violated 8 (suc i) span 0
+ownVerdict false i span = violated (Refusal.EmptyPatternPart (suc i) span)
 
 -- a part is refused for itself, and behind that for its elements
 pub record BeginsAs (t : Bool) (a b : List ℕ) (i d : ℕ) (span : Span) (v : Verdict) (e : ℕ) : Type 0 where

@@ -2,7 +2,7 @@
 use mathlib.Core.Path.{_≡_}
 use Prim.Native.Nat.{ℕ, zero, suc}
 use Rattle.model.specs.Check.{Verdict, fine, andThen}
-use Rattle.precheck.specs.Answer.{errorOf}
+use Rattle.precheck.specs.Answer.{Found}
 use Rattle.precheck.specs.declared.Walk.{Walk}
 use Rattle.precheck.specs.declared.Walk.the-variants.{Go, Refused}
 
@@ -18,7 +18,7 @@ pub record Some (P : Stage) : Type 0 where
 -- a walk ends as a stage says: it goes on behind what is fine, or is stopped by the violation
 abbrev pub Ends : Walk → Verdict → ℕ → Type 0
 Ends (Go k) v e = (v ≡ fine) × (k ≡ e)
-Ends (Refused x) v e = v ≡ errorOf x
+Ends (Refused x) v e = Found x v
 
 pub record Walks (r : Walk) (P : Stage) : Type 0 where
   pub each : (v : Verdict) (e : ℕ) → P v e → Ends r v e

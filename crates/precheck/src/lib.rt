@@ -8,7 +8,7 @@ ghost use Rattle.model.specs.Tree.{Tree};
 ghost use Rattle.words.specs.Held.{Held, HeldSome};
 ghost use Rattle.words.specs.Words.{Roomy, maxRecords};
 ghost use Rattle.model.specs.Call.{maxDepth};
-ghost use Rattle.precheck.specs.Answer.{spanOf, verdictOf};
+ghost use Rattle.precheck.specs.Answer.{spanOf, Says};
 ghost use Rattle.precheck.specs.Steps.{Some, Ends, Walks, Run};
 ghost use Rattle.precheck.specs.Stands.{At, Standing, Exprs, Spans, SomeAt, Inside, Begins, spanWord, Trailers, Projected, Called};
 use words::field;
@@ -387,7 +387,7 @@ fn check_arms(a: &[u32], b: &[u32], i: usize, n: usize, left: usize) -> Walk
 pub fn precheck_statement(a: &[u32], b: &[u32]) -> Checked
     requires { ⌜ Roomy (now a) (now b) ⌝ }
     requires { ⌜ ((sheet : Bytes) × HeldSome sheet (now a) (now b) statement maxDepth 0) ⌝ }
-    ensures { λ r. ⌜ ((sheet : Bytes) (t : Tree statement) → Held sheet (now (a .entry)) (now (b .entry)) t maxDepth 0 → verdictOf r ≡ precheckStatement t) ⌝ }
+    ensures { λ r. ⌜ ((sheet : Bytes) (t : Tree statement) → Held sheet (now (a .entry)) (now (b .entry)) t maxDepth 0 → Says r (precheckStatement t)) ⌝ }
 {
     let clauses = count(a, b, 0, field::STMT_CLAUSES);
     let arms = count(a, b, 0, field::STMT_ARMS);
@@ -400,7 +400,7 @@ pub fn precheck_statement(a: &[u32], b: &[u32]) -> Checked
 
 // The answer that a walk over the whole statement has.
 fn answer(w: Walk) -> Checked
-    ensures { λ r. ⌜ ((v : Verdict) (e : ℕ) → Ends w v e → verdictOf r ≡ v) ⌝ }
+    ensures { λ r. ⌜ ((v : Verdict) (e : ℕ) → Ends w v e → Says r v) ⌝ }
 {
     match w {
         Walk::Go(_) => Checked::Fine,

@@ -17,7 +17,7 @@ use Rattle.laws.specs.SpelledLaws.{next-same}
 -- a value mapped
 unfoldable pub mapped : {A B : Type 0} → (A → B) → Reading A → Reading B
 mapped f (got a p) = got (f a) p
-mapped f (refused n l) = refused n l
+mapped f (refused y) = refused y
 
 -- n records of a sort are due, each with its children at most `room` deep
 pub record Due : Type 0 where
@@ -50,27 +50,27 @@ dueOf d (g ∷ gs) = due (g .0) (g .1) d ∷ dueOf d gs
 next-assoc : {A B C : Type 0} (r : Reading A) (f : A → Place → Reading B) (g : B → Place → Reading C) → next (next r f) g ≡ next r (λ a p. next (f a p) g)
 unfolding next
 next-assoc (got a p) f g = refl
-next-assoc (refused n l) f g = refl
+next-assoc (refused y) f g = refl
 
 mapped-next : {A B C : Type 0} (h : B → C) (r : Reading A) (f : A → Place → Reading B) → mapped h (next r f) ≡ next r (λ a p. mapped h (f a p))
 unfolding next mapped
 mapped-next h (got a p) f = refl
-mapped-next h (refused n l) f = refl
+mapped-next h (refused y) f = refl
 
 pub mapped-mapped : {A B C : Type 0} (h : B → C) (f : A → B) (r : Reading A) → mapped h (mapped f r) ≡ mapped (λ a. h (f a)) r
 unfolding mapped
 mapped-mapped h f (got a p) = refl
-mapped-mapped h f (refused n l) = refl
+mapped-mapped h f (refused y) = refl
 
 pub mapped-ext : {A B : Type 0} (r : Reading A) (f g : A → B) → ((a : A) → f a ≡ g a) → mapped f r ≡ mapped g r
 unfolding mapped
 mapped-ext (got a p) f g h = ap (λ b. got b p) (h a)
-mapped-ext (refused n l) f g h = refl
+mapped-ext (refused y) f g h = refl
 
 mapped-id : {A : Type 0} (r : Reading A) → mapped (λ a. a) r ≡ r
 unfolding mapped
 mapped-id (got a p) = refl
-mapped-id (refused n l) = refl
+mapped-id (refused y) = refl
 
 too-deep-at : {A : Type 0} (s : Sort) (line : ℕ) (text : Bytes) (ms : List Bytes) (f g : RecOf s → Place → Reading A) → next (lineAt s true line text ms) f ≡ next (lineAt s true line text ms) g
 unfolding lineAt next
@@ -158,12 +158,12 @@ plain-reads d (g ∷ gs) = (λ q. refl, plain-reads d gs)
 put-before : (r : Reading (List Rec)) (x : Rec) (ks ls : List Rec) → mapped (λ rs. (x ∷ (ks ++ ls)) ++ rs) r ≡ mapped (λ rs. x ∷ rs) (mapped (λ rs. ks ++ rs) (mapped (λ rs. ls ++ rs) r))
 unfolding mapped
 put-before (got rs q) x ks ls = ap (λ l. got (x ∷ l) q) (append-assoc ks ls rs)
-put-before (refused n l) x ks ls = refl
+put-before (refused y) x ks ls = refl
 
 put-before-next : {A : Type 0} (r : Reading A) (g : A → List Rec) (k : Place → Reading (List Rec)) (x : Rec) (ks : List Rec) → next r (λ a q. mapped (λ rs. (x ∷ (ks ++ g a)) ++ rs) (k q)) ≡ mapped (λ rs. x ∷ rs) (mapped (λ rs. ks ++ rs) (next r (λ a q. mapped (λ rs. g a ++ rs) (k q))))
 unfolding next mapped
 put-before-next (got a p) g k x ks = put-before (k p) x ks (g a)
-put-before-next (refused n l) g k x ks = refl
+put-before-next (refused y) g k x ks = refl
 
 -- a record, its groups, and its siblings behind it
 module _ (s : Sort) (n d e : ℕ) (st : List Due) (line : ℕ) (r : (c : Sort) → Reader (Tree c)) where

@@ -17,7 +17,8 @@ use Rattle.model.specs.Field.{Fields}
 use Rattle.model.specs.Kind.{Sort, Kind}
 use Rattle.model.specs.Record.{Rec, rec, forms, readRec}
 use Rattle.model.specs.Sheet.{refused, readLine, orElse}
-use Rattle.model.specs.Call.{refuse, lineRefusal}
+use Rattle.model.specs.Refusal.{Refusal}
+use Rattle.model.specs.Call.{refuse}
 use Rattle.words.specs.Words.{Roomy, part, decode, recOf, fieldsOf, maxRecords}
 use Rattle.record.specs.Piece.{Piece}
 use Rattle.line.specs.LineRead.{Got, IntoRead}
@@ -38,8 +39,8 @@ use Rattle.sheet.specs.Reader.{readOnly, Reads, Ends, SoFar, writeOf, re
 -- behind record i
 abbrev pub Next : Bytes → List ℕ → List ℕ → List ℕ → ℕ → Step → Type 0
 Next sheet a b w i (More pos m wr) = SoFar sheet a b w (i + 1) pos m wr
-Next sheet a b w i Bad = readOnly sheet ≡ refuse (lineRefusal 3 (i + 1))
-Next sheet a b w i Big = readOnly sheet ≡ refuse (lineRefusal 4 (i + 1))
+Next sheet a b w i Bad = readOnly sheet ≡ refuse (Refusal.BadLine (i + 1))
+Next sheet a b w i Big = readOnly sheet ≡ refuse (Refusal.BigTree (i + 1))
 
 -- the line of the first write, when record i has kind number n
 pub record Wrote (n wr i wr′ : ℕ) : Type 0 where
@@ -66,22 +67,22 @@ module _ (sheet : Bytes) (a b w : List ℕ) (i pos m wr : ℕ) (o : SoFar sheet 
   pub roomy-still : (sort : Sort) (e : ℕ) (a′ b′ : List ℕ) (l : Line) → IntoRead sort sheet pos e i a b a′ b′ l → Roomy a′ b′
   roomy-still sort e a′ b′ l into = record { first = omega (arith, o .roomy .first, into .first); second = omega (arith, o .roomy .second, into .second) }
 
-  line-refuses : (n : ℕ) → readLine (group w m .sort) (isZero (group w m .room)) (placeAt sheet pos (suc i)) ≡ refused n (suc i) → readOnly sheet ≡ refuse (lineRefusal n (i + 1))
-  line-refuses n e = rw (add-one i) (rest-refused sheet a b w i pos (suc m) wr state n (suc i) (ap (λ st. rest st (placeAt sheet pos (suc i))) (top-is w m (state .fit)) ∙ line-refused (group w m .sort) (group w m .count - 1) (group w m .room) (dues w m) (placeAt sheet pos (suc i)) n (suc i) e))
+  line-refuses : (x : ℕ → Refusal) → readLine (group w m .sort) (isZero (group w m .room)) (placeAt sheet pos (suc i)) ≡ refused (x (suc i)) → readOnly sheet ≡ refuse (x (i + 1))
+  line-refuses x e = rw (add-one i) (rest-refused sheet a b w i pos (suc m) wr state (x (suc i)) (ap (λ st. rest st (placeAt sheet pos (suc i))) (top-is w m (state .fit)) ∙ line-refused (group w m .sort) (group w m .count - 1) (group w m .room) (dues w m) (placeAt sheet pos (suc i)) (x (suc i)) e))
 
   module _ (e : ℕ) (piece : Piece 10 sheet pos e) where
-    pub next-unended : e ≡ length sheet → readOnly sheet ≡ refuse (lineRefusal 3 (i + 1))
-    next-unended q = line-refuses 3 (no-feed sheet pos (suc i) (group w m .sort) (group w m .room) (piece .last q))
+    pub next-unended : e ≡ length sheet → readOnly sheet ≡ refuse (Refusal.BadLine (i + 1))
+    next-unended q = line-refuses (λ l. Refusal.BadLine l) (no-feed sheet pos (suc i) (group w m .sort) (group w m .room) (piece .last q))
 
     module _ (ends : (e ≡ length sheet) → ⊥) where
       within : e < length sheet
       within = omega (arith, piece .within, ends)
 
-      pub next-many : i ≡ maxRecords → readOnly sheet ≡ refuse (lineRefusal 4 (i + 1))
-      next-many q = line-refuses 4 (too-many sheet pos (suc i) (group w m .sort) (group w m .room) (e + 1) (piece .more within) (omega arith))
+      pub next-many : i ≡ maxRecords → readOnly sheet ≡ refuse (Refusal.BigTree (i + 1))
+      next-many q = line-refuses (λ l. Refusal.BigTree l) (too-many sheet pos (suc i) (group w m .sort) (group w m .room) (e + 1) (piece .more within) (omega arith))
 
-      pub next-deep : getD w (m * dueWords + dueRoomAt) 0 ≡ 0 → readOnly sheet ≡ refuse (lineRefusal 4 (i + 1))
-      next-deep q = line-refuses 4 (deep sheet pos (suc i) (group w m .sort) (group w m .room) (e + 1) (piece .more within) q)
+      pub next-deep : getD w (m * dueWords + dueRoomAt) 0 ≡ 0 → readOnly sheet ≡ refuse (Refusal.BigTree (i + 1))
+      next-deep q = line-refuses (λ l. Refusal.BigTree l) (deep sheet pos (suc i) (group w m .sort) (group w m .room) (e + 1) (piece .more within) q)
 
       module _ (few : i ≡ maxRecords → ⊥) (room : getD w (m * dueWords + dueRoomAt) 0 ≡ 0 → ⊥) where
         low : i < maxRecords
@@ -90,8 +91,8 @@ module _ (sheet : Bytes) (a b w : List ℕ) (i pos m wr : ℕ) (o : SoFar sheet 
         deep-enough : 0 < getD w (m * dueWords + dueRoomAt) 0
         deep-enough = omega (arith, room)
 
-        pub next-unformed : (a′ b′ : List ℕ) (l : Line) → IntoRead (group w m .sort) sheet pos e i a b a′ b′ l → l ≡ Line.Not → readOnly sheet ≡ refuse (lineRefusal 3 (i + 1))
-        next-unformed a′ b′ l into z = let q = (rw z at into) .line .answer in line-refuses 3 (unformed sheet pos (suc i) (group w m .sort) (group w m .room) (e + 1) (piece .more within) low deep-enough (ap (readRec (group w m .sort)) (sym (piece .first)) ∙ q))
+        pub next-unformed : (a′ b′ : List ℕ) (l : Line) → IntoRead (group w m .sort) sheet pos e i a b a′ b′ l → l ≡ Line.Not → readOnly sheet ≡ refuse (Refusal.BadLine (i + 1))
+        next-unformed a′ b′ l into z = let q = (rw z at into) .line .answer in line-refuses (λ l. Refusal.BadLine l) (unformed sheet pos (suc i) (group w m .sort) (group w m .room) (e + 1) (piece .more within) low deep-enough (ap (readRec (group w m .sort)) (sym (piece .first)) ∙ q))
 
         -- ── a record ──
 

@@ -14,6 +14,7 @@ use Rattle.model.specs.Kind.{Sort, statement}
 use Rattle.model.specs.Record.{Rec, rec, RecOf, readRec, children}
 use Rattle.model.specs.Tree.{Tree, []ᵗ, _∷ᵗ_, records, recordsOf}
 use Rattle.model.specs.Sheet.{lineAt, Place, Reading, got, refused, next, formed, readLine, readMany, readTree, readSheet, atEnd, maxLines}
+use Rattle.model.specs.Refusal.{Refusal}
 use Rattle.sheet.specs.Due.{Due, due, dueOf, mapped, readDue, isZero, roomBelow, step}
 
 -- the place at a position
@@ -44,7 +45,7 @@ mapped-end f a line (b ∷ t) ms = refl
 one-tree : (r : Reading (Tree statement)) → mapped (λ t. records t) (next r (λ t q. atEnd t (q .line) (q .text) (q .more))) ≡ next (next (next r (λ t q. got (t ∷ᵗ []ᵗ) q)) (λ ts q. mapped (λ rs. recordsOf ts ++ rs) (got [] q))) (λ rs q. atEnd rs (q .line) (q .text) (q .more))
 unfolding next mapped recordsOf
 one-tree (got t q) = mapped-end (λ t. records t) t (q .line) (q .text) (q .more) ∙ ap (λ l. atEnd l (q .line) (q .text) (q .more)) (sym (append-nil (records t)) ∙ sym (append-nil (records t ++ [])))
-one-tree (refused n l) = refl
+one-tree (refused y) = refl
 
 pub at-start : (d : ℕ) (sheet : Bytes) → whole d sheet ≡ rest (due statement 1 d ∷ []) (placeAt sheet 0 1)
 unfolding whole readSheet rest readDue readMany placeAt next
@@ -55,7 +56,7 @@ at-start d sheet = one-tree (readTree d statement (placeAt sheet 0 1))
 end-mapped : (f : List Rec → List Rec) (r : Reading (List Rec)) → next (mapped f r) (λ rs p. atEnd rs (p .line) (p .text) (p .more)) ≡ mapped f (next r (λ rs p. atEnd rs (p .line) (p .text) (p .more)))
 unfolding next mapped
 end-mapped f (got rs p) = sym (mapped-end f rs (p .line) (p .text) (p .more))
-end-mapped f (refused n l) = refl
+end-mapped f (refused y) = refl
 
 rest-got : {A : Type 0} (x : A) (f : A → List Rec → List Rec) (k : A → Place → Reading (List Rec)) (q : Place) (r : Reading A) → r ≡ got x q → next (next r (λ a p. mapped (f a) (k a p))) (λ rs p. atEnd rs (p .line) (p .text) (p .more)) ≡ mapped (f x) (next (k x q) (λ rs p. atEnd rs (p .line) (p .text) (p .more)))
 unfolding next
@@ -67,28 +68,28 @@ line-got s n d st p q x e =
     ap (λ r. next r (λ rs z. atEnd rs (z .line) (z .text) (z .more))) (step s n d st p)
     ∙ rest-got x (λ y rs. rec s (y .0) (y .1) ∷ rs) (λ y z. readDue (dueOf (roomBelow s d) (children s (y .0) (y .1)) ++ (due s n d ∷ st)) z) q (readLine s (isZero d) p) e
 
-pub line-refused : (s : Sort) (n d : ℕ) (st : List Due) (p : Place) (m l : ℕ) → readLine s (isZero d) p ≡ refused m l → rest (due s (suc n) d ∷ st) p ≡ refused m l
+pub line-refused : (s : Sort) (n d : ℕ) (st : List Due) (p : Place) (x : Refusal) → readLine s (isZero d) p ≡ refused x → rest (due s (suc n) d ∷ st) p ≡ refused x
 unfolding rest next
-line-refused s n d st p m l e = rw (step s n d st p, e)
+line-refused s n d st p x e = rw (step s n d st p, e)
 
 -- what a line gives, by its pieces
 module _ (sheet : Bytes) (pos n : ℕ) (s : Sort) (d : ℕ) where
   -- it has no line feed
-  pub no-feed : split lineFeed (drop pos sheet) .more ≡ [] → readLine s (isZero d) (placeAt sheet pos n) ≡ refused 3 n
+  pub no-feed : split lineFeed (drop pos sheet) .more ≡ [] → readLine s (isZero d) (placeAt sheet pos n) ≡ refused (Refusal.BadLine n)
   unfolding readLine placeAt lineAt
   no-feed e = rw e
 
   module _ (to : ℕ) (e : split lineFeed (drop pos sheet) .more ≡ split lineFeed (drop to sheet) .first ∷ split lineFeed (drop to sheet) .more) where
-    pub too-many : maxLines < n → readLine s (isZero d) (placeAt sheet pos n) ≡ refused 4 n
+    pub too-many : maxLines < n → readLine s (isZero d) (placeAt sheet pos n) ≡ refused (Refusal.BigTree n)
     unfolding readLine placeAt lineAt
     too-many h = rw (e, lt-ltb maxLines n h, or-true (isZero d))
 
-    pub deep : d ≡ 0 → readLine s (isZero d) (placeAt sheet pos n) ≡ refused 4 n
+    pub deep : d ≡ 0 → readLine s (isZero d) (placeAt sheet pos n) ≡ refused (Refusal.BigTree n)
     unfolding readLine placeAt lineAt isZero
     deep h = rw (e, h)
 
     module _ (few : n ≤ maxLines) (room : 0 < d) where
-      pub unformed : readRec s (split lineFeed (drop pos sheet) .first) ≡ none → readLine s (isZero d) (placeAt sheet pos n) ≡ refused 3 n
+      pub unformed : readRec s (split lineFeed (drop pos sheet) .first) ≡ none → readLine s (isZero d) (placeAt sheet pos n) ≡ refused (Refusal.BadLine n)
       unfolding readLine placeAt lineAt formed
       unformed h = rw (e, h, le-ltb maxLines n few, positive d room)
 
@@ -102,15 +103,15 @@ pub at-the-end : (sheet : Bytes) (n : ℕ) → rest [] (placeAt sheet (length sh
 unfolding rest readDue next placeAt atEnd split
 at-the-end sheet n = rw (drop-length sheet)
 
-more-at : (n : ℕ) (t : Bool) (b : ℕ) (p : Pieces) → atEnd {A = List Rec} [] n (cond {A = Pieces} t (record { first = []; more = p .first ∷ p .more }) (record { first = b ∷ p .first; more = p .more }) .first) (cond {A = Pieces} t (record { first = []; more = p .first ∷ p .more }) (record { first = b ∷ p .first; more = p .more }) .more) ≡ refused 3 n
+more-at : (n : ℕ) (t : Bool) (b : ℕ) (p : Pieces) → atEnd {A = List Rec} [] n (cond {A = Pieces} t (record { first = []; more = p .first ∷ p .more }) (record { first = b ∷ p .first; more = p .more }) .first) (cond {A = Pieces} t (record { first = []; more = p .first ∷ p .more }) (record { first = b ∷ p .first; more = p .more }) .more) ≡ refused (Refusal.BadLine n)
 unfolding atEnd
 more-at n true b p = refl
 more-at n false b p = refl
 
-more-follows : (n : ℕ) (b : ℕ) (t : Bytes) → atEnd {A = List Rec} [] n (split lineFeed (b ∷ t) .first) (split lineFeed (b ∷ t) .more) ≡ refused 3 n
+more-follows : (n : ℕ) (b : ℕ) (t : Bytes) → atEnd {A = List Rec} [] n (split lineFeed (b ∷ t) .first) (split lineFeed (b ∷ t) .more) ≡ refused (Refusal.BadLine n)
 unfolding split atEnd
 more-follows n b t = more-at n (eqb b lineFeed) b (split lineFeed t)
 
-pub not-the-end : (sheet : Bytes) (pos n : ℕ) → pos < length sheet → rest [] (placeAt sheet pos n) ≡ refused 3 n
+pub not-the-end : (sheet : Bytes) (pos n : ℕ) → pos < length sheet → rest [] (placeAt sheet pos n) ≡ refused (Refusal.BadLine n)
 unfolding rest readDue next placeAt
 not-the-end sheet pos n h = rw (drop-cons sheet pos 0 h) (more-follows n _ _)

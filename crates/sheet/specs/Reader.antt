@@ -14,7 +14,8 @@ use Rattle.model.specs.Kind.{Sort, Kind, statement}
 use Rattle.model.specs.Record.{Rec, rec, RecOf, forms, children}
 use Rattle.model.specs.Tree.{Tree, records}
 use Rattle.model.specs.Sheet.{Place, Reading, got, refused, readLine, readSheet, firstWrite, orElse}
-use Rattle.model.specs.Call.{Test, refuse, pass, then, testReading, testWrite, lineRefusal, recordCount, workWords, maxDepth}
+use Rattle.model.specs.Call.{Test, refuse, pass, then, testReading, testWrite, recordCount, workWords, maxDepth}
+use Rattle.model.specs.Refusal.{Refusal}
 use Rattle.words.specs.Words.{Roomy, part, maxRecords}
 use Rattle.words.specs.Held.{RecordAt, Held}
 use Rattle.laws.specs.SheetLaws.{sheet-sound}
@@ -35,9 +36,9 @@ readOnly sheet = then (testReading (readSheet maxDepth sheet)) λ t. testWrite t
 -- the promise: the words hold the tree, or the answer is the refusal
 abbrev pub Reads : Bytes → List ℕ → List ℕ → Read → Type 0
 Reads sheet a b (Records n) = (t : Tree statement) × (readOnly sheet ≡ pass t) × (recordCount t ≡ n) × Held sheet a b t maxDepth 0
-Reads sheet a b (BadLine l) = readOnly sheet ≡ refuse (lineRefusal 3 l)
-Reads sheet a b (BigTree l) = readOnly sheet ≡ refuse (lineRefusal 4 l)
-Reads sheet a b (WriteClause l) = readOnly sheet ≡ refuse (lineRefusal 5 l)
+Reads sheet a b (BadLine l) = readOnly sheet ≡ refuse (Refusal.BadLine l)
+Reads sheet a b (BigTree l) = readOnly sheet ≡ refuse (Refusal.BigTree l)
+Reads sheet a b (WriteClause l) = readOnly sheet ≡ refuse (Refusal.WriteClause l)
 
 -- the line of the first write so far, 0 for none
 unfoldable pub writeOf : ℕ → Option ℕ
@@ -60,19 +61,19 @@ pub record SoFar (sheet : Bytes) (a b w : List ℕ) (i pos m wr : ℕ) : Type 0 
 
 -- ── refusals ──
 
-mapped-refused : {A B : Type 0} (f : A → B) (r : Reading A) (n l : ℕ) → mapped f r ≡ refused n l → r ≡ refused n l
+mapped-refused : {A B : Type 0} (f : A → B) (r : Reading A) (x : Refusal) → mapped f r ≡ refused x → r ≡ refused x
 unfolding mapped
-mapped-refused f (got a p) n l e = let z : _≡_ {A = ℕ} 0 1 = cc in absurd (omega arith)
-mapped-refused f (refused m k) n l e = let p : m ≡ n = cc in let q : k ≡ l = cc in rw (p, q)
+mapped-refused f (got a p) x e = let z : _≡_ {A = ℕ} 0 1 = cc in absurd (omega arith)
+mapped-refused f (refused y) x e = let p : y ≡ x = cc in rw p
 
-refusal : (sheet : Bytes) (n l : ℕ) → readSheet maxDepth sheet ≡ refused n l → readOnly sheet ≡ refuse (lineRefusal n l)
+refusal : (sheet : Bytes) (x : Refusal) → readSheet maxDepth sheet ≡ refused x → readOnly sheet ≡ refuse x
 unfolding readOnly then testReading
-refusal sheet n l e = rw e
+refusal sheet x e = rw e
 
 module _ (sheet : Bytes) (a b w : List ℕ) (i pos m wr : ℕ) (s : SoFar sheet a b w i pos m wr) where
-  pub rest-refused : (n l : ℕ) → rest (dues w m) (placeAt sheet pos (suc i)) ≡ refused n l → readOnly sheet ≡ refuse (lineRefusal n l)
+  pub rest-refused : (x : Refusal) → rest (dues w m) (placeAt sheet pos (suc i)) ≡ refused x → readOnly sheet ≡ refuse x
   unfolding mapped whole
-  rest-refused n l e = refusal sheet n l (mapped-refused (λ t. records t) (readSheet maxDepth sheet) n l (s .left ∙ ap (mapped (λ rs. s .done ++ rs)) e))
+  rest-refused x e = refusal sheet x (mapped-refused (λ t. records t) (readSheet maxDepth sheet) x (s .left ∙ ap (mapped (λ rs. s .done ++ rs)) e))
 
 -- ── the end ──
 
@@ -84,7 +85,7 @@ record Mapped {A B : Type 0} (f : A → B) (r : Reading A) (b : B) (q : Place) :
 mapped-got : {A B : Type 0} (f : A → B) (r : Reading A) (b : B) (q : Place) → mapped f r ≡ got b q → Mapped f r b q
 unfolding mapped
 mapped-got f (got a p) b q e = let z : p ≡ q = cc in record { value = a; is = rw z; result = cc }
-mapped-got f (refused n l) b q e = let z : _≡_ {A = ℕ} 0 1 = cc in absurd (omega arith)
+mapped-got f (refused y) b q e = let z : _≡_ {A = ℕ} 0 1 = cc in absurd (omega arith)
 
 -- a sheet that was read whole
 record Ended (sheet : Bytes) (a b : List ℕ) (i wr : ℕ) : Type 0 where
@@ -100,7 +101,7 @@ unfolding testWrite writeOf
 passed t zero z = refl
 passed t (suc l) z = absurd (omega arith)
 
-written : (t : Tree statement) (wr : ℕ) → (wr ≡ 0 → ⊥) → testWrite t (writeOf wr) ≡ refuse (lineRefusal 5 wr)
+written : (t : Tree statement) (wr : ℕ) → (wr ≡ 0 → ⊥) → testWrite t (writeOf wr) ≡ refuse (Refusal.WriteClause wr)
 unfolding testWrite writeOf
 written t zero z = absurd (z refl)
 written t (suc l) z = refl
@@ -216,7 +217,7 @@ module _ (sheet : Bytes) (a b w a′ b′ w′ : List ℕ) (i pos m wr : ℕ) (o
 mapped-all : (r : Reading (List Rec)) → mapped (λ rs. [] ++ rs) r ≡ r
 unfolding mapped
 mapped-all (got rs p) = refl
-mapped-all (refused n l) = refl
+mapped-all (refused y) = refl
 
 only-statement : (w w′ : List ℕ) → Pushed w w′ 0 statementSort 1 maxDepth → dues w′ 1 ≡ due statement 1 maxDepth ∷ []
 unfolding dues sortOf sorts
@@ -251,7 +252,7 @@ pub record Ends (sheet : Bytes) (i pos wr : ℕ) (r : Read) : Type 0 where
 
 pub ends-bad : (sheet : Bytes) (i pos wr l : ℕ) → pos < length sheet → l ≡ suc i → Ends sheet i pos wr (BadLine l)
 unfolding dues
-ends-bad sheet i pos wr l h e = record { is = λ a b w s. rw e (rest-refused sheet a b w i pos 0 wr s 3 (suc i) (not-the-end sheet pos (suc i) h)) }
+ends-bad sheet i pos wr l h e = record { is = λ a b w s. rw e (rest-refused sheet a b w i pos 0 wr s (Refusal.BadLine (suc i)) (not-the-end sheet pos (suc i) h)) }
 
 pub ends-read : (sheet : Bytes) (i pos wr : ℕ) → length sheet ≤ pos → wr ≡ 0 → Ends sheet i pos wr (Records i)
 ends-read sheet i pos wr h z = record { is = λ a b w s. all-read sheet a b w i pos wr s (omega (arith, s .here)) z }

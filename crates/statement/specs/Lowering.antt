@@ -9,12 +9,12 @@ use lib.ListN.{length}
 use Rattle.model.specs.Text.{Bytes}
 use Rattle.model.specs.Kind.{statement}
 use Rattle.model.specs.Tree.{Tree}
-use Rattle.model.specs.Check.{precheckStatement}
+use Rattle.model.specs.Check.{violated, precheckStatement}
 use Rattle.model.specs.Lower.{LowerCtx, lowerStatement}
 use Rattle.model.specs.Plan.{planSheet}
 use Rattle.model.specs.Call.{Test, then, short, testCheck, testPlan, planned, Outcome, outcome, written, lowerCall, maxBytes, maxDepth, maxPlan}
 use Rattle.words.specs.Held.{Held, HeldSome}
-use Rattle.precheck.specs.Answer.{verdictOf, errorOf}
+use Rattle.precheck.specs.Answer.{Says, Found, errorOf}
 use Rattle.precheck.specs.declared.Checked.{Checked}
 use Rattle.precheck.specs.declared.PlanLowerError.{PlanLowerError}
 use Rattle.sheet.specs.Reader.{Reads}
@@ -48,18 +48,18 @@ module _ (slice : Bytes) (s : LowerCtx) where
 
 -- ── the check ──
 
-refused-with : (slice : Bytes) (t : Tree statement) (x : PlanLowerError) → Gives slice slice (Answer.Refused x) (then (testCheck t (errorOf x)) λ u. testPlan (lowerStatement u))
+refused-with : (slice : Bytes) (t : Tree statement) (x : PlanLowerError) (unresolved : Bytes) → Gives slice slice (Answer.Refused x) (then (testCheck t (violated (errorOf x unresolved))) λ u. testPlan (lowerStatement u))
 unfolding testCheck then outcome
-refused-with slice t (PlanLowerError.UnresolvedName line span) = refl
-refused-with slice t (PlanLowerError.UndesugaredExpr line span kind) = refl
-refused-with slice t (PlanLowerError.EmptyPatternPart line span) = refl
+refused-with slice t (PlanLowerError.UnresolvedName line span) unresolved = refl
+refused-with slice t (PlanLowerError.UndesugaredExpr line span kind) unresolved = refl
+refused-with slice t (PlanLowerError.EmptyPatternPart line span) unresolved = refl
 
-pub tree-refused : (slice : Bytes) (t : Tree statement) (r : Checked) (x : PlanLowerError) → r ≡ Checked.Refused x → verdictOf r ≡ precheckStatement t → Gives slice slice (Answer.Refused x) (behind t)
-tree-refused slice t r x e h = rw (← h, e) (refused-with slice t x)
+pub tree-refused : (slice : Bytes) (t : Tree statement) (r : Checked) (x : PlanLowerError) → r ≡ Checked.Refused x → Says r (precheckStatement t) → Gives slice slice (Answer.Refused x) (behind t)
+tree-refused slice t r x e h = let f : Found x (precheckStatement t) = rw e at h in rw (f .is) (refused-with slice t x (f .unresolved))
 
-pub tree-fine : (slice slice′ : Bytes) (t : Tree statement) (r : Checked) (x : Answer) → r ≡ Checked.Fine → verdictOf r ≡ precheckStatement t → Gives slice slice′ x (testPlan (lowerStatement t)) → Gives slice slice′ x (behind t)
+pub tree-fine : (slice slice′ : Bytes) (t : Tree statement) (r : Checked) (x : Answer) → r ≡ Checked.Fine → Says r (precheckStatement t) → Gives slice slice′ x (testPlan (lowerStatement t)) → Gives slice slice′ x (behind t)
 unfolding testCheck then
-tree-fine slice slice′ t r x e h g = rw (← h, e) g
+tree-fine slice slice′ t r x e h g = let f = rw e at h in rw f g
 
 -- ── the call ──
 
@@ -81,12 +81,12 @@ module _ (work : List ℕ) (sheet slice : Bytes) (e : short work ≡ false) wher
     unfolding planned then outcome
     lower-write a b r l z q = let d = rw z at q in rw (read-third work sheet e h, d)
 
-    pub lower-tree : (slice′ : Bytes) (a b : List ℕ) (r : Read) (n : ℕ) (x : Answer) → r ≡ Read.Records n → Reads sheet a b r → ((t : Tree statement) → Held sheet a b t 64 0 → Gives slice slice′ x (behind t)) → Gives slice slice′ x (planned maxDepth work sheet)
+    pub lower-tree : (slice′ : Bytes) (a b : List ℕ) (r : Read) (n : ℕ) (x : Answer) → r ≡ Read.Records n → Reads sheet a b r → ((t : Tree statement) → Held sheet a b t maxDepth 0 → Gives slice slice′ x (behind t)) → Gives slice slice′ x (planned maxDepth work sheet)
     unfolding planned then
     lower-tree slice′ a b r n x z q f = let d = rw z at q in rw (read-third work sheet e h, d .1) (f (d .0) (d .3))
 
 -- a statement is held
-pub held-here : (sheet : Bytes) (a b : List ℕ) (r : Read) (n : ℕ) → r ≡ Read.Records n → Reads sheet a b r → HeldSome sheet a b statement 64 0
+pub held-here : (sheet : Bytes) (a b : List ℕ) (r : Read) (n : ℕ) → r ≡ Read.Records n → Reads sheet a b r → HeldSome sheet a b statement maxDepth 0
 held-here sheet a b r n z q = let d = rw z at q in record { tree = d .0; is = d .3 }
 
 -- ── test 1 ──

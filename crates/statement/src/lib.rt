@@ -8,8 +8,8 @@ ghost use Rattle.model.specs.Text.{Bytes};
 ghost use Rattle.model.specs.Kind.{statement};
 ghost use Rattle.model.specs.Tree.{Tree};
 ghost use Rattle.model.specs.Check.{precheckStatement};
-ghost use Rattle.model.specs.Call.{SizeCall, Sized, short, testCheck, recordCount};
-ghost use Rattle.words.specs.Words.{Roomy};
+ghost use Rattle.model.specs.Call.{SizeCall, Sized, short, testCheck, recordCount, workWords, maxDepth};
+ghost use Rattle.words.specs.Words.{Roomy, maxRecords};
 ghost use Rattle.words.specs.Held.{Held, HeldSome};
 ghost use Rattle.statement.specs.Answer.{answerOf, Long};
 
@@ -21,7 +21,10 @@ use precheck::precheck_statement;
 use sheet::reader::Read;
 use sheet::reader::read_sheet;
 
-// What a call answers: accepted with a length or figure, or a refusal with what document 01's table gives it.
+// A plan has at most so many operators for each record of its sheet (crate bounds).
+const RECORD_OPERATORS: usize = 4;
+
+// What a call answers: accepted with a length or figure, or a refusal of document 01's table with what it carries. A name is not carried: its record is that of the line.
 pub enum Answer {
     Accepted(usize),
     ShortWork,
@@ -34,20 +37,20 @@ pub enum Answer {
     NoRoom,
 }
 
-// Each work slice has at least 16,384 words.
+// Whether each work slice has as many words as a call needs.
 pub fn long_enough(a: &[u32], b: &[u32], c: &[u32], d: &[u32]) -> bool
     ensures { λ r. ⌜ Long (now (a .entry)) (now (b .entry)) (now (c .entry)) (now (d .entry)) r ⌝ }
 {
-    if a.len() < 16384 {
+    if a.len() < words::WORK_WORDS {
         return false;
     }
-    if b.len() < 16384 {
+    if b.len() < words::WORK_WORDS {
         return false;
     }
-    if c.len() < 16384 {
+    if c.len() < words::WORK_WORDS {
         return false;
     }
-    if d.len() < 16384 {
+    if d.len() < words::WORK_WORDS {
         return false;
     }
     true
@@ -55,13 +58,13 @@ pub fn long_enough(a: &[u32], b: &[u32], c: &[u32], d: &[u32]) -> bool
 
 // The figure of a sheet of n records that the words hold, if the check passes.
 fn size_checked(a: &[u32], b: &[u32], n: usize) -> Answer
-    requires { ⌜ n ≤ 2048 ⌝ }
+    requires { ⌜ n ≤ maxRecords ⌝ }
     requires { ⌜ Roomy (now a) (now b) ⌝ }
-    requires { ⌜ ((sheet : Bytes) × HeldSome sheet (now a) (now b) statement 64 0) ⌝ }
-    ensures { λ r. ⌜ ((sheet : Bytes) (t : Tree statement) → Held sheet (now (a .entry)) (now (b .entry)) t 64 0 → recordCount t ≡ n → Sized (testCheck t (precheckStatement t)) (answerOf r)) ⌝ }
+    requires { ⌜ ((sheet : Bytes) × HeldSome sheet (now a) (now b) statement maxDepth 0) ⌝ }
+    ensures { λ r. ⌜ ((sheet : Bytes) (t : Tree statement) → Held sheet (now (a .entry)) (now (b .entry)) t maxDepth 0 → recordCount t ≡ n → Sized (testCheck t (precheckStatement t)) (answerOf r)) ⌝ }
 {
     match precheck_statement(a, b) {
-        Checked::Fine => Answer::Accepted(n * 4),
+        Checked::Fine => Answer::Accepted(n * RECORD_OPERATORS),
         Checked::Refused(e) => Answer::Refused(e),
     }
 }
@@ -69,10 +72,10 @@ fn size_checked(a: &[u32], b: &[u32], n: usize) -> Answer
 // Tests 2 to 8 and the figure, with work slices that are long enough.
 fn size_read(sheet: &[u8], a: &mut [u32], b: &mut [u32], c: &mut [u32]) -> Answer
     requires { ⌜ Roomy (now a) (now b) ⌝ }
-    requires { ⌜ 16384 ≤ length (now c) ⌝ }
+    requires { ⌜ workWords ≤ length (now c) ⌝ }
     ensures { λ r. ⌜ ((work : List ℕ) → short work ≡ false → SizeCall work (now (sheet .entry)) (answerOf r)) ⌝ }
 {
-    if 32768 < sheet.len() {
+    if words::MAX_BYTES < sheet.len() {
         return Answer::LongSheet;
     }
     match read_sheet(sheet, a, b, c) {

@@ -24,6 +24,11 @@ use precheck::precheck_statement;
 use sheet::reader::Read;
 use sheet::reader::read_sheet;
 
+// A plan has at most so many operators.
+pub const MAX_OPERATORS: usize = 2048;
+// And as many variable numbers.
+pub const MAX_NUMBERS: u32 = 2048;
+
 // Test 9, and then the plan of the tables.
 fn write_lowered(
     sheet: &[u8],
@@ -38,10 +43,10 @@ fn write_lowered(
     requires { ⌜ Lowered (now sheet) (now a) (now b) (mem ctx (now ops) (now rest)) ⌝ }
     ensures { λ r. ⌜ ((W : Written) (s : State) → Rep (now (sheet .entry)) (now (a .entry)) (now (b .entry)) W s (mem ctx (now (ops .entry)) (now (rest .entry))) → Gives (now (plan .entry)) (now (plan .exit)) r (testPlan s)) ⌝ }
 {
-    if 2048 < ctx.ops {
+    if MAX_OPERATORS < ctx.ops {
         return Answer::PlanFull;
     }
-    if 2048 < ctx.next {
+    if MAX_NUMBERS < ctx.next {
         return Answer::PlanFull;
     }
     match write_plan(plan, sheet, a, b, ops, rest, ctx.ops, ctx.mapped) {
@@ -60,8 +65,8 @@ fn lower_checked(
     plan: &mut [u8],
 ) -> Answer
     requires { ⌜ Room (now a) (now b) (now ops) (now rest) ⌝ }
-    requires { ⌜ HeldSome (now sheet) (now a) (now b) statement 64 0 ⌝ }
-    ensures { λ r. ⌜ ((t : Tree statement) → Held (now (sheet .entry)) (now (a .entry)) (now (b .entry)) t 64 0 → Gives (now (plan .entry)) (now (plan .exit)) r (behind t)) ⌝ }
+    requires { ⌜ HeldSome (now sheet) (now a) (now b) statement maxDepth 0 ⌝ }
+    ensures { λ r. ⌜ ((t : Tree statement) → Held (now (sheet .entry)) (now (a .entry)) (now (b .entry)) t maxDepth 0 → Gives (now (plan .entry)) (now (plan .exit)) r (behind t)) ⌝ }
 {
     match precheck_statement(a, b) {
         Checked::Fine => {
@@ -84,7 +89,7 @@ fn lower_read(
     requires { ⌜ Room (now a) (now b) (now c) (now d) ⌝ }
     ensures { λ r. ⌜ ((work : List ℕ) → short work ≡ false → Gives (now (plan .entry)) (now (plan .exit)) r (planned maxDepth work (now (sheet .entry)))) ⌝ }
 {
-    if 32768 < sheet.len() {
+    if words::MAX_BYTES < sheet.len() {
         return Answer::LongSheet;
     }
     match read_sheet(sheet, a, b, c) {

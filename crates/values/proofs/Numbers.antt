@@ -3,7 +3,8 @@ use mathlib.Core.List.{_∷_}
 use Prim.Native.Nat.{ℕ}
 use mathlib.Core.Path.{_≡_}
 use Rattle.model.specs.Text.{Bytes, decimal}
-use Rattle.model.specs.Call.{Answer, Outcome}
+use Rattle.model.specs.Refusal.{Answer}
+use Rattle.model.specs.Call.{Outcome}
 use Rattle.output.specs.Page.{Page, Puts}
 use Rattle.output.specs.Writes.{_⨾_}
 use Rattle.values.specs.Text.{refusalText, valuesText}

@@ -2,7 +2,7 @@
 use mathlib.Core.List.{_∷_, _++_}
 use Prim.Native.Nat.{ℕ}
 use Rattle.model.specs.Text.{Bytes, decimal}
-use Rattle.model.specs.Call.{Answer}
+use Rattle.model.specs.Refusal.{Answer}
 
 -- each number behind a separator: all but the length, and all
 unfoldable pub refusalText : ℕ → Answer → Bytes

@@ -1,5 +1,5 @@
 -- The struct of an answer's values as the model's answer. Assumes nothing: this is a definition.
-use Rattle.model.specs.Call.{Answer}
+use Rattle.model.specs.Refusal.{Answer}
 use Rattle.values.specs.declared.Values.{Values}
 
 abbrev pub told : Values → Answer

@@ -1,5 +1,6 @@
 use mathlib.Core.Path.{_∙_, ap}
-use Rattle.model.specs.Call.{Answer, Outcome}
+use Rattle.model.specs.Refusal.{Answer}
+use Rattle.model.specs.Call.{Outcome}
 use Rattle.library.specs.Told.{noted}
 use borrow.Author.Needs.{needs}
 use Rattle.library.proofs.dresserhawk_lower.Statement.{statement}

@@ -1,5 +1,5 @@
 use mathlib.Core.Path.{_∙_, ap}
-use Rattle.model.specs.Call.{Answer}
+use Rattle.model.specs.Refusal.{Answer}
 use Rattle.library.specs.Told.{noted}
 use borrow.Author.Needs.{needs}
 use Rattle.library.proofs.dresserhawk_size.Statement.{statement}

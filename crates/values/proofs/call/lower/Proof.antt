@@ -1,7 +1,7 @@
 use Rattle.values.proofs.Numbers.{with-values}
 use mathlib.Core.Path.{ap}
 use native.Mathlib.Omega.{arith}
-use Rattle.model.specs.Call.{Answer}
+use Rattle.model.specs.Refusal.{Answer}
 use Rattle.statement.specs.Fits.{answer-fits}
 use borrow.Author.Needs.{needs}
 use Rattle.values.proofs.call.lower.Statement.{statement}
