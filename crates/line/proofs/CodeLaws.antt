@@ -1,25 +1,23 @@
 -- The form of a code, arm by arm. Assumes nothing.
 use mathlib.Core.Path.{_≡_, refl, _∙_}
 use Prim.Native.Nat.{ℕ, zero, suc, _+_, _-_, _<_, _≤_}
-use mathlib.Core.List.{List, [], _∷_}
+use mathlib.Core.List.{List}
 use native.Mathlib.Omega.{arith}
 use borrow.Author.Tests.{le-ltb}
-use lib.ListN.{length, getD, take, drop}
+use lib.ListN.{getD}
 use lib.Seq.{slice}
 use Rattle.words.specs.Places.{flagForm, varForm, varOrAbsentForm, intForm, floatForm, textForm, aliasForm, spanForm, lengthForm, numberForm, formCount}
 use Rattle.model.specs.Text.{Bytes}
-use Rattle.model.specs.Field.{Form, u32, num, flag, var, varOrAbsent, numOrAbsent, number, numberOrAbsent, int, float, text, alias, span, width}
+use Rattle.model.specs.Field.{u32, num, var, varOrAbsent, int, float, text, alias, span, width}
 use Rattle.model.specs.Field
 use Rattle.record.specs.AnswerLaws.{var-is}
 use Rattle.words.specs.Words.{fieldOf}
 use Rattle.words.specs.Table.{limits, otherForms, formOf, limitCount}
-use Rattle.line.specs.Place.{PieceAt}
-use Rattle.line.specs.FieldRead.{WordsOf, FieldAt}
+use Rattle.line.specs.FieldRead.{WordsOf, WordsAt, FieldHere, fieldWords}
 use Rattle.line.specs.declared.field.Words.{Words}
-use Rattle.line.specs.declared.form.FieldRead.{FieldRead}
-use Rattle.laws.specs.PartLaws.{part-is}
-use Rattle.line.proofs.PlaceLaws.{none-left}
-use Rattle.line.proofs.FormLaws.{few, one-is, one-not}
+use Rattle.line.specs.declared.field.FieldRead.{FieldRead}
+use Rattle.line.proofs.WordLaws.{flag-words}
+use Rattle.line.proofs.FormLaws.{one-here}
 
 -- ── numbers with a limit ──
 
@@ -50,61 +48,39 @@ var-words sheet ps Words.Not k = record { is = var-is ps ∙ k .is; fit = tt }
 
 -- ── the arms ──
 
-module _ (sheet : Bytes) (p r c : ℕ) (w : Words) where
-  abbrev Right : Form → Type 0
-  Right f = (z : Bytes) → WordsOf f z (take (r - p) (drop p sheet) ∷ []) w
-
-  arm : (f : Form) → formOf c ≡ f → Right f → WordsOf (formOf c) sheet (slice p r sheet ∷ []) w
-  arm f e k = rw e (rw part-is at (k sheet))
-
-  pub arm-flag : c ≡ flagForm → Right flag → WordsOf (formOf c) sheet (slice p r sheet ∷ []) w
+module _ (sheet : Bytes) (p c : ℕ) (w : FieldRead) where
+  pub arm-flag : c ≡ flagForm → WordsAt (num 1) sheet p w → WordsAt (formOf c) sheet p w
   unfolding formOf otherForms
-  arm-flag e k = arm flag (rw e) k
+  arm-flag e k = rw e (record { is = λ q h. flag-words sheet (slice p q sheet) (fieldWords w) (k .is q h); ends = k .ends })
 
-  pub arm-var : c ≡ varForm → Right (num u32) → WordsOf (formOf c) sheet (slice p r sheet ∷ []) w
+  pub arm-var : c ≡ varForm → WordsAt (num u32) sheet p w → WordsAt (formOf c) sheet p w
   unfolding formOf otherForms
-  arm-var e k = rw e (var-words sheet _ w (rw part-is at (k sheet)))
+  arm-var e k = rw e (record { is = λ q h. var-words sheet _ (fieldWords w) (k .is q h); ends = k .ends })
 
-  pub arm-varOrAbsent : c ≡ varOrAbsentForm → Right varOrAbsent → WordsOf (formOf c) sheet (slice p r sheet ∷ []) w
+  pub arm-varOrAbsent : c ≡ varOrAbsentForm → WordsAt varOrAbsent sheet p w → WordsAt (formOf c) sheet p w
   unfolding formOf otherForms
-  arm-varOrAbsent e k = arm varOrAbsent (rw e) k
+  arm-varOrAbsent e k = rw e k
 
-  pub arm-int : c ≡ intForm → Right int → WordsOf (formOf c) sheet (slice p r sheet ∷ []) w
+  pub arm-int : c ≡ intForm → WordsAt int sheet p w → WordsAt (formOf c) sheet p w
   unfolding formOf otherForms
-  arm-int e k = arm int (rw e) k
+  arm-int e k = rw e k
 
-  pub arm-float : c ≡ floatForm → Right float → WordsOf (formOf c) sheet (slice p r sheet ∷ []) w
+  pub arm-float : c ≡ floatForm → WordsAt float sheet p w → WordsAt (formOf c) sheet p w
   unfolding formOf otherForms
-  arm-float e k = arm float (rw e) k
+  arm-float e k = rw e k
 
-  pub arm-text : c ≡ textForm → WordsOf text sheet (slice p r sheet ∷ []) w → WordsOf (formOf c) sheet (slice p r sheet ∷ []) w
+  pub arm-text : c ≡ textForm → WordsAt text sheet p w → WordsAt (formOf c) sheet p w
   unfolding formOf otherForms
   arm-text e k = rw e k
 
-  pub arm-alias : 0 < c → c < spanForm → (c ≡ flagForm → ⊥) → (c ≡ varForm → ⊥) → (c ≡ varOrAbsentForm → ⊥) → (c ≡ intForm → ⊥) → (c ≡ floatForm → ⊥) → (c ≡ textForm → ⊥) → WordsOf alias sheet (slice p r sheet ∷ []) w → WordsOf (formOf c) sheet (slice p r sheet ∷ []) w
+  pub arm-alias : 0 < c → c < spanForm → (c ≡ flagForm → ⊥) → (c ≡ varForm → ⊥) → (c ≡ varOrAbsentForm → ⊥) → (c ≡ intForm → ⊥) → (c ≡ floatForm → ⊥) → (c ≡ textForm → ⊥) → WordsAt alias sheet p w → WordsAt (formOf c) sheet p w
   unfolding formOf otherForms
   arm-alias l h a b d e f g k = rw (seven c l h a b d e f g) k
 
-  pub arm-number : spanForm ≤ c → (c ≡ spanForm → ⊥) → (c ≡ lengthForm → ⊥) → (m : ℕ) → m ≡ getD limits (c - numberForm) 0 → Right (num m) → WordsOf (formOf c) sheet (slice p r sheet ∷ []) w
-  arm-number h a b m q k = arm (num m) (rw q (number-code c (omega arith))) k
+  pub arm-number : spanForm ≤ c → (c ≡ spanForm → ⊥) → (c ≡ lengthForm → ⊥) → (m : ℕ) → m ≡ getD limits (c - numberForm) 0 → WordsAt (num m) sheet p w → WordsAt (formOf c) sheet p w
+  arm-number h a b m q k = rw (number-code c (omega arith), ← q) k
 
 -- ── the field ──
-
-width-up : (f : Form) → 0 < width f
-unfolding width
-width-up (num l) = omega arith
-width-up flag = omega arith
-width-up var = omega arith
-width-up varOrAbsent = omega arith
-width-up (numOrAbsent l) = omega arith
-width-up (number n) = omega arith
-width-up (numberOrAbsent n) = omega arith
-width-up int = omega arith
-width-up float = omega arith
-width-up text = omega arith
-width-up alias = omega arith
-width-up span = omega arith
-width-up Field.length = omega arith
 
 width-one : (c : ℕ) → (c ≡ spanForm → ⊥) → (c ≡ lengthForm → ⊥) → width (formOf c) ≡ 1
 unfolding formOf otherForms width
@@ -120,21 +96,14 @@ width-one (suc (suc (suc (suc (suc (suc (suc (suc zero)))))))) a b = absurd (a r
 width-one (suc (suc (suc (suc (suc (suc (suc (suc (suc zero))))))))) a b = absurd (b refl)
 width-one (suc (suc (suc (suc (suc (suc (suc (suc (suc (suc c)))))))))) a b = rw (number-code (suc (suc (suc (suc (suc (suc (suc (suc (suc (suc c)))))))))) (omega arith))
 
-module _ (sheet : Bytes) (p e c : ℕ) where
-  pub none-here : e < p → FieldAt (formOf c) sheet p e FieldRead.Not
-  none-here h = few (formOf c) sheet p e (rw (none-left sheet p e h) (width-up (formOf c)))
-
-  pub span-here : c ≡ spanForm → (w : FieldRead) → FieldAt span sheet p e w → FieldAt (formOf c) sheet p e w
+module _ (sheet : Bytes) (p c : ℕ) (w : FieldRead) where
+  pub span-here : c ≡ spanForm → FieldHere span sheet p w → FieldHere (formOf c) sheet p w
   unfolding formOf otherForms
-  span-here q w k = rw q k
+  span-here q k = rw q k
 
-  pub hops-here : c ≡ lengthForm → (w : FieldRead) → FieldAt Field.length sheet p e w → FieldAt (formOf c) sheet p e w
+  pub hops-here : c ≡ lengthForm → FieldHere Field.length sheet p w → FieldHere (formOf c) sheet p w
   unfolding formOf otherForms
-  hops-here q w k = rw q k
+  hops-here q k = rw q k
 
-  module _ (h : e ≤ length sheet) (r : ℕ) (f : PieceAt sheet p e r) (a : c ≡ spanForm → ⊥) (b : c ≡ lengthForm → ⊥) (w : Words) (k : WordsOf (formOf c) sheet (slice p r sheet ∷ []) w) where
-    pub one-here : (x y : ℕ) → w ≡ Words.Is x y → FieldAt (formOf c) sheet p e (FieldRead.Is x y (r + 1))
-    one-here x y q = one-is sheet p e r h f (formOf c) (width-one c a b) w k x y q
-
-    pub other-here : w ≡ Words.Not → FieldAt (formOf c) sheet p e FieldRead.Not
-    other-here q = one-not sheet p e r h f (formOf c) (width-one c a b) w k q
+  pub single-here : (c ≡ spanForm → ⊥) → (c ≡ lengthForm → ⊥) → WordsAt (formOf c) sheet p w → FieldHere (formOf c) sheet p w
+  single-here a b k = one-here (formOf c) (width-one c a b) sheet p w k

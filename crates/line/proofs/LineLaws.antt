@@ -1,12 +1,11 @@
 -- A line from its keyword and its fields. Assumes nothing.
 use mathlib.Core.Path.{_≡_, sym, ap, _∙_}
-use Prim.Native.Nat.{ℕ, _+_, _-_, _<_, _≤_}
-use mathlib.Core.Bool.{Bool, true, false}
+use Prim.Native.Nat.{ℕ, _+_, _<_, _≤_}
 use mathlib.Core.List.{List, _∷_}
 use mathlib.Core.Option.{some}
 use native.Mathlib.Omega.{arith}
 use borrow.Author.Tests.{ltb-true}
-use lib.ListN.{length, take, drop, getD, set, length-set}
+use lib.ListN.{length, getD, set, length-set}
 use lib.Seq.{slice, getD-set-same, getD-set-other}
 use Rattle.words.specs.Places.{kindCount, sortCount, kindAt, lineStartAt, lineEndAt}
 use Rattle.model.specs.Text.{Bytes, split, tab}
@@ -15,13 +14,14 @@ use Rattle.model.specs.Record.{kinds, forms, kindNamed, withFields, readAs, rea
 use Rattle.words.specs.Words.{piecesOf, fieldsOf, kindOf, recOf, decode, recordWords}
 use Rattle.words.specs.Table.{sortOf}
 use Rattle.words.specs.TableLaws.{Row, tabled, kind-row}
-use Rattle.line.specs.Kinds.{kindFound, Named}
-use Rattle.line.specs.Place.{piecesAt, PieceAt}
-use Rattle.line.specs.LineRead.{FieldsRead, LineRead}
+use Rattle.record.specs.Place.{LineEnd, Fed, Ends}
+use Rattle.line.specs.Kinds.{Packed, KeywordAt, kindFound, Named}
+use Rattle.line.specs.Place.{piecesAt}
+use Rattle.line.specs.LineRead.{FieldsRead, FieldsHere, Got, LineRead, LineHere}
 use Rattle.line.specs.declared.kind.KindFound.{KindFound}
+use Rattle.line.specs.declared.read.FieldsTo.{FieldsTo}
 use Rattle.line.specs.declared.read.Line.{Line}
-use Rattle.laws.specs.PartLaws.{part-is}
-use Rattle.line.proofs.PlaceLaws.{pieces-from, some-left}
+use Rattle.line.proofs.PlaceLaws.{piece-at, line-at, pieces-from, some-left}
 
 -- a line read by its pieces
 by-pieces : (s : Sort) (l a : Bytes) (ms : List Bytes) → piecesOf l ≡ a ∷ ms → readRec s l ≡ readAs s ms (kindNamed s a (kinds s))
@@ -31,23 +31,38 @@ by-pieces s l a ms e =
     let more : split tab l .more ≡ ms = cc in
     rw (first, more)
 
-module _ (sheet : Bytes) (p e m r : ℕ) (h : e ≤ length sheet) (l : p ≤ e) (low : m < sortCount) (f : PieceAt sheet p e r) (w : KindFound) (k : Named (sortOf m) (take (r - p) (drop p sheet)) w) where
-  line-is : readRec (sortOf m) (slice p e sheet) ≡ readAs (sortOf m) (piecesAt sheet (r + 1) e) (kindFound (sortOf m) w)
-  line-is =
-      by-pieces (sortOf m) _ _ _ (sym (some-left sheet p e l) ∙ pieces-from sheet p e r h f e (f .to) (omega arith))
-      ∙ ap (readAs (sortOf m) (piecesAt sheet (r + 1) e)) (rw part-is at (k .is))
+-- what the fields leave, and where they end
+module _ (n : ℕ) (sheet : Bytes) (p r : ℕ) (f : Fed sheet p) (h : Ends sheet p r) (ws ws₁ : List ℕ) (t : FieldsTo) (z : FieldsHere n sheet r ws ws₁ t) where
+  fields-there : FieldsRead n sheet r (f .end) ws ws₁ t
+  fields-there = z (f .end) (line-at sheet p (f .end) (f .line) r h)
 
-  pub line-unnamed : w ≡ KindFound.Not → (ws : List ℕ) → length ws ≡ recordWords → LineRead (sortOf m) sheet p e ws Line.Not
+  pub fields-long : length ws₁ ≡ recordWords
+  fields-long = fields-there .long
+
+  pub fields-end : (e₁ : ℕ) → t ≡ FieldsTo.End e₁ → e₁ < length sheet
+  fields-end e₁ o = let at-end = (rw o at fields-there) .answer .0 in omega (arith, at-end, f .line .to)
+
+module _ (sheet : Bytes) (p m r : ℕ) (low : m < sortCount) (word : ℕ) (key : KeywordAt sheet p word r) (w : KindFound) (k : (s : Bytes) → Packed s word → Named (sortOf m) s w) where
+  named : Named (sortOf m) (slice p r sheet) w
+  named = k (slice p r sheet) (key .packed)
+
+  line-is : (e : ℕ) → LineEnd sheet p e → readRec (sortOf m) (slice p e sheet) ≡ readAs (sortOf m) (piecesAt sheet (r + 1) e) (kindFound (sortOf m) w)
+  line-is e l =
+      let f = piece-at sheet p e l r (key .ends) in
+      by-pieces (sortOf m) _ _ _ (sym (some-left sheet p e (l .from)) ∙ pieces-from sheet p e r (omega (arith, l .to)) f e (f .to) (omega arith))
+      ∙ ap (readAs (sortOf m) (piecesAt sheet (r + 1) e)) (named .is)
+
+  pub line-unnamed : w ≡ KindFound.Not → (ws : List ℕ) → length ws ≡ recordWords → LineHere (sortOf m) sheet p ws Line.Not
   unfolding readAs
-  line-unnamed q ws n = record { answer = line-is ∙ ap (λ x. readAs (sortOf m) (piecesAt sheet (r + 1) e) (kindFound (sortOf m) x)) q; long = n }
+  line-unnamed q ws n e l = record { answer = line-is e l ∙ ap (λ x. readAs (sortOf m) (piecesAt sheet (r + 1) e) (kindFound (sortOf m) x)) q; long = n }
 
   module _ (n : ℕ) (q : w ≡ KindFound.Is n) where
     kind : Kind (sortOf m)
-    kind = (rw q at (k .known)) .0
+    kind = (rw q at (named .known)) .0
 
     known : kindOf (sortOf m) n ≡ some kind
     unfolding kind
-    known = (rw q at (k .known)) .1
+    known = (rw q at (named .known)) .1
 
     table : Row (sortOf m) n kind
     table = kind-row (sortOf m) (λ i j. Row (sortOf m) i j) (tabled m low .rows) n kind known
@@ -55,36 +70,52 @@ module _ (sheet : Bytes) (p e m r : ℕ) (h : e ≤ length sheet) (l : p ≤ e) 
     pub line-low : n < kindCount
     line-low = ltb-true n kindCount (table .low)
 
-    fields-is : readRec (sortOf m) (slice p e sheet) ≡ readAs (sortOf m) (piecesAt sheet (r + 1) e) (some kind)
-    fields-is = line-is ∙ ap (λ x. readAs (sortOf m) (piecesAt sheet (r + 1) e) (kindFound (sortOf m) x)) q ∙ ap (readAs (sortOf m) (piecesAt sheet (r + 1) e)) known
+    fields-is : (e : ℕ) → LineEnd sheet p e → readRec (sortOf m) (slice p e sheet) ≡ readAs (sortOf m) (piecesAt sheet (r + 1) e) (some kind)
+    fields-is e l = line-is e l ∙ ap (λ x. readAs (sortOf m) (piecesAt sheet (r + 1) e) (kindFound (sortOf m) x)) q ∙ ap (readAs (sortOf m) (piecesAt sheet (r + 1) e)) known
 
-    module _ (ws ws₁ : List ℕ) (long : length ws ≡ recordWords) (t : Bool) (z : FieldsRead n sheet (r + 1) e (set (set (set ws lineStartAt p) lineEndAt (e + 1)) kindAt n) ws₁ t) where
-      pub line-not : t ≡ false → LineRead (sortOf m) sheet p e ws₁ Line.Not
+    module _ (ws ws₁ : List ℕ) (long : length ws ≡ recordWords) (t : FieldsTo) (z : FieldsHere n sheet r (set (set ws lineStartAt p) kindAt n) ws₁ t) where
+      fields-here : (e : ℕ) → LineEnd sheet p e → FieldsRead n sheet r e (set (set ws lineStartAt p) kindAt n) ws₁ t
+      fields-here e l = z e (line-at sheet p e l r (key .ends))
+
+      pub line-not : t ≡ FieldsTo.Not → LineHere (sortOf m) sheet p ws₁ Line.Not
       unfolding readAs withFields
-      line-not o =
-          let no = rw (table .fields) at (rw o at (z .answer)) in
-          record { answer = fields-is ∙ ap (withFields (sortOf m) kind) no; long = z .long }
+      line-not o e l =
+          let none = rw (table .fields) at (rw o at (fields-here e l .answer)) in
+          record { answer = fields-is e l ∙ ap (withFields (sortOf m) kind) none; long = fields-here e l .long }
 
-      first-word : getD ws₁ kindAt 0 ≡ n
-      first-word = z .kept kindAt (λ h. absurd (omega arith)) ∙ getD-set-same (set (set ws lineStartAt p) lineEndAt (e + 1)) kindAt n 0 (omega (arith, length-set (set ws lineStartAt p) lineEndAt (e + 1), length-set ws lineStartAt p))
+      -- ── a record ──
 
-      start-word : getD ws₁ lineStartAt 0 ≡ p
-      start-word =
-          z .kept lineStartAt (λ h. absurd (omega arith)) ∙ getD-set-other (set (set ws lineStartAt p) lineEndAt (e + 1)) kindAt lineStartAt n 0 (omega arith) ∙ getD-set-other (set ws lineStartAt p) lineEndAt lineStartAt (e + 1) 0 (omega arith)
-          ∙ getD-set-same ws lineStartAt p 0 (omega arith)
+      module _ (e₁ : ℕ) (o : t ≡ FieldsTo.End e₁) (e : ℕ) (l : LineEnd sheet p e) where
+        read : FieldsRead n sheet r e (set (set ws lineStartAt p) kindAt n) ws₁ (FieldsTo.End e₁)
+        read = rw o at (fields-here e l)
 
-      end-word : getD ws₁ lineEndAt 0 ≡ e + 1
-      end-word = z .kept lineEndAt (λ h. omega arith) ∙ getD-set-other (set (set ws lineStartAt p) lineEndAt (e + 1)) kindAt lineEndAt n 0 (omega arith) ∙ getD-set-same (set ws lineStartAt p) lineEndAt (e + 1) 0 (omega (arith, length-set ws lineStartAt p))
+        at-end : e₁ ≡ e
+        at-end = read .answer .0
 
-      pub line-got : t ≡ true → LineRead (sortOf m) sheet p e ws₁ (Line.Kind n)
-      unfolding readAs withFields decode recOf
-      line-got o =
-          let yes = rw (table .fields) at (rw o at (z .answer)) in
-          record {
-            answer = record {
+        abbrev ws₂ : List ℕ
+        ws₂ = set ws₁ lineEndAt (e₁ + 1)
+
+        first-word : getD ws₂ kindAt 0 ≡ n
+        first-word =
+            getD-set-other ws₁ lineEndAt kindAt (e₁ + 1) 0 (omega arith) ∙ read .kept kindAt (λ h. absurd (omega arith))
+            ∙ getD-set-same (set ws lineStartAt p) kindAt n 0 (omega (arith, length-set ws lineStartAt p))
+
+        start-word : getD ws₂ lineStartAt 0 ≡ p
+        start-word =
+            getD-set-other ws₁ lineEndAt lineStartAt (e₁ + 1) 0 (omega arith) ∙ read .kept lineStartAt (λ h. absurd (omega arith))
+            ∙ getD-set-other (set ws lineStartAt p) kindAt lineStartAt n 0 (omega arith) ∙ getD-set-same ws lineStartAt p 0 (omega arith)
+
+        end-word : getD ws₂ lineEndAt 0 ≡ e + 1
+        end-word = getD-set-same ws₁ lineEndAt (e₁ + 1) 0 (omega (arith, read .long)) ∙ ap (λ x. x + 1) at-end
+
+        got : Got (sortOf m) sheet p e ws₂ n
+        unfolding readAs withFields decode recOf
+        got =
+            let yes = rw (table .fields) at (read .answer .1 ws₂ (λ c h. getD-set-other ws₁ lineEndAt c (e₁ + 1) 0 (omega arith))) in
+            record {
               kind = kind;
-              fields = fieldsOf (forms (sortOf m) kind) sheet ws₁ 0;
-              read = fields-is ∙ ap (withFields (sortOf m) kind) (yes .0);
+              fields = fieldsOf (forms (sortOf m) kind) sheet ws₂ 0;
+              read = fields-is e l ∙ ap (withFields (sortOf m) kind) (yes .0);
               held = rw (first-word, known);
               flags = yes .1;
               texts = yes .2;
@@ -93,6 +124,7 @@ module _ (sheet : Bytes) (p e m r : ℕ) (h : e ≤ length sheet) (l : p ≤ e) 
               end = end-word;
               named = known;
               low = line-low;
-            };
-            long = z .long;
-          }
+            }
+
+      pub line-got : (e₁ : ℕ) → t ≡ FieldsTo.End e₁ → LineHere (sortOf m) sheet p (set ws₁ lineEndAt (e₁ + 1)) (Line.Kind n (e₁ + 1))
+      line-got e₁ o e l = record { answer = (ap (λ x. x + 1) (at-end e₁ o e l), got e₁ o e l); long = length-set ws₁ lineEndAt (e₁ + 1) ∙ read e₁ o e l .long }

@@ -1,20 +1,21 @@
 -- Short texts and the numbers that they are packed into: one tells the other, and the packing loop gathers it byte by byte. Assumes nothing.
 use mathlib.Core.Path.{_≡_, refl, sym, ap, _∙_}
 use Prim.Native.Nat.{ℕ, zero, suc, _+_, _*_, _-_, _/_, _%_, _^_, _<_, _≤_}
-use mathlib.Core.Bool.{Bool, true, false, cond}
+use mathlib.Core.Bool.{Bool, true, false, cond, not}
 use mathlib.Core.List.{[], _∷_, _++_, append-nil}
 use native.Mathlib.Nat.{add-zero, mul-add-div-right, mul-add-mod-self-right, mod-eq-of-lt, div-eq-of-lt, pow-le-pow-right, pow-suc}
-use native.Mathlib.Numerals.{add-one}
 use native.Mathlib.Omega.{arith}
-use borrow.Author.Tests.{lt-ltb, le-ltb, ltb-true, leb-true, le-leb, eqb-true, eqb-false, ne-eqb}
+use borrow.Author.Tests.{lt-ltb, le-ltb, ltb-true, leb-true, le-leb, eqb-true, eqb-false, ne-eqb, not-true}
 use lib.Dec.{ltb, leb, eqb}
-use lib.ListN.{length, take, getD}
-use lib.Seq.{take-suc, take-all}
+use lib.ListN.{length, getD}
+use lib.Seq.{slice, slice-empty, length-slice}
 use Rattle.model.specs.Text.{Bytes, same}
 use Rattle.laws.specs.TextLaws.{and-left, and-right, same-sound, same-refl}
 use Rattle.words.specs.Table.{packOn, packed}
 use Rattle.words.specs.TableLaws.{eachBelow, short}
-use Rattle.line.specs.Kinds.{Packed}
+use Rattle.record.specs.Place.{Fed, separates, Ends}
+use Rattle.record.proofs.PlaceLaws.{fed-in, along-back, ends-later, Passing, pass-start, pass-on, pass-done, slice-snoc}
+use Rattle.line.specs.Kinds.{maxKeyword, Packed, KeywordAt}
 
 -- ── unpacking ──
 
@@ -97,13 +98,6 @@ long-tells s h =
 
 -- ── the loop ──
 
-pub record Packing (s : Bytes) (v i : ℕ) : Type 0 where
-  pub within : i ≤ length s
-  pub few : length s ≤ 7
-  pub is : v ≡ packOn 1 (take i s)
-  pub bytes : eachBelow 256 (take i s) ≡ true
-  pub low : v < 2 * 256 ^ i
-
 packOn-append : (v : ℕ) (s t : Bytes) → packOn v (s ++ t) ≡ packOn (packOn v s) t
 unfolding packOn
 packOn-append v [] t = refl
@@ -114,33 +108,65 @@ unfolding eachBelow
 bytes-append [] t p q = q
 bytes-append (b ∷ s) t p q = rw (and-left (ltb b 256) (eachBelow 256 s) p) (bytes-append s t (and-right (ltb b 256) (eachBelow 256 s) p) q)
 
-module _ (s : Bytes) where
-  pub pack-none : length s ≤ 7 → Packing s 1 0
-  unfolding packOn eachBelow
-  pack-none h = record { within = omega arith; few = h; is = refl; bytes = refl; low = omega arith }
+-- the bytes passed from p on, packed
+pub record Packing (s : Bytes) (p v i : ℕ) : Type 0 where
+  pub pass : Passing s p i
+  pub few : i ≤ p + maxKeyword
+  pub is : v ≡ packOn 1 (slice p i s)
+  pub bytes : eachBelow 256 (slice p i s) ≡ true
+  pub low : v < 2 * 256 ^ (i - p)
 
-  module _ (v i : ℕ) (p : Packing s v i) where
-    pub pack-room : i < length s → v < 562949953421312
-    pack-room h =
-        let six : i ≤ 6 = omega (arith, p .few) in
-        let up : 256 ^ i ≤ 256 ^ 6 = pow-le-pow-right (omega arith) six in
-        omega (arith, p .low)
+pub pack-none : (s : Bytes) (p : ℕ) → Fed s p → Packing s p 1 p
+unfolding packOn eachBelow
+pack-none s p f =
+    let none : p - p ≡ 0 = omega arith in
+    record { pass = pass-start s p f; few = omega arith; is = rw (slice-empty p s); bytes = rw (slice-empty p s); low = rw none (omega arith) }
 
-    pub pack-more : i < length s → (b : ℕ) → b ≡ getD s i 0 → b < 256 → Packing s (v * 256 + b) (i + 1)
-    unfolding packOn eachBelow
-    pack-more h b e l =
-        let one : take (i + 1) s ≡ take i s ++ (getD s i 0 ∷ []) = rw (add-one i) (take-suc s i 0 h) in
-        record {
-          within = omega arith;
-          few = p .few;
-          is = rw (one, packOn-append, ← (p .is), e);
-          bytes = rw one (bytes-append (take i s) _ (p .bytes) (rw (← e, lt-ltb _ _ l)));
-          low = rw (add-one i, pow-suc) (omega (arith, p .low, e));
-        }
+module _ (s : Bytes) (p v i : ℕ) (g : Packing s p v i) (t : Bool) (e : t ≡ separates (getD s i 0)) where
+  from : p ≤ i
+  from = g .pass .along .from
 
-    pub pack-done : length s ≤ i → Packed s v
-    unfolding short packed
-    pack-done h =
-        let all : take i s ≡ s = take-all i s h in
-        let plain : short s ≡ true = rw (le-leb (length s) 7 (p .few)) (rw all at (p .bytes)) in
-        rw (p .is, all) (packed-tells s plain)
+  inside : i < length s
+  inside = fed-in s i (g .pass .fed)
+
+  counted : length (slice p i s) ≡ i - p
+  counted = length-slice p i s (omega (arith, inside))
+
+  -- ── the piece ends ──
+
+  pub pack-done : not t ≡ false → KeywordAt s p v i
+  unfolding short packed
+  pack-done z =
+      let plain : short (slice p i s) ≡ true = rw (le-leb (length (slice p i s)) 7 (omega (arith, counted, g .few))) (g .bytes) in
+      record { ends = pass-done s p i (g .pass) t e z; packed = rw (g .is) (packed-tells (slice p i s) plain) }
+
+  -- ── it goes on ──
+
+  module _ (z : not t ≡ true) where
+    -- with more than seven bytes
+    pub pack-long : i ≡ p + maxKeyword → (r : ℕ) → Ends s i r → KeywordAt s p 0 r
+    pack-long q r h =
+        let past : separates (getD s i 0) ≡ false = sym e ∙ not-true t z in
+        let on : i < r = ends-later s i r h past in
+        let whole = along-back s p i (g .pass .along) r h in
+        record { ends = whole; packed = long-tells (slice p r s) (omega (arith, length-slice p r s (omega (arith, h .to)))) }
+
+    module _ (n : i ≡ p + maxKeyword → ⊥) where
+      pub pack-room : v < 562949953421312
+      pack-room =
+          let six : i - p ≤ 6 = omega (arith, g .few, n) in
+          let up : 256 ^ (i - p) ≤ 256 ^ 6 = pow-le-pow-right (omega arith) six in
+          omega (arith, g .low)
+
+      pub pack-more : (b : ℕ) → b ≡ getD s i 0 → b < 256 → Packing s p (v * 256 + b) (i + 1)
+      unfolding packOn eachBelow
+      pack-more b q l =
+          let one : slice p (i + 1) s ≡ slice p i s ++ (getD s i 0 ∷ []) = slice-snoc p i s 0 from inside in
+          let sum : i + 1 - p ≡ suc (i - p) = omega (arith, from) in
+          record {
+            pass = pass-on s p i (g .pass) t e z;
+            few = omega (arith, g .few, n);
+            is = rw (one, packOn-append, ← (g .is), q);
+            bytes = rw one (bytes-append (slice p i s) _ (g .bytes) (rw (← q, lt-ltb _ _ l)));
+            low = rw (sum, pow-suc) (omega (arith, g .low, q));
+          }

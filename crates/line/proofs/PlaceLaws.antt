@@ -1,22 +1,21 @@
 -- The end of a piece, and the pieces from a place on: the first of them, and those behind it. Assumes nothing.
 use mathlib.Core.Path.{_≡_, refl, sym, ap, _∙_}
-use Prim.Native.Nat.{ℕ, _+_, _-_, _<_, _≤_}
-use mathlib.Core.Bool.{Bool, true, false}
+use Prim.Native.Nat.{ℕ, zero, suc, _+_, _-_, _<_, _≤_}
+use mathlib.Core.Bool.{Bool, true, false, cond}
 use mathlib.Core.List.{[], _∷_, _++_, append-nil}
+use native.Mathlib.Nat.{add-zero}
 use native.Mathlib.Numerals.{add-one}
 use native.Mathlib.Omega.{arith}
 use borrow.Author.Tests.{lt-ltb, le-ltb, ltb-true, ltb-false}
-use lib.Dec.{ltb}
+use lib.Dec.{eqb, ltb}
 use lib.ListN.{length, take, drop, getD, take-append-drop}
-use lib.Seq.{slice, length-take-le, length-slice, take-take, getD-take, getD-drop, getD-at, drop-append-le, slice-cons}
-use Rattle.model.specs.Text.{Bytes, tab, split, join, behind}
-use Rattle.laws.specs.TextLaws.{Free, split-append, split-line, split-parted, join-split}
-use Rattle.record.specs.Piece.{Piece}
+use lib.Seq.{slice, length-take-le, take-take, drop-append-le, slice-cons, slice-empty}
+use Rattle.model.specs.Text.{Bytes, tab, lineFeed, split}
+use Rattle.laws.specs.TextLaws.{Free, each[], _each∷_, split-append, split-line}
+use Rattle.record.specs.Place.{LineEnd, Fed, Ends, separates}
+use Rattle.record.proofs.PlaceLaws.{no-feed, separates-is}
 use Rattle.words.specs.Words.{piecesOf}
 use Rattle.line.specs.Place.{piecesAt, PieceAt}
-
-slice-take : (p r e : ℕ) (s : Bytes) → r ≤ e → slice p r (take e s) ≡ slice p r s
-slice-take p r e s h = ap (drop p) (take-take r e s h)
 
 -- a part in two
 pub slice-two : (p r e : ℕ) (s : Bytes) → p ≤ r → r ≤ e → e ≤ length s → slice p e s ≡ slice p r s ++ slice r e s
@@ -27,36 +26,67 @@ slice-two p r e s h k l =
 
 -- ── the end of a piece ──
 
-module _ (sheet : Bytes) (p e r : ℕ) (h : e ≤ length sheet) (f : Piece tab (take e sheet) p r) where
-  e-long : length (take e sheet) ≡ e
-  e-long = length-take-le e sheet h
+-- bytes that are no separator, as a text
+pub free-of : (sep : ℕ) (s : Bytes) (n p : ℕ) → p + n ≤ length s → ((i : ℕ) → p ≤ i → i < p + n → eqb (getD s i 0) sep ≡ false) → Free sep (slice p (p + n) s)
+free-of sep s zero p h k = rw (add-zero p, slice-empty p s) each[]
+free-of sep s (suc n) p h k =
+    let sum : p + suc n ≡ suc p + n = omega arith in
+    let behind : Free sep (slice (suc p) (p + suc n) s) = rw sum (free-of sep s n (suc p) (omega arith) (λ i a b. k i (omega arith) (omega arith))) in
+    let whole : Free sep (getD s p 0 ∷ slice (suc p) (p + suc n) s) = k p (omega arith) (omega arith) each∷ behind in
+    rw (slice-cons p (p + suc n) s 0 (omega arith) h) whole
 
-  r-low : r ≤ e
-  r-low = omega (arith, f .within, e-long)
+no-tab : (b : ℕ) → separates b ≡ false → eqb b tab ≡ false
+unfolding separates
+no-tab b h = go (eqb b tab) h
+  where
+    go : (t : Bool) → cond t true (eqb b lineFeed) ≡ false → t ≡ false
+    go true h = h
+    go false h = refl
 
-  -- what stands from p on, by its pieces
-  pieces-joined : slice p r (take e sheet) ++ behind tab (split tab (drop p (take e sheet)) .more) ≡ drop p (take e sheet)
-  unfolding join
-  pieces-joined = rw (f .first) (join-split tab (drop p (take e sheet)))
+module _ (sheet : Bytes) (p e : ℕ) (l : LineEnd sheet p e) where
+  module _ (r : ℕ) (h : Ends sheet p r) where
+    r-low : r ≤ e
+    r-low = go (ltb e r) refl
+      where
+        go : (t : Bool) → ltb e r ≡ t → r ≤ e
+        go true q = absurd (no-feed (getD sheet e 0) (h .free e (l .from) (ltb-true e r q)) (l .feed))
+        go false q = ltb-false e r q
 
-  tab-at : r < e → getD sheet r 0 ≡ tab
-  unfolding behind
-  tab-at k =
-      let more = f .more (omega (arith, e-long)) in
-      let joined = rw more at pieces-joined in
-      let count : length (slice p r (take e sheet)) ≡ r - p = length-slice p r (take e sheet) (omega (arith, e-long, r-low)) in
-      let here : getD (drop p (take e sheet)) (r - p) 0 ≡ tab = rw (← joined) (getD-at (slice p r (take e sheet)) tab _ 0 (r - p) count) in
-      let sum : p + (r - p) ≡ r = omega (arith, f .from) in
-      sym (getD-take e sheet r 0 k) ∙ rw (getD-drop, sum) at here
+    tab-at : r < e → getD sheet r 0 ≡ tab
+    tab-at k = separates-is (getD sheet r 0) (h .stop) (λ z. l .free r (h .from) k z)
 
-  pub piece-ends : PieceAt sheet p e r
-  piece-ends =
-      record {
-        from = f .from;
-        to = r-low;
-        free = rw (slice-take p r e sheet r-low) at (rw (← (f .first)) at (split-parted tab (drop p (take e sheet)) .first));
-        stop = tab-at;
-      }
+    pub piece-at : PieceAt sheet p e r
+    piece-at =
+        let sum : p + (r - p) ≡ r = omega (arith, h .from) in
+        record {
+          from = h .from;
+          to = r-low;
+          free = rw sum at (free-of tab sheet (r - p) p (omega (arith, h .from, h .to)) (λ i a b. no-tab (getD sheet i 0) (h .free i a (omega (arith, h .from)))));
+          stop = tab-at;
+        }
+
+    pub line-at : LineEnd sheet r e
+    line-at = record { from = r-low; to = l .to; feed = l .feed; free = λ i a b. l .free i (omega (arith, h .from)) b }
+
+    -- behind a tab the line goes on
+    pub line-behind : getD sheet r 0 ≡ tab → LineEnd sheet (r + 1) e
+    line-behind z =
+        let other : r ≡ e → ⊥ = λ q. omega (arith, z, rw (← q) at (l .feed)) in
+        record { from = omega (arith, r-low, other); to = l .to; feed = l .feed; free = λ i a b. l .free i (omega (arith, h .from)) b }
+
+    -- a piece that ends at no tab ends the line
+    pub line-done : (getD sheet r 0 ≡ tab → ⊥) → r ≡ e
+    line-done z = go (ltb r e) refl
+      where
+        go : (t : Bool) → ltb r e ≡ t → r ≡ e
+        go true q = absurd (z (tab-at (ltb-true r e q)))
+        go false q = let up = ltb-false r e q in omega (arith, r-low)
+
+pub fed-at : (sheet : Bytes) (p r : ℕ) → Fed sheet p → Ends sheet p r → Fed sheet r
+fed-at sheet p r f h = record { end = f .end; line = line-at sheet p (f .end) (f .line) r h }
+
+pub fed-behind : (sheet : Bytes) (p r : ℕ) → Fed sheet p → Ends sheet p r → getD sheet r 0 ≡ tab → Fed sheet (r + 1)
+fed-behind sheet p r f h z = record { end = f .end; line = line-behind sheet p (f .end) (f .line) r h z }
 
 -- ── the pieces from a place on ──
 

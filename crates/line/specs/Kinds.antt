@@ -5,18 +5,29 @@ use mathlib.Core.Bool.{true, cond}
 use mathlib.Core.Option.{Option, none, some}
 use lib.Dec.{eqb}
 use lib.ListN.{getD}
+use lib.Seq.{slice}
 use Rattle.model.specs.Text.{Bytes, same}
 use Rattle.model.specs.Kind.{Sort, Kind}
 use Rattle.model.specs.Record.{kinds, kindNamed}
+use Rattle.record.specs.Place.{Ends}
 use Rattle.words.specs.Words.{kindOf}
 use Rattle.words.specs.Table.{packed, first, keys}
 use Rattle.words.specs.TableLaws.{short}
 use Rattle.line.specs.declared.kind.KindFound.{KindFound}
 use Rattle.line.specs.declared.kind.KindFound.the-variants.{Is, Not}
 
+-- no keyword has more bytes
+abbrev pub maxKeyword : ℕ
+maxKeyword = 7
+
 -- a number that tells a text from every short one
 pub record Packed (s : Bytes) (n : ℕ) : Type 0 where
   pub tells : (w : Bytes) → short w ≡ true → eqb n (packed w) ≡ same s w
+
+-- the piece at place p ends at r, and the number is that of its text
+pub record KeywordAt (s : Bytes) (p n r : ℕ) : Type 0 where
+  pub ends : Ends s p r
+  pub packed : Packed (slice p r s) n
 
 -- the kind that an answer stands for
 abbrev pub kindFound : (s : Sort) → KindFound → Option (Kind s)

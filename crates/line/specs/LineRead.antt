@@ -1,7 +1,6 @@
 -- What reading a line gives: the words of its record. Assumes nothing: these are definitions.
 use mathlib.Core.Path.{_≡_}
 use Prim.Native.Nat.{ℕ, _+_, _<_, _≤_}
-use mathlib.Core.Bool.{Bool, true, false}
 use mathlib.Core.List.{List}
 use mathlib.Core.Option.{none, some}
 use lib.ListN.{length, getD}
@@ -14,20 +13,34 @@ use Rattle.words.specs.Words.{fieldsOf, kindOf, decode, part, maxRecords, recor
 use Rattle.words.specs.Places.{lineStartAt, lineEndAt, kindAt, kindCount}
 use Rattle.words.specs.Held.{Flags, Texts}
 use Rattle.words.specs.Table.{formsAt}
+use Rattle.record.specs.Place.{LineEnd}
 use Rattle.line.specs.Place.{piecesAt}
 use Rattle.line.specs.declared.read.Line.{Line}
+use Rattle.line.specs.declared.read.FieldsTo.{FieldsTo}
 
--- the fields of kind n are those that the words hold, or there are none
-abbrev pub FieldsAnswer : Bool → (n : ℕ) (sheet : Bytes) (p e : ℕ) (ws : List ℕ) → Type 0
-FieldsAnswer true n sheet p e ws = (readFields (formsAt n) (piecesAt sheet p e) ≡ some (fieldsOf (formsAt n) sheet ws 0)) × Flags (formsAt n) ws 0 × Texts (formsAt n) sheet ws 0
-FieldsAnswer false n sheet p e ws = readFields (formsAt n) (piecesAt sheet p e) ≡ none
+-- a record's words from here on are its fields', two each
+abbrev pub firstWord : ℕ
+firstWord = 2
 
--- the words that no field has are as they were: those before the first field's and those behind the sixth one's
+-- and none from here on: a record has at most six fields
+abbrev pub fieldsEnd : ℕ
+fieldsEnd = 14
+
+-- the same words up to those of the last field
+abbrev pub Alike : List ℕ → List ℕ → Type 0
+Alike ws vs = (c : ℕ) → c < fieldsEnd → getD vs c 0 ≡ getD ws c 0
+
+-- The fields of kind n are those that the words hold, whatever stands behind them, and the line ends behind the last; or there are none. The first one's piece begins behind place p.
+abbrev pub FieldsAnswer : FieldsTo → (n : ℕ) (sheet : Bytes) (p e : ℕ) (ws : List ℕ) → Type 0
+FieldsAnswer (FieldsTo.End z) n sheet p e ws = (z ≡ e) × ((vs : List ℕ) → Alike ws vs → (readFields (formsAt n) (piecesAt sheet (p + 1) e) ≡ some (fieldsOf (formsAt n) sheet vs 0)) × Flags (formsAt n) vs 0 × Texts (formsAt n) sheet vs 0)
+FieldsAnswer FieldsTo.Not n sheet p e ws = readFields (formsAt n) (piecesAt sheet (p + 1) e) ≡ none
+
+-- the words that no field has are as they were: those before the first field's and those behind the last one's
 abbrev pub Kept : List ℕ → List ℕ → Type 0
-Kept before after = (c : ℕ) → (2 ≤ c → 14 ≤ c) → getD after c 0 ≡ getD before c 0
+Kept before after = (c : ℕ) → (firstWord ≤ c → fieldsEnd ≤ c) → getD after c 0 ≡ getD before c 0
 
--- from place p on
-pub record FieldsRead (n : ℕ) (sheet : Bytes) (p e : ℕ) (before after : List ℕ) (r : Bool) : Type 0 where
+-- behind place p
+pub record FieldsRead (n : ℕ) (sheet : Bytes) (p e : ℕ) (before after : List ℕ) (r : FieldsTo) : Type 0 where
   pub answer : FieldsAnswer r n sheet p e after
   pub kept : Kept before after
   pub long : length after ≡ recordWords
@@ -49,10 +62,10 @@ pub record Got (s : Sort) (sheet : Bytes) (p e : ℕ) (ws : List ℕ) (n : ℕ) 
   pub low : n < kindCount
 
 abbrev pub LineAnswer : Line → (s : Sort) (sheet : Bytes) (p e : ℕ) (ws : List ℕ) → Type 0
-LineAnswer (Line.Kind n) s sheet p e ws = Got s sheet p e ws n
+LineAnswer (Line.Kind n z) s sheet p e ws = (z ≡ e + 1) × Got s sheet p e ws n
 LineAnswer Line.Not s sheet p e ws = readRec s (slice p e sheet) ≡ none
 
--- the line from p up to e, read as a record of a sort
+-- the line from p up to e, read as a record of a sort; the next one begins behind its line feed
 pub record LineRead (s : Sort) (sheet : Bytes) (p e : ℕ) (ws : List ℕ) (r : Line) : Type 0 where
   pub answer : LineAnswer r s sheet p e ws
   pub long : length ws ≡ recordWords
@@ -63,3 +76,13 @@ pub record IntoRead (s : Sort) (sheet : Bytes) (p e i : ℕ) (a b a₁ b₁ : Li
   pub others : (j : ℕ) → j < maxRecords → (j ≡ i → ⊥) → part a₁ b₁ j ≡ part a b j
   pub first : length a₁ ≡ length a
   pub second : length b₁ ≡ length b
+
+-- the line that place p is in
+abbrev pub FieldsHere : ℕ → Bytes → ℕ → List ℕ → List ℕ → FieldsTo → Type 0
+FieldsHere n sheet p before after r = (e : ℕ) → LineEnd sheet p e → FieldsRead n sheet p e before after r
+
+abbrev pub LineHere : Sort → Bytes → ℕ → List ℕ → Line → Type 0
+LineHere s sheet p ws r = (e : ℕ) → LineEnd sheet p e → LineRead s sheet p e ws r
+
+abbrev pub IntoHere : Sort → Bytes → ℕ → ℕ → List ℕ → List ℕ → List ℕ → List ℕ → Line → Type 0
+IntoHere s sheet p i a b a₁ b₁ r = (e : ℕ) → LineEnd sheet p e → IntoRead s sheet p e i a b a₁ b₁ r

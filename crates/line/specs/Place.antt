@@ -9,17 +9,12 @@ use Rattle.model.specs.Call.{maxBytes}
 use lib.Seq.{slice}
 use Rattle.model.specs.Text.{Bytes, tab}
 use Rattle.laws.specs.TextLaws.{Free}
+use Rattle.record.specs.Place.{Fed}
 use Rattle.words.specs.Words.{piecesOf}
 
--- a line of a sheet that ends before place e; the sheet is so short that its places are words
-pub record LineTo (sheet : Bytes) (e : ℕ) : Type 0 where
-  pub to : e ≤ length sheet
-  pub short : length sheet ≤ maxBytes
-
--- a part of such a sheet, from place p up to place r
-pub record Within (sheet : Bytes) (p r : ℕ) : Type 0 where
-  pub from : p ≤ r
-  pub to : r ≤ length sheet
+-- place p is in a line of a sheet, which is so short that its places are words
+pub record InLine (sheet : Bytes) (p : ℕ) : Type 0 where
+  pub fed : Fed sheet p
   pub short : length sheet ≤ maxBytes
 
 -- the pieces from place p on of a line that ends before place e; none if p is behind e

@@ -3,16 +3,19 @@ ghost use mathlib.Core.Path.{_≡_};
 ghost use mathlib.Core.List.{[], _∷_};
 ghost use mathlib.Core.Option.{some};
 ghost use Prim.Native.Nat.{_+_, _/_, _%_, _<_, _≤_};
-ghost use lib.Seq.{slice};
 ghost use Rattle.model.specs.Text.{Bytes};
 ghost use Rattle.model.specs.Field.{Form, u32};
+ghost use Rattle.record.specs.Place.{Fed};
 ghost use Rattle.words.specs.Words.{two32};
-ghost use Rattle.line.specs.Place.{Within};
-ghost use Rattle.line.specs.FieldRead.{WordsOf, wordsValue};
-use record::Alias;
+ghost use Rattle.line.specs.Place.{InLine};
+ghost use Rattle.line.specs.FieldRead.{WordsOf, WordsAt, wordsValue, placed};
+use record::AliasAt;
 use record::Decimal;
-use record::OptDecimal;
+use record::DecimalAt;
+use record::OptDecimalAt;
 use record::Signed;
+use record::TextAt;
+use record::piece::piece_end;
 
 // A field's words, or none.
 pub enum Words {
@@ -20,35 +23,43 @@ pub enum Words {
     Not,
 }
 
-// A number of at most `limit`.
-pub fn number(s: &[u8], limit: u64) -> Words
-    requires { ⌜ limit ≤ u32 ⌝ }
-    ensures { λ r. ⌜ ((sheet : Bytes) → WordsOf (Form.num limit) sheet (now (s .entry) ∷ []) r) ⌝ }
+// A field's words and where its last piece ends, or none.
+pub enum FieldRead {
+    Is(u32, u32, usize),
+    Not,
+}
+
+// Words of a piece that ends at r.
+fn placed(w: Words, r: usize) -> FieldRead
+    ensures { λ f. ⌜ f ≡ placed w r ⌝ }
 {
-    match record::number::decimal(s, limit) {
-        Decimal::Is(n) => Words::Is(n as u32, 0),
-        Decimal::Not => Words::Not,
+    match w {
+        Words::Is(x, y) => FieldRead::Is(x, y, r),
+        Words::Not => FieldRead::Not,
+    }
+}
+
+// A number of at most `limit`.
+pub fn number(sheet: &[u8], p: usize, limit: u64) -> FieldRead
+    requires { ⌜ Fed (now sheet) p ⌝ }
+    requires { ⌜ limit ≤ u32 ⌝ }
+    ensures { λ r. ⌜ WordsAt (Form.num limit) (now (sheet .entry)) p r ⌝ }
+{
+    match record::number::decimal_at(sheet, p, limit) {
+        DecimalAt::Is(n, r) => FieldRead::Is(n as u32, 0, r),
+        DecimalAt::Not => FieldRead::Not,
     }
 }
 
 // A variable's id, or a dash.
-pub fn variable(s: &[u8]) -> Words
-    ensures { λ r. ⌜ ((sheet : Bytes) → WordsOf Form.varOrAbsent sheet (now (s .entry) ∷ []) r) ⌝ }
+pub fn variable(sheet: &[u8], p: usize) -> FieldRead
+    requires { ⌜ Fed (now sheet) p ⌝ }
+    ensures { λ r. ⌜ WordsAt Form.varOrAbsent (now (sheet .entry)) p r ⌝ }
 {
-    match record::number::decimal_or_absent(s, words::MAX_U32) {
-        OptDecimal::Is(n) => Words::Is(1, n as u32),
-        OptDecimal::Absent => Words::Is(0, 0),
-        OptDecimal::Not => Words::Not,
-    }
-}
-
-// A flag.
-pub fn flag(s: &[u8]) -> Words
-    ensures { λ r. ⌜ ((sheet : Bytes) → WordsOf Form.flag sheet (now (s .entry) ∷ []) r) ⌝ }
-{
-    match record::number::flag(s) {
-        Decimal::Is(n) => Words::Is(n as u32, 0),
-        Decimal::Not => Words::Not,
+    match record::number::decimal_or_absent_at(sheet, p, words::MAX_U32) {
+        OptDecimalAt::Is(n, r) => FieldRead::Is(1, n as u32, r),
+        OptDecimalAt::Absent(r) => FieldRead::Is(0, 0, r),
+        OptDecimalAt::Not => FieldRead::Not,
     }
 }
 
@@ -63,7 +74,7 @@ fn halves(n: u64, top: u32) -> Words
 }
 
 // The bits of a float.
-pub fn float(s: &[u8]) -> Words
+fn float_words(s: &[u8]) -> Words
     ensures { λ r. ⌜ ((sheet : Bytes) → WordsOf Form.float sheet (now (s .entry) ∷ []) r) ⌝ }
 {
     match record::hex::hex(s) {
@@ -84,7 +95,7 @@ fn signed_words(v: i64) -> Words
 }
 
 // A signed number.
-pub fn int(s: &[u8]) -> Words
+fn int_words(s: &[u8]) -> Words
     ensures { λ r. ⌜ ((sheet : Bytes) → WordsOf Form.int sheet (now (s .entry) ∷ []) r) ⌝ }
 {
     match record::int::signed(s) {
@@ -93,29 +104,46 @@ pub fn int(s: &[u8]) -> Words
     }
 }
 
-// A name, from p up to r.
-pub fn text(sheet: &[u8], p: usize, r: usize) -> Words
-    requires { ⌜ Within (now sheet) p r ⌝ }
-    ensures { λ w. ⌜ WordsOf Form.text (now (sheet .entry)) (slice p r (now (sheet .entry)) ∷ []) w ⌝ }
+pub fn int(sheet: &[u8], p: usize) -> FieldRead
+    requires { ⌜ Fed (now sheet) p ⌝ }
+    ensures { λ r. ⌜ WordsAt Form.int (now (sheet .entry)) p r ⌝ }
 {
-    if record::name::text(&sheet[p..r]) {
-        Words::Is(p as u32, r as u32)
-    } else {
-        Words::Not
+    let r = piece_end(sheet, p);
+    let w = int_words(&sheet[p..r]);
+    placed(w, r)
+}
+
+pub fn float(sheet: &[u8], p: usize) -> FieldRead
+    requires { ⌜ Fed (now sheet) p ⌝ }
+    ensures { λ r. ⌜ WordsAt Form.float (now (sheet .entry)) p r ⌝ }
+{
+    let r = piece_end(sheet, p);
+    let w = float_words(&sheet[p..r]);
+    placed(w, r)
+}
+
+// A name, held as its place.
+pub fn text(sheet: &[u8], p: usize) -> FieldRead
+    requires { ⌜ InLine (now sheet) p ⌝ }
+    ensures { λ r. ⌜ WordsAt Form.text (now (sheet .entry)) p r ⌝ }
+{
+    match record::name::text_at(sheet, p) {
+        TextAt::To(r) => FieldRead::Is(p as u32, r as u32, r),
+        TextAt::Not => FieldRead::Not,
     }
 }
 
-// A dash, or an equals sign and a name, from p up to r.
-pub fn alias(sheet: &[u8], p: usize, r: usize) -> Words
-    requires { ⌜ Within (now sheet) p r ⌝ }
-    ensures { λ w. ⌜ WordsOf Form.alias (now (sheet .entry)) (slice p r (now (sheet .entry)) ∷ []) w ⌝ }
+// A dash, or an equals sign and a name.
+pub fn alias(sheet: &[u8], p: usize) -> FieldRead
+    requires { ⌜ InLine (now sheet) p ⌝ }
+    ensures { λ r. ⌜ WordsAt Form.alias (now (sheet .entry)) p r ⌝ }
 {
-    match record::name::alias(&sheet[p..r]) {
-        Alias::Absent => Words::Is(0, 0),
-        Alias::Named => {
+    match record::name::alias_at(sheet, p) {
+        AliasAt::Absent(r) => FieldRead::Is(0, 0, r),
+        AliasAt::Named(r) => {
             let at = p + 1;
-            Words::Is(at as u32, r as u32)
+            FieldRead::Is(at as u32, r as u32, r)
         }
-        Alias::Not => Words::Not,
+        AliasAt::Not => FieldRead::Not,
     }
 }

@@ -5,7 +5,11 @@ ghost use mathlib.Core.Bool.{cond};
 ghost use lib.Dec.{eqb};
 ghost use Rattle.words.specs.Places.{sortCount, clauseSort, patternElementSort, exprSort};
 ghost use Rattle.words.specs.Table.{sortOf};
-ghost use Rattle.line.specs.Kinds.{Packed, Named, keyed};
+ghost use Rattle.model.specs.Text.{Bytes};
+ghost use Rattle.record.specs.Place.{Fed};
+ghost use Rattle.line.specs.Kinds.{Packed, KeywordAt, Named, keyed};
+use record::piece::piece_end;
+use record::piece::separates;
 use words::key;
 use words::kind;
 use words::sort;
@@ -22,20 +26,32 @@ fn wide(b: u8) -> u64
     b as u64
 }
 
-// A text's bytes as one number behind a leading 1, or 0 if there are more than seven.
-fn pack(s: &[u8]) -> u64
-    ensures { λ r. ⌜ Packed (now (s .entry)) r ⌝ }
+// A keyword as one number, its bytes behind a leading 1, and where it ends; 0 for one of more than seven bytes.
+pub struct Keyword {
+    pub word: u64,
+    pub end: usize,
+}
+
+// No keyword has more bytes, so that the number fits 64 bits.
+const MAX_KEYWORD: usize = 7;
+
+// The keyword at p.
+pub fn read_keyword(s: &[u8], p: usize) -> Keyword
+    requires { ⌜ Fed (now s) p ⌝ }
+    ensures { λ r. ⌜ KeywordAt (now (s .entry)) p (r .word) (r .end) ⌝ }
 {
-    if 7 < s.len() {
-        return 0;
-    }
+    let most = p + MAX_KEYWORD;
     let mut v: u64 = 1;
-    let mut i = 0;
-    while i < s.len() {
+    let mut i = p;
+    while !separates(s[i]) {
+        if i == most {
+            let end = piece_end(s, i);
+            return Keyword { word: 0, end: end };
+        }
         v = v * 256 + wide(s[i]);
         i += 1;
     }
-    v
+    Keyword { word: v, end: i }
 }
 
 // The kind of a sort that has only this one.
@@ -104,12 +120,11 @@ fn expr_kind(w: u64) -> KindFound
     }
 }
 
-// The kind with the keyword s among those of the sort.
-pub fn kind_named(s: &[u8], sort: u32) -> KindFound
+// The kind whose keyword has the number w among those of the sort.
+pub fn kind_named(w: u64, sort: u32) -> KindFound
     requires { ⌜ sort < sortCount ⌝ }
-    ensures { λ r. ⌜ Named (sortOf sort) (now (s .entry)) r ⌝ }
+    ensures { λ r. ⌜ ((s : Bytes) → Packed s w → Named (sortOf sort) s r) ⌝ }
 {
-    let w = pack(s);
     match sort {
         sort::STATEMENT => only(w, key::STMT, kind::STMT),
         sort::UNION_ARM => only(w, key::ARM, kind::ARM),

@@ -3,5 +3,4 @@ pub mod field;
 pub mod form;
 pub mod group;
 pub mod kind;
-pub mod piece;
 pub mod read;

@@ -1,94 +1,98 @@
 // A line read into the sixteen words of a record.
 ghost use mathlib.Core.Path.{_≡_};
+ghost use mathlib.Core.Bool.{true};
 ghost use Prim.Native.Nat.{_<_};
-ghost use lib.ListN.{length};
-ghost use Rattle.line.specs.Place.{LineTo, Within};
-ghost use Rattle.line.specs.LineRead.{FieldsRead, LineRead, IntoRead};
+ghost use lib.ListN.{length, getD};
+ghost use Rattle.record.specs.Place.{separates};
+ghost use Rattle.line.specs.Place.{InLine};
+ghost use Rattle.line.specs.LineRead.{FieldsHere, LineHere, IntoHere};
 ghost use Rattle.words.specs.Words.{Roomy, maxRecords, recordWords};
 ghost use Rattle.words.specs.Places.{kindCount, sortCount};
 ghost use Rattle.words.specs.Table.{sortOf};
-use crate::form::FieldRead;
+use crate::field::FieldRead;
 use crate::form::read_form;
 use crate::kind::KindFound;
 use crate::kind::kind_named;
-use crate::piece::piece_to;
+use crate::kind::read_keyword;
 use words::field;
 use words::form;
 use words::table::form_code;
 
-// The number of a record's kind, or none.
-pub enum Line {
-    Kind(u32),
+// Where the line ends, of which all fields are read; or none.
+pub enum FieldsTo {
+    End(usize),
     Not,
 }
 
-// The fields of a kind, from p on: field g goes to the words 2g + 2 and 2g + 3.
-fn read_fields(sheet: &[u8], p: usize, e: usize, kind: u32, part: &mut [u32]) -> bool
-    requires { ⌜ LineTo (now sheet) e ⌝ }
+// The number of a record's kind and the place behind its line, or none.
+pub enum Line {
+    Kind(u32, usize),
+    Not,
+}
+
+// The fields of a kind, from behind place p on: field g goes to the words 2g + 2 and 2g + 3. Each stands behind a tab, and the line feed behind the last.
+fn read_fields(sheet: &[u8], p: usize, kind: u32, part: &mut [u32]) -> FieldsTo
+    requires { ⌜ InLine (now sheet) p ⌝ }
+    requires { ⌜ separates (getD (now sheet) p 0) ≡ true ⌝ }
     requires { ⌜ (kind < kindCount) × (length (now part) ≡ recordWords) ⌝ }
-    ensures { λ r. ⌜ FieldsRead kind (now (sheet .entry)) p e (now (part .entry)) (now (part .exit)) r ⌝ }
+    ensures { λ r. ⌜ FieldsHere kind (now (sheet .entry)) p (now (part .entry)) (now (part .exit)) r ⌝ }
 {
     let row = kind as usize;
     let mut at = p;
     let mut g = 0;
     let mut form = form_code(row, 0);
     while form != form::NONE {
-        let FieldRead::Is(x, y, next) = read_form(sheet, at, e, form) else {
-            return false;
+        if sheet[at] != b'\t' {
+            return FieldsTo::Not;
+        }
+        let FieldRead::Is(x, y, end) = read_form(sheet, at + 1, form) else {
+            return FieldsTo::Not;
         };
         part[g + g + 2] = x;
         part[g + g + 3] = y;
-        at = next;
+        at = end;
         g += 1;
         form = form_code(row, g);
     }
-    if e < at {
-        return true;
+    if sheet[at] == b'\n' {
+        return FieldsTo::End(at);
     }
-    false
+    FieldsTo::Not
 }
 
-// The line from p up to e as a record of a sort, in the sixteen words of `part`. If there is none, what stands in `part` is not promised.
-pub fn read_line(sheet: &[u8], p: usize, e: usize, sort: u32, part: &mut [u32]) -> Line
-    requires { ⌜ Within (now sheet) p e ⌝ }
+// The line at p as a record of a sort, in the sixteen words of `part`. If there is none, what stands in `part` is not promised.
+pub fn read_line(sheet: &[u8], p: usize, sort: u32, part: &mut [u32]) -> Line
+    requires { ⌜ InLine (now sheet) p ⌝ }
     requires { ⌜ (sort < sortCount) × (length (now part) ≡ recordWords) ⌝ }
-    ensures { λ r. ⌜ LineRead (sortOf sort) (now (sheet .entry)) p e (now (part .exit)) r ⌝ }
+    ensures { λ r. ⌜ LineHere (sortOf sort) (now (sheet .entry)) p (now (part .exit)) r ⌝ }
 {
-    let behind = e + 1;
-    part[field::LINE_START] = p as u32;
-    part[field::LINE_END] = behind as u32;
-    let r = piece_to(sheet, p, e);
-    let KindFound::Is(k) = kind_named(&sheet[p..r], sort) else {
+    let key = read_keyword(sheet, p);
+    let KindFound::Is(k) = kind_named(key.word, sort) else {
         return Line::Not;
     };
+    part[field::LINE_START] = p as u32;
     part[field::KIND] = k;
-    if read_fields(sheet, r + 1, e, k, part) {
-        return Line::Kind(k);
-    }
-    Line::Not
+    let FieldsTo::End(e) = read_fields(sheet, key.end, k, part) else {
+        return Line::Not;
+    };
+    let behind = e + 1;
+    part[field::LINE_END] = behind as u32;
+    Line::Kind(k, behind)
 }
 
 // The same into record i of two slices.
-pub fn read_into(
-    sheet: &[u8],
-    p: usize,
-    e: usize,
-    sort: u32,
-    a: &mut [u32],
-    b: &mut [u32],
-    i: usize,
-) -> Line
-    requires { ⌜ Within (now sheet) p e ⌝ }
+pub fn read_into(sheet: &[u8], p: usize, sort: u32, a: &mut [u32], b: &mut [u32], i: usize) -> Line
+    requires { ⌜ InLine (now sheet) p ⌝ }
     requires { ⌜ (sort < sortCount) × (i < maxRecords) ⌝ }
     requires { ⌜ Roomy (now a) (now b) ⌝ }
-    ensures { λ r. ⌜ IntoRead (sortOf sort) (now (sheet .entry)) p e i (now (a .entry)) (now (b .entry)) (now (a .exit)) (now (b .exit)) r ⌝ }
+    ensures { λ r. ⌜ IntoHere (sortOf sort) (now (sheet .entry)) p i (now (a .entry)) (now (b .entry)) (now (a .exit)) (now (b .exit)) r ⌝ }
 {
     if i < words::FIRST_RECORDS {
         let at = i * words::RECORD_WORDS;
         let z = at + words::RECORD_WORDS;
-        return read_line(sheet, p, e, sort, &mut a[at..z]);
+        return read_line(sheet, p, sort, &mut a[at..z]);
     }
     let at = (i - words::FIRST_RECORDS) * words::RECORD_WORDS;
     let z = at + words::RECORD_WORDS;
-    read_line(sheet, p, e, sort, &mut b[at..z])
+    read_line(sheet, p, sort, &mut b[at..z])
 }

@@ -1,20 +1,27 @@
--- A dash, a number or a dash, and a flag: what the definition reads, in the terms of the code. Assumes nothing.
+-- A dash, and a number or a dash: what the definition reads, in the terms of the code. Assumes nothing.
 use mathlib.Core.Path.{_≡_, refl, sym, ap, _∙_}
 use mathlib.Core.Bool.{Bool, true, false, cond, _&&_, and-true, and-false}
 use mathlib.Core.List.{[], _∷_}
 use mathlib.Core.Option.{none, some}
-use Prim.Native.Nat.{ℕ}
+use Prim.Native.Nat.{ℕ, _+_, _≤_}
 use native.Mathlib.Omega.{arith}
-use borrow.Author.Tests.{eqb-true, eqb-false, eq-eqb, ne-eqb}
+use borrow.Author.Tests.{ne-eqb}
 use lib.Dec.{eqb, leb}
 use lib.ListN.{length, getD}
+use lib.Seq.{slice}
 use Rattle.model.specs.Text.{Bytes, same, sameBy, decimal, value}
-use Rattle.model.specs.Field.{num, numOrAbsent, flag, read, meaning, piece, spell, spellOption, spellFlag, fits, fitsOption, optionValue}
+use Rattle.model.specs.Field.{num, u32, numOrAbsent, read, meaning, piece, spell, spellOption, fits, fitsOption, optionValue}
 use Rattle.laws.specs.TextLaws.{same-sound}
 use Rattle.record.specs.declared.Decimal.{Decimal}
 use Rattle.record.specs.declared.OptDecimal.{OptDecimal}
-use Rattle.record.specs.Answer.{decimalOf, optDecimalOf, flagOf}
-use Rattle.record.specs.Number.{dash}
+use Rattle.record.specs.declared.DecimalAt.{DecimalAt}
+use Rattle.record.specs.declared.OptDecimalAt.{OptDecimalAt}
+use Rattle.record.specs.Answer.{decimalOf, optDecimalOf}
+use Rattle.record.specs.Number.{minus, dash}
+use Rattle.record.specs.Place.{Fed, separates, Ends}
+use Rattle.record.specs.InPlace.{NumberAt, OptNumberAt}
+use Rattle.record.proofs.PlaceLaws.{separates-other, no-feed, fed-on, along-start, along-on, along-back, ends-here, ends-next, ends-cons, ends-none}
+use Rattle.record.proofs.DecimalLaws.{decimal-below}
 
 -- ── a dash ──
 
@@ -29,6 +36,10 @@ unfolding same sameBy
 dash-not [] h = refl
 dash-not (b ∷ []) h = absurd (h refl)
 dash-not (b ∷ c ∷ s) h = sym (and-false (eqb b 45))
+
+pub dash-first : (b : ℕ) (s : Bytes) → (b ≡ minus → ⊥) → false ≡ same (b ∷ s) dash
+unfolding same sameBy
+dash-first b s h = rw (ne-eqb b minus h)
 
 -- ── a number, or a dash ──
 
@@ -59,39 +70,47 @@ module _ (limit : ℕ) (s : Bytes) (a : Bool) (p : a ≡ same s dash) where
     unfolding lift
     neither-of k = sym (option-number limit s (sym p ∙ e) ∙ ap lift (sym q ∙ k))
 
--- ── a flag ──
+-- ── in place ──
 
-flag-one : (b : ℕ) → flagOf (read flag ((b ∷ []) ∷ [])) ≡ cond (eqb b 48) (Decimal.Is 0) (cond (eqb b 49) (Decimal.Is 1) Decimal.Not)
-unfolding read meaning piece fits spell spellFlag same sameBy
-flag-one b = go (eqb b 48) refl (eqb b 49) refl
-  where
-    go : (t : Bool) → eqb b 48 ≡ t → (u : Bool) → eqb b 49 ≡ u
-        → flagOf (read flag ((b ∷ []) ∷ [])) ≡ cond (eqb b 48) (Decimal.Is 0) (cond (eqb b 49) (Decimal.Is 1) Decimal.Not)
-    go true e u f = rw (eqb-true b 48 e)
-    go false e true f = rw (eqb-true b 49 f)
-    go false e false f = rw (e, f, ne-eqb 48 b (λ q. eqb-false b 48 e (sym q)))
+dash-is : true ≡ same dash dash
+unfolding same sameBy
+dash-is = refl
 
-pub flag-not : (s : Bytes) → (length s ≡ 1 → ⊥) → Decimal.Not ≡ flagOf (read flag (s ∷ []))
-unfolding read meaning piece fits spell spellFlag same sameBy
-flag-not [] h = refl
-flag-not (b ∷ []) h = absurd (h refl)
-flag-not (b ∷ c ∷ s) h = rw (and-false (eqb b 49), and-false (eqb 48 b))
+module _ (limit : ℕ) (l : limit ≤ u32) (s : Bytes) (p : ℕ) (f : Fed s p) where
+  module _ (e : getD s p 0 ≡ minus) where
+    dash-past : separates (getD s p 0) ≡ false
+    dash-past = separates-other (getD s p 0) (omega arith)
 
-module _ (s : Bytes) (h : length s ≡ 1) where
-  flag-at : flagOf (read flag (s ∷ [])) ≡ cond (eqb (getD s 0 0) 48) (Decimal.Is 0) (cond (eqb (getD s 0 0) 49) (Decimal.Is 1) Decimal.Not)
-  flag-at = go s h
-    where
-      go : (s : Bytes) → length s ≡ 1 → flagOf (read flag (s ∷ [])) ≡ cond (eqb (getD s 0 0) 48) (Decimal.Is 0) (cond (eqb (getD s 0 0) 49) (Decimal.Is 1) Decimal.Not)
-      go [] h = absurd (omega arith)
-      go (b ∷ []) h = flag-one b
-      go (b ∷ c ∷ s) h = absurd (omega arith)
+    pub dash-fed : Fed s (p + 1)
+    dash-fed = fed-on s p f (no-feed (getD s p 0) dash-past)
 
-  pub flag-zero : getD s 0 0 ≡ 48 → Decimal.Is 0 ≡ flagOf (read flag (s ∷ []))
-  flag-zero e = rw (flag-at, eq-eqb (getD s 0 0) 48 e)
+    pub absent-at : (t : Bool) → t ≡ separates (getD s (p + 1) 0) → t ≡ true → OptNumberAt limit s p (OptDecimalAt.Absent (p + 1))
+    absent-at t g o =
+        record {
+          is = λ q h. rw (ends-cons s p q h dash-past, ends-none s (p + 1) q (ends-next s p q h dash-past) (sym g ∙ o), e) (absent-of limit dash true dash-is refl);
+          ends = along-back s p (p + 1) (along-on s p p (along-start s p) dash-past) (p + 1) (ends-here s (p + 1) dash-fed (sym g ∙ o));
+        }
 
-  module _ (z : getD s 0 0 ≡ 48 → ⊥) where
-    pub flag-is-one : getD s 0 0 ≡ 49 → Decimal.Is 1 ≡ flagOf (read flag (s ∷ []))
-    flag-is-one e = rw (flag-at, ne-eqb (getD s 0 0) 48 z, eq-eqb (getD s 0 0) 49 e)
+    pub dash-spare : (t : Bool) → t ≡ separates (getD s (p + 1) 0) → t ≡ false → OptNumberAt limit s p OptDecimalAt.Not
+    dash-spare t g o =
+        record {
+          is = λ q h.
+              rw (ends-cons s p q h dash-past, ends-cons s (p + 1) q (ends-next s p q h dash-past) (sym g ∙ o))
+              (neither-of limit _ false (dash-not _ (λ z. omega arith)) refl Decimal.Not
+              (rw (ends-cons s p q h dash-past, ends-cons s (p + 1) q (ends-next s p q h dash-past) (sym g ∙ o)) at (decimal-below limit l s p f (getD s p 0) refl (omega arith) .is q h)) refl);
+          ends = tt;
+        }
 
-    pub flag-neither : (getD s 0 0 ≡ 49 → ⊥) → Decimal.Not ≡ flagOf (read flag (s ∷ []))
-    flag-neither e = rw (flag-at, ne-eqb (getD s 0 0) 48 z, ne-eqb (getD s 0 0) 49 e)
+  module _ (e : getD s p 0 ≡ minus → ⊥) (a : DecimalAt) (d : NumberAt limit s p a) where
+    no-dash : (q : ℕ) → Ends s p q → false ≡ same (slice p q s) dash
+    no-dash q h = go (separates (getD s p 0)) refl
+      where
+        go : (t : Bool) → separates (getD s p 0) ≡ t → false ≡ same (slice p q s) dash
+        go true z = rw (ends-none s p q h z) (dash-not [] (λ k. omega arith))
+        go false z = rw (ends-cons s p q h z) (dash-first (getD s p 0) (slice (p + 1) q s) e)
+
+    pub present-at : (n r : ℕ) → a ≡ DecimalAt.Is n r → OptNumberAt limit s p (OptDecimalAt.Is n r)
+    present-at n r z = let g = rw z at d in record { is = λ q h. present-of limit (slice p q s) false (no-dash q h) refl (Decimal.Is n) (g .is q h) n refl; ends = g .ends }
+
+    pub neither-at : a ≡ DecimalAt.Not → OptNumberAt limit s p OptDecimalAt.Not
+    neither-at z = let g = rw z at d in record { is = λ q h. neither-of limit (slice p q s) false (no-dash q h) refl Decimal.Not (g .is q h) refl; ends = tt }

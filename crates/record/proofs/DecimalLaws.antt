@@ -2,22 +2,28 @@
 use mathlib.Core.Path.{_≡_, refl, sym, ap, _∙_}
 use mathlib.Core.Bool.{Bool, true, false, cond, not, _&&_, and-true, false≢true}
 use mathlib.Core.List.{[], _∷_, _++_, append-assoc, append-nil}
-use mathlib.Core.Option.{none, some}
+use mathlib.Core.Option.{Option, none, some}
 use Prim.Native.Nat.{ℕ, zero, suc, _+_, _*_, _-_, _/_, _%_, _^_, _≤_, _<_}
 use native.Mathlib.Nat.{pow-suc, zero-add}
 use native.Mathlib.Omega.{arith}
 use borrow.Author.Tests.{le-leb, leb-true, leb-false, lt-ltb, le-ltb, ltb-true, ltb-false, eqb-true, eqb-false, eq-eqb, ne-eqb, not-true}
 use lib.Dec.{eqb, leb, ltb}
 use lib.ListN.{length, getD}
-use Rattle.model.specs.Text.{Bytes, valueOn, value, digits, decimal}
-use Rattle.model.specs.Field.{num, u64, read, spell, fits}
+use lib.Seq.{slice}
+use Rattle.model.specs.Text.{Bytes, valueOn, value, digits, decimal, lineFeed}
+use Rattle.model.specs.Field.{num, u32, u64, read, spell, fits}
 use Rattle.laws.specs.TextLaws.{and-left, and-right}
 use Rattle.laws.specs.NumberLaws.{decimal-value}
 use Rattle.laws.specs.FieldLaws.{limited}
 use Rattle.record.specs.declared.Decimal.{Decimal}
 use Rattle.record.specs.declared.Decimal.the-variants.{Is, Not}
 use Rattle.record.specs.Answer.{decimalOf}
-use Rattle.record.specs.Number.{digit, allDigits, digitsOn}
+use Rattle.record.specs.Number.{digit, digit0, allDigits, digitsOn}
+use Rattle.record.specs.declared.DecimalAt.{DecimalAt}
+use Rattle.record.specs.Place.{Fed, separates, Ends, EndsAt}
+use Rattle.record.specs.InPlace.{decimalIn, decimalEnd, DigitsAt, NumberAt}
+use Rattle.record.proofs.PlaceLaws.{separates-other, fed-on, along-start, along-on, along-back, ends-here, ends-next, ends-cons, ends-none}
+use Rattle.record.proofs.GatherLaws.{too-big, byte-below, byte-above, byte-on}
 use Rattle.record.proofs.ReadLaws.{accepted, refused, piece-is}
 
 -- digits with no spare zero in front
@@ -188,3 +194,75 @@ module _ (limit : ℕ) (l : limit < 18446744073709551616) (s : Bytes) where
 
   pub spare-of : (length s ≡ 0 → ⊥) → (length s ≡ 1 → ⊥) → getD s 0 0 ≡ 48 → Not ≡ decimalOf (read (num limit) (s ∷ []))
   spare-of h k z = rw (number-answer limit (omega arith) s, plain-many s h k, eq-eqb (getD s 0 0) 48 z)
+
+  -- with no zero in front the digits are the number
+  unspared : (length s ≡ 0 → ⊥) → (getD s 0 0 ≡ digit0 → ⊥) → digitsOn limit 0 s ≡ decimalOf (read (num limit) (s ∷ []))
+  unspared h z = go (eqb (length s) 1) refl
+    where
+      go : (t : Bool) → eqb (length s) 1 ≡ t → digitsOn limit 0 s ≡ decimalOf (read (num limit) (s ∷ []))
+      go true e = one-of (digitsOn limit 0 s) refl (eqb-true (length s) 1 e)
+      go false e = many-of (digitsOn limit 0 s) refl h (eqb-false (length s) 1 e) z
+
+-- ── in place ──
+
+module _ (limit : ℕ) (l : limit ≤ u32) (s : Bytes) (p : ℕ) (f : Fed s p) (b : ℕ) (e : b ≡ getD s p 0) where
+  small : limit < 18446744073709551616
+  small = omega arith
+
+  -- a piece whose first byte makes the answer
+  module _ (a : DecimalAt) (ends : EndsAt s p (decimalEnd a)) where
+    by-first : lineFeed < b → ((q : ℕ) → Ends s (p + 1) q → decimalIn a ≡ decimalOf (read (num limit) ((b ∷ slice (p + 1) q s) ∷ []))) → NumberAt limit s p a
+    by-first k so =
+        let past : separates (getD s p 0) ≡ false = rw (← e) (separates-other b k) in
+        record { is = λ q h. rw (ends-cons s p q h past, ← e) (so q (ends-next s p q h past)); ends = ends }
+
+  -- the number that the first digit begins
+  begun : (t : Bytes) → (b ≡ digit0 → ⊥) → digitsOn limit 0 (b ∷ t) ≡ decimalOf (read (num limit) ((b ∷ t) ∷ []))
+  begun t z = unspared limit small (b ∷ t) (λ h. omega arith) z
+
+  pub decimal-below : b < digit0 → NumberAt limit s p DecimalAt.Not
+  decimal-below k = record { is = λ q h. go q h (separates (getD s p 0)) refl; ends = tt }
+    where
+      go : (q : ℕ) → Ends s p q → (t : Bool) → separates (getD s p 0) ≡ t → Not ≡ decimalOf (read (num limit) (slice p q s ∷ []))
+      go q h true z = rw (ends-none s p q h z) (none-of limit small [] refl)
+      go q h false z = rw (ends-cons s p q h z, ← e) (sym (byte-below limit 0 b (slice (p + 1) q s) k) ∙ begun (slice (p + 1) q s) (omega arith))
+
+  pub decimal-above : digit0 ≤ b → 9 < b - digit0 → NumberAt limit s p DecimalAt.Not
+  decimal-above u k = by-first DecimalAt.Not tt (omega arith) (λ q h. sym (byte-above limit 0 b (slice (p + 1) q s) k) ∙ begun (slice (p + 1) q s) (omega arith))
+
+  module _ (u : digit0 ≤ b) (z : b - digit0 ≡ 0) where
+    here : b ≡ digit0
+    here = omega arith
+
+    pub zero-fed : Fed s (p + 1)
+    zero-fed = fed-on s p f (λ k. omega (arith, e))
+
+    pub decimal-zero : (t : Bool) → t ≡ separates (getD s (p + 1) 0) → t ≡ true → NumberAt limit s p (DecimalAt.Is 0 (p + 1))
+    unfolding digitsOn allDigits valueOn
+    decimal-zero t g o =
+        let stop : separates (getD s (p + 1) 0) ≡ true = sym g ∙ o in
+        let past : separates (getD s p 0) ≡ false = rw (← e) (separates-other b (omega arith)) in
+        by-first (DecimalAt.Is 0 (p + 1)) (along-back s p (p + 1) (along-on s p p (along-start s p) past) (p + 1) (ends-here s (p + 1) zero-fed stop)) (omega arith)
+        (λ q h. rw (ends-none s (p + 1) q h stop, here) (one-of limit small (digit0 ∷ []) (Is 0) (rw (le-leb 0 limit (omega arith))) refl))
+
+    pub decimal-spare : (t : Bool) → t ≡ separates (getD s (p + 1) 0) → t ≡ false → NumberAt limit s p DecimalAt.Not
+    decimal-spare t g o =
+        by-first DecimalAt.Not tt (omega arith)
+        (λ q h. rw (ends-cons s (p + 1) q h (sym g ∙ o)) (spare-of limit small _ (λ k. omega arith) (λ k. omega arith) here))
+
+  module _ (u : digit0 ≤ b) (k : b - digit0 ≤ 9) (z : b - digit0 ≡ 0 → ⊥) where
+    on-first : (t : Bytes) → digitsOn limit (b - digit0) t ≡ decimalOf (read (num limit) ((b ∷ t) ∷ []))
+    on-first t = ap (λ v. digitsOn limit v t) (sym (zero-add (b - digit0))) ∙ sym (byte-on limit 0 b t u k) ∙ begun t (λ h. z (omega arith))
+
+    pub decimal-over : limit < b - digit0 → NumberAt limit s p DecimalAt.Not
+    decimal-over h = by-first DecimalAt.Not tt (omega arith) (λ q g. sym (too-big limit (b - digit0) (slice (p + 1) q s) h) ∙ on-first (slice (p + 1) q s))
+
+    pub first-fed : Fed s (p + 1)
+    first-fed = fed-on s p f (λ k. omega (arith, e))
+
+    pub decimal-on : (a : DecimalAt) → DigitsAt limit (b - digit0) s (p + 1) a → NumberAt limit s p a
+    decimal-on a d = by-first a (go (decimalEnd a) (d .ends)) (omega arith) (λ q h. d .is q h ∙ on-first (slice (p + 1) q s))
+      where
+        go : (o : Option ℕ) → EndsAt s (p + 1) o → EndsAt s p o
+        go none h = tt
+        go (some r) h = along-back s p (p + 1) (along-on s p p (along-start s p) (rw (← e) (separates-other b (omega arith)))) r h

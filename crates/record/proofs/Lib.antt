@@ -1,9 +1,10 @@
 pub mod TestRules
 pub mod ReadLaws
-pub mod PieceLaws
+pub mod PlaceLaws
 pub mod GatherLaws
 pub mod DecimalLaws
 pub mod AbsentLaws
+pub mod FlagLaws
 pub mod NameLaws
 pub mod LengthLaws
 pub mod HexLaws

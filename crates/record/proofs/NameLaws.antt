@@ -1,25 +1,25 @@
 -- A name is read exactly if its bytes pass one by one. Assumes nothing.
 use mathlib.Core.Path.{_≡_, refl, sym, ap, _∙_}
-use mathlib.Core.Bool.{Bool, true, false, cond, _&&_}
+use mathlib.Core.Bool.{Bool, true, false, cond, not, _&&_, false≢true}
 use mathlib.Core.List.{[], _∷_}
 use mathlib.Core.Option.{none, some}
-use Prim.Native.Nat.{ℕ, _+_, _-_, _≤_, _<_}
-use native.Mathlib.Numerals.{add-one}
+use Prim.Native.Nat.{ℕ, _+_, _<_, _≤_}
 use native.Mathlib.Omega.{arith}
-use borrow.Author.Tests.{eqb-true, eq-eqb, ne-eqb}
+use borrow.Author.Tests.{eqb-true, eq-eqb, ne-eqb, not-true, not-false}
 use lib.Dec.{eqb}
-use lib.ListN.{length, take, drop, getD, drop-of-length-le}
-use lib.Seq.{drop-cons}
-use Rattle.model.specs.Text.{Bytes, same, sameBy, escape, escapeByte, unescape, unescapeOn, unescapeByte, meant}
+use lib.ListN.{getD}
+use lib.Seq.{slice}
+use Rattle.model.specs.Text.{Bytes, tab, lineFeed, backslash, same, sameBy, escape, escapeByte, unescape, unescapeOn, unescapeByte, meant}
 use Rattle.model.specs.Field.{read, text, alias, meaning, piece, spell, spellAlias, aliasValue, fits}
-use Rattle.laws.specs.TextLaws.{same-sound}
-use Rattle.record.specs.declared.Alias.{Alias}
-use Rattle.record.specs.declared.name.Seen.{Seen}
-use Rattle.record.specs.declared.name.Seen.the-variants.{Plain, Escape, Bad}
+use Rattle.record.specs.declared.AliasAt.{AliasAt}
+use Rattle.record.specs.declared.TextAt.{TextAt}
 use Rattle.record.specs.Answer.{isRead, aliasOf}
-use Rattle.record.specs.Number.{dash}
-use Rattle.record.proofs.ReadLaws.{headed}
-use Rattle.record.specs.Name.{bare, letter, step, seenOn, isPlain}
+use Rattle.record.specs.Number.{minus, dash}
+use Rattle.record.specs.Name.{Seen, Plain, Escape, Bad, CharAt, bare-one, escaped, broken, equals, letterN, letterT, bare, letter, step, seenOn, isPlain}
+use Rattle.record.specs.Place.{Fed, separates, Ends}
+use Rattle.record.specs.InPlace.{isText, NameAt, AliasReadAt}
+use Rattle.record.proofs.PlaceLaws.{separates-other, no-feed, fed-on, Along, along-start, along-on, along-back, along-ends, ends-here, ends-next, ends-cons, ends-none}
+use Rattle.record.proofs.AbsentLaws.{dash-not, dash-first}
 
 bad-stays : (s : Bytes) → seenOn Bad s ≡ Bad
 unfolding seenOn step
@@ -74,73 +74,228 @@ name-read s = walked s .plain ∙ go (same (escape (unescapeOn false s)) s)
 
 -- ── the code ──
 
-module _ (q : Seen) (b : ℕ) (r : Seen) where
-  pub step-bare : q ≡ Plain → r ≡ bare b → r ≡ step q b
-  unfolding step
-  step-bare e h = rw e h
+-- a backslash is no separator, and neither is a letter that may follow it
+letter-past : (c : ℕ) → isPlain (letter c) ≡ true → lineFeed < c
+unfolding letter
+letter-past c h = go (eqb c backslash) refl (eqb c letterN) refl (eqb c letterT) refl h
+  where
+    go : (t : Bool) → eqb c backslash ≡ t → (u : Bool) → eqb c letterN ≡ u → (w : Bool) → eqb c letterT ≡ w → isPlain (cond t Plain (cond u Plain (cond w Plain Bad))) ≡ true → lineFeed < c
+    go true e u f w g h = omega (arith, eqb-true c backslash e)
+    go false e true f w g h = omega (arith, eqb-true c letterN f)
+    go false e false f true g h = omega (arith, eqb-true c letterT g)
+    go false e false f false g h = absurd (false≢true h)
 
-  pub step-letter : q ≡ Escape → r ≡ letter b → r ≡ step q b
-  unfolding step
-  step-letter e h = rw e h
+plain-is : (q : Seen) → isPlain q ≡ true → q ≡ Plain
+plain-is Plain h = refl
+plain-is Escape h = absurd (false≢true h)
+plain-is Bad h = absurd (false≢true h)
 
-module _ (s : Bytes) (i : ℕ) (q : Seen) (g : Seen) (inv : seenOn q (drop i s) ≡ g) where
-  pub on : i < length s → (r : Seen) → r ≡ step q (getD s i 0) → seenOn r (drop (i + 1) s) ≡ g
+letter-bad : (c : ℕ) → isPlain (letter c) ≡ false → letter c ≡ Bad
+unfolding letter
+letter-bad c h = go (eqb c backslash) (eqb c letterN) (eqb c letterT) h
+  where
+    go : (t u w : Bool) → isPlain (cond t Plain (cond u Plain (cond w Plain Bad))) ≡ false → cond t Plain (cond u Plain (cond w Plain Bad)) ≡ Bad
+    go true u w h = absurd (false≢true (sym h))
+    go false true w h = absurd (false≢true (sym h))
+    go false false true h = absurd (false≢true (sym h))
+    go false false false h = refl
+
+pub letter-last : (c : ℕ) → (c ≡ backslash → ⊥) → (c ≡ letterN → ⊥) → eqb c letterT ≡ isPlain (letter c)
+unfolding letter
+letter-last c h k = rw (ne-eqb c backslash h, ne-eqb c letterN k) (go (eqb c letterT))
+  where
+    go : (t : Bool) → t ≡ isPlain (cond t Plain Bad)
+    go true = refl
+    go false = refl
+
+-- how many bytes a character has
+module _ (s : Bytes) (i : ℕ) where
+  pub open-fed : Fed s i → getD s i 0 ≡ backslash → Fed s (i + 1)
+  open-fed f e = fed-on s i f (λ k. omega (arith, e))
+
+  pub char-plain : (getD s i 0 ≡ backslash → ⊥) → CharAt s i 1
+  char-plain h = bare-one h
+
+  pub char-few : (n : ℕ) → CharAt s i n → n ≤ 2
+  char-few _ (bare-one h) = omega arith
+  char-few _ (escaped e h) = omega arith
+  char-few _ (broken e h) = omega arith
+
+  module _ (e : getD s i 0 ≡ backslash) (t : Bool) (q : t ≡ isPlain (letter (getD s (i + 1) 0))) where
+    pub char-escaped : t ≡ true → CharAt s i 2
+    char-escaped z = escaped e (sym q ∙ z)
+
+    pub char-broken : t ≡ false → CharAt s i 0
+    char-broken z = broken e (sym q ∙ z)
+
+bare-plain : (b : ℕ) → separates b ≡ false → (b ≡ backslash → ⊥) → bare b ≡ Plain
+unfolding bare separates
+bare-plain b h k = go (eqb b tab) (eqb b lineFeed) h
+  where
+    go : (t u : Bool) → cond t true u ≡ false → cond t Bad (cond u Bad (cond (eqb b backslash) Escape Plain)) ≡ Plain
+    go true u h = absurd (false≢true (sym h))
+    go false true h = absurd (false≢true (sym h))
+    go false false h = rw (ne-eqb b backslash k)
+
+seen-plain : (b : ℕ) (t : Bytes) → separates b ≡ false → (b ≡ backslash → ⊥) → seenOn Plain (b ∷ t) ≡ seenOn Plain t
+unfolding seenOn step
+seen-plain b t h k = rw (bare-plain b h k)
+
+seen-escape : (b : ℕ) (t : Bytes) → b ≡ backslash → seenOn Plain (b ∷ t) ≡ seenOn Escape t
+unfolding seenOn step bare
+seen-escape b t e = rw e
+
+seen-letter : (c : ℕ) (t : Bytes) → isPlain (letter c) ≡ true → seenOn Escape (c ∷ t) ≡ seenOn Plain t
+unfolding seenOn step
+seen-letter c t h = rw (plain-is (letter c) h)
+
+seen-broken : (c : ℕ) (t : Bytes) → isPlain (letter c) ≡ false → seenOn Escape (c ∷ t) ≡ Bad
+unfolding seenOn step
+seen-broken c t h = rw (letter-bad c h) (bad-stays t)
+
+waits : (t : Bytes) → t ≡ [] → isPlain (seenOn Escape t) ≡ false
+unfolding seenOn
+waits t e = rw e
+
+-- the bytes passed from p on are characters of a name
+pub record Naming (s : Bytes) (p i : ℕ) : Type 0 where
+  pub fed : Fed s i
+  pub along : Along s p i
+  pub same : (q : ℕ) → Ends s i q → seenOn Plain (slice i q s) ≡ seenOn Plain (slice p q s)
+
+pub naming-start : (s : Bytes) (p : ℕ) → Fed s p → Naming s p p
+naming-start s p f = record { fed = f; along = along-start s p; same = λ q h. refl }
+
+module _ (s : Bytes) (p i : ℕ) (d : Naming s p i) where
+  pub naming-done : (t : Bool) → t ≡ separates (getD s i 0) → not t ≡ false → NameAt s p (TextAt.To i)
   unfolding seenOn
-  on h r e = rw (add-one i, e) (rw (drop-cons s i 0 h) at inv)
+  naming-done t z o =
+      let k : separates (getD s i 0) ≡ true = sym z ∙ not-false t o in
+      record {
+        is = λ q h. let g = along-ends s p i (d .along) q h in ap isPlain (rw (ends-none s i q g k) at (d .same q g)) ∙ name-read (slice p q s);
+        ends = along-back s p i (d .along) i (ends-here s i (d .fed) k);
+      }
 
-module _ (s : Bytes) (i : ℕ) (h : length s ≤ i) (q : Seen) (inv : seenOn q (drop i s) ≡ seenOn Plain s) where
-  answer : isPlain q ≡ isRead (read text (s ∷ []))
-  unfolding seenOn
-  answer = ap isPlain (rw (drop-of-length-le s h) at inv) ∙ name-read s
+  module _ (t : Bool) (z : t ≡ separates (getD s i 0)) (o : not t ≡ true) where
+    k : separates (getD s i 0) ≡ false
+    k = sym z ∙ not-true t o
 
-  pub name-of : q ≡ Plain → true ≡ isRead (read text (s ∷ []))
-  name-of e = sym (ap isPlain e) ∙ answer
+    on-fed : Fed s (i + 1)
+    on-fed = fed-on s i (d .fed) (no-feed (getD s i 0) k)
 
-  pub open-of : q ≡ Escape → false ≡ isRead (read text (s ∷ []))
-  open-of e = sym (ap isPlain e) ∙ answer
+    one : Along s i (i + 1)
+    one = along-on s i i (along-start s i) k
 
-  pub bad-of : q ≡ Bad → false ≡ isRead (read text (s ∷ []))
-  bad-of e = sym (ap isPlain e) ∙ answer
+    -- a backslash with no letter of its own, or at the end of the piece
+    no-char : getD s i 0 ≡ backslash → isPlain (letter (getD s (i + 1) 0)) ≡ false → (q : ℕ) → Ends s i q → isPlain (seenOn Plain (slice i q s)) ≡ false
+    no-char e h q w = rw (ends-cons s i q w k, seen-escape (getD s i 0) (slice (i + 1) q s) e) (go (separates (getD s (i + 1) 0)) refl)
+      where
+        go : (t : Bool) → separates (getD s (i + 1) 0) ≡ t → isPlain (seenOn Escape (slice (i + 1) q s)) ≡ false
+        go true z = waits (slice (i + 1) q s) (ends-none s (i + 1) q (ends-next s i q w k) z)
+        go false z = rw (ends-cons s (i + 1) q (ends-next s i q w k) z) (ap isPlain (seen-broken (getD s (i + 1) 0) (slice (i + 1 + 1) q s) h))
+
+    pub naming-broken : (n : ℕ) → CharAt s i n → n ≡ 0 → NameAt s p TextAt.Not
+    naming-broken _ (bare-one h) n = absurd (omega arith)
+    naming-broken _ (escaped e h) n = absurd (omega arith)
+    naming-broken _ (broken e h) n =
+        record {
+          is = λ q g. let w = along-ends s p i (d .along) q g in sym (no-char e h q w) ∙ ap isPlain (d .same q w) ∙ name-read (slice p q s);
+          ends = tt;
+        }
+
+    pub naming-more : (n : ℕ) → CharAt s i n → (n ≡ 0 → ⊥) → Naming s p (i + n)
+    naming-more _ (bare-one h) n =
+        record {
+          fed = on-fed;
+          along = along-on s p i (d .along) k;
+          same = λ q g.
+              let w = along-back s i (i + 1) one q g in
+              sym (seen-plain (getD s i 0) (slice (i + 1) q s) k h) ∙ rw (ends-cons s i q w k) at (d .same q w);
+        }
+    naming-more _ (escaped e h) n =
+        let past : separates (getD s (i + 1) 0) ≡ false = separates-other (getD s (i + 1) 0) (letter-past (getD s (i + 1) 0) h) in
+        let two : i + 1 + 1 ≡ i + 2 = omega arith in
+        rw (← two)
+        (record {
+          fed = fed-on s (i + 1) on-fed (no-feed (getD s (i + 1) 0) past);
+          along = along-on s p (i + 1) (along-on s p i (d .along) k) past;
+          same = λ q g.
+              let v = along-back s (i + 1) (i + 1 + 1) (along-on s (i + 1) (i + 1) (along-start s (i + 1)) past) q g in
+              let w = along-back s i (i + 1) one q v in
+              sym (seen-escape (getD s i 0) (getD s (i + 1) 0 ∷ slice (i + 1 + 1) q s) e ∙ seen-letter (getD s (i + 1) 0) (slice (i + 1 + 1) q s) h)
+              ∙ rw (ends-cons s i q w k, ends-cons s (i + 1) q v past) at (d .same q w);
+        })
+    naming-more _ (broken e h) n = absurd (n refl)
 
 -- ── an alias ──
 
 -- behind an equals sign stands a name
-alias-named : (s : Bytes) → aliasOf (read alias ((61 ∷ s) ∷ [])) ≡ cond (isRead (read text (s ∷ []))) Alias.Named Alias.Not
+alias-named : (s : Bytes) → aliasOf (read alias ((equals ∷ s) ∷ [])) ≡ cond (isRead (read text (s ∷ []))) (some true) none
 unfolding read meaning piece fits spell spellAlias aliasValue same sameBy
 alias-named s = go (same (escape (unescape s)) s)
   where
-    go : (t : Bool) → aliasOf (cond (t && true) (some (some (unescape s))) none) ≡ cond (isRead (cond (t && true) (some (unescape s)) none)) Alias.Named Alias.Not
+    go : (t : Bool) → aliasOf (cond (t && true) (some (some (unescape s))) none) ≡ cond (isRead (cond (t && true) (some (unescape s)) none)) (some true) none
     go true = refl
     go false = refl
 
 -- what begins with neither sign is none
-alias-other : (s : Bytes) → same s dash ≡ false → (getD s 0 0 ≡ 61 → ⊥) → Alias.Not ≡ aliasOf (read alias (s ∷ []))
+alias-other : (s : Bytes) → same s dash ≡ false → (getD s 0 0 ≡ equals → ⊥) → none ≡ aliasOf (read alias (s ∷ []))
 unfolding read meaning piece fits spell spellAlias aliasValue same sameBy
 alias-other [] e h = refl
-alias-other (b ∷ s) e h = rw (e, ne-eqb 61 b (λ q. h (sym q)))
+alias-other (b ∷ s) e h = rw (e, ne-eqb equals b (λ q. h (sym q)))
 
-module _ (s : Bytes) (a : Bool) (p : a ≡ same s dash) where
-  pub alias-absent : a ≡ true → Alias.Absent ≡ aliasOf (read alias (s ∷ []))
-  unfolding read meaning piece fits spell spellAlias aliasValue same sameBy
-  alias-absent e = rw (same-sound s dash (sym p ∙ e))
+absent-is : some false ≡ aliasOf (read alias (dash ∷ []))
+unfolding read meaning piece fits spell spellAlias aliasValue same sameBy
+absent-is = refl
 
-  module _ (e : a ≡ false) where
-    pub alias-empty : length s ≡ 0 → Alias.Not ≡ aliasOf (read alias (s ∷ []))
-    alias-empty h = alias-other s (sym p ∙ e) (λ q. first s h q)
-      where
-        first : (s : Bytes) → length s ≡ 0 → getD s 0 0 ≡ 61 → ⊥
-        first [] h q = omega arith
-        first (b ∷ s) h q = omega arith
+module _ (s : Bytes) (p : ℕ) (f : Fed s p) where
+  module _ (e : getD s p 0 ≡ minus) where
+    dash-past : separates (getD s p 0) ≡ false
+    dash-past = separates-other (getD s p 0) (omega arith)
 
-    pub alias-none : (getD s 0 0 ≡ 61 → ⊥) → Alias.Not ≡ aliasOf (read alias (s ∷ []))
-    alias-none h = alias-other s (sym p ∙ e) h
+    pub dash-fed : Fed s (p + 1)
+    dash-fed = fed-on s p f (no-feed (getD s p 0) dash-past)
 
-module _ (s : Bytes) (h : length s ≡ 0 → ⊥) (q : getD s 0 0 ≡ 61) (t : Bool) (p : t ≡ isRead (read text (take (length s - 1) (drop 1 s) ∷ []))) where
-  alias-is : aliasOf (read alias (s ∷ [])) ≡ cond t Alias.Named Alias.Not
-  alias-is = ap (λ x. aliasOf (read alias (x ∷ []))) (headed s 61 h q) ∙ alias-named (take (length s - 1) (drop 1 s)) ∙ ap (λ x. cond x Alias.Named Alias.Not) (sym p)
+    pub alias-absent : (t : Bool) → t ≡ separates (getD s (p + 1) 0) → t ≡ true → AliasReadAt s p (AliasAt.Absent (p + 1))
+    alias-absent t g o =
+        record {
+          is = λ q h. rw (ends-cons s p q h dash-past, ends-none s (p + 1) q (ends-next s p q h dash-past) (sym g ∙ o), e) absent-is;
+          ends = along-back s p (p + 1) (along-on s p p (along-start s p) dash-past) (p + 1) (ends-here s (p + 1) dash-fed (sym g ∙ o));
+        }
 
-  pub alias-name : t ≡ true → Alias.Named ≡ aliasOf (read alias (s ∷ []))
-  alias-name e = sym (rw e at alias-is)
+    pub alias-spare : (t : Bool) → t ≡ separates (getD s (p + 1) 0) → t ≡ false → AliasReadAt s p AliasAt.Not
+    alias-spare t g o =
+        record {
+          is = λ q h. rw (ends-cons s p q h dash-past, ends-cons s (p + 1) q (ends-next s p q h dash-past) (sym g ∙ o)) (alias-other _ (sym (dash-not _ (λ z. omega arith))) (λ z. omega (arith, z)));
+          ends = tt;
+        }
 
-  pub alias-bad : t ≡ false → Alias.Not ≡ aliasOf (read alias (s ∷ []))
-  alias-bad e = sym (rw e at alias-is)
+  pub alias-neither : (getD s p 0 ≡ minus → ⊥) → (getD s p 0 ≡ equals → ⊥) → AliasReadAt s p AliasAt.Not
+  alias-neither m n = record { is = λ q h. go q h (separates (getD s p 0)) refl; ends = tt }
+    where
+      go : (q : ℕ) → Ends s p q → (t : Bool) → separates (getD s p 0) ≡ t → none ≡ aliasOf (read alias (slice p q s ∷ []))
+      go q h true z = rw (ends-none s p q h z) (alias-other [] (sym (dash-not [] (λ k. omega arith))) (λ k. omega arith))
+      go q h false z = rw (ends-cons s p q h z) (alias-other _ (sym (dash-first (getD s p 0) (slice (p + 1) q s) m)) n)
+
+  module _ (e : getD s p 0 ≡ equals) where
+    name-past : separates (getD s p 0) ≡ false
+    name-past = separates-other (getD s p 0) (omega arith)
+
+    pub name-fed : Fed s (p + 1)
+    name-fed = fed-on s p f (no-feed (getD s p 0) name-past)
+
+    module _ (a : TextAt) (d : NameAt s (p + 1) a) where
+      named : (q : ℕ) → Ends s p q → aliasOf (read alias (slice p q s ∷ [])) ≡ cond (isText a) (some true) none
+      named q h =
+          rw (ends-cons s p q h name-past, e) (alias-named (slice (p + 1) q s))
+          ∙ ap (λ t. cond t (some true) none) (sym (d .is q (ends-next s p q h name-past)))
+
+      pub alias-name : (r : ℕ) → a ≡ TextAt.To r → AliasReadAt s p (AliasAt.Named r)
+      alias-name r z =
+          record {
+            is = λ q h. sym (rw z at (named q h));
+            ends = along-back s p (p + 1) (along-on s p p (along-start s p) name-past) r (rw z at (d .ends));
+          }
+
+      pub alias-bad : a ≡ TextAt.Not → AliasReadAt s p AliasAt.Not
+      alias-bad z = record { is = λ q h. sym (rw z at (named q h)); ends = tt }

@@ -4,7 +4,6 @@ use mathlib.Core.Bool.{Bool, true, false}
 use mathlib.Core.Option.{Option, none, some}
 use lib.IntN.{ℤ}
 use Rattle.model.specs.Text.{Bytes}
-use Rattle.record.specs.declared.Alias.{Alias}
 use Rattle.record.specs.declared.Decimal.{Decimal}
 use Rattle.record.specs.declared.OptDecimal.{OptDecimal}
 use Rattle.record.specs.declared.Signed.{Signed}
@@ -31,7 +30,8 @@ abbrev pub signedOf : Option ℤ → Signed
 signedOf none = Signed.Not
 signedOf (some z) = Signed.Is z
 
-abbrev pub aliasOf : Option (Option Bytes) → Alias
-aliasOf none = Alias.Not
-aliasOf (some none) = Alias.Absent
-aliasOf (some (some t)) = Alias.Named
+-- whether there is an alias, and whether it names
+abbrev pub aliasOf : Option (Option Bytes) → Option Bool
+aliasOf none = none
+aliasOf (some none) = some false
+aliasOf (some (some t)) = some true

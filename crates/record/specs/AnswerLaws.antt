@@ -9,7 +9,6 @@ use lib.Dec.{eqb}
 use lib.IntN.{ℤ}
 use Rattle.model.specs.Text.{Bytes, same, sameBy, unescape}
 use Rattle.model.specs.Field.{Form, Val, num, var, varOrAbsent, numOrAbsent, text, alias, u32, read, meaning, piece, spell, fits, aliasValue}
-use Rattle.record.specs.declared.Alias.{Alias}
 use Rattle.record.specs.declared.Decimal.{Decimal}
 use Rattle.record.specs.declared.OptDecimal.{OptDecimal}
 use Rattle.record.specs.declared.Signed.{Signed}
@@ -46,16 +45,16 @@ pub text-value : (s : Bytes) → isRead (read text (s ∷ [])) ≡ true → read
 unfolding meaning piece
 text-value s e = read-meaning text (s ∷ []) e
 
-pub alias-value : (s : Bytes) → aliasOf (read alias (s ∷ [])) ≡ Alias.Named → read alias (s ∷ []) ≡ some (some (unescape (tail s)))
+pub alias-value : (s : Bytes) → aliasOf (read alias (s ∷ [])) ≡ some true → read alias (s ∷ []) ≡ some (some (unescape (tail s)))
 unfolding meaning piece aliasValue
 alias-value s e = go (same s (45 ∷ [])) (read-meaning alias (s ∷ []) (named (read alias (s ∷ [])) e))
   where
-    named : (o : Option (Option Bytes)) → aliasOf o ≡ Alias.Named → isRead o ≡ true
+    named : (o : Option (Option Bytes)) → aliasOf o ≡ some true → isRead o ≡ true
     named none e = let z : _≡_ {A = ℕ} 0 1 = cc in absurd (omega arith)
     named (some o) e = refl
 
     go : (t : Bool) → read alias (s ∷ []) ≡ some (cond t none (some (unescape (tail s)))) → read alias (s ∷ []) ≡ some (some (unescape (tail s)))
-    go true r = let z : Alias.Absent ≡ Alias.Named = sym (ap aliasOf r) ∙ e in let y : _≡_ {A = ℕ} 0 1 = cc in absurd (omega arith)
+    go true r = let z : some false ≡ some true = sym (ap aliasOf r) ∙ e in let y : _≡_ {A = ℕ} 0 1 = cc in absurd (omega arith)
     go false r = r
 
 -- ── an answer tells what was read ──

@@ -3,4 +3,5 @@ pub mod AnswerLaws
 pub mod Hex
 pub mod Name
 pub mod Number
-pub mod Piece
+pub mod Place
+pub mod InPlace

@@ -1,15 +1,25 @@
 -- Reading a name byte by byte. Assumes nothing: these are definitions.
-use Prim.Native.Nat.{ℕ}
+use mathlib.Core.Path.{_≡_}
+use Prim.Native.Nat.{ℕ, _+_}
 use mathlib.Core.Bool.{Bool, true, false, cond}
 use mathlib.Core.List.{[], _∷_}
 use lib.Dec.{eqb}
+use lib.ListN.{getD}
 use Rattle.model.specs.Text.{Bytes, tab, lineFeed, backslash}
-use Rattle.record.specs.declared.name.Seen.{Seen}
-use Rattle.record.specs.declared.name.Seen.the-variants.{Plain, Escape, Bad}
+
+-- what the bytes before have come to: nothing open, a backslash that waits for its letter, or a byte that may not stand there
+pub data Seen : Type 0 where
+  Plain : Seen
+  Escape : Seen
+  Bad : Seen
 
 -- no tab and no line feed stands bare
 unfoldable pub bare : ℕ → Seen
 bare b = cond (eqb b tab) Bad (cond (eqb b lineFeed) Bad (cond (eqb b backslash) Escape Plain))
+
+-- what a name that is given stands behind
+abbrev pub equals : ℕ
+equals = 61
 
 abbrev pub letterN : ℕ
 letterN = 110
@@ -34,3 +44,9 @@ abbrev pub isPlain : Seen → Bool
 isPlain Plain = true
 isPlain Escape = false
 isPlain Bad = false
+
+-- how many bytes the character at i has; none if a backslash has no letter
+pub data CharAt (s : Bytes) (i : ℕ) : ℕ → Type 0 where
+  bare-one : (getD s i 0 ≡ backslash → ⊥) → CharAt s i 1
+  escaped : getD s i 0 ≡ backslash → isPlain (letter (getD s (i + 1) 0)) ≡ true → CharAt s i 2
+  broken : getD s i 0 ≡ backslash → isPlain (letter (getD s (i + 1) 0)) ≡ false → CharAt s i 0

@@ -1,4 +1,4 @@
-// Reading the fields of a sheet's line, each from its own bytes. What each function answers is what the definition reads.
+// Reading the fields of a sheet's line: each from its own bytes, or in place up to the end of its piece. What each function answers is what the definition reads.
 pub mod hex;
 pub mod int;
 pub mod length;
@@ -19,10 +19,29 @@ pub enum OptDecimal {
     Not,
 }
 
-// A dash, a name, or neither.
-pub enum Alias {
-    Absent,
-    Named,
+// A number in place and where its piece ends, or none.
+pub enum DecimalAt {
+    Is(u64, usize),
+    Not,
+}
+
+// A number in place, a dash, or neither.
+pub enum OptDecimalAt {
+    Is(u64, usize),
+    Absent(usize),
+    Not,
+}
+
+// Where a name ends, or none.
+pub enum TextAt {
+    To(usize),
+    Not,
+}
+
+// Where a dash ends, or a name; or neither.
+pub enum AliasAt {
+    Absent(usize),
+    Named(usize),
     Not,
 }
 

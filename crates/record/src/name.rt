@@ -1,91 +1,74 @@
 // Names of a sheet, and what may be named.
 ghost use mathlib.Core.Path.{_≡_};
-ghost use mathlib.Core.List.{[], _∷_};
-ghost use Rattle.model.specs.Field.{read, Form};
-ghost use Rattle.record.specs.Answer.{isRead, aliasOf};
-ghost use Rattle.record.specs.Name.{bare as bareOf, letter as letterOf, step as stepOf};
-use crate::Alias;
-use crate::number::is_dash;
+ghost use mathlib.Core.Bool.{false};
+ghost use lib.ListN.{getD};
+ghost use Rattle.record.specs.Name.{isPlain, letter, CharAt};
+ghost use Rattle.record.specs.Place.{Fed, separates};
+ghost use Rattle.record.specs.InPlace.{NameAt, AliasReadAt};
+use crate::AliasAt;
+use crate::TextAt;
+use crate::piece::separates;
 
-// What the bytes before have come to: nothing open, a backslash that waits for its letter, or a byte that may not stand there.
-enum Seen {
-    Plain,
-    Escape,
-    Bad,
-}
-
-// A byte with nothing open before it.
-fn bare(b: u8) -> Seen
-    ensures { λ r. ⌜ r ≡ bareOf b ⌝ }
-{
-    if b == b'\t' {
-        return Seen::Bad;
-    }
-    if b == b'\n' {
-        return Seen::Bad;
-    }
-    if b == b'\\' {
-        Seen::Escape
-    } else {
-        Seen::Plain
-    }
-}
-
-// A byte behind a backslash.
-fn letter(b: u8) -> Seen
-    ensures { λ r. ⌜ r ≡ letterOf b ⌝ }
+// Whether a byte may stand behind a backslash.
+fn escaped(b: u8) -> bool
+    ensures { λ r. ⌜ r ≡ isPlain (letter b) ⌝ }
 {
     if b == b'\\' {
-        return Seen::Plain;
+        return true;
     }
     if b == b'n' {
-        return Seen::Plain;
+        return true;
     }
-    if b == b't' { Seen::Plain } else { Seen::Bad }
+    b == b't'
 }
 
-// One byte more.
-fn step(seen: Seen, b: u8) -> Seen
-    ensures { λ r. ⌜ r ≡ stepOf seen b ⌝ }
+// How many bytes the character at i has: two for one of the three escapes. 0 for a backslash with no letter of theirs.
+fn char_len(s: &[u8], i: usize) -> usize
+    requires { ⌜ Fed (now s) i ⌝ }
+    ensures { λ r. ⌜ CharAt (now (s .entry)) i r ⌝ }
 {
-    match seen {
-        Seen::Plain => bare(b),
-        Seen::Escape => letter(b),
-        Seen::Bad => Seen::Bad,
+    if s[i] == b'\\' {
+        if escaped(s[i + 1]) {
+            return 2;
+        }
+        return 0;
     }
+    1
 }
 
-// A name: any bytes, with the three escapes and no other.
-pub fn text(s: &[u8]) -> bool
-    ensures { λ r. ⌜ r ≡ isRead (read Form.text (now (s .entry) ∷ [])) ⌝ }
+// The name at p: any bytes up to the end of the piece, with the three escapes and no other.
+pub fn text_at(s: &[u8], p: usize) -> TextAt
+    requires { ⌜ Fed (now s) p ⌝ }
+    ensures { λ r. ⌜ NameAt (now (s .entry)) p r ⌝ }
 {
-    let mut seen = Seen::Plain;
-    let mut i = 0;
-    while i < s.len() {
-        seen = step(seen, s[i]);
-        i += 1;
+    let mut i = p;
+    while !separates(s[i]) {
+        let n = char_len(s, i);
+        if n == 0 {
+            return TextAt::Not;
+        }
+        i += n;
     }
-    match seen {
-        Seen::Plain => true,
-        Seen::Escape => false,
-        Seen::Bad => false,
-    }
+    TextAt::To(i)
 }
 
 // A dash, or an equals sign and a name.
-pub fn alias(s: &[u8]) -> Alias
-    ensures { λ r. ⌜ r ≡ aliasOf (read Form.alias (now (s .entry) ∷ [])) ⌝ }
+pub fn alias_at(s: &[u8], p: usize) -> AliasAt
+    requires { ⌜ Fed (now s) p ⌝ }
+    ensures { λ r. ⌜ AliasReadAt (now (s .entry)) p r ⌝ }
 {
-    if is_dash(s) {
-        return Alias::Absent;
-    }
-    if s.len() == 0 {
-        return Alias::Not;
-    }
-    if s[0] == b'=' {
-        if text(&s[1..]) {
-            return Alias::Named;
+    let b = s[p];
+    if b == b'-' {
+        if separates(s[p + 1]) {
+            return AliasAt::Absent(p + 1);
         }
+        return AliasAt::Not;
     }
-    Alias::Not
+    if b != b'=' {
+        return AliasAt::Not;
+    }
+    match text_at(s, p + 1) {
+        TextAt::To(r) => AliasAt::Named(r),
+        TextAt::Not => AliasAt::Not,
+    }
 }

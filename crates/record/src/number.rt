@@ -1,12 +1,18 @@
 // Numbers of a sheet.
 ghost use mathlib.Core.Path.{_≡_};
 ghost use mathlib.Core.List.{[], _∷_};
-ghost use Rattle.model.specs.Field.{read, Form};
+ghost use Prim.Native.Nat.{_≤_};
+ghost use Rattle.model.specs.Field.{read, Form, u32};
 ghost use Rattle.model.specs.Text.{same};
-ghost use Rattle.record.specs.Answer.{decimalOf, optDecimalOf, flagOf};
+ghost use Rattle.record.specs.Answer.{decimalOf, optDecimalOf};
 ghost use Rattle.record.specs.Number.{digitsOn, dash};
+ghost use Rattle.record.specs.Place.{Fed};
+ghost use Rattle.record.specs.InPlace.{DigitsAt, NumberAt, OptNumberAt};
 use crate::Decimal;
+use crate::DecimalAt;
 use crate::OptDecimal;
+use crate::OptDecimalAt;
+use crate::piece::separates;
 
 // The byte of the digit 0.
 const DIGIT_0: u64 = 48;
@@ -84,19 +90,73 @@ pub fn decimal_or_absent(s: &[u8], limit: u64) -> OptDecimal
     }
 }
 
-// A flag: 0 or 1.
-pub fn flag(s: &[u8]) -> Decimal
-    ensures { λ r. ⌜ r ≡ flagOf (read Form.flag (now (s .entry) ∷ [])) ⌝ }
+// The digits from p on that follow the number `first`, up to the end of their piece. The number with them is at most `limit`, which is small enough that one digit more does not overflow.
+fn gather_at(s: &[u8], p: usize, first: u64, limit: u64) -> DecimalAt
+    requires { ⌜ Fed (now s) p ⌝ }
+    requires { ⌜ (first ≤ limit) × (limit ≤ u32) ⌝ }
+    ensures { λ r. ⌜ DigitsAt limit first (now (s .entry)) p r ⌝ }
 {
-    if s.len() != 1 {
-        return Decimal::Not;
+    let mut v = first;
+    let mut i = p;
+    let mut b = wide(s[p]);
+    while DIGIT_0 <= b {
+        let d = b - DIGIT_0;
+        if 9 < d {
+            return DecimalAt::Not;
+        }
+        v = v * 10 + d;
+        if limit < v {
+            return DecimalAt::Not; // above the limit
+        }
+        i += 1;
+        b = wide(s[i]);
     }
-    let b = s[0];
-    if b == b'0' {
-        return Decimal::Is(0);
+    if separates(s[i]) {
+        return DecimalAt::Is(v, i);
     }
-    if b == b'1' {
-        return Decimal::Is(1);
+    DecimalAt::Not
+}
+
+// The decimal number at p, with no spare zero and at most `limit`.
+pub fn decimal_at(s: &[u8], p: usize, limit: u64) -> DecimalAt
+    requires { ⌜ Fed (now s) p ⌝ }
+    requires { ⌜ limit ≤ u32 ⌝ }
+    ensures { λ r. ⌜ NumberAt limit (now (s .entry)) p r ⌝ }
+{
+    let b = wide(s[p]);
+    if b < DIGIT_0 {
+        return DecimalAt::Not;
     }
-    Decimal::Not
+    let d = b - DIGIT_0;
+    if 9 < d {
+        return DecimalAt::Not;
+    }
+    if d == 0 {
+        if separates(s[p + 1]) {
+            return DecimalAt::Is(0, p + 1);
+        }
+        return DecimalAt::Not;
+    }
+    if limit < d {
+        return DecimalAt::Not;
+    }
+    gather_at(s, p + 1, d, limit)
+}
+
+// The decimal number at p as above, or a dash.
+pub fn decimal_or_absent_at(s: &[u8], p: usize, limit: u64) -> OptDecimalAt
+    requires { ⌜ Fed (now s) p ⌝ }
+    requires { ⌜ limit ≤ u32 ⌝ }
+    ensures { λ r. ⌜ OptNumberAt limit (now (s .entry)) p r ⌝ }
+{
+    if s[p] == b'-' {
+        if separates(s[p + 1]) {
+            return OptDecimalAt::Absent(p + 1);
+        }
+        return OptDecimalAt::Not;
+    }
+    match decimal_at(s, p, limit) {
+        DecimalAt::Is(n, r) => OptDecimalAt::Is(n, r),
+        DecimalAt::Not => OptDecimalAt::Not,
+    }
 }

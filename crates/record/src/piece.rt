@@ -1,18 +1,24 @@
 // Where a piece of a sheet ends.
-ghost use Prim.Native.Nat.{_≤_};
-ghost use lib.ListN.{length};
-ghost use Rattle.record.specs.Piece.{Piece};
+ghost use mathlib.Core.Path.{_≡_};
+ghost use Rattle.record.specs.Place.{Fed, Ends, separates};
 
-// The place of the first separator from `p` on, or the end of `s`.
-pub fn piece_end(s: &[u8], p: usize, sep: u8) -> usize
-    requires { ⌜ p ≤ length (now s) ⌝ }
-    ensures { λ r. ⌜ Piece sep (now (s .entry)) p r ⌝ }
+// Whether a piece ends at this byte.
+pub fn separates(b: u8) -> bool
+    ensures { λ r. ⌜ r ≡ separates b ⌝ }
+{
+    if b == b'\t' {
+        return true;
+    }
+    b == b'\n'
+}
+
+// The end of the piece that begins at p.
+pub fn piece_end(s: &[u8], p: usize) -> usize
+    requires { ⌜ Fed (now s) p ⌝ }
+    ensures { λ r. ⌜ Ends (now (s .entry)) p r ⌝ }
 {
     let mut i = p;
-    while i < s.len() {
-        if s[i] == sep {
-            return i;
-        }
+    while !separates(s[i]) {
         i += 1;
     }
     i

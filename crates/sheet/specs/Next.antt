@@ -8,11 +8,11 @@ use mathlib.Core.List.{List, [], _∷_, _++_}
 use mathlib.Core.Option.{some}
 use borrow.Author.Tests.{eqb-true, eqb-false}
 use lib.Dec.{eqb}
-use lib.ListN.{length, getD}
+use lib.ListN.{length, drop, getD}
 use lib.Seq.{slice}
 use Rattle.sheet.specs.Stack.{dueWords, dueCountAt, dueRoomAt}
 use Rattle.words.specs.Places.{writeKind, kindCount, sortCount, lineStartAt, lineEndAt}
-use Rattle.model.specs.Text.{Bytes}
+use Rattle.model.specs.Text.{Bytes, lineFeed, split}
 use Rattle.model.specs.Field.{Fields}
 use Rattle.model.specs.Kind.{Sort, Kind}
 use Rattle.model.specs.Record.{Rec, rec, forms, readRec}
@@ -20,7 +20,7 @@ use Rattle.model.specs.Sheet.{refused, readLine, orElse}
 use Rattle.model.specs.Refusal.{Refusal}
 use Rattle.model.specs.Call.{refuse}
 use Rattle.words.specs.Words.{Roomy, part, decode, recOf, fieldsOf, maxRecords}
-use Rattle.record.specs.Piece.{Piece}
+use Rattle.record.specs.Place.{LineEnd}
 use Rattle.line.specs.LineRead.{Got, IntoRead}
 use Rattle.line.specs.declared.read.Line.{Line}
 use Rattle.sheet.specs.declared.reader.Read.{Read}
@@ -28,7 +28,7 @@ use Rattle.sheet.specs.declared.reader.Read.the-variants.{BadLine, BigTr
 use Rattle.sheet.specs.declared.reader.Step.{Step}
 use Rattle.sheet.specs.declared.reader.Step.the-variants.{More, Bad, Big}
 use Rattle.words.specs.Held.{LineAt}
-use Rattle.sheet.specs.LineLaws.{line-stands}
+use Rattle.sheet.specs.LineLaws.{LinesEnd, line-first, line-more, line-stands}
 use Rattle.sheet.specs.Due.{roomBelow, isZero}
 use Rattle.sheet.specs.Writes.{writes, writeAmong}
 use Rattle.sheet.specs.Progress.{placeAt, rest, line-refused, no-feed, too-many, deep, unformed, well-formed}
@@ -70,79 +70,79 @@ module _ (sheet : Bytes) (a b w : List ℕ) (i pos m wr : ℕ) (o : SoFar sheet 
   line-refuses : (x : ℕ → Refusal) → readLine (group w m .sort) (isZero (group w m .room)) (placeAt sheet pos (suc i)) ≡ refused (x (suc i)) → readOnly sheet ≡ refuse (x (i + 1))
   line-refuses x e = rw (add-one i) (rest-refused sheet a b w i pos (suc m) wr state (x (suc i)) (ap (λ st. rest st (placeAt sheet pos (suc i))) (top-is w m (state .fit)) ∙ line-refused (group w m .sort) (group w m .count - 1) (group w m .room) (dues w m) (placeAt sheet pos (suc i)) (x (suc i)) e))
 
-  module _ (e : ℕ) (piece : Piece 10 sheet pos e) where
-    pub next-unended : e ≡ length sheet → readOnly sheet ≡ refuse (Refusal.BadLine (i + 1))
-    next-unended q = line-refuses (λ l. Refusal.BadLine l) (no-feed sheet pos (suc i) (group w m .sort) (group w m .room) (piece .last q))
+  -- from pos on there is no line feed
+  pub next-unended : split lineFeed (drop pos sheet) .more ≡ [] → readOnly sheet ≡ refuse (Refusal.BadLine (i + 1))
+  next-unended q = line-refuses (λ l. Refusal.BadLine l) (no-feed sheet pos (suc i) (group w m .sort) (group w m .room) q)
 
-    module _ (ends : (e ≡ length sheet) → ⊥) where
-      within : e < length sheet
-      within = omega (arith, piece .within, ends)
+  module _ (e : ℕ) (line : LineEnd sheet pos e) where
+    behind : split lineFeed (drop pos sheet) .more ≡ split lineFeed (drop (e + 1) sheet) .first ∷ split lineFeed (drop (e + 1) sheet) .more
+    behind = line-more sheet pos e line
 
-      pub next-many : i ≡ maxRecords → readOnly sheet ≡ refuse (Refusal.BigTree (i + 1))
-      next-many q = line-refuses (λ l. Refusal.BigTree l) (too-many sheet pos (suc i) (group w m .sort) (group w m .room) (e + 1) (piece .more within) (omega arith))
+    pub next-many : i ≡ maxRecords → readOnly sheet ≡ refuse (Refusal.BigTree (i + 1))
+    next-many q = line-refuses (λ l. Refusal.BigTree l) (too-many sheet pos (suc i) (group w m .sort) (group w m .room) (e + 1) behind (omega arith))
 
-      pub next-deep : getD w (m * dueWords + dueRoomAt) 0 ≡ 0 → readOnly sheet ≡ refuse (Refusal.BigTree (i + 1))
-      next-deep q = line-refuses (λ l. Refusal.BigTree l) (deep sheet pos (suc i) (group w m .sort) (group w m .room) (e + 1) (piece .more within) q)
+    pub next-deep : getD w (m * dueWords + dueRoomAt) 0 ≡ 0 → readOnly sheet ≡ refuse (Refusal.BigTree (i + 1))
+    next-deep q = line-refuses (λ l. Refusal.BigTree l) (deep sheet pos (suc i) (group w m .sort) (group w m .room) (e + 1) behind q)
 
-      module _ (few : i ≡ maxRecords → ⊥) (room : getD w (m * dueWords + dueRoomAt) 0 ≡ 0 → ⊥) where
-        low : i < maxRecords
-        low = omega (arith, o .few, few)
+    module _ (few : i ≡ maxRecords → ⊥) (room : getD w (m * dueWords + dueRoomAt) 0 ≡ 0 → ⊥) where
+      low : i < maxRecords
+      low = omega (arith, o .few, few)
 
-        deep-enough : 0 < getD w (m * dueWords + dueRoomAt) 0
-        deep-enough = omega (arith, room)
+      deep-enough : 0 < getD w (m * dueWords + dueRoomAt) 0
+      deep-enough = omega (arith, room)
 
-        pub next-unformed : (a′ b′ : List ℕ) (l : Line) → IntoRead (group w m .sort) sheet pos e i a b a′ b′ l → l ≡ Line.Not → readOnly sheet ≡ refuse (Refusal.BadLine (i + 1))
-        next-unformed a′ b′ l into z = let q = (rw z at into) .line .answer in line-refuses (λ l. Refusal.BadLine l) (unformed sheet pos (suc i) (group w m .sort) (group w m .room) (e + 1) (piece .more within) low deep-enough (ap (readRec (group w m .sort)) (sym (piece .first)) ∙ q))
+      pub next-unformed : (a′ b′ : List ℕ) (l : Line) → IntoRead (group w m .sort) sheet pos e i a b a′ b′ l → l ≡ Line.Not → readOnly sheet ≡ refuse (Refusal.BadLine (i + 1))
+      next-unformed a′ b′ l into z = let q = (rw z at into) .line .answer in line-refuses (λ l. Refusal.BadLine l) (unformed sheet pos (suc i) (group w m .sort) (group w m .room) (e + 1) behind low deep-enough (ap (readRec (group w m .sort)) (sym (line-first sheet pos e line)) ∙ q))
 
-        -- ── a record ──
+      -- ── a record ──
 
-        module _ (a′ b′ w′ : List ℕ) (n r d : ℕ) (l : Line) (into : IntoRead (group w m .sort) sheet pos e i a b a′ b′ l) (is : l ≡ Line.Kind n) (pop : Popped w w′ m r) (below : d ≡ roomBelow (group w m .sort) (group w m .room)) where
-          got-it : Got (group w m .sort) sheet pos e (part a′ b′ i) n
-          got-it = (rw is at into) .line .answer
+      module _ (a′ b′ w′ : List ℕ) (n z r d : ℕ) (l : Line) (into : IntoRead (group w m .sort) sheet pos e i a b a′ b′ l) (is : l ≡ Line.Kind n z) (pop : Popped w w′ m r) (below : d ≡ roomBelow (group w m .sort) (group w m .room)) where
+        got-it : Got (group w m .sort) sheet pos e (part a′ b′ i) n
+        got-it = (rw is at into) .line .answer .1
 
-          fields : Fields (forms (group w m .sort) (got-it .kind))
-          fields = fieldsOf (forms (group w m .sort) (got-it .kind)) sheet (part a′ b′ i) 0
+        fields : Fields (forms (group w m .sort) (got-it .kind))
+        fields = fieldsOf (forms (group w m .sort) (got-it .kind)) sheet (part a′ b′ i) 0
 
-          decoded : decode (group w m .sort) sheet (part a′ b′ i) ≡ some (got-it .kind, fields)
-          unfolding decode recOf fields
-          decoded = rw (got-it .number, got-it .named)
+        decoded : decode (group w m .sort) sheet (part a′ b′ i) ≡ some (got-it .kind, fields)
+        unfolding decode recOf fields
+        decoded = rw (got-it .number, got-it .named)
 
-          is-read : readRec (group w m .sort) (slice pos e sheet) ≡ some (got-it .kind, fields)
-          is-read = got-it .read ∙ sym (got-it .held) ∙ decoded
+        is-read : readRec (group w m .sort) (slice pos e sheet) ≡ some (got-it .kind, fields)
+        is-read = got-it .read ∙ sym (got-it .held) ∙ decoded
 
-          stands : LineAt (group w m .sort) (got-it .kind) fields sheet (getD (part a′ b′ i) lineStartAt 0) (getD (part a′ b′ i) lineEndAt 0)
-          stands = rw (got-it .start, got-it .end) (line-stands sheet pos e piece within (group w m .sort) (got-it .kind) fields is-read)
+        stands : LineAt (group w m .sort) (got-it .kind) fields sheet (getD (part a′ b′ i) lineStartAt 0) (getD (part a′ b′ i) lineEndAt 0)
+        stands = rw (got-it .start, got-it .end) (line-stands sheet pos e line (group w m .sort) (got-it .kind) fields is-read)
 
-          pub next-low : n < kindCount
-          next-low = got-it .low
+        pub next-low : n < kindCount
+        next-low = got-it .low
 
-          pub next-space : Space w′ n r d
-          next-space = space w w′ m r n (state .long) (state .fit) (state .sorted) pop deep-enough (got-it .kind) (got-it .named) d below
+        pub next-space : Space w′ n r d
+        next-space = space w w′ m r n (state .long) (state .fit) (state .sorted) pop deep-enough (got-it .kind) (got-it .named) d below
 
-          writes-is : writes (group w m .sort) (got-it .kind) ≡ eqb n writeKind
-          writes-is = writes-kind (getD w (m * dueWords) 0) top-sort n (got-it .kind) (got-it .named)
+        writes-is : writes (group w m .sort) (got-it .kind) ≡ eqb n writeKind
+        writes-is = writes-kind (getD w (m * dueWords) 0) top-sort n (got-it .kind) (got-it .named)
 
-          module _ (w″ : List ℕ) (r″ wr′ : ℕ) where
-            seen : (t : Bool) → eqb n writeKind ≡ t → Wrote n wr i wr′ → (ss : List Rec) → writeAmong 1 ((state .done ++ (rec (group w m .sort) (got-it .kind) fields ∷ [])) ++ ss) ≡ orElse (writeOf wr′) (writeAmong (suc (suc i)) ss)
-            seen true q wrote = seen-write sheet a b w a′ b′ w″ i pos m wr state (e + 1) r″ wr′ (got-it .kind, fields) (writes-is ∙ q) (wrote .new (eqb-true n writeKind q)) (wrote .old (eqb-true n writeKind q))
-            seen false q wrote = seen-more sheet a b w a′ b′ w″ i pos m wr state (e + 1) r″ wr′ (got-it .kind, fields) (writes-is ∙ q) (wrote .other (eqb-false n writeKind q))
+        module _ (w″ : List ℕ) (r″ wr′ : ℕ) where
+          seen : (t : Bool) → eqb n writeKind ≡ t → Wrote n wr i wr′ → (ss : List Rec) → writeAmong 1 ((state .done ++ (rec (group w m .sort) (got-it .kind) fields ∷ [])) ++ ss) ≡ orElse (writeOf wr′) (writeAmong (suc (suc i)) ss)
+          seen true q wrote = seen-write sheet a b w a′ b′ w″ i pos m wr state (e + 1) r″ wr′ (got-it .kind, fields) (writes-is ∙ q) (wrote .new (eqb-true n writeKind q)) (wrote .old (eqb-true n writeKind q))
+          seen false q wrote = seen-more sheet a b w a′ b′ w″ i pos m wr state (e + 1) r″ wr′ (got-it .kind, fields) (writes-is ∙ q) (wrote .other (eqb-false n writeKind q))
 
-            pub next-more : Groups w′ w″ n (part a′ b′ i) 0 5 r d r″ → Wrote n wr i wr′ → Next sheet a′ b′ w″ i (More (e + 1) r″ wr′)
-            unfolding fields
-            next-more groups wrote =
-                rw (add-one i)
-                (advance sheet a b w a′ b′ w″ i pos m wr state (e + 1) r″ wr′ (got-it .kind, fields)
-                (well-formed sheet pos (suc i) (group w m .sort) (group w m .room) (e + 1) (piece .more within) low deep-enough (got-it .kind, fields) (ap (readRec (group w m .sort)) (sym (piece .first)) ∙ is-read))
-                low
-                (omega (arith, within))
-                (record { low = low; is = decoded; flags = got-it .flags; texts = got-it .texts; line = stands })
-                (λ j h. into .others j (omega arith) (λ q. omega arith))
-                (roomy-still (group w m .sort) e a′ b′ l into)
-                (omega (arith, state .long, pop .same, groups .same))
-                (groups .fit)
-                (groups .sorted)
-                (due-now w w′ m r n (state .long) (state .fit) (state .sorted) pop deep-enough (got-it .kind) (got-it .named) w″ r″ d sheet (part a′ b′ i) (got-it .flags) below groups)
-                (seen (eqb n writeKind) refl wrote))
+          pub next-more : Groups w′ w″ n (part a′ b′ i) 0 5 r d r″ → Wrote n wr i wr′ → Next sheet a′ b′ w″ i (More z r″ wr′)
+          unfolding fields
+          next-more groups wrote =
+              rw (add-one i, (rw is at into) .line .answer .0)
+              (advance sheet a b w a′ b′ w″ i pos m wr state (e + 1) r″ wr′ (got-it .kind, fields)
+              (well-formed sheet pos (suc i) (group w m .sort) (group w m .room) (e + 1) behind low deep-enough (got-it .kind, fields) (ap (readRec (group w m .sort)) (sym (line-first sheet pos e line)) ∙ is-read))
+              low
+              (omega (arith, line .to))
+              (record { low = low; is = decoded; flags = got-it .flags; texts = got-it .texts; line = stands })
+              (λ j h. into .others j (omega arith) (λ q. omega arith))
+              (roomy-still (group w m .sort) e a′ b′ l into)
+              (omega (arith, state .long, pop .same, groups .same))
+              (groups .fit)
+              (groups .sorted)
+              (due-now w w′ m r n (state .long) (state .fit) (state .sorted) pop deep-enough (got-it .kind) (got-it .named) w″ r″ d sheet (part a′ b′ i) (got-it .flags) below groups)
+              (seen (eqb n writeKind) refl wrote))
 
 -- ── the loop ──
 

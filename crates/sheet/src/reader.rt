@@ -6,7 +6,9 @@ ghost use Rattle.words.specs.Words.{Roomy, maxRecords};
 ghost use Rattle.words.specs.Places.{sortCount};
 ghost use Rattle.model.specs.Call.{maxBytes, workWords};
 ghost use Rattle.words.specs.Table.{sortOf};
+ghost use Rattle.line.specs.Place.{InLine};
 ghost use Rattle.sheet.specs.Due.{roomBelow};
+ghost use Rattle.sheet.specs.LineLaws.{LinesEnd};
 ghost use Rattle.sheet.specs.Reader.{Reads, SoFar, Ends};
 ghost use Rattle.sheet.specs.Next.{Next, Wrote};
 use crate::stack::pop;
@@ -14,7 +16,6 @@ use crate::stack::push;
 use crate::stack::push_groups;
 use line::read::Line;
 use line::read::read_into;
-use record::piece::piece_end;
 use words::sort;
 
 // The room of the statement: so deep may a tree be.
@@ -73,7 +74,21 @@ fn write_line(kind: u32, write: u32, i: usize) -> u32
     write
 }
 
-// The line at pos, as a record of the group on top of `top` others.
+// The place behind the last line feed, 0 if there is none: from there on no line has its line feed.
+fn lines_end(sheet: &[u8]) -> usize
+    ensures { λ r. ⌜ LinesEnd (now (sheet .entry)) r ⌝ }
+{
+    let mut z = sheet.len();
+    while z > 0 {
+        if sheet[z - 1] == b'\n' {
+            return z;
+        }
+        z -= 1;
+    }
+    z
+}
+
+// The line at pos, which has its line feed, as a record of the group on top of `top` others.
 fn read_next(
     sheet: &[u8],
     a: &mut [u32],
@@ -84,14 +99,10 @@ fn read_next(
     top: usize,
     write: u32,
 ) -> Step
-    requires { ⌜ length (now sheet) ≤ maxBytes ⌝ }
+    requires { ⌜ InLine (now sheet) pos ⌝ }
     requires { ⌜ SoFar (now sheet) (now a) (now b) (now stack) i pos (top + 1) write ⌝ }
     ensures { λ r. ⌜ Next (now (sheet .entry)) (now (a .exit)) (now (b .exit)) (now (stack .exit)) i r ⌝ }
 {
-    let e = piece_end(sheet, pos, b'\n');
-    if e == sheet.len() {
-        return Step::Bad;
-    }
     let at = top * crate::stack::GROUP_WORDS;
     let sort = stack[at];
     let room = stack[at + crate::stack::ROOM];
@@ -101,14 +112,14 @@ fn read_next(
     if room == 0 {
         return Step::Big;
     }
-    let Line::Kind(kind) = read_into(sheet, pos, e, sort, a, b, i) else {
+    let Line::Kind(kind, behind) = read_into(sheet, pos, sort, a, b, i) else {
         return Step::Bad;
     };
     let left = pop(stack, top);
     let below = room_below(sort, room);
     let due = push_groups(a, b, stack, left, i, kind, below);
     let first = write_line(kind, write, i);
-    Step::More(e + 1, due, first)
+    Step::More(behind, due, first)
 }
 
 // Reads a sheet into the records of two slices; the third is room to work in. What a refusal leaves in them is not promised.
@@ -118,12 +129,16 @@ pub fn read_sheet(sheet: &[u8], a: &mut [u32], b: &mut [u32], stack: &mut [u32])
     requires { ⌜ workWords ≤ length (now stack) ⌝ }
     ensures { λ r. ⌜ Reads (now (sheet .entry)) (now (a .exit)) (now (b .exit)) r ⌝ }
 {
+    let last = lines_end(sheet);
     push(stack, 0, sort::STATEMENT, 1, MAX_ROOM);
     let mut i = 0;
     let mut pos = 0;
     let mut due = 1;
     let mut write = 0;
     while due > 0 {
+        if last <= pos {
+            return Read::BadLine(i as u32 + 1);
+        }
         match read_next(sheet, a, b, stack, i, pos, due - 1, write) {
             Step::More(p, n, w) => {
                 pos = p;

@@ -1,9 +1,16 @@
 -- `line::field::number` meets its contract: the words of a number. Assumes nothing.
-use Rattle.line.proofs.WordLaws.{number-low, number-is, number-not}
 use borrow.Author.Needs.{needs}
+use Rattle.line.proofs.WordLaws.{number-at-low, number-at, number-at-not}
 use Rattle.line.proofs.field.number.Statement.{statement}
 use Rattle.line.proofs.field.number.Tie as tie
 
 pub number-spec : {M : Type 1} → statement M
 number-spec =
-    tie.close (tie.spec (λ c κs. search needs) (λ c. search needs) (λ c. record { fits = search (number-low, needs) }) (λ c. search needs) (λ c. search (number-is, needs)) (λ c. search (number-not, needs)))
+    tie.close
+    (tie.spec
+    (λ c κs. search needs)
+    (λ c. search needs)
+    (λ c. record { fits = search (number-at-low, needs) })
+    (λ c. search needs)
+    (λ c. search (number-at, needs))
+    (λ c. search (number-at-not, needs)))

@@ -1,6 +1,7 @@
 -- `line::field::text` meets its contract: the place of a name. Assumes nothing.
-use Rattle.line.proofs.NameLaws.{text-is, text-not}
 use borrow.Author.Needs.{needs}
+use native.Mathlib.Omega.{arith}
+use Rattle.line.proofs.NameLaws.{text-is, text-not, text-small}
 use Rattle.line.proofs.field.text.Statement.{statement}
 use Rattle.line.proofs.field.text.Tie as tie
 
@@ -8,11 +9,10 @@ pub text-spec : {M : Type 1} → statement M
 text-spec =
     tie.close
     (tie.spec
-    (λ c. search needs)
-    (λ c. search needs)
-    (λ c. search needs)
     (λ c κs. search needs)
     (λ c. search needs)
+    (λ c. search needs)
+    (λ c. record { fits = search (text-small, needs) })
     (λ c. search needs)
     (λ c. search (text-is, needs))
     (λ c. search (text-not, needs)))

@@ -1,6 +1,6 @@
 -- `line::field::variable` meets its contract: the words of an id or a dash. Assumes nothing.
-use Rattle.line.proofs.WordLaws.{variable-low, variable-is, variable-absent, variable-not}
 use borrow.Author.Needs.{needs}
+use Rattle.line.proofs.WordLaws.{variable-at-low, variable-at, variable-at-absent, variable-at-not}
 use Rattle.line.proofs.field.variable.Statement.{statement}
 use Rattle.line.proofs.field.variable.Tie as tie
 
@@ -10,9 +10,9 @@ variable-spec =
     (tie.spec
     (λ c κs. search needs)
     (λ c. search needs)
-    (λ c. record { fits = search (variable-low, needs) })
+    (λ c. record { fits = search (variable-at-low, needs) })
     (λ c. search needs)
     (λ c. search needs)
-    (λ c. search (variable-is, needs))
-    (λ c. search (variable-absent, needs))
-    (λ c. search (variable-not, needs)))
+    (λ c. search (variable-at, needs))
+    (λ c. search (variable-at-absent, needs))
+    (λ c. search (variable-at-not, needs)))

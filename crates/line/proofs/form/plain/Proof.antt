@@ -1,6 +1,6 @@
 -- `line::form::plain` meets its contract: one piece, arm by arm. Assumes nothing.
-use Rattle.line.proofs.CodeLaws.{arm-flag, arm-var, arm-varOrAbsent, arm-int, arm-float, arm-text, arm-alias}
 use borrow.Author.Needs.{needs}
+use Rattle.line.proofs.CodeLaws.{arm-flag, arm-var, arm-varOrAbsent, arm-int, arm-float, arm-text, arm-alias}
 use Rattle.line.proofs.form.plain.Statement.{statement}
 use Rattle.line.proofs.form.plain.Tie as tie
 
@@ -8,9 +8,6 @@ pub plain-spec : {M : Type 1} → statement M
 plain-spec =
     tie.close
     (tie.spec
-    (λ c. search needs)
-    (λ c. search needs)
-    (λ c. search needs)
     (λ c κs. search needs)
     (λ c κs. search needs)
     (λ c κs. search needs)

@@ -1,4 +1,4 @@
-use Rattle.sheet.specs.Next.{top-room, top-sort, top-count, roomy-still, next-unended, next-many, next-deep, next-unformed, next-low, next-space, next-more}
+use Rattle.sheet.specs.Next.{top-room, top-sort, top-count, roomy-still, next-many, next-deep, next-unformed, next-low, next-space, next-more}
 use native.Mathlib.Omega.{arith}
 use borrow.Author.Needs.{needs}
 use Rattle.sheet.proofs.reader.read_next.Statement.{statement}
@@ -17,28 +17,16 @@ back-pop c = search
 abbrev back-kind : tie.After-kind → tie.After-read-into
 back-kind c = search
 
-abbrev back-read-into : tie.After-read-into → tie.Else3
+abbrev back-read-into : tie.After-read-into → tie.Else2
 back-read-into c = search
-
-abbrev back-else3 : tie.Else3 → tie.Else2
-back-else3 c = search
 
 abbrev back-else2 : tie.Else2 → tie.Else1
 back-else2 c = search
 
-abbrev back-else1 : tie.Else1 → tie.After-piece-end
+abbrev back-else1 : tie.Else1 → tie.Start
 back-else1 c = search
 
-abbrev back-piece-end : tie.After-piece-end → tie.Start
-back-piece-end c = search
-
-ruleset ways = (back-push-groups, back-room-below, back-pop, back-kind, back-read-into, back-else3, back-else2, back-else1, back-piece-end)
-
-returns : tie.Need-returns
-returns c =
-    let after-piece-end : tie.After-piece-end = search ways depth 11 in
-    let start : tie.Start = search ways depth 11 in
-    next-unended _ _ _ _ _ _ _ _ (start .pre .1) _ (after-piece-end .piece-end .ensures) (c .if1 .taken)
+ruleset ways = (back-push-groups, back-room-below, back-pop, back-kind, back-read-into, back-else2, back-else1)
 
 mul-at : tie.Need-mul-at
 mul-at c =
@@ -70,36 +58,29 @@ slice-read-room c =
     let start : tie.Start = search ways depth 11 in
     omega (arith, (top-room _ _ _ _ _ _ _ _ (start .pre .1)) .few, (top-room _ _ _ _ _ _ _ _ (start .pre .1)) .long)
 
+returns : tie.Need-returns
+returns c =
+    let start : tie.Start = search ways depth 11 in
+    next-many _ _ _ _ _ _ _ _ (start .pre .1) _ (start .pre .0 .fed .line) (c .if1 .taken)
+
 returns-2 : tie.Need-returns-2
 returns-2 c =
-    let else1 : tie.Else1 = search ways depth 11 in
-    let after-piece-end : tie.After-piece-end = search ways depth 11 in
     let start : tie.Start = search ways depth 11 in
-    next-many _ _ _ _ _ _ _ _ (start .pre .1) _ (after-piece-end .piece-end .ensures) (else1 .if1 .left) (c .if2 .taken)
-
-returns-3 : tie.Need-returns-3
-returns-3 c =
-    let else1 : tie.Else1 = search ways depth 11 in
-    let after-piece-end : tie.After-piece-end = search ways depth 11 in
-    let start : tie.Start = search ways depth 11 in
-    next-deep _ _ _ _ _ _ _ _ (start .pre .1) _ (after-piece-end .piece-end .ensures) (else1 .if1 .left) (c .if3 .taken)
+    next-deep _ _ _ _ _ _ _ _ (start .pre .1) _ (start .pre .0 .fed .line) (c .if2 .taken)
 
 read-into-requires : tie.Need-read-into-requires
 read-into-requires c κs =
-    let else2 : tie.Else2 = search ways depth 11 in
-    let after-piece-end : tie.After-piece-end = search ways depth 11 in
+    let else1 : tie.Else1 = search ways depth 11 in
     let start : tie.Start = search ways depth 11 in (
-      record { from = after-piece-end .piece-end .ensures .from; to = after-piece-end .piece-end .ensures .within; short = start .pre .0 },
-      ((top-sort _ _ _ _ _ _ _ _ (start .pre .1), omega (arith, (start .pre .1) .few, else2 .if2 .left)), (start .pre .1) .roomy),
+      start .pre .0,
+      ((top-sort _ _ _ _ _ _ _ _ (start .pre .1), omega (arith, (start .pre .1) .few, else1 .if1 .left)), (start .pre .1) .roomy),
     )
 
-returns-4 : tie.Need-returns-4
-returns-4 c =
+returns-3 : tie.Need-returns-3
+returns-3 c =
     let after-read-into : tie.After-read-into = search ways depth 11 in
-    let else3 : tie.Else3 = search ways depth 11 in
     let else2 : tie.Else2 = search ways depth 11 in
     let else1 : tie.Else1 = search ways depth 11 in
-    let after-piece-end : tie.After-piece-end = search ways depth 11 in
     let start : tie.Start = search ways depth 11 in
     next-unformed
     _
@@ -112,14 +93,13 @@ returns-4 c =
     _
     (start .pre .1)
     _
-    (after-piece-end .piece-end .ensures)
+    (start .pre .0 .fed .line)
     (else1 .if1 .left)
     (else2 .if2 .left)
-    (else3 .if3 .left)
     _
     _
     _
-    (after-read-into .read-into .ensures)
+    (after-read-into .read-into .ensures _ (start .pre .0 .fed .line))
     (c .enum-told .given .1)
 
 pop-requires : tie.Need-pop-requires
@@ -129,9 +109,9 @@ pop-requires c κs =
 
 room-below-requires : tie.Need-room-below-requires
 room-below-requires c κs =
-    let else3 : tie.Else3 = search ways depth 11 in
+    let else2 : tie.Else2 = search ways depth 11 in
     let start : tie.Start = search ways depth 11 in
-    (top-sort _ _ _ _ _ _ _ _ (start .pre .1), omega (arith, else3 .if3 .left))
+    (top-sort _ _ _ _ _ _ _ _ (start .pre .1), omega (arith, else2 .if2 .left))
 
 push-groups-requires : tie.Need-push-groups-requires
 push-groups-requires c κs =
@@ -139,10 +119,8 @@ push-groups-requires c κs =
     let after-pop : tie.After-pop = search ways depth 11 in
     let after-kind : tie.After-kind = search ways depth 11 in
     let after-read-into : tie.After-read-into = search ways depth 11 in
-    let else3 : tie.Else3 = search ways depth 11 in
     let else2 : tie.Else2 = search ways depth 11 in
     let else1 : tie.Else1 = search ways depth 11 in
-    let after-piece-end : tie.After-piece-end = search ways depth 11 in
     let start : tie.Start = search ways depth 11 in (
       next-low
           _
@@ -155,10 +133,9 @@ push-groups-requires c κs =
           _
           (start .pre .1)
           _
-          (after-piece-end .piece-end .ensures)
+          (start .pre .0 .fed .line)
           (else1 .if1 .left)
           (else2 .if2 .left)
-          (else3 .if3 .left)
           _
           _
           _
@@ -166,14 +143,15 @@ push-groups-requires c κs =
           _
           _
           _
-          (after-read-into .read-into .ensures)
+          _
+          (after-read-into .read-into .ensures _ (start .pre .0 .fed .line))
           (after-kind .kind .given .1)
           (after-pop .pop .ensures)
           (after-room-below .room-below .ensures),
       (
-        omega (arith, (start .pre .1) .few, else2 .if2 .left),
+        omega (arith, (start .pre .1) .few, else1 .if1 .left),
         (
-          roomy-still _ _ _ _ _ _ _ _ (start .pre .1) _ _ _ _ _ (after-read-into .read-into .ensures),
+          roomy-still _ _ _ _ _ _ _ _ (start .pre .1) _ _ _ _ _ (after-read-into .read-into .ensures _ (start .pre .0 .fed .line)),
           next-space
               _
               _
@@ -185,10 +163,9 @@ push-groups-requires c κs =
               _
               (start .pre .1)
               _
-              (after-piece-end .piece-end .ensures)
+              (start .pre .0 .fed .line)
               (else1 .if1 .left)
               (else2 .if2 .left)
-              (else3 .if3 .left)
               _
               _
               _
@@ -196,7 +173,8 @@ push-groups-requires c κs =
               _
               _
               _
-              (after-read-into .read-into .ensures)
+              _
+              (after-read-into .read-into .ensures _ (start .pre .0 .fed .line))
               (after-kind .kind .given .1)
               (after-pop .pop .ensures)
               (after-room-below .room-below .ensures),
@@ -206,27 +184,19 @@ push-groups-requires c κs =
 
 write-line-requires : tie.Need-write-line-requires
 write-line-requires c κs =
-    let else2 : tie.Else2 = search ways depth 11 in
+    let else1 : tie.Else1 = search ways depth 11 in
     let start : tie.Start = search ways depth 11 in
-    omega (arith, (start .pre .1) .few, else2 .if2 .left)
+    omega (arith, (start .pre .1) .few, else1 .if1 .left)
 
-add-t18 : tie.Need-add-t18
-add-t18 c =
-    let after-piece-end : tie.After-piece-end = search ways depth 11 in
-    let start : tie.Start = search ways depth 11 in
-    omega (arith, after-piece-end .piece-end .ensures .within, start .pre .0)
-
-returns-5 : tie.Need-returns-5
-returns-5 c =
+returns-4 : tie.Need-returns-4
+returns-4 c =
     let after-push-groups : tie.After-push-groups = search ways depth 11 in
     let after-room-below : tie.After-room-below = search ways depth 11 in
     let after-pop : tie.After-pop = search ways depth 11 in
     let after-kind : tie.After-kind = search ways depth 11 in
     let after-read-into : tie.After-read-into = search ways depth 11 in
-    let else3 : tie.Else3 = search ways depth 11 in
     let else2 : tie.Else2 = search ways depth 11 in
     let else1 : tie.Else1 = search ways depth 11 in
-    let after-piece-end : tie.After-piece-end = search ways depth 11 in
     let start : tie.Start = search ways depth 11 in
     next-more
     _
@@ -239,10 +209,9 @@ returns-5 c =
     _
     (start .pre .1)
     _
-    (after-piece-end .piece-end .ensures)
+    (start .pre .0 .fed .line)
     (else1 .if1 .left)
     (else2 .if2 .left)
-    (else3 .if3 .left)
     _
     _
     _
@@ -250,7 +219,8 @@ returns-5 c =
     _
     _
     _
-    (after-read-into .read-into .ensures)
+    _
+    (after-read-into .read-into .ensures _ (start .pre .0 .fed .line))
     (after-kind .kind .given .1)
     (after-pop .pop .ensures)
     (after-room-below .room-below .ensures)
@@ -264,28 +234,25 @@ pub read-next-spec : {M : Type 1} → statement M
 read-next-spec =
     tie.close
     (tie.spec
-    (λ c κs. search needs)
-    returns
     mul-at
     mul-sort
     slice-read-sort
     add-room
     mul-room
     slice-read-room
+    returns
     returns-2
-    returns-3
     read-into-requires
     (λ c. search needs)
     (λ c. search needs)
     (λ c. search needs)
     (λ c. search needs)
-    returns-4
+    returns-3
     pop-requires
     room-below-requires
     push-groups-requires
     write-line-requires
-    add-t18
     (λ c. search needs)
     (λ c. search needs)
     (λ c. search needs)
-    returns-5)
+    returns-4)
