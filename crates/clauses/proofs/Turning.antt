@@ -11,6 +11,7 @@ use Rattle.model.specs.Tree.{Tree, Trees, node, []ᵗ, _∷ᵗ_, end, _▸_}
 use Rattle.model.specs.Lower.{_>>=_, ret, lowerClause, lowerClauses, lowerArms}
 use Rattle.words.specs.Held.{Held, HeldOf, HeldSome, HeldMany, size, sizeOf}
 use Rattle.words.specs.Words.{maxRecords}
+use Rattle.lower.specs.Side.{side}
 use Rattle.lower.specs.Rep.{State, Mem, Written, Rep}
 use Rattle.context.specs.Ops.{beforeOf}
 use Rattle.context.specs.declared.Before.the-variants as before
@@ -48,7 +49,7 @@ module _ (S : Sort) (turn : Turn S) (sheet : Bytes) (a b : List ℕ) (d : ℕ) w
   unfolding size
   nil-next i []ᵗ = omega arith
 
-  nil-run : (i : ℕ) (o : Option ℕ) (m : Mem) (ts : Trees S 0) (W : Written) (s : State) → Rep sheet a b W s m → Leaves sheet a b W (λ s. inTurn turn ts o s) o (suc i) (suc i) s m m
+  nil-run : {first : ℕ} (i : ℕ) (o : Option ℕ) (m : Mem) (ts : Trees S 0) (W : Written) (s : State) → Rep (side sheet a b first) W s m → Leaves (side sheet a b first) W (λ s. inTurn turn ts o s) o (suc i) (suc i) s m m
   unfolding inTurn
   nil-run i o m []ᵗ W s r = record { to = to-wider sub-both (to-refl r); left = refl }
 
@@ -63,10 +64,10 @@ module _ (S : Sort) (turn : Turn S) (sheet : Bytes) (a b : List ℕ) (d : ℕ) w
         let y = q .next ts (rw x (h .1)) in
         omega arith
 
-    both-run : (t : Tree S) (ts : Trees S n) (W : Written) (s : State) → Leaves sheet a b W (λ s. turn t o s) o₁ (suc i) (suc j) s m m₁ → Leaves sheet a b (bothPasses (suc i) (suc j) W) (λ s. inTurn turn ts o₁ s) o₂ (suc j) (suc e) (turn t o s .1) m₁ m₂ → Leaves sheet a b W (λ s. inTurn turn (t ∷ᵗ ts) o s) o₂ (suc i) (suc e) s m m₂
+    both-run : {first : ℕ} (t : Tree S) (ts : Trees S n) (W : Written) (s : State) → Leaves (side sheet a b first) W (λ s. turn t o s) o₁ (suc i) (suc j) s m m₁ → Leaves (side sheet a b first) (bothPasses (suc i) (suc j) W) (λ s. inTurn turn ts o₁ s) o₂ (suc j) (suc e) (turn t o s .1) m₁ m₂ → Leaves (side sheet a b first) W (λ s. inTurn turn (t ∷ᵗ ts) o s) o₂ (suc i) (suc e) s m m₂
     both-run t ts W s x y = let D = one-turn turn t ts o o₁ s (x .left) in record { to = rw D (to-wider (sub-turns i j e (p .moved .up) (q .moved .up)) (to-then (x .to) (y .to))); left = ap (λ (z : Option ℕ × State). z .0) D ∙ y .left }
 
-    cons-run : (ts : Trees S (suc n)) → HeldOf sheet a b ts d i → (W : Written) (s : State) → Rep sheet a b W s m → BothBlank W (suc i) (suc e) → Leaves sheet a b W (λ s. inTurn turn ts o s) o₂ (suc i) (suc e) s m m₂
+    cons-run : {first : ℕ} (ts : Trees S (suc n)) → HeldOf sheet a b ts d i → (W : Written) (s : State) → Rep (side sheet a b first) W s m → BothBlank W (suc i) (suc e) → Leaves (side sheet a b first) W (λ s. inTurn turn ts o s) o₂ (suc i) (suc e) s m m₂
     unfolding Held size
     cons-run (t ∷ᵗ ts) h W s r bl =
         let u = p .moved .up in

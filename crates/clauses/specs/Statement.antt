@@ -13,6 +13,7 @@ use Rattle.words.specs.Words.{Roomy, maxRecords}
 use Rattle.words.specs.Held.{Held, HeldSome, size}
 use Rattle.context.specs.Tables.{maxVars}
 use Rattle.context.specs.declared.LowerCtx.{LowerCtx}
+use Rattle.lower.specs.Side.{side}
 use Rattle.lower.specs.Rep.{State, Mem, Written, Rep}
 use Rattle.lower.specs.Clauses.{MovedTwice, BothBlank, Stands, Leaves}
 use Rattle.projections.specs.Ready.{Ready}
@@ -41,14 +42,21 @@ pub record LowersFrom (sheet : Bytes) (a b : List ℕ) (d e : ℕ) (after : Opti
   pub moved : MovedTwice 1 e m m′
   pub stands : Stands after m′
   pub next : (t : Tree statement) → Held sheet a b t d 0 → e ≡ size t
-  pub run : (t : Tree statement) → Held sheet a b t d 0 → (W : Written) (s : State) → Rep sheet a b W s m → BothBlank W (suc 1) (suc e) → Leaves sheet a b W (λ s. lower t s) after (suc 1) (suc e) s m m′
+  pub run : {first : ℕ} (t : Tree statement) → Held sheet a b t d 0 → (W : Written) (s : State) → Rep (side sheet a b first) W s m → BothBlank W (suc 1) (suc e) → Leaves (side sheet a b first) W (λ s. lower t s) after (suc 1) (suc e) s m m′
 
 -- ── from the empty state ──
+
+-- a statement is held, and the tables' slices are long enough
+pub record WholeAsked (sheet : Bytes) (a b ops rest : List ℕ) : Type 0 where
+  pub words : Roomy a b
+  pub held : HeldSome sheet a b statement maxDepth 0
+  pub in-ops : workWords ≤ length ops
+  pub in-rest : workWords ≤ length rest
 
 -- the tables stand for what the definition makes of a tree
 pub record Represented (sheet : Bytes) (a b : List ℕ) (t : Tree statement) (m : Mem) : Type 0 where
   pub written : Written
-  pub rep : Rep sheet a b written (lowerStatement t) m
+  pub rep : Rep (side sheet a b 0) written (lowerStatement t) m
 
 -- the statement that is held is lowered, from nothing, and the counts stay within the tables' bounds
 pub record LowersStatement (sheet : Bytes) (a b : List ℕ) (m : Mem) : Type 0 where

@@ -15,6 +15,7 @@ use Rattle.words.specs.Words.{Roomy, cell, maxRecords}
 use Rattle.words.specs.Held.{Held, RecordAt, size}
 use Rattle.words.specs.Cells.{shown}
 use Rattle.words.specs.Count.{countAt}
+use Rattle.lower.specs.Side.{side}
 use Rattle.lower.specs.Render.{Ops, render, renderOf, recsOver, exprRecs, exprRest, Below, belowIn, copiesBelow}
 use Rattle.lower.specs.Render
 use Rattle.lower.specs.Shows.{shift}
@@ -63,7 +64,7 @@ pub record Headed (sheet : Bytes) (a b : List ℕ) (gap d i : ℕ) (t : Tree exp
   pub head : Rec
   pub lower : (s : State) → lowerExpr t s ≡ (head ∷ lowerC list s .0, lowerC list s .1)
   pub shown : (N : Render.Notes) (A : Ops) → render N A t ≡ head ∷ renderC N A list
-  pub below : (N : Render.Notes) (k : ℕ) → BelowC N k list → Below N k t
+  pub below : (N : Render.Notes) (lo k : ℕ) → BelowC N lo k list → Below N lo k t
 
 module _ {sheet : Bytes} {a b : List ℕ} {d i : ℕ} (room : Roomy a b) where
   pub plainly : (t : Tree expr) → Held sheet a b t d i → ((cell a b i kindAt ≡ varKind) → ⊥) → ((cell a b i kindAt ≡ mapKind) → ⊥) → ((cell a b i kindAt ≡ patKind) → ⊥) → ((cell a b i kindAt ≡ listPredicateKind) → ⊥) → Headed sheet a b 0 d i t
@@ -77,7 +78,7 @@ module _ {sheet : Bytes} {a b : List ℕ} {d i : ℕ} (room : Roomy a b) where
     head = planned (PlanExpr.Over h) f;
     lower = λ s. rw (plain-lower ts s);
     shown = λ N A. ap (λ (x : Recs). planned (PlanExpr.Over h) f ∷ x) (append-nil (renderOf N A ts) ∙ plain-render N A ts);
-    below = λ N k b. (plain-below N k ts b, tt);
+    below = λ N lo k b. (plain-below N lo k ts b, tt);
   }
   plainly (node expr line Expr.Var f kids) hd n32 n33 n35 n36 = absurd (n32 (number-at room (hd .1)))
   plainly (node expr line Expr.Map f kids) hd n32 n33 n35 n36 = absurd (n33 (number-at room (hd .1)))
@@ -90,12 +91,12 @@ module _ {sheet : Bytes} {a b : List ℕ} {d i : ℕ} (room : Roomy a b) where
     head = planned PlanExpr.Call (func, (n, tt));
     lower = λ s. rw (plain-lower ts s);
     shown = λ N A. ap (λ (x : Recs). planned PlanExpr.Call (func, (n, tt)) ∷ x) (append-nil (renderOf N A ts) ∙ plain-render N A ts);
-    below = λ N k b. (plain-below N k ts b, tt);
+    below = λ N lo k b. (plain-below N lo k ts b, tt);
   }
   plainly (node expr line Expr.PatternPredicate f kids) hd n32 n33 n35 n36 = absurd (n35 (number-at room (hd .1)))
   plainly (node expr line Expr.ListPredicate f kids) hd n32 n33 n35 n36 = absurd (n36 (number-at room (hd .1)))
-  plainly (node expr line Expr.Unresolved f end) hd n32 n33 n35 n36 = record { n = 0; list = []ᶜ; total = counted room tt (hd .1); held = tt; sized = refl; head = planned (PlanExpr.Over Same.Null) tt; lower = λ s. refl; shown = λ N A. refl; below = λ N k b. tt }
-  plainly (node expr line Expr.Undesugared f end) hd n32 n33 n35 n36 = record { n = 0; list = []ᶜ; total = counted room tt (hd .1); held = tt; sized = refl; head = planned (PlanExpr.Over Same.Null) tt; lower = λ s. refl; shown = λ N A. refl; below = λ N k b. tt }
+  plainly (node expr line Expr.Unresolved f end) hd n32 n33 n35 n36 = record { n = 0; list = []ᶜ; total = counted room tt (hd .1); held = tt; sized = refl; head = planned (PlanExpr.Over Same.Null) tt; lower = λ s. refl; shown = λ N A. refl; below = λ N lo k b. tt }
+  plainly (node expr line Expr.Undesugared f end) hd n32 n33 n35 n36 = record { n = 0; list = []ᶜ; total = counted room tt (hd .1); held = tt; sized = refl; head = planned (PlanExpr.Over Same.Null) tt; lower = λ s. refl; shown = λ N A. refl; below = λ N lo k b. tt }
 
   pub mapped : (t : Tree expr) → Held sheet a b t d i → cell a b i kindAt ≡ mapKind → Headed sheet a b 1 d i t
   unfolding Held size exprNumber lowerExpr fold made exprStep over _>>=_ ret render recsOver exprRecs exprRest Below belowIn copiesBelow
@@ -110,7 +111,7 @@ module _ {sheet : Bytes} {a b : List ℕ} {d i : ℕ} (room : Roomy a b) where
     head = planned PlanExpr.Map (n, tt);
     lower = λ s. rw (entries-lower ts s);
     shown = λ N A. ap (λ (x : Recs). planned PlanExpr.Map (n, tt) ∷ x) (append-nil (renderOf N A ts) ∙ entries-render N A ts);
-    below = λ N k b. (entries-below N k ts b, tt);
+    below = λ N lo k b. (entries-below N lo k ts b, tt);
   }
   mapped (node expr line Expr.Call f kids) hd e = let z = number-at room (hd .1) in absurd (omega arith)
   mapped (node expr line Expr.PatternPredicate f kids) hd e = let z = number-at room (hd .1) in absurd (omega arith)
@@ -119,13 +120,13 @@ module _ {sheet : Bytes} {a b : List ℕ} {d i : ℕ} (room : Roomy a b) where
   mapped (node expr line Expr.Undesugared f kids) hd e = let z = number-at room (hd .1) in absurd (omega arith)
 
 -- a record over its expressions is lowered by lowering them
-headed-run : {sheet : Bytes} {a b : List ℕ} {gap d base i e : ℕ} {m m′ : Mem} (t : Tree expr) (o : Headed sheet a b gap d i t) (W : Written) (s : State) → Ran sheet a b W (carriedPiece (o .list)) base (suc (i + 1)) (suc e) s m m′ → Ran sheet a b W (exprPiece t) base (suc i) (suc e) s m m′
+headed-run : {sheet : Bytes} {a b : List ℕ} {first : ℕ} {gap d base i e : ℕ} {m m′ : Mem} (t : Tree expr) (o : Headed sheet a b gap d i t) (W : Written) (s : State) → Ran (side sheet a b first) W (carriedPiece (o .list)) base (suc (i + 1)) (suc e) s m m′ → Ran (side sheet a b first) W (exprPiece t) base (suc i) (suc e) s m m′
 headed-run {base = base} {i = i} {e = e} t o W s p =
     let u : Sub ((base + suc (i + 1), base + suc e) ∷ W) ((base + suc i, base + suc e) ∷ W) = sub-within (omega arith) (le-refl _) (sub-more (base + suc i, base + suc e) W) in
     record {
       to = rw (o .lower s) (to-wider u (p .to));
       shown = λ N A f. rw (o .shown (shift N base) A, o .lower s) (ap (λ (x : Recs). o .head ∷ x) (p .shown N A (narrow u (rw (o .lower s) at f))));
-      below = λ N A f. o .below (shift N base) _ (p .below N A (narrow u (rw (o .lower s) at f)));
+      below = λ N A f. o .below (shift N base) _ _ (p .below N A (narrow u (rw (o .lower s) at f)));
     }
 
 -- what follows from lowering the expressions behind a record, if every tree there is a record over them

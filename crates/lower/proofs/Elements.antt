@@ -69,7 +69,7 @@ pub record IsElement (flag : ℕ) (sheet : Bytes) (a b : List ℕ) (d i : ℕ) (
   pub sized : size t ≡ suc (n + sizeOf props)
   pub head : Rec
   pub spec : (N : Notes) (A : Ops) → specRecs N A t ≡ head ∷ (renderOf N A names ++ renderOf N A props)
-  pub below : (N : Notes) (k : ℕ) → BelowOf N k props → KidsBelow N k t
+  pub below : (N : Notes) (lo k : ℕ) → BelowOf N lo k props → KidsBelow N lo k t
 
 pub record IsNode (sheet : Bytes) (a b : List ℕ) (d i : ℕ) (t : Tree patternElement) : Type 0 where
   pub el : IsElement 6 sheet a b d i t
@@ -87,10 +87,10 @@ pub element-number : {sheet : Bytes} {a b : List ℕ} {i : ℕ} {k : PatternElem
 unfolding innerNumber
 element-number {k = k} room h = inner-number patternElement tt _ k (shown room h .kind)
 
-names-none : (N : Notes) (k : ℕ) {n : ℕ} (ts : Trees name n) → BelowOf N k ts
+names-none : (N : Notes) (lo k : ℕ) {n : ℕ} (ts : Trees name n) → BelowOf N lo k ts
 unfolding Below belowIn
-names-none N k []ᵗ = tt
-names-none N k (node name line e f end ∷ᵗ ts) = (tt, names-none N k ts)
+names-none N lo k []ᵗ = tt
+names-none N lo k (node name line e f end ∷ᵗ ts) = (tt, names-none N lo k ts)
 
 flag-of : (p : Bool) (x : ℕ) → p ≡ eqb x 1 → x ≤ 1 → one p ≡ x
 flag-of p x e h = rw e (flag-one x h)
@@ -117,7 +117,7 @@ module _ {sheet : Bytes} {a b : List ℕ} {d i : ℕ} (room : Roomy a b) where
           sized = omega arith;
           head = rec (inPlan nodeSpec) tt (n, (p, tt));
           spec = λ N A. ap (λ (x : Recs). rec (inPlan nodeSpec) tt (n, (p, tt)) ∷ (renderOf N A names ++ x)) (append-nil (renderOf N A props));
-          below = λ N k q. (names-none N k names, (q, tt));
+          below = λ N lo k q. (names-none N lo k names, (q, tt));
         };
         step = rw eb;
         head = refl;
@@ -146,7 +146,7 @@ module _ {sheet : Bytes} {a b : List ℕ} {d i : ℕ} (room : Roomy a b) where
           sized = omega arith;
           head = rec (inPlan relSpec) tt (n, (direction, (length, (p, tt))));
           spec = λ N A. ap (λ (x : Recs). rec (inPlan relSpec) tt (n, (direction, (length, (p, tt)))) ∷ (renderOf N A names ++ x)) (append-nil (renderOf N A props));
-          below = λ N k q. (names-none N k names, (q, tt));
+          below = λ N lo k q. (names-none N lo k names, (q, tt));
         };
         direction = direction;
         length = length;

@@ -56,6 +56,7 @@ rel-read (rel-at y e k p) h = let z = ap readOf (sym e ∙ h) in record { is = k
 pub chain-part : {a b : List ℕ} {d base i e k : ℕ} {m m′ : Mem} → ((sheet : Bytes) (t : Tree patternPart) → Held sheet a b t d i → (s : State) → partL t s ≡ chainL t s) → LowersChain a b d base i e k m m′ → LowersPart a b d base i e k m m′
 chain-part same p = record {
   moved = p .moved;
+  since = p .since;
   low = p .low;
   next = p .next;
   run = λ sheet t hd W s r bl.

@@ -140,7 +140,7 @@ rel-end {a} {b} room d i {base} {e} {c} {os} {rest} {m′} k p sheet t hd =
     omega arith
 
 -- behind a source of everything, if there is one
-module _ {L : Lowering ℕ} {k d i : ℕ} {c c′ : LowerCtx} {os os′ rs : List ℕ} (g : RoomFor d i (mem c os rs)) (q : OrSource L k (mem c os rs) (mem c′ os′ rs)) where
+module _ {o : ℕ} {L : Lowering ℕ} {k d i : ℕ} {c c′ : LowerCtx} {os os′ rs : List ℕ} (g : RoomFor d i (mem c os rs)) (q : OrSource o L k (mem c os rs) (mem c′ os′ rs)) where
   pub source-number : (base place j : ℕ) → base ≤ secondPass → j ≤ maxRecords → place ≡ base + j → CanNumber c′ place rs
   source-number base place j lb lj e = record { met = omega (arith, g .met, g .here, q .mapped); low = omega (arith, g .low, g .here, q .next); noted = omega arith; long = g .in-rest; index = rw (q .mapped) (g .index) }
 

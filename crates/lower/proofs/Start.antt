@@ -15,6 +15,7 @@ use Rattle.words.specs.Held.{Held}
 use Rattle.context.specs.Tables.{Pushed, secondPass}
 use Rattle.context.specs.declared.LowerCtx.{LowerCtx}
 use Rattle.context.specs.Ops.{filterOp, sourceOp}
+use Rattle.lower.specs.Side.{side}
 use Rattle.lower.specs.Shows.{shift, shows-source, shows-filter}
 use Rattle.lower.specs.Rep.{atPlace, State, Mem, mem, Written, Blank, Rep, To, Rooted}
 use Rattle.lower.specs.Pieces.{SomeTree, LowersExpr}
@@ -63,7 +64,7 @@ filter-is k k′ rs rs′ e e′ = rw (e, e′)
 
 module _ {a b : List ℕ} {base number : ℕ} {c : LowerCtx} {os′ : List ℕ} {m : Mem} (d i : ℕ) (room : Roomy a b) (k12 : cell a b i kindAt ≡ nodeKind) (sh : (d ≤ maxDepth) × (base ≤ secondPass)) (ps : Pushed (m .ctx) c (m .ops) os′ (sourceOp (atPlace base i (d - 1)) number)) (lo : length os′ ≡ length (m .ops)) where
   -- the source
-  source-to : (sheet : Bytes) (t : Tree patternElement) (n : NodeStep) → Held sheet a b t d i → stepOf t ≡ ofNode n → (W : Written) (s : State) → Rep sheet a b W s m → To sheet a b W W s (push (source number (n .labels)) s .1) m (mem c os′ (m .rest))
+  source-to : (sheet : Bytes) {first : ℕ} (t : Tree patternElement) (n : NodeStep) → Held sheet a b t d i → stepOf t ≡ ofNode n → (W : Written) (s : State) → Rep (side sheet a b first) W s m → To (side sheet a b first) W W s (push (source number (n .labels)) s .1) m (mem c os′ (m .rest))
   source-to sheet t n hd st W s r =
       let v = a-node room t hd k12 in
       let e : n ≡ record { bind = optionOf (cell a b i elementNamedAt) (cell a b i elementVarAt); labels = toList (v .el .n) (foldOf Lowered made (v .el .names)); props = propsOf (v .el .p) (foldOf Lowered made (v .el .props)) } = same-node (sym st ∙ v .step) in
@@ -80,7 +81,7 @@ module _ {a b : List ℕ} {base number : ℕ} {c : LowerCtx} {os′ : List ℕ} 
       })
 
   module _ (k6 : cell a b i nodePropsAt ≡ 0) where
-    bare-run : (sheet : Bytes) (t : Tree patternElement) (n : NodeStep) → Held sheet a b t d i → stepOf t ≡ ofNode n → (W : Written) (s : State) → Rep sheet a b W s m → Rooted sheet a b W (startL number n) (m .ctx .ops) base (suc (i + 1)) (suc (i + 1 + cell a b i nodeLabelsAt)) s m (mem c os′ (m .rest))
+    bare-run : (sheet : Bytes) {first : ℕ} (t : Tree patternElement) (n : NodeStep) → Held sheet a b t d i → stepOf t ≡ ofNode n → (W : Written) (s : State) → Rep (side sheet a b first) W s m → Rooted (side sheet a b first) W (startL number n) (m .ctx .ops) base (suc (i + 1)) (suc (i + 1 + cell a b i nodeLabelsAt)) s m (mem c os′ (m .rest))
     bare-run sheet t n hd st W s r =
         let v = a-node room t hd k12 .el in
         let z = bare-root number (m .ctx .ops) n s (props-of d i room k12 sheet t n hd st ∙ no-prop (v .p) (v .props) (v .flagged ∙ k6) .0) (r .count) in
@@ -94,9 +95,10 @@ module _ {a b : List ℕ} {base number : ℕ} {c : LowerCtx} {os′ : List ℕ} 
     bare-law x =
         let l = some-end d i room k12 x in
         record {
-          moved = record { up = omega arith; here = l; few = omega (arith, ps .count); low = omega (arith, ps .next); met = omega (arith, ps .mapped); in-ops = lo; in-rest = refl; index = λ x. rw (ps .mapped) x };
+          moved = record { up = omega arith; here = l; grow = omega (arith, ps .count); few = omega (arith, ps .count); low = omega (arith, ps .next); met = omega (arith, ps .mapped); in-ops = lo; in-rest = refl; index = λ x. rw (ps .mapped) x };
           numbers = omega (arith, ps .next);
           mapped = omega (arith, ps .mapped);
+          since = le-refl _;
           low = omega (arith, ps .count);
           next = λ sheet t hd. (let v = a-node room t hd k12 .el in let z = no-prop (v .p) (v .props) (v .flagged ∙ k6) .1 in let y = v .sized in let w = v .many in omega arith);
           run = λ sheet t n hd st W s r bl. bare-run sheet t n hd st W s r;
@@ -111,7 +113,7 @@ module _ {a b : List ℕ} {base number : ℕ} {c : LowerCtx} {os′ : List ℕ} 
     prop-held : (sheet : Bytes) (t : Tree patternElement) (hd : Held sheet a b t d i) → Held sheet a b (prop-at sheet t hd .tree) (d - 1) (i + 1 + cell a b i nodeLabelsAt)
     prop-held sheet t hd = let v = a-node room t hd k12 .el in prop-at sheet t hd .held sheet a b (d - 1) _ (rw (v .many) at (v .held-props))
 
-    filtered-run : (sheet : Bytes) (t : Tree patternElement) (n : NodeStep) → Held sheet a b t d i → stepOf t ≡ ofNode n → (W : Written) (s : State) → Rep sheet a b W s m → Blank W (base + suc (i + 1)) (base + suc e) → Rooted sheet a b W (startL number n) (m₂ .ctx .ops) base (suc (i + 1)) (suc e) s m (mem c₃ os₃ (m₂ .rest))
+    filtered-run : (sheet : Bytes) {first : ℕ} (t : Tree patternElement) (n : NodeStep) → Held sheet a b t d i → stepOf t ≡ ofNode n → (W : Written) (s : State) → Rep (side sheet a b first) W s m → Blank W (base + suc (i + 1)) (base + suc e) → Rooted (side sheet a b first) W (startL number n) (m₂ .ctx .ops) base (suc (i + 1)) (suc e) s m (mem c₃ os₃ (m₂ .rest))
     unfolding push
     filtered-run sheet t n hd st W s r bl =
         let u = ex .moved .up in
@@ -141,9 +143,10 @@ module _ {a b : List ℕ} {base number : ℕ} {c : LowerCtx} {os′ : List ℕ} 
     filtered-law =
         let v = ex .moved in
         record {
-          moved = record { up = omega (arith, v .up); here = v .here; few = omega (arith, ps .count, pf .count, v .few); low = omega (arith, ps .next, pf .next, v .low, v .up); met = omega (arith, ps .mapped, pf .mapped, v .met, v .up); in-ops = lo₃ ∙ v .in-ops ∙ lo; in-rest = v .in-rest; index = λ x. rw (pf .mapped) (v .index (rw (ps .mapped) x)) };
+          moved = record { up = omega (arith, v .up); here = v .here; grow = omega (arith, ps .count, pf .count, v .grow); few = omega (arith, ps .count, pf .count, v .few); low = omega (arith, ps .next, pf .next, v .low, v .up); met = omega (arith, ps .mapped, pf .mapped, v .met, v .up); in-ops = lo₃ ∙ v .in-ops ∙ lo; in-rest = v .in-rest; index = λ x. rw (pf .mapped) (v .index (rw (ps .mapped) x)) };
           numbers = omega (arith, ps .next, pf .next, v .low, v .up);
           mapped = omega (arith, ps .mapped, pf .mapped, v .met, v .up);
+          since = omega (arith, ps .count, v .grow);
           low = omega (arith, pf .count);
           next = λ sheet t hd. (let w = a-node room t hd k12 .el in let q = ex .next sheet (prop-at sheet t hd .tree) (prop-held sheet t hd) in let y = w .sized in let x = w .many in let z = prop-at sheet t hd .sized in omega arith);
           run = filtered-run;

@@ -5,13 +5,13 @@ ghost use mathlib.Core.List.{List};
 ghost use lib.ListN.{length};
 ghost use Rattle.model.specs.Call.{workWords};
 ghost use Rattle.model.specs.Kind.{expr, patternPart, patternElement};
-ghost use Rattle.model.specs.Lower.{orSourceAll, rootOf};
+ghost use Rattle.model.specs.Lower.{rootOf};
 ghost use Rattle.words.specs.Words.{Roomy, cell, maxRecords, recordWords, optionOf};
 ghost use Rattle.words.specs.Places.{elementNamedAt, elementVarAt};
 ghost use Rattle.lower.specs.Rep.{mem};
 ghost use Rattle.lower.specs.Pieces.{LowersExpr, LowersExprs};
 ghost use Rattle.lower.specs.Patterns.{LowersPart, LowersParts};
-ghost use Rattle.lower.specs.Chains.{lastOf, LowersElement, LowersElements, LowersStart, LowersRel, OrSource, LowersChain, ReadAt, ElementAt, startChain};
+ghost use Rattle.lower.specs.Chains.{lastOf, LowersElement, LowersElements, LowersStart, LowersRel, SourceLeft, LowersChain, ReadAt, ElementAt, startChain};
 ghost use Rattle.lower.specs.Asked.{TreeAsked, ExprsAsked, BehindAsked, NodeAsked, RelAsked, SpecialAsked, ChainAsked, StartAsked, ExpandAsked};
 ghost use Rattle.context.specs.Tables.{maxCount};
 ghost use Rattle.context.specs.Ops.{beforeOf, bindOf, Under};
@@ -134,7 +134,7 @@ fn read_element(a: &[u32], b: &[u32], i: usize) -> Element
 pub fn or_source_all(ops: &mut [u32], ctx: LowerCtx, current: Before, next: usize) -> Root
     requires { ⌜ (ctx .ops < maxCount) × (workWords ≤ length (now ops)) ⌝ }
     requires { ⌜ Under current (ctx .ops) ⌝ }
-    ensures { λ r. ⌜ (r .next ≡ next) × ((rest : List ℕ) → OrSource (orSourceAll (beforeOf current)) (r .op) (mem ctx (now (ops .entry)) rest) (mem (r .ctx) (now (ops .exit)) rest)) ⌝ }
+    ensures { λ r. ⌜ SourceLeft current next (r .next) (r .op) ctx (r .ctx) (now (ops .entry)) (now (ops .exit)) ⌝ }
 {
     match current {
         Before::Op(k) => Root { next, op: k, ctx },

@@ -133,7 +133,7 @@ module _ (t : ℕ) where
       let after-count : here lts.After-count = search ways depth 12 in
       let start : here lts.Start = search ways depth 12 in
       rw
-      (after-or-source-all .or-source-all .ensures .0)
+      (after-or-source-all .or-source-all .ensures .same)
       (Chaining.unnamed-law
       _
       _
@@ -141,7 +141,8 @@ module _ (t : ℕ) where
       (start .pre .1 .pass)
       (after-count .count .ensures .0)
       (after-lower-elements .lower-elements .ensures)
-      (Chaining.source-as (after-root-of .root-of .ensures) ((after-or-source-all .or-source-all .ensures .1) _))
+      (Chaining.source-as (after-root-of .root-of .ensures) (after-or-source-all .or-source-all .ensures .source _))
+      (after-or-source-all .or-source-all .ensures .since _ (after-lower-elements .lower-elements .ensures .moved .grow) (Chaining.root-since (after-root-of .root-of .ensures) (Chaining.start-since _ (after-lower-elements .lower-elements .ensures))))
       (sym (after-word .word .ensures) ∙ (c .if1 .taken)))
 
   word-requires-2 : here lts.Need-word-requires-2
@@ -169,7 +170,7 @@ module _ (t : ℕ) where
       (Exprs.good-after
       (after-lower-elements .lower-elements .ensures .moved)
       (Exprs.good-from {d′ = (start .args .at .left) - 1} {j = (start .args .at .i) + 1} (omega arith) (omega arith) (omega arith) (start .pre .1 .room)))
-      ((after-or-source-all .or-source-all .ensures .1) _)
+      (after-or-source-all .or-source-all .ensures .source _)
       _
       _
       _
@@ -194,7 +195,7 @@ module _ (t : ℕ) where
       (omega arith)
       (omega arith)
       (start .pre .1 .room)))
-      ((after-or-source-all .or-source-all .ensures .1) _) .1
+      (after-or-source-all .or-source-all .ensures .source _) .1
       in
       (Room.fits (l .near) (omega arith) (omega arith), omega arith)
 
@@ -216,7 +217,7 @@ module _ (t : ℕ) where
       (omega arith)
       (omega arith)
       (start .pre .1 .room)))
-      ((after-or-source-all .or-source-all .ensures .1) _) .0
+      (after-or-source-all .or-source-all .ensures .source _) .0
       in
       let y = after-number .number .ensures .issued .ops in (
         omega arith,
@@ -260,7 +261,7 @@ module _ (t : ℕ) where
       let after-count : here lts.After-count = search ways depth 12 in
       let start : here lts.Start = search ways depth 12 in
       rw
-      (after-or-source-all .or-source-all .ensures .0)
+      (after-or-source-all .or-source-all .ensures .same)
       (Chaining.named-law
       _
       _
@@ -268,7 +269,7 @@ module _ (t : ℕ) where
       (start .pre .1 .pass)
       (after-count .count .ensures .0)
       (after-lower-elements .lower-elements .ensures)
-      (Chaining.source-as (after-root-of .root-of .ensures) ((after-or-source-all .or-source-all .ensures .1) _))
+      (Chaining.source-as (after-root-of .root-of .ensures) (after-or-source-all .or-source-all .ensures .source _))
       (start .pre .1 .depth)
       (λ e. (else1 .if1 .left) ((after-word .word .ensures) ∙ e))
       refl
