@@ -12,11 +12,10 @@ use Rattle.model.specs.Kind.{Clause, ReadOp, clause, expr, yieldItem}
 use Rattle.model.specs.Record.{forms}
 use Rattle.model.specs.Tree.{Tree, Trees}
 use Rattle.model.specs.Lower.{Recs, _>>=_, ret, push, op, lowerExprs, lowerYields, lowerClause}
-use Rattle.model.specs.Call.{maxDepth}
 use Rattle.words.specs.Words.{cell, optionOf, maxRecords}
 use Rattle.words.specs.Held.{Held, HeldOf, RecordAt, sizeOf}
 use Rattle.words.specs.Places.{callKind, callArgsAt, callYieldsAt}
-use Rattle.context.specs.Tables.{Pushed}
+use Rattle.context.specs.Tables.{Pushed, deepest}
 use Rattle.context.specs.Ops.{beforeOf, procedureCallOp}
 use Rattle.context.specs.declared.At.{At}
 use Rattle.context.specs.declared.Before.{Before}
@@ -41,12 +40,12 @@ use Rattle.clauses.proofs.Opened.{a-call}
 use Rattle.clauses.proofs.Yields.{yields-size}
 use Rattle.clauses.proofs.Matching.{leaves}
 
-less-deep : (d : ℕ) → d ≤ maxDepth → d - 1 ≤ maxDepth
+less-deep : (d : ℕ) → d ≤ deepest → d - 1 ≤ deepest
 less-deep d h = omega arith
 
 -- a call, as it is stored
 module _ {sheet : Bytes} {a b : List ℕ} {first : ℕ} {N : Notes} {A : Ops} {k : ℕ} (i d : ℕ) (f : Fields (forms clause Clause.Call)) (args : Trees expr (f .1 .0)) (yields : Trees yieldItem (f .1 .1 .0)) (rs ss : Recs)
-    (sh : d ≤ maxDepth) (is : RecordAt sheet a b i clause Clause.Call f)
+    (sh : d ≤ deepest) (is : RecordAt sheet a b i clause Clause.Call f)
     (ha : HeldOf sheet a b args d (i + 1)) (hy : HeldOf sheet a b yields d (i + 1 + sizeOf args))
     (bl : BelowOf (shift N 0) first k args) (e : renderOf (shift N 0) A args ≡ rs) (e′ : renderOf (shift N 0) A yields ≡ ss) where
   call-stored : (current : Before) → Stored (side sheet a b first) N A k (procedureCallOp (atPlace 0 i d) current) (op ReadOp.ProcedureCall (beforeOf current, (f .0, (f .1 .0, (f .1 .1 .0, (f .1 .1 .1 .0, tt))))) ∷ (rs ++ ss))

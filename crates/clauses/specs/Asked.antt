@@ -3,13 +3,13 @@ use mathlib.Core.Path.{_≡_}
 use Prim.Native.Nat.{ℕ, _+_, _≤_, _<_}
 use mathlib.Core.List.{List}
 use lib.ListN.{length, drop}
-use Rattle.model.specs.Call.{workWords, maxDepth}
+use Rattle.model.specs.Call.{workWords}
 use Rattle.model.specs.Text.{Bytes}
 use Rattle.model.specs.Kind.{Sort, clause}
 use Rattle.words.specs.Words.{Roomy, cell, maxRecords}
 use Rattle.words.specs.Places.{writeKind, kindAt}
 use Rattle.words.specs.Held.{HeldSome, HeldMany}
-use Rattle.context.specs.Tables.{varsAt, maxVars, maxCount, Indexed}
+use Rattle.context.specs.Tables.{varsAt, maxVars, maxCount, Indexed, deepest}
 use Rattle.context.specs.Ops.{Under}
 use Rattle.context.specs.declared.At.{At}
 use Rattle.context.specs.declared.Before.{Before}
@@ -24,7 +24,7 @@ pub record ReadingAsked (sheet : Bytes) (a b : List ℕ) (at : At) (current : Be
   pub held : HeldSome sheet a b clause (at .left) (at .i)
   pub reads : (cell a b (at .i) kindAt ≡ writeKind) → ⊥
   pub ready : Ready (at .i) m
-  pub depth : at .left ≤ maxDepth
+  pub depth : at .left ≤ deepest
   pub stands : Under current (m .ctx .ops)
 
 -- the tree of a sort at record i, behind an operator or none
@@ -32,7 +32,7 @@ pub record TurnAsked (s : Sort) (sheet : Bytes) (a b : List ℕ) (d i : ℕ) (cu
   pub words : Roomy a b
   pub held : HeldSome sheet a b s d i
   pub ready : Ready i m
-  pub depth : d ≤ maxDepth
+  pub depth : d ≤ deepest
   pub stands : Under current (m .ctx .ops)
 
 -- so n trees from record i on
@@ -40,7 +40,7 @@ pub record TurnsAsked (s : Sort) (sheet : Bytes) (a b : List ℕ) (n d i : ℕ) 
   pub words : Roomy a b
   pub held : HeldMany sheet a b s n d i
   pub ready : Ready i m
-  pub depth : d ≤ maxDepth
+  pub depth : d ≤ deepest
   pub stands : Under current (m .ctx .ops)
 
 -- n yields from record i on

@@ -11,7 +11,7 @@ use Rattle.model.specs.Tree.{Tree}
 use Rattle.model.specs.Lower.{lower, lowerStatement}
 use Rattle.words.specs.Words.{Roomy, maxRecords}
 use Rattle.words.specs.Held.{Held, HeldSome, size}
-use Rattle.context.specs.Tables.{maxVars}
+use Rattle.context.specs.Tables.{maxVars, deepest}
 use Rattle.context.specs.declared.LowerCtx.{LowerCtx}
 use Rattle.lower.specs.Side.{side}
 use Rattle.lower.specs.Rep.{State, Mem, Written, Rep}
@@ -35,7 +35,7 @@ pub record StatementAsked (sheet : Bytes) (a b : List ℕ) (d : ℕ) (m : Mem) :
   pub words : Roomy a b
   pub held : HeldSome sheet a b statement d 0
   pub ready : Ready 1 m
-  pub depth : d ≤ maxDepth
+  pub depth : d ≤ deepest
 
 -- the statement that is held is lowered from whatever state the tables stand for, and leaves an operator or none
 pub record LowersFrom (sheet : Bytes) (a b : List ℕ) (d e : ℕ) (after : Option ℕ) (m m′ : Mem) : Type 0 where

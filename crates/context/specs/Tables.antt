@@ -6,7 +6,7 @@ use mathlib.Core.Bool.{cond}
 use lib.Dec.{eqb}
 use mathlib.Core.Option.{Option, none, some}
 use lib.ListN.{length, getD, drop, set}
-use Rattle.model.specs.Call.{workWords}
+use Rattle.model.specs.Call.{workWords, maxDepth}
 use Rattle.model.specs.Lower.{Recs, Lowering}
 use Rattle.model.specs.Lower
 use Rattle.context.specs.declared.LowerCtx.{LowerCtx}
@@ -30,6 +30,10 @@ varsAt = 4608
 -- there is room for so many variables
 abbrev pub maxVars : ℕ
 maxVars = 4352
+
+-- The lowering's promises are for trees of at most this depth. The variables' words have room for a level more each for up to maxVars less two for each record, so it may be any number up to 256; the single call needs maxDepth.
+abbrev pub deepest : ℕ
+deepest = maxDepth
 
 -- the notes of a second pass begin at this word
 abbrev pub secondPass : ℕ

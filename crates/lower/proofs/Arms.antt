@@ -22,7 +22,8 @@ use Rattle.lower.specs.Shows.{shift}
 use Rattle.lower.specs.Rep.{State, Mem, Written, Sub, Ran}
 use Rattle.lower.specs.Pieces.{exprPiece, Carried, []ᶜ, lowerC, renderC, BelowC, sizeC, HeldC, carriedPiece, SomeTree, SomeCarried, LowersExpr, LowersExprs}
 use Rattle.lower.specs.State.{sub-more, sub-within, blank-within, to-wider}
-use Rattle.words.specs.Numbers.{exprNumber, sameNumber}
+use Rattle.words.specs.Numbers.{exprNumber}
+use Rattle.words.specs.Kinds.{Opens, by-expr}
 use Rattle.words.proofs.Counting.{innerNumber, inner-number, counted}
 use Rattle.lower.specs.Exprs.{moved-within, narrow}
 use Rattle.lower.specs.Carry.{plainC, plain-lower, plain-size, plain-held, plain-render, plain-below, entriesC, entries-lower, entries-size, entries-held, entries-render, entries-below}
@@ -33,24 +34,6 @@ use Rattle.words.specs.Places.{kindAt, varKind, mapKind, patKind, listPredicate
 pub number-at : {sheet : Bytes} {a b : List ℕ} {i : ℕ} {k : Expr} {f : Fields (exprForms k)} → Roomy a b → RecordAt sheet a b i expr k f → cell a b i kindAt ≡ exprNumber k
 unfolding innerNumber
 number-at {k = k} room h = inner-number expr tt _ k (shown room h .kind)
-
-pub same-low : (h : Same) → sameNumber h < 32
-unfolding sameNumber
-same-low Same.Null = omega arith
-same-low Same.Bool = omega arith
-same-low Same.Int = omega arith
-same-low Same.Float = omega arith
-same-low Same.String = omega arith
-same-low Same.Param = omega arith
-same-low Same.Prop = omega arith
-same-low Same.Index = omega arith
-same-low Same.Slice = omega arith
-same-low Same.List = omega arith
-same-low Same.BinOp = omega arith
-same-low Same.UnaryOp = omega arith
-same-low Same.Case = omega arith
-same-low Same.IsNull = omega arith
-same-low Same.InList = omega arith
 
 -- ── a record over expressions, with nothing noted at it ──
 
@@ -98,11 +81,9 @@ module _ {sheet : Bytes} {a b : List ℕ} {d i : ℕ} (room : Roomy a b) where
   plainly (node expr line Expr.Unresolved f end) hd n32 n33 n35 n36 = record { n = 0; list = []ᶜ; total = counted room tt (hd .1); held = tt; sized = refl; head = planned (PlanExpr.Over Same.Null) tt; lower = λ s. refl; shown = λ N A. refl; below = λ N lo k b. tt }
   plainly (node expr line Expr.Undesugared f end) hd n32 n33 n35 n36 = record { n = 0; list = []ᶜ; total = counted room tt (hd .1); held = tt; sized = refl; head = planned (PlanExpr.Over Same.Null) tt; lower = λ s. refl; shown = λ N A. refl; below = λ N lo k b. tt }
 
-  pub mapped : (t : Tree expr) → Held sheet a b t d i → cell a b i kindAt ≡ mapKind → Headed sheet a b 1 d i t
-  unfolding Held size exprNumber lowerExpr fold made exprStep over _>>=_ ret render recsOver exprRecs exprRest Below belowIn copiesBelow
-  mapped (node expr line (Expr.Over h) f kids) hd e = let z = number-at room (hd .1) in let l = same-low h in absurd (omega arith)
-  mapped (node expr line Expr.Var f kids) hd e = let z = number-at room (hd .1) in absurd (omega arith)
-  mapped (node expr line Expr.Map (n, t) (ts ▸ end)) hd e = record {
+  mapped-of : Opens sheet a b d i expr (λ t. Headed sheet a b 1 d i t) Expr.Map
+  unfolding Held size lowerExpr fold made exprStep over _>>=_ ret render recsOver exprRecs exprRest Below belowIn copiesBelow
+  mapped-of line (n, t) (ts ▸ end) hd = record {
     n = n;
     list = entriesC ts;
     total = counted room tt (hd .1) ∙ (omega arith);
@@ -113,11 +94,10 @@ module _ {sheet : Bytes} {a b : List ℕ} {d i : ℕ} (room : Roomy a b) where
     shown = λ N A. ap (λ (x : Recs). planned PlanExpr.Map (n, tt) ∷ x) (append-nil (renderOf N A ts) ∙ entries-render N A ts);
     below = λ N lo k b. (entries-below N lo k ts b, tt);
   }
-  mapped (node expr line Expr.Call f kids) hd e = let z = number-at room (hd .1) in absurd (omega arith)
-  mapped (node expr line Expr.PatternPredicate f kids) hd e = let z = number-at room (hd .1) in absurd (omega arith)
-  mapped (node expr line Expr.ListPredicate f kids) hd e = let z = number-at room (hd .1) in absurd (omega arith)
-  mapped (node expr line Expr.Unresolved f kids) hd e = let z = number-at room (hd .1) in absurd (omega arith)
-  mapped (node expr line Expr.Undesugared f kids) hd e = let z = number-at room (hd .1) in absurd (omega arith)
+
+  pub mapped : (t : Tree expr) → Held sheet a b t d i → cell a b i kindAt ≡ mapKind → Headed sheet a b 1 d i t
+  unfolding exprNumber
+  mapped t hd e = by-expr sheet d i room (λ t. Headed sheet a b 1 d i t) Expr.Map mapped-of t hd e
 
 -- a record over its expressions is lowered by lowering them
 headed-run : {sheet : Bytes} {a b : List ℕ} {first : ℕ} {gap d base i e : ℕ} {m m′ : Mem} (t : Tree expr) (o : Headed sheet a b gap d i t) (W : Written) (s : State) → Ran (side sheet a b first) W (carriedPiece (o .list)) base (suc (i + 1)) (suc e) s m m′ → Ran (side sheet a b first) W (exprPiece t) base (suc i) (suc e) s m m′

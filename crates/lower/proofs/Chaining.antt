@@ -15,7 +15,7 @@ use Rattle.model.specs.Lower.{Recs, Lowered, made, _>>=_, ret, push, op, source
 use Rattle.model.specs.Lower
 use Rattle.words.specs.Words.{Roomy, cell, optionOf, fieldsOf, fieldOf, maxRecords}
 use Rattle.words.specs.Held.{Held, HeldOf, size, sizeOf}
-use Rattle.context.specs.Tables.{Pushed, Numbers, secondPass}
+use Rattle.context.specs.Tables.{Pushed, Numbers, secondPass, deepest}
 use Rattle.context.specs.declared.op.Op.{Op}
 use Rattle.context.specs.declared.LowerCtx.{LowerCtx}
 use Rattle.context.specs.declared.Numbered.{Numbered}
@@ -36,7 +36,6 @@ use Rattle.lower.specs.State.{sub-more, sub-within, blank-within, blank-
 use Rattle.words.specs.Fits.{tree-low}
 use Rattle.lower.proofs.Parts.{all-bounded}
 use Rattle.words.specs.Places.{partNamedAt, partVarAt, partShortestAt, partElementsAt}
-use Rattle.model.specs.Call.{maxDepth}
 
 -- ── the operator before, or a source of everything ──
 
@@ -194,7 +193,7 @@ module _ {a b : List ℕ} {n base : ℕ} {c : LowerCtx} {ch : Chain} {os os₁ r
           run = unnamed-run;
         }
 
-  module _ {place : ℕ} {r₃ : Numbered} {rest₃ os₄ : List ℕ} {c₄ : LowerCtx} (sh : d ≤ maxDepth) (k2 : (cell a b i partNamedAt ≡ 0) → ⊥) (ep : place ≡ base + (i + 1))
+  module _ {place : ℕ} {r₃ : Numbered} {rest₃ os₄ : List ℕ} {c₄ : LowerCtx} (sh : d ≤ deepest) (k2 : (cell a b i partNamedAt ≡ 0) → ⊥) (ep : place ≡ base + (i + 1))
       (nm : Numbers (mapVar (cell a b i partVarAt)) place (m₂ .ctx) (m₂ .rest) rest₃ r₃) (lr : length rest₃ ≡ length (m₂ .rest))
       (pp : Pushed (r₃ .ctx) c₄ (m₂ .ops) os₄ (bindPathOp (atPlace base i (d - 1)) k (ch .kept) (r₃ .number))) (lo : length os₄ ≡ length (m₂ .ops)) where
     named-run : (sheet : Bytes) {first : ℕ} (t : Tree patternPart) → Held sheet a b t d i → (W : Written) (s : State) → Rep (side sheet a b first) W s (mem c os rs) → Blank W (base + suc i) (base + suc (ch .next)) → Rooted (side sheet a b first) W (chainL t) (r₃ .ctx .ops) base (suc i) (suc (ch .next)) s (mem c os rs) (mem c₄ os₄ rest₃)

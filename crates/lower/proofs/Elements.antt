@@ -20,6 +20,7 @@ use Rattle.lower.specs.Render.{Notes, Ops, render, renderOf, recsOver, B
 use Rattle.lower.specs.Rep.{State}
 use Rattle.lower.specs.Pieces.{lowerC}
 use Rattle.lower.specs.Chains.{stepOf}
+use Rattle.words.specs.Kinds.{Opens, by-element}
 use Rattle.words.specs.Numbers.{elementNumber}
 use Rattle.words.proofs.Counting.{innerNumber, inner-number, flag-one}
 use Rattle.lower.specs.Carry.{plainC}
@@ -72,12 +73,12 @@ pub record IsElement (flag : ℕ) (sheet : Bytes) (a b : List ℕ) (d i : ℕ) (
   pub below : (N : Notes) (lo k : ℕ) → BelowOf N lo k props → KidsBelow N lo k t
 
 pub record IsNode (sheet : Bytes) (a b : List ℕ) (d i : ℕ) (t : Tree patternElement) : Type 0 where
-  pub el : IsElement 6 sheet a b d i t
+  pub el : IsElement nodePropsAt sheet a b d i t
   pub step : stepOf t ≡ ofNode (record { bind = optionOf (cell a b i elementNamedAt) (cell a b i elementVarAt); labels = toList (el .n) (foldOf Lowered made (el .names)); props = propsOf (el .p) (foldOf Lowered made (el .props)) })
   pub head : el .head ≡ rec (inPlan nodeSpec) tt (el .n, (el .p, tt))
 
 pub record IsRel (sheet : Bytes) (a b : List ℕ) (d i : ℕ) (t : Tree patternElement) : Type 0 where
-  pub el : IsElement 10 sheet a b d i t
+  pub el : IsElement relPropsAt sheet a b d i t
   pub direction : ℕ
   pub length : RelLength
   pub step : stepOf t ≡ ofRel (record { bind = optionOf (cell a b i elementNamedAt) (cell a b i elementVarAt); types = toList (el .n) (foldOf Lowered made (el .names)); direction = direction; length = length; props = propsOf (el .p) (foldOf Lowered made (el .props)) })
@@ -96,9 +97,9 @@ flag-of : (p : Bool) (x : ℕ) → p ≡ eqb x 1 → x ≤ 1 → one p ≡ x
 flag-of p x e h = rw e (flag-one x h)
 
 module _ {sheet : Bytes} {a b : List ℕ} {d i : ℕ} (room : Roomy a b) where
-  pub a-node : (t : Tree patternElement) → Held sheet a b t d i → cell a b i kindAt ≡ nodeKind → IsNode sheet a b d i t
-  unfolding Held size elementNumber fold made elementStep specRecs specRec render KidsBelow Below fieldsOf fieldOf
-  a-node (node patternElement line PatternElement.Node (bind, (n, (p, (span, u)))) (names ▸ props ▸ end)) hd e =
+  a-node-of : Opens sheet a b d i patternElement (λ t. IsNode sheet a b d i t) PatternElement.Node
+  unfolding Held size fold made elementStep specRecs specRec render KidsBelow Below fieldsOf fieldOf
+  a-node-of line (bind, (n, (p, (span, u)))) (names ▸ props ▸ end) hd =
       let w = shown room (hd .1) in
       let eb : bind ≡ optionOf (cell a b i elementNamedAt) (cell a b i elementVarAt) = ap (λ (x : Fields (elementForms PatternElement.Node)). x .0) (w .fields) in
       let en : n ≡ cell a b i nodeLabelsAt = ap (λ (x : Fields (elementForms PatternElement.Node)). x .1 .0) (w .fields) in
@@ -122,12 +123,14 @@ module _ {sheet : Bytes} {a b : List ℕ} {d i : ℕ} (room : Roomy a b) where
         step = rw eb;
         head = refl;
       }
-  a-node (node patternElement line PatternElement.Rel f kids) hd e = let z = element-number room (hd .1) in absurd (omega arith)
 
-  pub a-rel : (t : Tree patternElement) → Held sheet a b t d i → cell a b i kindAt ≡ relKind → IsRel sheet a b d i t
-  unfolding Held size elementNumber fold made elementStep specRecs specRec render KidsBelow Below fieldsOf fieldOf
-  a-rel (node patternElement line PatternElement.Node f kids) hd e = let z = element-number room (hd .1) in absurd (omega arith)
-  a-rel (node patternElement line PatternElement.Rel (bind, (n, (direction, (length, (p, (span, u)))))) (names ▸ props ▸ end)) hd e =
+  pub a-node : (t : Tree patternElement) → Held sheet a b t d i → cell a b i kindAt ≡ nodeKind → IsNode sheet a b d i t
+  unfolding elementNumber
+  a-node t hd e = by-element sheet d i room (λ t. IsNode sheet a b d i t) PatternElement.Node a-node-of t hd e
+
+  a-rel-of : Opens sheet a b d i patternElement (λ t. IsRel sheet a b d i t) PatternElement.Rel
+  unfolding Held size fold made elementStep specRecs specRec render KidsBelow Below fieldsOf fieldOf
+  a-rel-of line (bind, (n, (direction, (length, (p, (span, u)))))) (names ▸ props ▸ end) hd =
       let w = shown room (hd .1) in
       let eb : bind ≡ optionOf (cell a b i elementNamedAt) (cell a b i elementVarAt) = ap (λ (x : Fields (elementForms PatternElement.Rel)). x .0) (w .fields) in
       let en : n ≡ cell a b i nodeLabelsAt = ap (λ (x : Fields (elementForms PatternElement.Rel)). x .1 .0) (w .fields) in
@@ -153,6 +156,10 @@ module _ {sheet : Bytes} {a b : List ℕ} {d i : ℕ} (room : Roomy a b) where
         step = rw eb;
         head = refl;
       }
+
+  pub a-rel : (t : Tree patternElement) → Held sheet a b t d i → cell a b i kindAt ≡ relKind → IsRel sheet a b d i t
+  unfolding elementNumber
+  a-rel t hd e = by-element sheet d i room (λ t. IsRel sheet a b d i t) PatternElement.Rel a-rel-of t hd e
 
 -- an element is the one or the other
 pub other-element : {a b : List ℕ} (room : Roomy a b) (sheet : Bytes) (d i : ℕ) (t : Tree patternElement) → Held sheet a b t d i → ((cell a b i kindAt ≡ nodeKind) → ⊥) → cell a b i kindAt ≡ relKind

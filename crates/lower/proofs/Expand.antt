@@ -16,7 +16,7 @@ use Rattle.model.specs.Lower.{Recs, Lowered, made, _>>=_, ret, push, op, endpoi
 use Rattle.model.specs.Lower
 use Rattle.words.specs.Words.{Roomy, cell, optionOf, maxRecords}
 use Rattle.words.specs.Held.{Held, size}
-use Rattle.context.specs.Tables.{Pushed, Numbers, secondPass, varsAt}
+use Rattle.context.specs.Tables.{Pushed, Numbers, secondPass, varsAt, deepest}
 use Rattle.context.specs.declared.LowerCtx.{LowerCtx}
 use Rattle.context.specs.declared.Numbered.{Numbered}
 use Rattle.context.specs.Ops.{expandOp}
@@ -34,7 +34,6 @@ use Rattle.lower.specs.Carry.{plainC, plain-size, plain-held, plain-rend
 use Rattle.lower.proofs.Elements
 use Rattle.lower.proofs.Elements.{names-render, names-count, props-lower, props-has, a-node, a-rel}
 use Rattle.words.specs.Places.{kindAt, nodeKind, relKind, elementNamedAt, elementVarAt, nodeLabelsAt, nodePropsAt, relTypesAt, relPropsAt}
-use Rattle.model.specs.Call.{maxDepth}
 
 -- what the definition's steps make of elements that are opened
 abbrev pub nodeStep : (bind : Option ℕ) {n : ℕ} → Trees name n → (p : Bool) → Trees expr (one p) → NodeStep
@@ -114,11 +113,11 @@ recs-are : (N : Notes) (A : Ops) (t tr : Tree patternElement) {n n′ : ℕ} (na
     op ReadOp.Expand (input, (origin, (x′, (y′, tt)))) ∷ ((h′ ∷ (toList n′ (foldOf Lowered made types) ++ q′)) ++ (h ∷ (toList n (foldOf Lowered made names) ++ q))) ≡ op ReadOp.Expand (input, (origin, (x, (y, tt)))) ∷ (specRecs N A tr ++ specRecs N A t)
 recs-are N A t tr names types p p′ props props′ h h′ x y input origin x′ y′ q q′ ex ey et′ et eq′ eq = rw (ex, ey, et′, et, plain-render N A props′, plain-render N A props, eq′, eq, names-render N A types, names-render N A names)
 
-expand-bounded : (rel input origin far d base : ℕ) → d ≤ maxDepth → base ≤ secondPass → rel < maxRecords → InBounds (expandOp (atPlace base rel d) input origin far)
+expand-bounded : (rel input origin far d base : ℕ) → d ≤ deepest → base ≤ secondPass → rel < maxRecords → InBounds (expandOp (atPlace base rel d) input origin far)
 expand-bounded rel input origin far d base sh lb l = record { shallow = sh; near = lb; low = l; far = λ e. absurd (omega arith); flagged = λ e. absurd (omega arith) }
 
 module _ {a b : List ℕ} (d base far rel : ℕ) {e₁ e₂ n₁ n₂ input origin p₁ p₂ : ℕ} {c₀ : LowerCtx} {os rest rest₁ rest₂ : List ℕ} {r₁ r₂ : Numbered} {m₃ m₄ : Mem} {c₅ : LowerCtx}
-    {os₅ : List ℕ} (room : Roomy a b) (k12 : cell a b far kindAt ≡ nodeKind) (k13 : cell a b rel kindAt ≡ relKind) (lb : base ≤ secondPass) (sh : d ≤ maxDepth) (la : far < maxRecords)
+    {os₅ : List ℕ} (room : Roomy a b) (k12 : cell a b far kindAt ≡ nodeKind) (k13 : cell a b rel kindAt ≡ relKind) (lb : base ≤ secondPass) (sh : d ≤ deepest) (la : far < maxRecords)
     (ep₁ : p₁ ≡ base + (far + 1)) (nm₁ : Numbers (endpointVar (optionOf (cell a b far elementNamedAt) (cell a b far elementVarAt))) p₁ c₀ rest rest₁ r₁) (ep₂ : p₂ ≡ base + (rel + 1))
     (nm₂ : Numbers (endpointVar (optionOf (cell a b rel elementNamedAt) (cell a b rel elementVarAt))) p₂ (r₁ .ctx) rest₁ rest₂ r₂) (en₁ : n₁ ≡ cell a b rel relPropsAt)
     (x₁ : LowersExprs a b n₁ 0 (d - 1) base (rel + 1 + cell a b rel relTypesAt) e₁ (mem (r₂ .ctx) os rest₂) m₃) (en₂ : n₂ ≡ cell a b far nodePropsAt)

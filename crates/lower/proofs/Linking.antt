@@ -15,7 +15,7 @@ use Rattle.model.specs.Lower.{Lowering, Lowered, made, _>>=_, ret, endpointVar,
 use Rattle.model.specs.Lower
 use Rattle.words.specs.Words.{Roomy, cell, optionOf, maxRecords}
 use Rattle.words.specs.Held.{Held, size}
-use Rattle.context.specs.Tables.{Pushed, Numbers, secondPass, varsAt}
+use Rattle.context.specs.Tables.{Pushed, Numbers, secondPass, varsAt, deepest}
 use Rattle.context.specs.declared.LowerCtx.{LowerCtx}
 use Rattle.context.specs.declared.Numbered.{Numbered}
 use Rattle.context.specs.Ops.{expandOp}
@@ -40,7 +40,6 @@ use Rattle.lower.proofs.Elements.{a-node, element-number}
 use Rattle.lower.proofs.Elements
 use Rattle.lower.proofs.Expand.{expand-run, far-end, rel-end}
 use Rattle.words.specs.Places.{kindAt, nodeKind, relKind, elementNamedAt, elementVarAt, nodePropsAt, relTypesAt, relPropsAt, nodeLabelsAt}
-use Rattle.model.specs.Call.{maxDepth}
 
 IsNodeStep : Lower.Step → Type 0
 IsNodeStep (ofNode n) = Unit {0}
@@ -267,7 +266,7 @@ rel-kind room sheet d i (node patternElement line PatternElement.Node (bind, (n,
 rel-kind room sheet d i (node patternElement line PatternElement.Rel f kids) r hd e = element-number room (hd .1)
 
 module _ {a b : List ℕ} (d base : ℕ) (ch : Chain) {between : Read} {rel input origin e₁ e₂ n₁ n₂ p₁ p₂ : ℕ} {os rest rest₁ rest₂ : List ℕ} {r₁ r₂ : Numbered} {m₃ m₄ : Mem} {c₅ : LowerCtx} {os₅ : List ℕ}
-    (room : Roomy a b) (lb : base ≤ secondPass) (sh : d ≤ maxDepth) (st : ChainInBounds ch) (w1 : ch .pending ≡ pending.Rel rel between) (h1 : ch .last ≡ last.Op input origin)
+    (room : Roomy a b) (lb : base ≤ secondPass) (sh : d ≤ deepest) (st : ChainInBounds ch) (w1 : ch .pending ≡ pending.Rel rel between) (h1 : ch .last ≡ last.Op input origin)
     (k12 : cell a b (ch .next) kindAt ≡ nodeKind) (la : ch .next < maxRecords) (ep₁ : p₁ ≡ base + (ch .next + 1)) (nm₁ : Numbers (endpointVar (optionOf (cell a b (ch .next) elementNamedAt)
     (cell a b (ch .next) elementVarAt))) p₁ (ch .ctx) rest rest₁ r₁) (lr₁ : length rest₁ ≡ length rest) (ep₂ : p₂ ≡ base + (rel + 1))
     (nm₂ : Numbers (endpointVar (optionOf (cell a b rel elementNamedAt) (cell a b rel elementVarAt))) p₂ (r₁ .ctx) rest₁ rest₂ r₂) (lr₂ : length rest₂ ≡ length rest₁)

@@ -31,7 +31,7 @@ use Rattle.words.specs.Numbers.{exprNumber}
 use Rattle.words.proofs.Counting.{counted}
 use Rattle.lower.specs.Exprs.{narrow}
 use Rattle.lower.specs.Carry.{plainC, plain-lower, plain-size, plain-held, plain-render, plain-below}
-use Rattle.lower.proofs.Arms.{number-at, same-low}
+use Rattle.words.specs.Kinds.{Opens, by-expr}
 use Rattle.words.specs.Places.{kindAt, varKind, patKind, listPredicateKind, varIdAt, patPartsAt, listPredicateVarAt}
 
 -- ── a variable that is numbered at the record, before the expressions behind it ──
@@ -48,27 +48,19 @@ pub record Naming (sheet : Bytes) (a b : List ℕ) (d i id : ℕ) (t : Tree expr
   pub below : (N : Render.Notes) (lo k : ℕ) → BelowC N lo k list → Below N lo k t
 
 module _ {sheet : Bytes} {a b : List ℕ} {d i : ℕ} (room : Roomy a b) where
-  pub variable : (t : Tree expr) → Held sheet a b t d i → cell a b i kindAt ≡ varKind → Naming sheet a b d i (cell a b i varIdAt) t
-  unfolding Held size exprNumber lowerExpr fold made exprStep _>>=_ ret render recsOver exprRecs exprRest Below belowIn copiesBelow lowerC renderC sizeC HeldC fieldsOf fieldOf
-  variable (node expr line (Expr.Over h) f kids) hd e = let z = number-at room (hd .1) in let l = same-low h in absurd (omega arith)
-  variable (node expr line Expr.Var (id, t) end) hd e =
+  variable-of : Opens sheet a b d i expr (λ t. Naming sheet a b d i (cell a b i varIdAt) t) Expr.Var
+  unfolding Held size lowerExpr fold made exprStep _>>=_ ret render recsOver exprRecs exprRest Below belowIn copiesBelow lowerC renderC sizeC HeldC fieldsOf fieldOf
+  variable-of line (id, t) end hd =
       let ei : id ≡ cell a b i varIdAt = ap (λ (x : Fields (exprForms Expr.Var)). x .0) (shown room (hd .1) .fields) in
       record { n = 0; list = []ᶜ; total = counted room tt (hd .1); held = tt; sized = refl; head = λ x. planned PlanExpr.Var (x, tt); lower = λ s. rw ei; shown = λ N A. rw (hd .0); below = λ N lo k b. tt }
-  variable (node expr line Expr.Map f kids) hd e = let z = number-at room (hd .1) in absurd (omega arith)
-  variable (node expr line Expr.Call f kids) hd e = let z = number-at room (hd .1) in absurd (omega arith)
-  variable (node expr line Expr.PatternPredicate f kids) hd e = let z = number-at room (hd .1) in absurd (omega arith)
-  variable (node expr line Expr.ListPredicate f kids) hd e = let z = number-at room (hd .1) in absurd (omega arith)
-  variable (node expr line Expr.Unresolved f kids) hd e = let z = number-at room (hd .1) in absurd (omega arith)
-  variable (node expr line Expr.Undesugared f kids) hd e = let z = number-at room (hd .1) in absurd (omega arith)
 
-  pub predicate : (t : Tree expr) → Held sheet a b t d i → cell a b i kindAt ≡ listPredicateKind → Naming sheet a b d i (cell a b i listPredicateVarAt) t
-  unfolding Held size exprNumber lowerExpr fold made exprStep over _>>=_ ret render recsOver exprRecs exprRest Below belowIn copiesBelow fieldsOf fieldOf
-  predicate (node expr line (Expr.Over h) f kids) hd e = let z = number-at room (hd .1) in let l = same-low h in absurd (omega arith)
-  predicate (node expr line Expr.Var f kids) hd e = let z = number-at room (hd .1) in absurd (omega arith)
-  predicate (node expr line Expr.Map f kids) hd e = let z = number-at room (hd .1) in absurd (omega arith)
-  predicate (node expr line Expr.Call f kids) hd e = let z = number-at room (hd .1) in absurd (omega arith)
-  predicate (node expr line Expr.PatternPredicate f kids) hd e = let z = number-at room (hd .1) in absurd (omega arith)
-  predicate (node expr line Expr.ListPredicate (kind, (id, (pred, t))) (ts ▸ end)) hd e =
+  pub variable : (t : Tree expr) → Held sheet a b t d i → cell a b i kindAt ≡ varKind → Naming sheet a b d i (cell a b i varIdAt) t
+  unfolding exprNumber
+  variable t hd e = by-expr sheet d i room (λ t. Naming sheet a b d i (cell a b i varIdAt) t) Expr.Var variable-of t hd e
+
+  predicate-of : Opens sheet a b d i expr (λ t. Naming sheet a b d i (cell a b i listPredicateVarAt) t) Expr.ListPredicate
+  unfolding Held size lowerExpr fold made exprStep over _>>=_ ret render recsOver exprRecs exprRest Below belowIn copiesBelow fieldsOf fieldOf
+  predicate-of line (kind, (id, (pred, t))) (ts ▸ end) hd =
       let ei : id ≡ cell a b i listPredicateVarAt = ap (λ (x : Fields (exprForms Expr.ListPredicate)). x .1 .0) (shown room (hd .1) .fields) in
       record {
         n = _;
@@ -81,8 +73,10 @@ module _ {sheet : Bytes} {a b : List ℕ} {d i : ℕ} (room : Roomy a b) where
         shown = λ N A. rw (hd .0) (ap (λ (x : Recs). planned PlanExpr.ListPredicate (kind, (N (suc i), (pred, tt))) ∷ x) (append-nil (renderOf N A ts) ∙ plain-render N A ts));
         below = λ N lo k b. (plain-below N lo k ts b, tt);
       }
-  predicate (node expr line Expr.Unresolved f kids) hd e = let z = number-at room (hd .1) in absurd (omega arith)
-  predicate (node expr line Expr.Undesugared f kids) hd e = let z = number-at room (hd .1) in absurd (omega arith)
+
+  pub predicate : (t : Tree expr) → Held sheet a b t d i → cell a b i kindAt ≡ listPredicateKind → Naming sheet a b d i (cell a b i listPredicateVarAt) t
+  unfolding exprNumber
+  predicate t hd e = by-expr sheet d i room (λ t. Naming sheet a b d i (cell a b i listPredicateVarAt) t) Expr.ListPredicate predicate-of t hd e
 
 naming-run : {sheet : Bytes} {a b : List ℕ} {first : ℕ} {d base i e id : ℕ} {m m′ : Mem} (t : Tree expr) (o : Naming sheet a b d i id t) (W : Written) (s : State) (rest′ : List ℕ) (r : Numbered) →
     base ≤ secondPass → i < maxRecords → i + 1 ≤ e → Given (side sheet a b first) W s (mapVar id) (base + suc i) m rest′ r → Ran (side sheet a b first) ((base + suc i, base + suc i + 1) ∷ W)
@@ -141,13 +135,9 @@ pub record Matched (sheet : Bytes) (a b : List ℕ) (d i : ℕ) (t : Tree expr) 
   pub below : (N : Render.Notes) (lo k : ℕ) → lo ≤ N (suc i) → N (suc i) < k → Below N lo k t
 
 module _ {sheet : Bytes} {a b : List ℕ} {d i : ℕ} (room : Roomy a b) where
-  pub pattern : (t : Tree expr) → Held sheet a b t d i → cell a b i kindAt ≡ patKind → Matched sheet a b d i t
-  unfolding Held size exprNumber lowerExpr fold made exprStep lowerMatchPattern optionalJoin copy _>>=_ ret render recsOver exprRecs exprRest Below belowIn copiesBelow fieldsOf fieldOf
-  pattern (node expr line (Expr.Over h) f kids) hd e = let z = number-at room (hd .1) in let l = same-low h in absurd (omega arith)
-  pattern (node expr line Expr.Var f kids) hd e = let z = number-at room (hd .1) in absurd (omega arith)
-  pattern (node expr line Expr.Map f kids) hd e = let z = number-at room (hd .1) in absurd (omega arith)
-  pattern (node expr line Expr.Call f kids) hd e = let z = number-at room (hd .1) in absurd (omega arith)
-  pattern (node expr line Expr.PatternPredicate (n, t) (ts ▸ end)) hd e = record {
+  pattern-of : Opens sheet a b d i expr (λ t. Matched sheet a b d i t) Expr.PatternPredicate
+  unfolding Held size lowerExpr fold made exprStep lowerMatchPattern optionalJoin copy _>>=_ ret render recsOver exprRecs exprRest Below belowIn copiesBelow fieldsOf fieldOf
+  pattern-of line (n, t) (ts ▸ end) hd = record {
     n = n;
     parts = ts;
     total = sym (ap (λ (x : Fields (exprForms Expr.PatternPredicate)). x .0) (shown room (hd .1) .fields));
@@ -157,9 +147,10 @@ module _ {sheet : Bytes} {a b : List ℕ} {d i : ℕ} (room : Roomy a b) where
     shown = λ N A. rw (hd .0);
     below = λ N lo k l h. rw (hd .0) (l, h);
   }
-  pattern (node expr line Expr.ListPredicate f kids) hd e = let z = number-at room (hd .1) in absurd (omega arith)
-  pattern (node expr line Expr.Unresolved f kids) hd e = let z = number-at room (hd .1) in absurd (omega arith)
-  pattern (node expr line Expr.Undesugared f kids) hd e = let z = number-at room (hd .1) in absurd (omega arith)
+
+  pub pattern : (t : Tree expr) → Held sheet a b t d i → cell a b i kindAt ≡ patKind → Matched sheet a b d i t
+  unfolding exprNumber
+  pattern t hd e = by-expr sheet d i room (λ t. Matched sheet a b d i t) Expr.PatternPredicate pattern-of t hd e
 
 module _ {a b : List ℕ} {n d base i e k place : ℕ} {rest′ : List ℕ} {m m₁ : Mem} (see : (sheet : Bytes) (t : Tree expr) → Held sheet a b t d i → Matched sheet a b d i t)
     (en : n ≡ cell a b i patPartsAt) (lb : base ≤ secondPass) (li : i < maxRecords) (ep : place ≡ base + (i + 1)) (p : LowersParts a b n (d - 1) base i e k m m₁)

@@ -25,14 +25,14 @@ use Rattle.lower.specs.declared.Chain.{Chain}
 use Rattle.model.specs.Tree.{Tree, node}
 use Rattle.words.specs.Words.{cell, Roomy, optionOf}
 use Rattle.words.specs.Held.{Held, size}
-use Rattle.context.specs.Tables.{Pushed, Issued, CanNumber, Numbers, varsAt, maxCount}
+use Rattle.context.specs.Tables.{Pushed, Issued, CanNumber, Numbers, varsAt, maxCount, deepest}
 use Rattle.context.specs.declared.op.Op.{Op}
 use Rattle.context.specs.declared.LowerCtx.{LowerCtx}
 use Rattle.context.specs.declared.Numbered.{Numbered}
 use Rattle.model.specs.Lower.{Lowering, endpointVar}
 use Rattle.context.specs.Ops.{Fits}
 use Rattle.lower.specs.Rep.{atPlace, Mem, mem, RoomFor, maxBefore}
-use Rattle.model.specs.Call.{maxDepth, workWords}
+use Rattle.model.specs.Call.{workWords}
 use Rattle.words.specs.Words.{maxRecords}
 use Rattle.context.specs.Tables.{secondPass}
 use Rattle.context.specs.declared.At.{At}
@@ -54,7 +54,7 @@ deep {a} {b} {d = d} {i = i} x = deep-by (x .sheet) a b (x .tree) d i (x .held) 
 pub record Bounds (at : At) : Type 0 where
   pub low : at .i < maxRecords
   pub deep : 1 ≤ at .left
-  pub shallow : at .left ≤ maxDepth
+  pub shallow : at .left ≤ deepest
   pub near : at .base ≤ secondPass
 
 pub bounds : {s : Sort} {a b : List ℕ} {at : At} {m : Mem} → TreeAsked s a b at m → Bounds at
@@ -93,7 +93,7 @@ pub good-at : {d i j : ℕ} {m : Mem} → i ≡ j → RoomFor d i m → RoomFor 
 good-at e g = rw e at g
 
 -- a place's numbers fit into words
-pub fits : {base i d : ℕ} → base ≤ secondPass → i ≤ maxRecords → d ≤ maxDepth → Fits (atPlace base i d)
+pub fits : {base i d : ℕ} → base ≤ secondPass → i ≤ maxRecords → d ≤ deepest → Fits (atPlace base i d)
 fits lb li ld = record { base = omega arith; i = omega arith; left = omega arith }
 
 pub few-ops : {d i : ℕ} {m : Mem} → RoomFor d i m → m .ctx .ops ≤ maxBefore + 2 * maxRecords

@@ -16,7 +16,7 @@ use Rattle.model.specs.Tree.{Tree, toList, foldOf}
 use Rattle.model.specs.Lower.{Recs, Lowered, made, push, endpointVar, propsOf, shapeOf, NodeStep, RelStep, Step, ofNode, ofRel, nodeRelNode}
 use Rattle.words.specs.Words.{Roomy, cell, optionOf, maxRecords}
 use Rattle.words.specs.Held.{Held, size}
-use Rattle.context.specs.Tables.{Pushed, Numbers, secondPass}
+use Rattle.context.specs.Tables.{Pushed, Numbers, secondPass, deepest}
 use Rattle.context.specs.declared.LowerCtx.{LowerCtx}
 use Rattle.context.specs.declared.Numbered.{Numbered}
 use Rattle.context.specs.Ops.{shortestPathOp}
@@ -36,7 +36,6 @@ use Rattle.lower.proofs.Elements.{a-node, a-rel}
 use Rattle.lower.proofs.Chaining.{IsPart, a-part}
 use Rattle.lower.proofs.Shortest.{shortRecs, short-def, short-is, special-part, Three, three, spots, at-place, place-at}
 use Rattle.words.specs.Places.{kindAt, nodeKind, relKind, elementNamedAt, elementVarAt, relTypesAt, partNamedAt, partVarAt, partShortestAt, partElementsAt}
-use Rattle.model.specs.Call.{maxDepth}
 
 one-more : {k n : ℕ} → n ≡ k + 1 → k < n
 one-more e = omega arith
@@ -45,11 +44,11 @@ shape-three : (ss : List Step) (x y z : Step) (n b : NodeStep) (r : RelStep) →
 unfolding shapeOf
 shape-three ss x y z n b r e ex ey ez = rw (e, ex, ey, ez)
 
-short-bounded : (i input rel far d base : ℕ) → d ≤ maxDepth → base ≤ secondPass → i < maxRecords → far < maxRecords → InBounds (shortestPathOp (atPlace base i (d - 1)) input rel far)
+short-bounded : (i input rel far d base : ℕ) → d ≤ deepest → base ≤ secondPass → i < maxRecords → far < maxRecords → InBounds (shortestPathOp (atPlace base i (d - 1)) input rel far)
 short-bounded i input rel far d base sh lb l h = record { shallow = omega arith; near = lb; low = l; far = λ e. h; flagged = λ e. absurd (omega arith) }
 
 module _ {a b : List ℕ} (d base i rel far e : ℕ) {p₁ p₃ p₄ e₁ e₂ k₁ : ℕ} {c₀ : LowerCtx} {os rest rest₁ rest₄ rest₅ os₆ : List ℕ} {r₁ r₃ r₄ : Numbered} {m₂ m₃ : Mem} {c₆ : LowerCtx}
-    (room : Roomy a b) (lb : base ≤ secondPass) (sh : d ≤ maxDepth) (k4 : (cell a b i partShortestAt ≡ 0) → ⊥) (k6 : cell a b i partElementsAt ≡ 3) (ka : cell a b (i + 1) kindAt ≡ nodeKind)
+    (room : Roomy a b) (lb : base ≤ secondPass) (sh : d ≤ deepest) (k4 : (cell a b i partShortestAt ≡ 0) → ⊥) (k6 : cell a b i partElementsAt ≡ 3) (ka : cell a b (i + 1) kindAt ≡ nodeKind)
     (kr : cell a b rel kindAt ≡ relKind) (kf : cell a b far kindAt ≡ nodeKind) (na : Ends a b (i + 1) rel) (nr : Ends a b rel far) (nf : Ends a b far e)
     (ep₁ : p₁ ≡ base + (i + 1 + 1)) (nm₁ : Numbers (endpointVar (optionOf (cell a b (i + 1) elementNamedAt) (cell a b (i + 1) elementVarAt))) p₁ c₀ rest rest₁ r₁)
     (lr₁ : length rest₁ ≡ length rest) (ls : LowersStart a b (d - 1) base (i + 1) (r₁ .number) e₁ k₁ (mem (r₁ .ctx) os rest₁) m₂) (lr : LowersRel a b (d - 1) base rel e₂ (m₂ .ctx)

@@ -12,7 +12,7 @@ use Rattle.model.specs.Tree.{Tree, toList, foldOf}
 use Rattle.model.specs.Lower.{Recs, Lowered, made, _>>=_, ret, push, op, source, filter, filterByProps, propsOf, lowerExpr, NodeStep, ofNode, at}
 use Rattle.words.specs.Words.{Roomy, cell, optionOf, maxRecords}
 use Rattle.words.specs.Held.{Held}
-use Rattle.context.specs.Tables.{Pushed, secondPass}
+use Rattle.context.specs.Tables.{Pushed, secondPass, deepest}
 use Rattle.context.specs.declared.LowerCtx.{LowerCtx}
 use Rattle.context.specs.Ops.{filterOp, sourceOp}
 use Rattle.lower.specs.Side.{side}
@@ -24,7 +24,6 @@ use Rattle.lower.specs.State.{sub-more, sub-within, blank-within, to-the
 use Rattle.words.specs.Fits.{tree-fits, tree-low}
 use Rattle.lower.proofs.Elements.{names-render, a-node, OneProp, one-prop, no-prop, same-node}
 use Rattle.words.specs.Places.{kindAt, nodeKind, elementNamedAt, elementVarAt, nodeLabelsAt, nodePropsAt}
-use Rattle.model.specs.Call.{maxDepth}
 
 module _ {a b : List ℕ} (d i : ℕ) (room : Roomy a b) (k12 : cell a b i kindAt ≡ nodeKind) where
   pub some-end : SomeTree a b patternElement d i → i + 1 + cell a b i nodeLabelsAt ≤ maxRecords
@@ -62,7 +61,7 @@ filter-is : (k k′ : ℕ) (rs rs′ : Recs) → k ≡ k′ → rs ≡ rs′ →
 unfolding filter
 filter-is k k′ rs rs′ e e′ = rw (e, e′)
 
-module _ {a b : List ℕ} {base number : ℕ} {c : LowerCtx} {os′ : List ℕ} {m : Mem} (d i : ℕ) (room : Roomy a b) (k12 : cell a b i kindAt ≡ nodeKind) (sh : (d ≤ maxDepth) × (base ≤ secondPass)) (ps : Pushed (m .ctx) c (m .ops) os′ (sourceOp (atPlace base i (d - 1)) number)) (lo : length os′ ≡ length (m .ops)) where
+module _ {a b : List ℕ} {base number : ℕ} {c : LowerCtx} {os′ : List ℕ} {m : Mem} (d i : ℕ) (room : Roomy a b) (k12 : cell a b i kindAt ≡ nodeKind) (sh : (d ≤ deepest) × (base ≤ secondPass)) (ps : Pushed (m .ctx) c (m .ops) os′ (sourceOp (atPlace base i (d - 1)) number)) (lo : length os′ ≡ length (m .ops)) where
   -- the source
   source-to : (sheet : Bytes) {first : ℕ} (t : Tree patternElement) (n : NodeStep) → Held sheet a b t d i → stepOf t ≡ ofNode n → (W : Written) (s : State) → Rep (side sheet a b first) W s m → To (side sheet a b first) W W s (push (source number (n .labels)) s .1) m (mem c os′ (m .rest))
   source-to sheet t n hd st W s r =
@@ -153,7 +152,7 @@ module _ {a b : List ℕ} {base number : ℕ} {c : LowerCtx} {os′ : List ℕ} 
         }
 
 -- the same, with the record behind the labels as it was read
-module _ {a b : List ℕ} {base number : ℕ} {c : LowerCtx} {os′ : List ℕ} {m : Mem} (d i j : ℕ) (room : Roomy a b) (k12 : cell a b i kindAt ≡ nodeKind) (sh : (d ≤ maxDepth) × (base ≤ secondPass))
+module _ {a b : List ℕ} {base number : ℕ} {c : LowerCtx} {os′ : List ℕ} {m : Mem} (d i j : ℕ) (room : Roomy a b) (k12 : cell a b i kindAt ≡ nodeKind) (sh : (d ≤ deepest) × (base ≤ secondPass))
     (ej : j ≡ i + 1 + cell a b i nodeLabelsAt) (ps : Pushed (m .ctx) c (m .ops) os′ (sourceOp (atPlace base i (d - 1)) number)) (lo : length os′ ≡ length (m .ops)) where
   pub bare-read : cell a b i nodePropsAt ≡ 0 → SomeTree a b patternElement d i → LowersStart a b d base i number j (m .ctx .ops) m (mem c os′ (m .rest))
   bare-read k6 x = rw ej (bare-law d i room k12 sh ps lo k6 x)

@@ -2,11 +2,10 @@
 use mathlib.Core.Path.{_≡_}
 use Prim.Native.Nat.{ℕ, _+_, _-_, _≤_, _<_}
 use mathlib.Core.List.{List}
-use Rattle.model.specs.Call.{maxDepth}
 use Rattle.model.specs.Kind.{Sort, patternPart, patternElement}
 use Rattle.words.specs.Words.{Roomy, cell, maxRecords}
 use Rattle.words.specs.Places.{kindAt, nodeKind, relKind, nodePropsAt, relPropsAt}
-use Rattle.context.specs.Tables.{secondPass}
+use Rattle.context.specs.Tables.{secondPass, deepest}
 use Rattle.context.specs.declared.At.{At}
 use Rattle.lower.specs.Rep.{Mem, mem, RoomFor}
 use Rattle.lower.specs.Pieces.{SomeTree, SomeCarried}
@@ -24,7 +23,7 @@ pub record Asked (Stands : Type 0) (a b : List ℕ) (at : At) (deep : ℕ) (m : 
   pub words : Roomy a b
   pub tree : Stands
   pub room : RoomFor deep (at .i) m
-  pub depth : at .left ≤ maxDepth
+  pub depth : at .left ≤ deepest
   pub pass : at .base ≤ secondPass
 
 -- a tree of a sort
@@ -73,7 +72,7 @@ pub record ChainAsked (a b : List ℕ) (base left : ℕ) (ch : Chain) (os rs : L
   pub words : Roomy a b
   pub tree : SomeTree a b patternElement left (ch .next)
   pub room : RoomFor left (from ch) (mem (ch .ctx) os rs)
-  pub depth : left ≤ maxDepth
+  pub depth : left ≤ deepest
   pub pass : base ≤ secondPass
   pub bounded : ChainInBounds ch
   pub anchored : Anchored a b left ch

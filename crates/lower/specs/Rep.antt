@@ -4,11 +4,11 @@ use Prim.Native.Nat.{ℕ, _+_, _*_, _≤_, _<_}
 use mathlib.Core.List.{List, [], _∷_}
 use mathlib.Core.Logic.{_⊎_}
 use lib.ListN.{length, getD, drop}
-use Rattle.model.specs.Call.{workWords, maxDepth}
+use Rattle.model.specs.Call.{workWords}
 use Rattle.model.specs.Lower.{Recs, Lowering, at}
 use Rattle.model.specs.Lower
 use Rattle.words.specs.Words.{maxRecords}
-use Rattle.context.specs.Tables.{stateOf, opAt, varsAt, maxStored, Indexed}
+use Rattle.context.specs.Tables.{stateOf, opAt, varsAt, maxStored, Indexed, deepest}
 use Rattle.context.specs.declared.LowerCtx.{LowerCtx}
 use Rattle.context.specs.declared.At.{At}
 use Rattle.lower.specs.Side.{Side}
@@ -107,7 +107,7 @@ maxBefore = 30000
 
 -- Variables that a lowering may find at record i, beside one for each record before it: those of a first pass over the same records, and one for each level of a tree that is under way.
 abbrev pub maxMet : ℕ
-maxMet = maxRecords + maxDepth
+maxMet = maxRecords + deepest
 
 -- there is room at record i, for what is at most d deep: two operators and one number for each record, and one for each level
 pub record RoomFor (d i : ℕ) (m : Mem) : Type 0 where

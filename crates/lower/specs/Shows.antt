@@ -17,8 +17,7 @@ use Rattle.context.specs.Ops.{sourceAllKind, sourceKind, filterKind, expandKind
 use Rattle.lower.specs.Side.{Side}
 use Rattle.lower.specs.Render.{Notes, Ops, render, renderOf, Below, BelowOf, specRecs, KidsBelow, keptFrom, keyRecs, aggRecs}
 use Rattle.words.specs.Places.{kindAt, nodeKind, relKind, nodeLabelsAt, partShortestAt, partElementsAt, itemsAt, withFilterAt}
-use Rattle.model.specs.Call.{maxDepth}
-use Rattle.context.specs.Tables.{secondPass}
+use Rattle.context.specs.Tables.{secondPass, deepest}
 
 -- the notes of a pass stand from b on
 abbrev pub shift : Notes → ℕ → Notes
@@ -26,7 +25,7 @@ shift N b line = N (b + line)
 
 -- what the words of every operator keep to: the depth left, the pass, and the records
 pub record InBounds (o : Op) : Type 0 where
-  pub shallow : o .left ≤ maxDepth
+  pub shallow : o .left ≤ deepest
   pub near : o .base ≤ secondPass
   pub low : o .idx < maxRecords
   pub far : o .kind ≡ shortestPathKind → o .y < maxRecords

@@ -9,11 +9,10 @@ use Rattle.model.specs.Text.{Bytes}
 use Rattle.model.specs.Kind.{clause, projection}
 use Rattle.model.specs.Tree.{Tree}
 use Rattle.model.specs.Lower.{lowerClause}
-use Rattle.model.specs.Call.{maxDepth}
 use Rattle.words.specs.Words.{cell, maxRecords}
 use Rattle.words.specs.Held.{Held, HeldMany, size, sizeOf}
 use Rattle.words.specs.Places.{itemsAt, returnDistinctAt}
-use Rattle.context.specs.Tables.{secondPass}
+use Rattle.context.specs.Tables.{secondPass, deepest}
 use Rattle.context.specs.Ops.{beforeOf}
 use Rattle.context.specs.declared.At.{At}
 use Rattle.context.specs.declared.Before.{Before}
@@ -57,7 +56,7 @@ module _ {sheet : Bytes} {a b : List ℕ} {at : At} {current : Before} {m : Mem}
     first-end t v = first-as (v .n) (v .counted) .next (v .items) (v .held-items)
 
     -- there is (g .asked .words) for the second
-    pub good-second : {d′ : ℕ} → d′ ≤ maxDepth → RoomFor d′ (at .i + 1) m₁
+    pub good-second : {d′ : ℕ} → d′ ≤ deepest → RoomFor d′ (at .i + 1) m₁
     good-second l =
         let r = g .asked .ready in
         let low = Room.low (g .asked .tree) in

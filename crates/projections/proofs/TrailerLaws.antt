@@ -10,11 +10,10 @@ use Rattle.model.specs.Kind.{Sort, ReadOp, expr, orderItem}
 use Rattle.model.specs.Record.{Rec}
 use Rattle.model.specs.Tree.{Tree, Trees, []ᵗ, _∷ᵗ_}
 use Rattle.model.specs.Lower.{Recs, Lowering, _>>=_, ret, push, op, lowerExpr, orderBy, overExpr, lowerTrailers}
-use Rattle.model.specs.Call.{maxDepth}
 use Rattle.words.specs.Words.{cell, maxRecords}
 use Rattle.words.specs.Held.{Held, HeldOf, size, sizeOf}
 use Rattle.words.specs.Places.{keysAt, skipAt, limitAt}
-use Rattle.context.specs.Tables.{Pushed}
+use Rattle.context.specs.Tables.{Pushed, deepest}
 use Rattle.context.specs.Ops.{orderByOp}
 use Rattle.context.specs.declared.At.{At}
 use Rattle.context.specs.declared.LowerCtx.{LowerCtx}
@@ -145,7 +144,7 @@ pub limit-input : {x : Trailer} {k n : ℕ} → x ≡ trailer.Limit k → inputO
 limit-input e l = rw e at l
 
 -- a skip or a limit, as it is stored
-over-stored : {sheet : Bytes} {a b : List ℕ} {first : ℕ} {N : Notes} {A : Ops} {k : ℕ} (x : Trailer) (i d : ℕ) (t : Tree expr) (rs : Recs) → d ≤ maxDepth → Held sheet a b t d i → Below (shift N 0) first k t → render (shift N 0) A t ≡ rs → Stored (side sheet a b first) N A k (trailerOp (atPlace 0 i d) x) (headOf x ∷ rs)
+over-stored : {sheet : Bytes} {a b : List ℕ} {first : ℕ} {N : Notes} {A : Ops} {k : ℕ} (x : Trailer) (i d : ℕ) (t : Tree expr) (rs : Recs) → d ≤ deepest → Held sheet a b t d i → Below (shift N 0) first k t → render (shift N 0) A t ≡ rs → Stored (side sheet a b first) N A k (trailerOp (atPlace 0 i d) x) (headOf x ∷ rs)
 over-stored {sheet} {a} {b} (trailer.Skip input) i d t rs sh hd bl e = record {
   bounded = record { shallow = sh; near = omega arith; low = tree-low sheet a b t d i hd; far = λ e. absurd (omega arith); flagged = λ e. absurd (omega arith) };
   shows = shows-skip refl (record { tree = t; held = hd; below = bl; is = ap (λ (z : Recs). op ReadOp.Skip (input, tt) ∷ z) (sym e) });

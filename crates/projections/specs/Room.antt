@@ -5,14 +5,14 @@ use native.Mathlib.Nat.{le-refl}
 use native.Mathlib.Omega.{arith}
 use mathlib.Core.List.{List}
 use lib.ListN.{length}
-use Rattle.model.specs.Call.{workWords, maxDepth}
+use Rattle.model.specs.Call.{workWords}
 use Rattle.model.specs.Text.{Bytes}
 use Rattle.model.specs.Kind.{Sort}
 use Rattle.model.specs.Tree.{Tree, node}
 use Rattle.model.specs.Lower.{Lowering}
 use Rattle.words.specs.Words.{maxRecords}
 use Rattle.words.specs.Held.{Held, HeldSome, HeldMany}
-use Rattle.context.specs.Tables.{Pushed, secondPass, maxCount}
+use Rattle.context.specs.Tables.{Pushed, secondPass, maxCount, deepest}
 use Rattle.context.specs.Ops.{Fits}
 use Rattle.context.specs.declared.At.{At}
 use Rattle.context.specs.declared.Before.{Before}
@@ -55,13 +55,13 @@ some-trees {sheet} x = record { sheet = sheet; trees = x .trees; held = x .are }
 
 -- ── places ──
 
-pub fits : {base i d : ℕ} → base ≤ secondPass → i ≤ maxRecords → d ≤ maxDepth → Fits (atPlace base i d)
+pub fits : {base i d : ℕ} → base ≤ secondPass → i ≤ maxRecords → d ≤ deepest → Fits (atPlace base i d)
 fits lb li ld = record { base = omega arith; i = omega arith; left = omega arith }
 
 -- ── where a clause may begin ──
 
 -- room for what is at most d deep, from record j on
-pub ready-good : {d i j : ℕ} {m : Mem} → Ready i m → i ≤ j → j ≤ maxRecords → d ≤ maxDepth → RoomFor d j m
+pub ready-good : {d i j : ℕ} {m : Mem} → Ready i m → i ≤ j → j ≤ maxRecords → d ≤ deepest → RoomFor d j m
 ready-good g l h ld = record { few = omega (arith, g .few); low = omega (arith, g .low); met = omega (arith, g .met); here = h; in-ops = g .in-ops; in-rest = g .in-rest; index = g .index }
 
 pub ready-after : {i e : ℕ} {m m′ : Mem} → MovedTwice i e m m′ → Ready i m → Ready e m′
@@ -77,10 +77,10 @@ few g = omega (arith, g .few, g .here)
 pub record Bounds (d i ops : ℕ) : Type 0 where
   pub low : i < maxRecords
   pub deep : 1 ≤ d
-  pub shallow : d ≤ maxDepth
+  pub shallow : d ≤ deepest
   pub few : ops ≤ 8 * maxRecords
 
-pub bounds-of : {a b : List ℕ} {s : Sort} {d i : ℕ} {m : Mem} → SomeTree a b s d i → Ready i m → d ≤ maxDepth → Bounds d i (m .ctx .ops)
+pub bounds-of : {a b : List ℕ} {s : Sort} {d i : ℕ} {m : Mem} → SomeTree a b s d i → Ready i m → d ≤ deepest → Bounds d i (m .ctx .ops)
 bounds-of x g h = record { low = low x; deep = deep x; shallow = h; few = few g }
 
 pub bounds : {a b : List ℕ} {k : ℕ} {at : At} {current : Before} {m : Mem} → ClauseAsked k a b at current m → Bounds (at .left) (at .i) (m .ctx .ops)
@@ -114,7 +114,7 @@ module _ {i j e : ℕ} {m m′ : Mem} (g : Ready i m) (p : Moved j e m m′) (l 
 -- ── behind the operator before, or a source of everything ──
 
 module _ {o : ℕ} {L : Lowering ℕ} {k i : ℕ} {m m₁ : Mem} (g : Ready i m) (q : OrSource o L k m m₁) where
-  pub good-source : {j : ℕ} (d : ℕ) → i + 1 ≤ j → j ≤ maxRecords → d ≤ maxDepth → RoomFor d j m₁
+  pub good-source : {j : ℕ} (d : ℕ) → i + 1 ≤ j → j ≤ maxRecords → d ≤ deepest → RoomFor d j m₁
   good-source d l h ld = record { few = omega (arith, g .few, q .few); low = omega (arith, g .low, q .next); met = omega (arith, g .met, q .mapped); here = h; in-ops = rw (q .in-ops) (g .in-ops); in-rest = rw (q .rest) (g .in-rest); index = rw (q .mapped, q .rest) (g .index) }
 
   -- its number is small

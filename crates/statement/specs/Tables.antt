@@ -10,6 +10,7 @@ use Rattle.model.specs.Plan.{planSheet}
 use Rattle.model.specs.Call.{Outcome, written, testPlan}
 use Rattle.model.specs.Call
 use Rattle.words.specs.Held.{HeldSome}
+use Rattle.lower.specs.Side.{side}
 use Rattle.lower.specs.Rep.{Mem, Written, Rep}
 use Rattle.clauses.specs.Statement.{LowersStatement}
 use Rattle.plan_writer.specs.Promise.{tables-of}
@@ -25,7 +26,7 @@ pub record Lowered (sheet : Bytes) (a b : List ℕ) (m : Mem) : Type 0 where
   pub met : m .ctx .mapped ≤ 4352
   pub written : Written
   pub state : LowerCtx
-  pub rep : Rep sheet a b written state m
+  pub rep : Rep (side sheet a b 0) written state m
 
 pub lowered : {sheet : Bytes} {a b : List ℕ} {m : Mem} → HeldSome sheet a b statement 64 0 → LowersStatement sheet a b m → Lowered sheet a b m
 lowered h l = let r = l .run (h .tree) (h .is) in record { met = l .met; written = r .written; state = lowerStatement (h .tree); rep = r .rep }
@@ -35,7 +36,7 @@ module _ {sheet : Bytes} {a b : List ℕ} {m : Mem} where
   some-tables l h = record { state = l .state; tables = tables-of (l .rep) h (l .met) }
 
   -- counts of the state, as the code has them
-  module _ {W : Written} {s : LowerCtx} (r : Rep sheet a b W s m) where
+  module _ {W : Written} {s : LowerCtx} (r : Rep (side sheet a b 0) W s m) where
     pub ops-count : m .ctx .ops ≡ length (s .ops)
     ops-count = r .count
 
@@ -44,7 +45,7 @@ module _ {sheet : Bytes} {a b : List ℕ} {m : Mem} where
 
 -- ── the plan, as it is answered ──
 
-module _ {sheet : Bytes} {a b : List ℕ} {m : Mem} {W : Written} {s : LowerCtx} (r : Rep sheet a b W s m) where
+module _ {sheet : Bytes} {a b : List ℕ} {m : Mem} {W : Written} {s : LowerCtx} (r : Rep (side sheet a b 0) W s m) where
   pub full-ops : (slice : Bytes) → 2048 < m .ctx .ops → Gives slice slice Answer.PlanFull (testPlan s)
   full-ops slice h = too-many slice s (rw (ops-count r) at h)
 
