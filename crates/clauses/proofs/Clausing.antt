@@ -42,7 +42,7 @@ left-one p = p
 
 module _ (sheet : Bytes) {a b : List ℕ} (d i : ℕ) (o : Option ℕ) (m : Mem) (room : Roomy a b) (k8 : cell a b i kindAt ≡ writeKind) (li : i < maxRecords) (st : Stands o m) where
   write-run : {first : ℕ} (t : Tree clause) → Held sheet a b t d i → (W : Written) (s : State) → Rep (side sheet a b first) W s m → Leaves (side sheet a b first) W (λ s. lowerClause t o s) o (suc i) (suc (i + 1)) s m m
-  write-run t hd W s r = let e = a-write sheet d i room t hd k8 .lower o s in record { to = rw e (to-wider sub-both (to-refl r)); left = ap (λ (x : Option ℕ × State). x .0) e }
+  write-run t hd W s r = let e = a-write sheet d i room t hd k8 .lower o s in record { to = rw e (to-wider sub-both (to-refl r)); gives = ap (λ (x : Option ℕ × State). x .0) e }
 
   pub write-law : LowersClause sheet a b d i (i + 1) o o m m
   write-law = record {

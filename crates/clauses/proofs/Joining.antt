@@ -81,8 +81,8 @@ module _ {sheet : Bytes} {a b : List ℕ} {n e k k′ all : ℕ} {below : Option
       let s₃ : State = righted (v .clauses) o below (cell a b i armAllAt) s s₁ in
       let pu′ : Pushed (m₃ .ctx) c (m₃ .ops) os (unionOp i k k′ (cell a b i armAllAt)) = rw ea at pu in
       let w = push-to m₃ c os (unionOp i k k′ (cell a b i armAllAt)) recs (z .to .rep) pu′ (λ N A f. record { bounded = union-sane i k k′ (cell a b i armAllAt) (tree-low sheet a b t d i hd) (v .low); shows = shows-union refl (union-is k _ k′ _ (cell a b i armAllAt) (y .root) (z .root)) }) in
-      let D = v .lower o s ∙ arm-def (v .clauses) o below (cell a b i armAllAt) s s₁ (left-by (v .clauses) below s (x .left)) ∙ ap (λ (q : ℕ). (some q, push recs s₃ .1)) (sym (z .to .rep .count)) in
-      record { to = rw D (to-wider (sub-before i e) (to-then (x .to) (to-then (y .to) (to-then (z .to) w)))); left = ap (λ (q : Option ℕ × State). q .0) D }
+      let D = v .lower o s ∙ arm-def (v .clauses) o below (cell a b i armAllAt) s s₁ (left-by (v .clauses) below s (x .gives)) ∙ ap (λ (q : ℕ). (some q, push recs s₃ .1)) (sym (z .to .rep .count)) in
+      record { to = rw D (to-wider (sub-before i e) (to-then (x .to) (to-then (y .to) (to-then (z .to) w)))); gives = ap (λ (q : Option ℕ × State). q .0) D }
 
   pub arm-law : LowersArm sheet a b d i e o (beforeOf (before.Op (m₃ .ctx .ops))) m (mem c os (m₃ .rest))
   unfolding beforeOf
@@ -94,7 +94,7 @@ module _ {sheet : Bytes} {a b : List ℕ} {n e k k′ all : ℕ} {below : Option
           here = v .here;
           grow = omega (arith, v .grow, ql .grow, qr .grow, pu .count);
           few = omega (arith, v .few, ql .few, qr .few, pu .count);
-          low = omega (arith, v .low, ql .next, qr .next, pu .next);
+          low = omega (arith, v .low, ql .numbers, qr .numbers, pu .numbers);
           met = omega (arith, v .met, ql .mapped, qr .mapped, pu .mapped);
           in-ops = lo ∙ qr .in-ops ∙ ql .in-ops ∙ v .in-ops;
           in-rest = ap length (qr .rest) ∙ ap length (ql .rest) ∙ v .in-rest;

@@ -37,7 +37,7 @@ use Rattle.clauses.proofs.Opened.{a-match}
 
 -- the definition ends on operator k in state s′
 pub leaves : {sheet : Bytes} {a b : List ℕ} {first : ℕ} {W W′ : Written} {lo hi : ℕ} {m m′ : Mem} (t : Tree clause) (current : Option ℕ) (k : ℕ) (s s′ : State) → lowerClause t current s ≡ (some k, s′) → To (side sheet a b first) W W′ s s′ m m′ → Sub W′ (bothPasses lo hi W) → Leaves (side sheet a b first) W (λ s. lowerClause t current s) (some k) lo hi s m m′
-leaves t current k s s′ e p u = record { to = rw e (to-wider u p); left = ap (λ (x : Option ℕ × State). x .0) e }
+leaves t current k s s′ e p u = record { to = rw e (to-wider u p); gives = ap (λ (x : Option ℕ × State). x .0) e }
 
 -- the record behind a clause, by another name
 pub ends-at : {sheet : Bytes} {a b : List ℕ} {d i e e′ : ℕ} {o o′ : Option ℕ} {m m′ : Mem} → e′ ≡ e → LowersClause sheet a b d i e o o′ m m′ → LowersClause sheet a b d i e′ o o′ m m′
@@ -64,7 +64,7 @@ pub plain-law : {k : ℕ} {o : Before} {m : Mem} (q : ℕ) → (q ≡ 0) ⊎ (o 
 plain-law {k} {o} {m} q nj l = record {
   grow = le-refl _;
   few = omega arith;
-  next = refl;
+  numbers = refl;
   mapped = refl;
   rest = refl;
   in-ops = refl;
@@ -90,7 +90,7 @@ module _ {q k l i : ℕ} {o : Before} {c c′ : LowerCtx} {os os′ : List ℕ} 
       record { to = rw D z; root = rw D (r .count) }
 
   pub joined-law : OrSource k (joinL q o k) (c .ops) (mem c os rest) (mem c′ os′ rest)
-  joined-law = record { grow = omega (arith, pj .count); few = omega (arith, pj .count); next = pj .next; mapped = pj .mapped; rest = refl; in-ops = lo; low = omega (arith, pj .count); run = joined-run }
+  joined-law = record { grow = omega (arith, pj .count); few = omega (arith, pj .count); numbers = pj .numbers; mapped = pj .mapped; rest = refl; in-ops = lo; low = omega (arith, pj .count); run = joined-run }
 
 -- ── the clause ──
 
@@ -147,7 +147,7 @@ module _ {a b : List ℕ} {at : At} {current : Before} {m : Mem} (g : ClauseAske
             here = v .here;
             grow = omega (arith, v .grow, j .grow);
             few = omega (arith, v .few, j .few, u);
-            low = omega (arith, v .low, j .next, u);
+            low = omega (arith, v .low, j .numbers, u);
             met = omega (arith, v .met, j .mapped, u);
             in-ops = j .in-ops ∙ v .in-ops;
             in-rest = ap length (j .rest) ∙ v .in-rest;

@@ -39,4 +39,4 @@ module _ {o : ℕ} {L : Lowering ℕ} {k i j e : ℕ} {m m₁ m₂ : Mem} (g : R
   few-sourced = omega (arith, g .few, q .few, p .few, p .here, p .up)
 
   pub can-number : {place : ℕ} → place ≡ i + 1 → i ≤ maxRecords → CanNumber (m₂ .ctx) place (m₂ .rest)
-  can-number ep h = record { met = omega (arith, g .met, q .mapped, p .met, p .here, p .up); low = omega (arith, g .low, q .next, p .low, p .here, p .up); noted = omega arith; long = rw (p .in-rest ∙ ap length (q .rest)) (g .in-rest); index = p .index (rw (q .mapped, q .rest) (g .index)) }
+  can-number ep h = record { met = omega (arith, g .met, q .mapped, p .met, p .here, p .up); low = omega (arith, g .low, q .numbers, p .low, p .here, p .up); noted = omega arith; long = rw (p .in-rest ∙ ap length (q .rest)) (g .in-rest); index = p .index (rw (q .mapped, q .rest) (g .index)) }

@@ -100,7 +100,7 @@ module _ {a b : List ℕ} {at : At} {current : Before} {k e : ℕ} {c : LowerCtx
           here = v .here;
           grow = omega (arith, v .grow, sr .grow, n .ops, pu .count);
           few = omega (arith, v .few, v .up, sr .few, n .ops, pu .count);
-          low = omega (arith, v .low, v .up, sr .next, n .low, pu .next);
+          low = omega (arith, v .low, v .up, sr .numbers, n .low, pu .numbers);
           met = omega (arith, v .met, v .up, sr .mapped, n .met, pu .mapped);
           in-ops = lo ∙ v .in-ops ∙ sr .in-ops;
           in-rest = lr ∙ v .in-rest ∙ ap length (sr .rest);

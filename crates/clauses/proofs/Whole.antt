@@ -71,8 +71,8 @@ module _ {sheet : Bytes} {a b : List ℕ} {d : ℕ} {m : Mem} (g : StatementAske
           let u′ = ar .moved .up in
           let x = clauses-as t v .run (v .clauses) (v .held-clauses) W s r (both-within (omega arith) (omega arith) bl) in
           let y = arms-as t v .run (v .arms) (rw (clauses-as t v .next (v .clauses) (v .held-clauses)) (v .held-arms)) _ _ (x .to .rep) (both-behind 1 j e u u′ (ar .moved .here) bl) in
-          let D = v .lower s ∙ whole-def (v .clauses) (v .arms) o s (x .left) in
-          record { to = rw D (to-wider (sub-turns 1 j e u u′) (to-then (x .to) (y .to))); left = ap (λ (z : Option ℕ × State). z .0) D ∙ y .left }
+          let D = v .lower s ∙ whole-def (v .clauses) (v .arms) o s (x .gives) in
+          record { to = rw D (to-wider (sub-turns 1 j e u u′) (to-then (x .to) (y .to))); gives = ap (λ (z : Option ℕ × State). z .0) D ∙ y .gives }
 
       pub from-law : LowersFrom sheet a b d e o′ m m₂
       from-law = record { moved = twice-then (cl .moved) (ar .moved); stands = ar .stands; next = from-next; run = from-run }
@@ -87,10 +87,10 @@ forgets r = record { count = r .count; state = rw (ap (λ (z : State). z .scope 
 -- ── from nothing ──
 
 abbrev pub start : LowerCtx
-start = record { ops = 0; next = 0; mapped = 0 }
+start = record { ops = 0; numbers = 0; mapped = 0 }
 
 -- with no variables there is room for a statement, also behind another one
-pub start-ready : (c : LowerCtx) (os rs : List ℕ) → c .ops ≤ maxStart → c .next ≤ maxStart → workWords ≤ length os → workWords ≤ length rs → Ready 1 (mem (forgetting c) os rs)
+pub start-ready : (c : LowerCtx) (os rs : List ℕ) → c .ops ≤ maxStart → c .numbers ≤ maxStart → workWords ≤ length os → workWords ≤ length rs → Ready 1 (mem (forgetting c) os rs)
 start-ready c os rs lc ln lo lr = record { few = omega arith; low = omega arith; met = omega arith; here = omega arith; in-ops = lo; in-rest = lr; index = none-indexed (drop varsAt rs) }
 
 -- so behind one statement from nothing, over tables of its own

@@ -87,10 +87,10 @@ pub record Left (a b : List ℕ) (Done : ℕ → LowerCtx → List ℕ → Type 
   pub some : SomeYields a b k i
   pub fits : i + k ≤ maxRecords
   pub met : c .mapped + k ≤ maxVars
-  pub low : c .next + k ≤ maxCount
+  pub low : c .numbers + k ≤ maxCount
   pub in-rest : workWords ≤ length rs
   pub index : Indexed (c .mapped) (drop varsAt rs)
-  pub rest : (e : ℕ) (c′ : LowerCtx) (rest′ : List ℕ) → ((os : List ℕ) → LowersYields a b k i e (mem c os rs) (mem c′ os rest′)) → Done e c′ rest′
+  pub finish : (e : ℕ) (c′ : LowerCtx) (rest′ : List ℕ) → ((os : List ℕ) → LowersYields a b k i e (mem c os rs) (mem c′ os rest′)) → Done e c′ rest′
 
 behind : {a b : List ℕ} (i : ℕ) (sheet : Bytes) (d : ℕ) {k : ℕ} (ts : Trees yieldItem (suc k)) → HeldOf sheet a b ts d i → SomeYields a b k (i + 1)
 unfolding Held size
@@ -111,8 +111,8 @@ module _ {a b : List ℕ} {Done : ℕ → LowerCtx → List ℕ → Type 0} wher
         low = omega (arith, p .low, nm .issued .low);
         in-rest = rw lr (p .in-rest);
         index = nm .issued .index (p .index);
-        rest = λ e c′ rest′ q. p .rest e c′ rest′ (λ os. cons-law room nm lr (q os) (omega arith));
+        finish = λ e c′ rest′ q. p .finish e c′ rest′ (λ os. cons-law room nm lr (q os) (omega arith));
       })
 
   pub done : {k i : ℕ} {c : LowerCtx} {rest : List ℕ} → k ≡ 0 → Left a b Done k i c rest → Done i c rest
-  done {k} {i} {c} {rest} h p = let f = p .fits in p .rest i c rest (λ os. rw h (nil-law a b i (mem c os rest) (omega arith)))
+  done {k} {i} {c} {rest} h p = let f = p .fits in p .finish i c rest (λ os. rw h (nil-law a b i (mem c os rest) (omega arith)))

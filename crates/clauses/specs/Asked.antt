@@ -49,6 +49,6 @@ pub record YieldsAsked (a b : List ℕ) (n i : ℕ) (c : LowerCtx) (rest : List 
   pub some : SomeYields a b n i
   pub fits : i + n ≤ maxRecords
   pub met : c .mapped + n ≤ maxVars
-  pub low : c .next + n ≤ maxCount
+  pub low : c .numbers + n ≤ maxCount
   pub in-rest : workWords ≤ length rest
   pub index : Indexed (c .mapped) (drop varsAt rest)

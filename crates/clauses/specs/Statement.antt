@@ -26,7 +26,7 @@ forget s = record { ops = s .ops; scope = record { vars = []; next = s .scope .n
 
 -- the same of the counts
 abbrev pub forgetting : LowerCtx → LowerCtx
-forgetting c = record { ops = c .ops; next = c .next; mapped = 0 }
+forgetting c = record { ops = c .ops; numbers = c .numbers; mapped = 0 }
 
 -- ── from any state on ──
 

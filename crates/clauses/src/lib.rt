@@ -183,7 +183,7 @@ pub fn lower(sheet: &[u8], a: &[u32], b: &[u32], ops: &mut [u32], rest: &mut [u3
 {
     let start = LowerCtx {
         ops: 0,
-        next: 0,
+        numbers: 0,
         mapped: 0,
     };
     let r = lower_from(sheet, a, b, ops, rest, start, words::MAX_DEPTH);

@@ -45,19 +45,19 @@ numberOf (some k) n = k
 
 pub source-there : (current : Before) (k : ℕ) (m : Mem) → current ≡ before.Op k → k < m .ctx .ops → OrSource (m .ctx .ops) (orSourceAll (beforeOf current)) k m m
 unfolding orSourceAll ret beforeOf
-source-there current k m e l = record { grow = le-refl _; few = omega arith; next = refl; mapped = refl; rest = refl; in-ops = refl; low = l; run = λ sheet a b W s h r. rw e (record { to = to-refl r; root = refl }) }
+source-there current k m e l = record { grow = le-refl _; few = omega arith; numbers = refl; mapped = refl; rest = refl; in-ops = refl; low = l; run = λ sheet a b W s h r. rw e (record { to = to-refl r; root = refl }) }
 
-pub source-new : (current : Before) (m : Mem) (c : LowerCtx) (os : List ℕ) → current ≡ before.Nothing → Pushed (m .ctx) c (m .ops) os (sourceAllOp (m .ctx .next)) → length os ≡ length (m .ops) → OrSource (m .ctx .ops) (orSourceAll (beforeOf current)) (m .ctx .ops) m (mem c os (m .rest))
+pub source-new : (current : Before) (m : Mem) (c : LowerCtx) (os : List ℕ) → current ≡ before.Nothing → Pushed (m .ctx) c (m .ops) os (sourceAllOp (m .ctx .numbers)) → length os ≡ length (m .ops) → OrSource (m .ctx .ops) (orSourceAll (beforeOf current)) (m .ctx .ops) m (mem c os (m .rest))
 unfolding orSourceAll pushSourceAll upcoming issue _>>=_ push beforeOf
 source-new current m c os e p lo = record {
   grow = omega (arith, p .count);
   few = omega (arith, p .count);
-  next = p .next;
+  numbers = p .numbers;
   mapped = p .mapped;
   rest = refl;
   in-ops = lo;
   low = omega (arith, p .count);
-  run = λ sheet a b W s h r. rw e (record { to = push-to m c os (sourceAllOp (m .ctx .next)) (source (s .scope .next) []) r p (λ N A f. record { bounded = all-bounded (m .ctx .next); shows = shows-all refl (ap (λ (x : ℕ). source x []) (sym (upcoming-number m r))) }); root = r .count });
+  run = λ sheet a b W s h r. rw e (record { to = push-to m c os (sourceAllOp (m .ctx .numbers)) (source (s .scope .next) []) r p (λ N A f. record { bounded = all-bounded (m .ctx .numbers); shows = shows-all refl (ap (λ (x : ℕ). source x []) (sym (upcoming-number m r))) }); root = r .count });
 }
 
 -- a root as the code has it
@@ -186,7 +186,7 @@ module _ {a b : List ℕ} {n base : ℕ} {c : LowerCtx} {ch : Chain} {os os₁ r
         let v = el .moved in
         let f = el .bounded .from in
         record {
-          moved = record { up = omega (arith, v .up); here = el .bounded .next; grow = omega (arith, v .grow, sr .grow); few = omega (arith, v .few, sr .few); low = omega (arith, v .low, sr .next); met = omega (arith, v .met, sr .mapped); in-ops = sr .in-ops ∙ v .in-ops; in-rest = ap length (sr .rest) ∙ v .in-rest; index = λ x. rw (sr .mapped, sr .rest) (v .index x) };
+          moved = record { up = omega (arith, v .up); here = el .bounded .next; grow = omega (arith, v .grow, sr .grow); few = omega (arith, v .few, sr .few); low = omega (arith, v .low, sr .numbers); met = omega (arith, v .met, sr .mapped); in-ops = sr .in-ops ∙ v .in-ops; in-rest = ap length (sr .rest) ∙ v .in-rest; index = λ x. rw (sr .mapped, sr .rest) (v .index x) };
           since = so;
           low = sr .low;
           next = chain-next;
@@ -236,7 +236,7 @@ module _ {a b : List ℕ} {n base : ℕ} {c : LowerCtx} {ch : Chain} {os os₁ r
             here = el .bounded .next;
             grow = omega (arith, v .grow, sr .grow, n .ops, pp .count);
             few = omega (arith, v .few, sr .few, n .ops, pp .count);
-            low = omega (arith, v .low, sr .next, n .low, pp .next);
+            low = omega (arith, v .low, sr .numbers, n .low, pp .numbers);
             met = omega (arith, v .met, sr .mapped, n .met, pp .mapped);
             in-ops = lo ∙ sr .in-ops ∙ v .in-ops;
             in-rest = lr ∙ ap length (sr .rest) ∙ v .in-rest;

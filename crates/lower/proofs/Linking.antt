@@ -299,7 +299,7 @@ module _ {a b : List ℕ} (d base : ℕ) (ch : Chain) {between : Read} {rel inpu
         here = v₂ .here;
         grow = omega (arith, i₁ .ops, i₂ .ops, v₁ .grow, v₂ .grow, pe .count);
         few = omega (arith, i₁ .ops, i₂ .ops, v₁ .few, v₂ .few, pe .count, v₁ .up, v₂ .up);
-        low = omega (arith, i₁ .low, i₂ .low, v₁ .low, v₂ .low, pe .next, v₁ .up, v₂ .up);
+        low = omega (arith, i₁ .low, i₂ .low, v₁ .low, v₂ .low, pe .numbers, v₁ .up, v₂ .up);
         met = omega (arith, i₁ .met, i₂ .met, v₁ .met, v₂ .met, pe .mapped, v₁ .up, v₂ .up);
         in-ops = lo ∙ v₂ .in-ops ∙ v₁ .in-ops;
         in-rest = v₂ .in-rest ∙ v₁ .in-rest ∙ lr₂ ∙ lr₁;

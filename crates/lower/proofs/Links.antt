@@ -79,7 +79,7 @@ pub record Left (a b : List ℕ) (d base : ℕ) (Done : Chain → List ℕ → L
   pub good : RoomFor d (from ch) (mem (ch .ctx) os rs)
   pub bounded : ChainInBounds ch
   pub anchored : Anchored a b d ch
-  pub rest : (ch′ : Chain) (os′ rs′ : List ℕ) → LowersElements a b k d base ch ch′ os os′ rs rs′ → Done ch′ os′ rs′
+  pub finish : (ch′ : Chain) (os′ rs′ : List ℕ) → LowersElements a b k d base ch ch′ os os′ rs rs′ → Done ch′ os′ rs′
 
 child-by : {a b : List ℕ} {d : ℕ} (i : ℕ) (sheet : Bytes) {k : ℕ} (ts : Trees patternElement k) → ((k ≡ 0) → ⊥) → HeldOf sheet a b ts d i → SomeTree a b patternElement d i
 unfolding Held
@@ -104,8 +104,8 @@ module _ {a b : List ℕ} {d base : ℕ} {Done : Chain → List ℕ → List ℕ
     good = good-after (q .moved) (p .good);
     bounded = q .bounded;
     anchored = q .anchored;
-    rest = λ ch′ os′ rs′ r. p .rest ch′ os′ rs′ (more-law (p .bounded) q r);
+    finish = λ ch′ os′ rs′ r. p .finish ch′ os′ rs′ (more-law (p .bounded) q r);
   })
 
   pub done : {k : ℕ} {ch : Chain} {os rs : List ℕ} → k ≡ 0 → Left a b d base Done k ch os rs → Done ch os rs
-  done {k} {ch} {os} {rs} h p = p .rest ch os rs (rw h (none-law d base ch os rs (p .bounded) (p .anchored)))
+  done {k} {ch} {os} {rs} h p = p .finish ch os rs (rw h (none-law d base ch os rs (p .bounded) (p .anchored)))

@@ -99,7 +99,7 @@ first-law i p q = record { moved = moved-within (omega arith) (le-refl _) (q .mo
 pub all-bounded : (number : ℕ) → InBounds (sourceAllOp number)
 all-bounded number = record { shallow = omega arith; near = omega arith; low = omega arith; far = λ e. absurd (omega arith); flagged = λ e. absurd (omega arith) }
 
-module _ {a b : List ℕ} (d base i : ℕ) (m : Mem) (f : Numbered) (c : LowerCtx) (os : List ℕ) (li : i < maxRecords) (fr : (f .number ≡ m .ctx .next) × (f .ctx .ops ≡ m .ctx .ops) × (f .ctx .next ≡ m .ctx .next + 1) × (f .ctx .mapped ≡ m .ctx .mapped)) (ps : Pushed (f .ctx) c (m .ops) os (sourceAllOp (f .number))) (lo : length os ≡ length (m .ops)) where
+module _ {a b : List ℕ} (d base i : ℕ) (m : Mem) (f : Numbered) (c : LowerCtx) (os : List ℕ) (li : i < maxRecords) (fr : (f .number ≡ m .ctx .numbers) × (f .ctx .ops ≡ m .ctx .ops) × (f .ctx .numbers ≡ m .ctx .numbers + 1) × (f .ctx .mapped ≡ m .ctx .mapped)) (ps : Pushed (f .ctx) c (m .ops) os (sourceAllOp (f .number))) (lo : length os ≡ length (m .ops)) where
   no-run : (sheet : Bytes) {first : ℕ} (ts : Trees patternPart 0) (W : Written) (s : State) → Rep (side sheet a b first) W s m → Rooted (side sheet a b first) W (partsL ts) (m .ctx .ops) base (suc (i + 1)) (suc (i + 1)) s m (mem c os (m .rest))
   unfolding lowerParts toList fold _>>=_ push
   no-run sheet []ᵗ W s r =
@@ -114,7 +114,7 @@ module _ {a b : List ℕ} (d base i : ℕ) (m : Mem) (f : Numbered) (c : LowerCt
       let e₂ = fr .2 in
       let e₃ = fr .3 in
       record {
-        moved = record { up = omega arith; here = omega arith; grow = omega (arith, ps .count); few = omega (arith, ps .count); low = omega (arith, ps .next); met = omega (arith, ps .mapped); in-ops = lo; in-rest = refl; index = λ x. rw (ps .mapped, fr .3) x };
+        moved = record { up = omega arith; here = omega arith; grow = omega (arith, ps .count); few = omega (arith, ps .count); low = omega (arith, ps .numbers); met = omega (arith, ps .mapped); in-ops = lo; in-rest = refl; index = λ x. rw (ps .mapped, fr .3) x };
         since = le-refl _;
         low = omega (arith, ps .count);
         next = λ sheet ts hd. none-size (i + 1) ts;
@@ -128,7 +128,7 @@ pub record Left (a b : List ℕ) (d base : ℕ) (Done : ℕ → ℕ → Mem → 
   pub some : SomeTrees a b patternPart k d i
   pub good : RoomFor d i m
   pub low : root < m .ctx .ops
-  pub rest : (e root′ : ℕ) (m′ : Mem) → LowersFrom a b k d base i e root root′ m m′ → Done e root′ m′
+  pub finish : (e root′ : ℕ) (m′ : Mem) → LowersFrom a b k d base i e root root′ m m′ → Done e root′ m′
 
 pub child-by : {a b : List ℕ} {d : ℕ} (i : ℕ) (sheet : Bytes) {k : ℕ} (ts : Trees patternPart k) → ((k ≡ 0) → ⊥) → HeldOf sheet a b ts d i → SomeTree a b patternPart d i
 unfolding Held
@@ -152,10 +152,10 @@ module _ {a b : List ℕ} {d base : ℕ} {Done : ℕ → ℕ → Mem → Type 0}
 
   pub again : {k i j root k₁ : ℕ} {m m₁ : Mem} → ((k ≡ 0) → ⊥) → Left a b d base Done k i root m → LowersPart a b d base i j k₁ m m₁ → Left a b d base Done (k - 1) j k₁ m₁
   again {k = zero} h p q = absurd (h refl)
-  again {k = suc k} {root = root} h p q = less (record { some = behind (p .some .sheet) (p .some .trees) q (p .some .held); good = good-after (q .moved) (p .good); low = q .low; rest = λ e k′ m′ r. p .rest e k′ m′ (from-cons root q r) })
+  again {k = suc k} {root = root} h p q = less (record { some = behind (p .some .sheet) (p .some .trees) q (p .some .held); good = good-after (q .moved) (p .good); low = q .low; finish = λ e k′ m′ r. p .finish e k′ m′ (from-cons root q r) })
 
   pub done : {k i root : ℕ} {m : Mem} → k ≡ 0 → Left a b d base Done k i root m → Done i root m
-  done {k} {i} {root} {m} h p = p .rest i root m (rw h (from-nil a b d base i root m (p .good .here) (p .low)))
+  done {k} {i} {root} {m} h p = p .finish i root m (rw h (from-nil a b d base i root m (p .good .here) (p .low)))
 
 -- the first part and the loop behind it
 pub first-done : {a b : List ℕ} {n d base j e k₁ k : ℕ} {m m₁ m₂ : Mem} (i : ℕ) → ((n ≡ 0) → ⊥) → LowersPart a b d base (i + 1) j k₁ m m₁ → LowersFrom a b (n - 1) d base j e k₁ k m₁ m₂ → LowersParts a b n d base i e k m m₂
@@ -163,4 +163,4 @@ first-done {n = zero} i h p q = absurd (h refl)
 first-done {n = suc n} i h p q = let z : suc n - 1 ≡ n = omega arith in first-law i p (rw z at q)
 
 pub from-left : {a b : List ℕ} {n d base j k₁ : ℕ} {m m₁ : Mem} (i : ℕ) → ((n ≡ 0) → ⊥) → SomeTrees a b patternPart n d (i + 1) → RoomFor d (i + 1) m → LowersPart a b d base (i + 1) j k₁ m m₁ → Left a b d base (λ e k m′. LowersFrom a b (n - 1) d base j e k₁ k m₁ m′) (n - 1) j k₁ m₁
-from-left i h x g p = record { some = some-behind h x p; good = good-after (p .moved) g; low = p .low; rest = λ e k m′ q. q }
+from-left i h x g p = record { some = some-behind h x p; good = good-after (p .moved) g; low = p .low; finish = λ e k m′ q. q }

@@ -87,7 +87,7 @@ module _ {d i : ℕ} {c : LowerCtx} {os rs : List ℕ} (g : RoomFor d i (mem c o
 
   -- an operator, and then what is behind the record
   pub pushed-on : {x : Op} {c′ : LowerCtx} {os′ : List ℕ} (d′ j : ℕ) → Pushed c c′ os os′ x → length os′ ≡ length os → d′ ≤ d → i + 1 ≤ j → j ≤ maxRecords → RoomFor d′ j (mem c′ os′ rs)
-  pushed-on d′ j p l ld lj h = record { few = let x = g .few in let y = p .count in omega arith; low = let x = g .low in let y = p .next in omega arith; met = let x = g .met in let y = p .mapped in omega arith; here = h; in-ops = rw l (g .in-ops); in-rest = g .in-rest; index = rw (p .mapped) (g .index) }
+  pushed-on d′ j p l ld lj h = record { few = let x = g .few in let y = p .count in omega arith; low = let x = g .low in let y = p .numbers in omega arith; met = let x = g .met in let y = p .mapped in omega arith; here = h; in-ops = rw l (g .in-ops); in-rest = g .in-rest; index = rw (p .mapped) (g .index) }
 
 pub good-at : {d i j : ℕ} {m : Mem} → i ≡ j → RoomFor d i m → RoomFor d j m
 good-at e g = rw e at g
@@ -142,7 +142,7 @@ rel-end {a} {b} room d i {base} {e} {c} {os} {rest} {m′} k p sheet t hd =
 -- behind a source of everything, if there is one
 module _ {o : ℕ} {L : Lowering ℕ} {k d i : ℕ} {c c′ : LowerCtx} {os os′ rs : List ℕ} (g : RoomFor d i (mem c os rs)) (q : OrSource o L k (mem c os rs) (mem c′ os′ rs)) where
   pub source-number : (base place j : ℕ) → base ≤ secondPass → j ≤ maxRecords → place ≡ base + j → CanNumber c′ place rs
-  source-number base place j lb lj e = record { met = omega (arith, g .met, g .here, q .mapped); low = omega (arith, g .low, g .here, q .next); noted = omega arith; long = g .in-rest; index = rw (q .mapped) (g .index) }
+  source-number base place j lb lj e = record { met = omega (arith, g .met, g .here, q .mapped); low = omega (arith, g .low, g .here, q .numbers); noted = omega arith; long = g .in-rest; index = rw (q .mapped) (g .index) }
 
   pub source-few : (c′ .ops ≤ maxBefore + 2 * maxRecords + 1) × (k ≤ maxBefore + 2 * maxRecords)
   source-few = (let x = g .few in let y = g .here in let z = q .few in omega arith, let x = g .few in let y = g .here in let z = q .few in let w = q .low in omega arith)

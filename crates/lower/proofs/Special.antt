@@ -110,7 +110,7 @@ module _ {a b : List ℕ} (d base i rel far e : ℕ) {p₁ p₃ p₄ e₁ e₂ k
         here = le;
         grow = omega (arith, i₁ .ops, i₂ .ops, i₃ .ops, i₄ .ops, v₁ .grow, v₂ .grow, pp .count);
         few = omega (arith, i₁ .ops, i₂ .ops, i₃ .ops, i₄ .ops, v₁ .few, v₂ .few, pp .count, v₁ .up, v₂ .up);
-        low = omega (arith, i₁ .low, i₂ .low, i₃ .low, i₄ .low, ls .numbers, v₂ .low, pp .next, v₁ .up, v₂ .up);
+        low = omega (arith, i₁ .low, i₂ .low, i₃ .low, i₄ .low, ls .numbers, v₂ .low, pp .numbers, v₁ .up, v₂ .up);
         met = omega (arith, i₁ .met, i₂ .met, i₃ .met, i₄ .met, ls .mapped, v₂ .met, pp .mapped, v₁ .up, v₂ .up);
         in-ops = lo ∙ v₂ .in-ops ∙ v₁ .in-ops;
         in-rest = lr₄ ∙ lr₃ ∙ v₂ .in-rest ∙ lr .kept ∙ v₁ .in-rest ∙ lr₁;

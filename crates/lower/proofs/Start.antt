@@ -94,8 +94,8 @@ module _ {a b : List ℕ} {base number : ℕ} {c : LowerCtx} {os′ : List ℕ} 
     bare-law x =
         let l = some-end d i room k12 x in
         record {
-          moved = record { up = omega arith; here = l; grow = omega (arith, ps .count); few = omega (arith, ps .count); low = omega (arith, ps .next); met = omega (arith, ps .mapped); in-ops = lo; in-rest = refl; index = λ x. rw (ps .mapped) x };
-          numbers = omega (arith, ps .next);
+          moved = record { up = omega arith; here = l; grow = omega (arith, ps .count); few = omega (arith, ps .count); low = omega (arith, ps .numbers); met = omega (arith, ps .mapped); in-ops = lo; in-rest = refl; index = λ x. rw (ps .mapped) x };
+          numbers = omega (arith, ps .numbers);
           mapped = omega (arith, ps .mapped);
           since = le-refl _;
           low = omega (arith, ps .count);
@@ -142,8 +142,8 @@ module _ {a b : List ℕ} {base number : ℕ} {c : LowerCtx} {os′ : List ℕ} 
     filtered-law =
         let v = ex .moved in
         record {
-          moved = record { up = omega (arith, v .up); here = v .here; grow = omega (arith, ps .count, pf .count, v .grow); few = omega (arith, ps .count, pf .count, v .few); low = omega (arith, ps .next, pf .next, v .low, v .up); met = omega (arith, ps .mapped, pf .mapped, v .met, v .up); in-ops = lo₃ ∙ v .in-ops ∙ lo; in-rest = v .in-rest; index = λ x. rw (pf .mapped) (v .index (rw (ps .mapped) x)) };
-          numbers = omega (arith, ps .next, pf .next, v .low, v .up);
+          moved = record { up = omega (arith, v .up); here = v .here; grow = omega (arith, ps .count, pf .count, v .grow); few = omega (arith, ps .count, pf .count, v .few); low = omega (arith, ps .numbers, pf .numbers, v .low, v .up); met = omega (arith, ps .mapped, pf .mapped, v .met, v .up); in-ops = lo₃ ∙ v .in-ops ∙ lo; in-rest = v .in-rest; index = λ x. rw (pf .mapped) (v .index (rw (ps .mapped) x)) };
+          numbers = omega (arith, ps .numbers, pf .numbers, v .low, v .up);
           mapped = omega (arith, ps .mapped, pf .mapped, v .met, v .up);
           since = omega (arith, ps .count, v .grow);
           low = omega (arith, pf .count);

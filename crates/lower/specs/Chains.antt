@@ -142,7 +142,7 @@ startL number n = λ s. (push (source number (n .labels)) >>= λ k. filterByProp
 
 pub record LowersStart (a b : List ℕ) (d base i number e k : ℕ) (m m′ : Mem) : Type 0 where
   pub moved : Moved i e m m′
-  pub numbers : m′ .ctx .next + i + 1 ≤ m .ctx .next + e
+  pub numbers : m′ .ctx .numbers + i + 1 ≤ m .ctx .numbers + e
   pub mapped : m′ .ctx .mapped + i + 1 ≤ m .ctx .mapped + e
   pub since : m .ctx .ops ≤ k
   pub low : k < m′ .ctx .ops
@@ -160,7 +160,7 @@ pub record Sourced (S : Side) (L : Lowering ℕ) (k : ℕ) (W : Written) (s : St
 pub record OrSource (o : ℕ) (L : Lowering ℕ) (k : ℕ) (m m′ : Mem) : Type 0 where
   pub grow : m .ctx .ops ≤ m′ .ctx .ops
   pub few : m′ .ctx .ops ≤ m .ctx .ops + 1
-  pub next : m′ .ctx .next ≡ m .ctx .next
+  pub numbers : m′ .ctx .numbers ≡ m .ctx .numbers
   pub mapped : m′ .ctx .mapped ≡ m .ctx .mapped
   pub rest : m′ .rest ≡ m .rest
   pub in-ops : length (m′ .ops) ≡ length (m .ops)

@@ -21,7 +21,7 @@ pub record MovedTwice (i e : ℕ) (m m′ : Mem) : Type 0 where
   pub here : e ≤ maxRecords
   pub grow : m .ctx .ops ≤ m′ .ctx .ops
   pub few : m′ .ctx .ops + 4 * i ≤ m .ctx .ops + 4 * e
-  pub low : m′ .ctx .next + 2 * i ≤ m .ctx .next + 2 * e
+  pub low : m′ .ctx .numbers + 2 * i ≤ m .ctx .numbers + 2 * e
   pub met : m′ .ctx .mapped + 2 * i ≤ m .ctx .mapped + 2 * e
   pub in-ops : length (m′ .ops) ≡ length (m .ops)
   pub in-rest : length (m′ .rest) ≡ length (m .rest)
@@ -44,7 +44,7 @@ Stands (some k) m = k < m .ctx .ops
 -- the lowering L leaves the operator o
 pub record Leaves (S : Side) (W : Written) (L : Lowering (Option ℕ)) (o : Option ℕ) (lo hi : ℕ) (s : State) (m m′ : Mem) : Type 0 where
   pub to : To S W (bothPasses lo hi W) s (L s .1) m m′
-  pub left : L s .0 ≡ o
+  pub gives : L s .0 ≡ o
 
 -- the clause at record i is lowered behind one operator and leaves another; e is the record behind it
 pub record LowersClause (sheet : Bytes) (a b : List ℕ) (d i e : ℕ) (before after : Option ℕ) (m m′ : Mem) : Type 0 where

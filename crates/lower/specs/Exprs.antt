@@ -91,7 +91,7 @@ module _ {a b : List ℕ} {n d base j e : ℕ} {m m₁ m₂ : Mem} (gap i : ℕ)
 pub record Left (a b : List ℕ) (gap d base : ℕ) (Done : ℕ → Mem → Type 0) (k i : ℕ) (m : Mem) : Type 0 where
   pub some : SomeCarried a b k gap d i
   pub good : RoomFor d i m
-  pub rest : (e : ℕ) (m′ : Mem) → LowersExprs a b k gap d base i e m m′ → Done e m′
+  pub finish : (e : ℕ) (m′ : Mem) → LowersExprs a b k gap d base i e m m′ → Done e m′
 
 child-by : {a b : List ℕ} {d : ℕ} (gap i : ℕ) (sheet : Bytes) {k : ℕ} (cs : Carried k) → ((k ≡ 0) → ⊥) → HeldC sheet a b gap cs d i → SomeTree a b expr d (i + gap)
 unfolding HeldC
@@ -114,8 +114,8 @@ module _ {a b : List ℕ} {gap d base : ℕ} {Done : ℕ → Mem → Type 0} whe
   again {k = suc k} {i} {j} {m} {m₁} h p q = less (record {
     some = behind gap i (p .some .sheet) (p .some .list) q (p .some .held);
     good = good-after (moved-within (omega arith) (le-refl _) (q .moved .here) (q .moved)) (p .good);
-    rest = λ e m′ r. p .rest e m′ (cons-law gap i q r);
+    finish = λ e m′ r. p .finish e m′ (cons-law gap i q r);
   })
 
   pub done : {k i : ℕ} {m : Mem} → k ≡ 0 → Left a b gap d base Done k i m → Done i m
-  done {k} {i} {m} h p = p .rest i m (rw h (nil-law a b gap d base i m (p .good .here)))
+  done {k} {i} {m} h p = p .finish i m (rw h (nil-law a b gap d base i m (p .good .here)))

@@ -112,7 +112,7 @@ maxMet = maxRecords + deepest
 -- there is room at record i, for what is at most d deep: two operators and one number for each record, and one for each level
 pub record RoomFor (d i : ℕ) (m : Mem) : Type 0 where
   pub few : m .ctx .ops + d ≤ maxBefore + 2 * i
-  pub low : m .ctx .next + d ≤ maxBefore + i
+  pub low : m .ctx .numbers + d ≤ maxBefore + i
   pub met : m .ctx .mapped + d ≤ maxMet + i
   pub here : i ≤ maxRecords
   pub in-ops : workWords ≤ length (m .ops)
@@ -125,7 +125,7 @@ pub record Moved (i e : ℕ) (m m′ : Mem) : Type 0 where
   pub here : e ≤ maxRecords
   pub grow : m .ctx .ops ≤ m′ .ctx .ops
   pub few : m′ .ctx .ops + 2 * i ≤ m .ctx .ops + 2 * e
-  pub low : m′ .ctx .next + i ≤ m .ctx .next + e
+  pub low : m′ .ctx .numbers + i ≤ m .ctx .numbers + e
   pub met : m′ .ctx .mapped + i ≤ m .ctx .mapped + e
   pub in-ops : length (m′ .ops) ≡ length (m .ops)
   pub in-rest : length (m′ .rest) ≡ length (m .rest)

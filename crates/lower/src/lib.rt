@@ -140,7 +140,7 @@ pub fn or_source_all(ops: &mut [u32], ctx: LowerCtx, current: Before, next: usiz
         Before::Op(k) => Root { next, op: k, ctx },
         Before::Nothing => {
             let k = ctx.ops;
-            let c = ctx.push(ops, op::source_all(ctx.next));
+            let c = ctx.push(ops, op::source_all(ctx.numbers));
             Root {
                 next,
                 op: k,
@@ -162,7 +162,7 @@ fn root_of(last: Last) -> Before
 
 // A pattern of no parts, at record i: a source that does take a number.
 fn lower_no_parts(ops: &mut [u32], ctx: LowerCtx, i: usize) -> Root
-    requires { ⌜ (ctx .ops < maxCount) × (ctx .next < maxCount) × (workWords ≤ length (now ops)) × (i < maxRecords) ⌝ }
+    requires { ⌜ (ctx .ops < maxCount) × (ctx .numbers < maxCount) × (workWords ≤ length (now ops)) × (i < maxRecords) ⌝ }
     ensures { λ r. ⌜ (r .next ≡ i + 1) × ((a b : List ℕ) (d base : ℕ) (rest : List ℕ) → LowersParts a b 0 d base i (r .next) (r .op) (mem ctx (now (ops .entry)) rest) (mem (r .ctx) (now (ops .exit)) rest)) ⌝ }
 {
     let k = ctx.ops;

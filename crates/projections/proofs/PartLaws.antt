@@ -159,7 +159,7 @@ pub record Left (sheet : Bytes) (a b : List ℕ) (n d : ℕ) (Done : ℕ → ℕ
   pub some : HeldMany sheet a b projection k d i
   pub room : RoomFor d i m
   pub few : g + k ≤ n
-  pub rest : (e h : ℕ) (m′ : Mem) → LowersSplit sheet a b k d i e h m m′ → Done e (g + h) m′
+  pub finish : (e h : ℕ) (m′ : Mem) → LowersSplit sheet a b k d i e h m m′ → Done e (g + h) m′
 
 record First (sheet : Bytes) (a b : List ℕ) (d i : ℕ) : Type 0 where
   deep : 1 ≤ d
@@ -208,14 +208,14 @@ module _ {sheet : Bytes} {a b : List ℕ} {n d : ℕ} {Done : ℕ → ℕ → Me
     some = behind i (p .some .trees) q (p .some .are);
     room = good-after (moved-within (omega arith) (le-refl _) (q .moved .here) (q .moved)) (p .room);
     few = plus-few agg g k n (p .few);
-    rest = λ e x m′ r. subst (λ (z : ℕ). Done e z m′) (plus agg g x) (p .rest e (cond agg (suc x) x) m′ (cons-law i agg is q r));
+    finish = λ e x m′ r. subst (λ (z : ℕ). Done e z m′) (plus agg g x) (p .finish e (cond agg (suc x) x) m′ (cons-law i agg is q r));
   })
 
   pub done : {k i g : ℕ} {m : Mem} → k ≡ 0 → Left sheet a b n d Done k i g m → Done i g m
-  done {k} {i} {g} {m} h p = subst (λ (z : ℕ). Done i z m) (add-zero g) (p .rest i 0 m (rw h (nil-law sheet a b d i m (p .room .here))))
+  done {k} {i} {g} {m} h p = subst (λ (z : ℕ). Done i z m) (add-zero g) (p .finish i 0 m (rw h (nil-law sheet a b d i m (p .room .here))))
 
   pub done-few : {k i g : ℕ} {m : Mem} → k ≡ 0 → Left sheet a b n d Done k i g m → g ≤ n
   done-few h p = omega (arith, p .few)
 
 pub start : {sheet : Bytes} {a b : List ℕ} {n d i : ℕ} {m : Mem} → HeldMany sheet a b projection n d i → RoomFor d i m → Left sheet a b n d (λ e g m′. LowersSplit sheet a b n d i e g m m′) n i 0 m
-start x g = record { some = x; room = g; few = omega arith; rest = λ e h m′ r. (let z : 0 + h ≡ h = omega arith in rw z r) }
+start x g = record { some = x; room = g; few = omega arith; finish = λ e h m′ r. (let z : 0 + h ≡ h = omega arith in rw z r) }

@@ -39,13 +39,13 @@ use Rattle.projections.proofs.PartLaws.{split-total}
 pub record Counted (c c′ : LowerCtx) (o o′ : List ℕ) : Type 0 where
   pub grow : c .ops ≤ c′ .ops
   pub few : c′ .ops ≤ c .ops + 1
-  pub next : c′ .next ≡ c .next
+  pub numbers : c′ .numbers ≡ c .numbers
   pub mapped : c′ .mapped ≡ c .mapped
   pub same : length o′ ≡ length o
 
 pub counted : {n input k : ℕ} {x : Op} {c c′ : LowerCtx} {o o′ : List ℕ} → PushedIf n x input k c c′ o o′ → Counted c c′ o o′
-counted (none-pushed e ek ec eo) = rw (ec, eo) (record { grow = le-refl _; few = omega arith; next = refl; mapped = refl; same = refl })
-counted (one-pushed e ek p lo) = record { grow = omega (arith, p .count); few = omega (arith, p .count); next = p .next; mapped = p .mapped; same = lo }
+counted (none-pushed e ek ec eo) = rw (ec, eo) (record { grow = le-refl _; few = omega arith; numbers = refl; mapped = refl; same = refl })
+counted (one-pushed e ek p lo) = record { grow = omega (arith, p .count); few = omega (arith, p .count); numbers = p .numbers; mapped = p .mapped; same = lo }
 
 -- the operator that is left is there, if the one before was
 pub left-low : {n input k : ℕ} {x : Op} {c c′ : LowerCtx} {o o′ : List ℕ} → PushedIf n x input k c c′ o o′ → input < c .ops → k < c′ .ops
@@ -136,7 +136,7 @@ module _ {sheet : Bytes} {a b : List ℕ} {of : ReturnItems} {current : Before} 
         here = x .here;
         grow = omega (arith, sr .grow, x .grow, y .grow);
         few = omega (arith, sr .few, x .few, y .few);
-        fresh = omega (arith, sr .next, x .low, y .next);
+        fresh = omega (arith, sr .numbers, x .low, y .numbers);
         met = omega (arith, sr .mapped, x .met, y .mapped);
         in-ops = y .same ∙ x .in-ops ∙ sr .in-ops;
         in-rest = x .in-rest ∙ ap length (sr .rest);
@@ -210,7 +210,7 @@ module _ {a b : List ℕ} {of : ReturnItems} {input j x k : ℕ} {c₁ c₂ : Lo
         here = v .here;
         grow = omega (arith, v .grow, ps .count, y .grow);
         few = omega (arith, v .few, ps .count, y .few);
-        fresh = omega (arith, v .low, ps .next, y .next);
+        fresh = omega (arith, v .low, ps .numbers, y .numbers);
         met = omega (arith, v .met, ps .mapped, y .mapped);
         in-ops = y .same ∙ lo ∙ v .in-ops;
         in-rest = v .in-rest;

@@ -106,7 +106,7 @@ module _ {sheet : Bytes} {a b : List ℕ} {at : At} {current : Before} {m : Mem}
             let D = v .def (beforeOf current) s k₁ k₂ (x₁ .root) (x₂ .root) in
             record {
               to = rw D (to-wider (return-sub (at .i) j j₂ P e W (p .up) eq ep l) (to-then (x₁ .to) (to-then (x₂ .to) (x₃ .to))));
-              left = rw D (ap (λ (z : ℕ). some z) (sym (x₃ .root)));
+              gives = rw D (ap (λ (z : ℕ). some z) (sym (x₃ .root)));
             }
 
         pub return-law : LowersClause sheet a b (at .left) (at .i) e (beforeOf current) (some k) m m₃

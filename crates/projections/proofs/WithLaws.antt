@@ -97,7 +97,7 @@ module _ {a b : List ℕ} {at : At} {current : Before} {m : Mem} (g : ClauseAske
               here = y .here;
               grow = omega (arith, sr .grow, x .grow, y .grow, ps .count);
               few = omega (arith, sr .few, x .few, y .few, ps .count, x .up, y .up);
-              low = omega (arith, sr .next, x .low, y .low, ps .next, x .up, y .up);
+              low = omega (arith, sr .numbers, x .low, y .low, ps .numbers, x .up, y .up);
               met = omega (arith, sr .mapped, x .met, y .met, ps .mapped, x .up, y .up);
               in-ops = lo ∙ y .in-ops ∙ x .in-ops ∙ sr .in-ops;
               in-rest = y .in-rest ∙ x .in-rest ∙ ap length (sr .rest);
@@ -147,7 +147,7 @@ module _ {a b : List ℕ} {at : At} {current : Before} {m : Mem} (g : ClauseAske
               let D = v .def (beforeOf current) s k₀ (m₃ .ctx .ops) (x₀ .root) (x₂ .to .rep .count) in
               record {
                 to = rw D (to-wider (with-sub (at .i) j p P e W u₁ u₂ ep u₃) (to-then (x₀ .to) (to-then (x₁ .to) (to-then (x₂ .to) (to-then x₃ (x₄ .to))))));
-                left = rw D (ap (λ (z : ℕ). some z) (sym (x₄ .root)));
+                gives = rw D (ap (λ (z : ℕ). some z) (sym (x₄ .root)));
               }
 
           pub with-law : (sheet : Bytes) → LowersClause sheet a b (at .left) (at .i) e (beforeOf current) (some k) m m₅

@@ -111,7 +111,7 @@ pub record LowersPass (sheet : Bytes) (a b : List ℕ) (n d base i e k : ℕ) (L
   pub here : e ≤ maxRecords
   pub grow : m .ctx .ops ≤ m′ .ctx .ops
   pub few : m′ .ctx .ops + 2 * i ≤ m .ctx .ops + 2 + 2 * e
-  pub fresh : m′ .ctx .next + i ≤ m .ctx .next + e
+  pub fresh : m′ .ctx .numbers + i ≤ m .ctx .numbers + e
   pub met : m′ .ctx .mapped + i ≤ m .ctx .mapped + e
   pub in-ops : length (m′ .ops) ≡ length (m .ops)
   pub in-rest : length (m′ .rest) ≡ length (m .rest)

@@ -100,7 +100,7 @@ twice-once p = record { up = p .up; here = p .here; grow = p .grow; few = omega 
 
 -- at least one record, and then an operator
 pub twice-pushed : {i j : ℕ} {c : LowerCtx} {os : List ℕ} {x : Op} {m m₁ : Mem} → Moved i j m m₁ → i + 1 ≤ j → Pushed (m₁ .ctx) c (m₁ .ops) os x → length os ≡ length (m₁ .ops) → MovedTwice i j m (mem c os (m₁ .rest))
-twice-pushed p l q lo = record { up = p .up; here = p .here; grow = omega (arith, p .grow, q .count); few = omega (arith, p .few, q .count); low = omega (arith, p .low, p .up, q .next); met = omega (arith, p .met, p .up, q .mapped); in-ops = lo ∙ p .in-ops; in-rest = p .in-rest; index = λ x. rw (q .mapped) (p .index x) }
+twice-pushed p l q lo = record { up = p .up; here = p .here; grow = omega (arith, p .grow, q .count); few = omega (arith, p .few, q .count); low = omega (arith, p .low, p .up, q .numbers); met = omega (arith, p .met, p .up, q .mapped); in-ops = lo ∙ p .in-ops; in-rest = p .in-rest; index = λ x. rw (q .mapped) (p .index x) }
 
 -- ── behind one pass over records that are ready ──
 
@@ -115,7 +115,7 @@ module _ {i j e : ℕ} {m m′ : Mem} (g : Ready i m) (p : Moved j e m m′) (l 
 
 module _ {o : ℕ} {L : Lowering ℕ} {k i : ℕ} {m m₁ : Mem} (g : Ready i m) (q : OrSource o L k m m₁) where
   pub good-source : {j : ℕ} (d : ℕ) → i + 1 ≤ j → j ≤ maxRecords → d ≤ deepest → RoomFor d j m₁
-  good-source d l h ld = record { few = omega (arith, g .few, q .few); low = omega (arith, g .low, q .next); met = omega (arith, g .met, q .mapped); here = h; in-ops = rw (q .in-ops) (g .in-ops); in-rest = rw (q .rest) (g .in-rest); index = rw (q .mapped, q .rest) (g .index) }
+  good-source d l h ld = record { few = omega (arith, g .few, q .few); low = omega (arith, g .low, q .numbers); met = omega (arith, g .met, q .mapped); here = h; in-ops = rw (q .in-ops) (g .in-ops); in-rest = rw (q .rest) (g .in-rest); index = rw (q .mapped, q .rest) (g .index) }
 
   -- its number is small
   pub few-source : k ≤ 8 * maxRecords

@@ -40,7 +40,7 @@ module _ {sheet : Bytes} {a b : List ℕ} {m : Mem} where
     pub ops-count : m .ctx .ops ≡ length (s .ops)
     ops-count = r .count
 
-    pub next-count : m .ctx .next ≡ s .scope .next
+    pub next-count : m .ctx .numbers ≡ s .scope .next
     next-count = ap (λ (z : LowerCtx). z .scope .next) (r .state)
 
 -- ── the plan, as it is answered ──
@@ -49,10 +49,10 @@ module _ {sheet : Bytes} {a b : List ℕ} {m : Mem} {W : Written} {s : LowerCtx}
   pub full-ops : (slice : Bytes) → 2048 < m .ctx .ops → Gives slice slice Answer.PlanFull (testPlan s)
   full-ops slice h = too-many slice s (rw (ops-count r) at h)
 
-  pub full-numbers : (slice : Bytes) → 2048 < m .ctx .next → Gives slice slice Answer.PlanFull (testPlan s)
+  pub full-numbers : (slice : Bytes) → 2048 < m .ctx .numbers → Gives slice slice Answer.PlanFull (testPlan s)
   full-numbers slice h = too-far slice s (rw (next-count r) at h)
 
-  module _ (slice slice′ : Bytes) (p : Plan) (met : m .ctx .mapped ≤ 4352) (ops : m .ctx .ops ≤ 2048) (next : m .ctx .next ≤ 2048) (w : WrotePlan sheet a b (m .ops) (m .rest) (m .ctx .ops) (m .ctx .mapped) slice slice′ p) where
+  module _ (slice slice′ : Bytes) (p : Plan) (met : m .ctx .mapped ≤ 4352) (ops : m .ctx .ops ≤ 2048) (next : m .ctx .numbers ≤ 2048) (w : WrotePlan sheet a b (m .ops) (m .rest) (m .ctx .ops) (m .ctx .mapped) slice slice′ p) where
     told : (x : Answer) → answerOf x ≡ Whole.answerOf p → Gives slice slice′ x (testPlan s)
     told x e = wrote slice s slice′ x (rw (ops-count r) at ops) (rw (next-count r) at next) (subst (λ (z : Call.Answer). _≡_ {A = Outcome} (record { answer = z; slice = slice′ }) (written (planSheet s) slice)) (sym e) (w s (tables-of r ops met)))
 

@@ -42,7 +42,7 @@ fn write_lowered(
     if 2048 < ctx.ops {
         return Answer::PlanFull;
     }
-    if 2048 < ctx.next {
+    if 2048 < ctx.numbers {
         return Answer::PlanFull;
     }
     match write_plan(plan, sheet, a, b, ops, rest, ctx.ops, ctx.mapped) {

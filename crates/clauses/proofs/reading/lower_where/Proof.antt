@@ -62,8 +62,8 @@ filter-requires c κs =
     let s : tie.Start = search ways depth 9 in
     let l = Room.bounds (s .pre) in
     let few = Room.few-after (s .pre .ready) (e .lower-expr .ensures .moved) (omega arith) in
-    let left = q .or-source-all .ensures in
-    (Room.fits (omega arith) (omega (arith, l .low)) (omega (arith, l .shallow)), omega (arith, few, left .source [] .low, left .source [] .few))
+    let source = q .or-source-all .ensures in
+    (Room.fits (omega arith) (omega (arith, l .low)) (omega (arith, l .shallow)), omega (arith, few, source .source [] .low, source .source [] .few))
 
 push-requires : tie.Need-push-requires
 push-requires c κs =
@@ -93,10 +93,10 @@ returns c =
     let q : tie.After-or-source-all = search ways depth 9 in
     let e : tie.After-lower-expr = search ways depth 9 in
     let s : tie.Start = search ways depth 9 in
-    let left = q .or-source-all .ensures in
+    let source = q .or-source-all .ensures in
     let pushed = pushed-as (made .filter .ensures) (p .push .ensures) in
-    let law = Filtering.where-law (s .pre) (e .lower-expr .ensures) (left .source _) pushed (p .push .kept .1 .0) in
-    λ sheet. Matching.ends-at (left .same) (law sheet)
+    let law = Filtering.where-law (s .pre) (e .lower-expr .ensures) (source .source _) pushed (p .push .kept .1 .0) in
+    λ sheet. Matching.ends-at (source .same) (law sheet)
 
 pub lower-where-spec : {M : Type 1} → statement M
 lower-where-spec =
