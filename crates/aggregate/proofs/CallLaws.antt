@@ -1,7 +1,6 @@
 -- A call is told by its number, and its name is where its words say. Assumes nothing: every law is proved.
 use mathlib.Core.Path.{_≡_, refl, sym, ap, _∙_}
 use Prim.Native.Nat.{ℕ, _+_, _<_}
-use native.Mathlib.Omega.{arith}
 use mathlib.Core.Bool.{Bool, false}
 use mathlib.Core.List.{List}
 use Rattle.model.specs.Text.{Bytes}

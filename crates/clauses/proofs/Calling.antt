@@ -143,7 +143,17 @@ module _ {a b : List ℕ} {at : At} {current : Before} {n n′ j e : ℕ} {c : L
       let v = x .moved in
       let w = y .moved in
       record {
-        moved = record { up = omega (arith, v .up, w .up); here = w .here; grow = omega (arith, v .grow, w .grow, pc .count); few = omega (arith, v .few, v .up, w .few, w .up, pc .count); low = omega (arith, v .low, v .up, w .low, w .up, pc .numbers); met = omega (arith, v .met, v .up, w .met, w .up, pc .mapped); in-ops = lo ∙ w .in-ops ∙ v .in-ops; in-rest = w .in-rest ∙ v .in-rest; index = λ z. rw (pc .mapped) (w .index (v .index z)) };
+        moved = record {
+          up = omega (arith, v .up, w .up);
+          here = w .here;
+          grow = omega (arith, v .grow, w .grow, pc .count);
+          few = omega (arith, v .few, v .up, w .few, w .up, pc .count);
+          low = omega (arith, v .low, v .up, w .low, w .up, pc .numbers);
+          met = omega (arith, v .met, v .up, w .met, w .up, pc .mapped);
+          in-ops = lo ∙ w .in-ops ∙ v .in-ops;
+          in-rest = w .in-rest ∙ v .in-rest;
+          index = λ z. rw (pc .mapped) (w .index (v .index z));
+        };
         stands = omega (arith, pc .count);
         next = λ t hd. (let o = a-call (g .words) t hd (g .kind) in let p = args-end g en x sheet t hd in let q = y .next in let z = o .sized in let f = yields-size (o .yields) in let g = o .yielded in omega arith);
         run = call-run sheet;

@@ -71,7 +71,17 @@ module _ {a b : List ℕ} {at : At} {current : Before} {k e : ℕ} {c : LowerCtx
   where-law sheet =
       let v = x .moved in
       record {
-        moved = record { up = omega (arith, v .up); here = v .here; grow = omega (arith, v .grow, sr .grow, pf .count); few = omega (arith, v .few, v .up, sr .few, pf .count); low = omega (arith, v .low, v .up, sr .numbers, pf .numbers); met = omega (arith, v .met, v .up, sr .mapped, pf .mapped); in-ops = lo ∙ sr .in-ops ∙ v .in-ops; in-rest = ap length (sr .rest) ∙ v .in-rest; index = λ z. rw (pf .mapped, sr .mapped, sr .rest) (v .index z) };
+        moved = record {
+          up = omega (arith, v .up);
+          here = v .here;
+          grow = omega (arith, v .grow, sr .grow, pf .count);
+          few = omega (arith, v .few, v .up, sr .few, pf .count);
+          low = omega (arith, v .low, v .up, sr .numbers, pf .numbers);
+          met = omega (arith, v .met, v .up, sr .mapped, pf .mapped);
+          in-ops = lo ∙ sr .in-ops ∙ v .in-ops;
+          in-rest = ap length (sr .rest) ∙ v .in-rest;
+          index = λ z. rw (pf .mapped, sr .mapped, sr .rest) (v .index z);
+        };
         stands = omega (arith, pf .count);
         next = λ t hd. (let w = a-where (g .words) t hd (g .kind) in let y = x .next sheet (w .tree) (w .held) in let z = w .sized in omega arith);
         run = where-run sheet;

@@ -1,6 +1,6 @@
 -- What the functions that lower clauses, arms and statements ask, by name. Assumes nothing: these are definitions.
 use mathlib.Core.Path.{_≡_}
-use Prim.Native.Nat.{ℕ, _+_, _≤_, _<_}
+use Prim.Native.Nat.{ℕ, _+_, _≤_}
 use mathlib.Core.List.{List}
 use lib.ListN.{length, drop}
 use Rattle.model.specs.Call.{workWords}

@@ -1,9 +1,8 @@
 -- The arms of the lowering of an expression, by the number of its kind. Assumes nothing.
 use mathlib.Core.Path.{_≡_, refl, ap, _∙_}
-use Prim.Native.Nat.{ℕ, suc, _+_, _-_, _≤_, _<_}
+use Prim.Native.Nat.{ℕ, suc, _+_, _-_, _≤_}
 use native.Mathlib.Nat.{le-refl}
 use native.Mathlib.Omega.{arith}
-use mathlib.Core.Bool.{Bool}
 use mathlib.Core.List.{List, _∷_, append-nil}
 use Rattle.model.specs.Text.{Bytes}
 use Rattle.model.specs.Field.{Fields}
@@ -52,7 +51,7 @@ pub record Headed (sheet : Bytes) (a b : List ℕ) (gap d i : ℕ) (t : Tree exp
 module _ {sheet : Bytes} {a b : List ℕ} {d i : ℕ} (room : Roomy a b) where
   pub plainly : (t : Tree expr) → Held sheet a b t d i → ((cell a b i kindAt ≡ varKind) → ⊥) → ((cell a b i kindAt ≡ mapKind) → ⊥) → ((cell a b i kindAt ≡ patKind) → ⊥) → ((cell a b i kindAt ≡ listPredicateKind) → ⊥) → Headed sheet a b 0 d i t
   unfolding Held size exprNumber lowerExpr fold made exprStep over _>>=_ ret render recsOver exprRecs exprRest Below belowIn copiesBelow lowerC renderC sizeC HeldC
-  plainly (node expr line (Expr.Over h) f (ts ▸ end)) hd n32 n33 n35 n36 = record {
+  plainly (node expr line (Expr.Over h) f (ts ▸ end)) hd no-var no-map no-pat no-predicate = record {
     n = _;
     list = plainC ts;
     total = counted room tt (hd .1) ∙ (omega arith);
@@ -63,9 +62,9 @@ module _ {sheet : Bytes} {a b : List ℕ} {d i : ℕ} (room : Roomy a b) where
     shown = λ N A. ap (λ (x : Recs). planned (PlanExpr.Over h) f ∷ x) (append-nil (renderOf N A ts) ∙ plain-render N A ts);
     below = λ N lo k b. (plain-below N lo k ts b, tt);
   }
-  plainly (node expr line Expr.Var f kids) hd n32 n33 n35 n36 = absurd (n32 (number-at room (hd .1)))
-  plainly (node expr line Expr.Map f kids) hd n32 n33 n35 n36 = absurd (n33 (number-at room (hd .1)))
-  plainly (node expr line Expr.Call (func, (n, (distinct, t))) (ts ▸ end)) hd n32 n33 n35 n36 = record {
+  plainly (node expr line Expr.Var f kids) hd no-var no-map no-pat no-predicate = absurd (no-var (number-at room (hd .1)))
+  plainly (node expr line Expr.Map f kids) hd no-var no-map no-pat no-predicate = absurd (no-map (number-at room (hd .1)))
+  plainly (node expr line Expr.Call (func, (n, (distinct, t))) (ts ▸ end)) hd no-var no-map no-pat no-predicate = record {
     n = n;
     list = plainC ts;
     total = counted room tt (hd .1) ∙ (omega arith);
@@ -76,10 +75,10 @@ module _ {sheet : Bytes} {a b : List ℕ} {d i : ℕ} (room : Roomy a b) where
     shown = λ N A. ap (λ (x : Recs). planned PlanExpr.Call (func, (n, tt)) ∷ x) (append-nil (renderOf N A ts) ∙ plain-render N A ts);
     below = λ N lo k b. (plain-below N lo k ts b, tt);
   }
-  plainly (node expr line Expr.PatternPredicate f kids) hd n32 n33 n35 n36 = absurd (n35 (number-at room (hd .1)))
-  plainly (node expr line Expr.ListPredicate f kids) hd n32 n33 n35 n36 = absurd (n36 (number-at room (hd .1)))
-  plainly (node expr line Expr.Unresolved f end) hd n32 n33 n35 n36 = record { n = 0; list = []ᶜ; total = counted room tt (hd .1); held = tt; sized = refl; head = planned (PlanExpr.Over Same.Null) tt; lower = λ s. refl; shown = λ N A. refl; below = λ N lo k b. tt }
-  plainly (node expr line Expr.Undesugared f end) hd n32 n33 n35 n36 = record { n = 0; list = []ᶜ; total = counted room tt (hd .1); held = tt; sized = refl; head = planned (PlanExpr.Over Same.Null) tt; lower = λ s. refl; shown = λ N A. refl; below = λ N lo k b. tt }
+  plainly (node expr line Expr.PatternPredicate f kids) hd no-var no-map no-pat no-predicate = absurd (no-pat (number-at room (hd .1)))
+  plainly (node expr line Expr.ListPredicate f kids) hd no-var no-map no-pat no-predicate = absurd (no-predicate (number-at room (hd .1)))
+  plainly (node expr line Expr.Unresolved f end) hd no-var no-map no-pat no-predicate = record { n = 0; list = []ᶜ; total = counted room tt (hd .1); held = tt; sized = refl; head = planned (PlanExpr.Over Same.Null) tt; lower = λ s. refl; shown = λ N A. refl; below = λ N lo k b. tt }
+  plainly (node expr line Expr.Undesugared f end) hd no-var no-map no-pat no-predicate = record { n = 0; list = []ᶜ; total = counted room tt (hd .1); held = tt; sized = refl; head = planned (PlanExpr.Over Same.Null) tt; lower = λ s. refl; shown = λ N A. refl; below = λ N lo k b. tt }
 
   mapped-of : Opens sheet a b d i expr (λ t. Headed sheet a b 1 d i t) Expr.Map
   unfolding Held size lowerExpr fold made exprStep over _>>=_ ret render recsOver exprRecs exprRest Below belowIn copiesBelow

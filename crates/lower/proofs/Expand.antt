@@ -117,7 +117,7 @@ expand-bounded : (rel input origin far d base : ℕ) → d ≤ deepest → base 
 expand-bounded rel input origin far d base sh lb l = record { shallow = sh; near = lb; low = l; far = λ e. absurd (omega arith); flagged = λ e. absurd (omega arith) }
 
 module _ {a b : List ℕ} (d base far rel : ℕ) {e₁ e₂ n₁ n₂ input origin p₁ p₂ : ℕ} {c₀ : LowerCtx} {os rest rest₁ rest₂ : List ℕ} {r₁ r₂ : Numbered} {m₃ m₄ : Mem} {c₅ : LowerCtx}
-    {os₅ : List ℕ} (room : Roomy a b) (k12 : cell a b far kindAt ≡ nodeKind) (k13 : cell a b rel kindAt ≡ relKind) (lb : base ≤ secondPass) (sh : d ≤ deepest) (la : far < maxRecords)
+    {os₅ : List ℕ} (room : Roomy a b) (is-node : cell a b far kindAt ≡ nodeKind) (is-rel : cell a b rel kindAt ≡ relKind) (lb : base ≤ secondPass) (sh : d ≤ deepest) (la : far < maxRecords)
     (ep₁ : p₁ ≡ base + (far + 1)) (nm₁ : Numbers (endpointVar (optionOf (cell a b far elementNamedAt) (cell a b far elementVarAt))) p₁ c₀ rest rest₁ r₁) (ep₂ : p₂ ≡ base + (rel + 1))
     (nm₂ : Numbers (endpointVar (optionOf (cell a b rel elementNamedAt) (cell a b rel elementVarAt))) p₂ (r₁ .ctx) rest₁ rest₂ r₂) (en₁ : n₁ ≡ cell a b rel relPropsAt)
     (x₁ : LowersExprs a b n₁ 0 (d - 1) base (rel + 1 + cell a b rel relTypesAt) e₁ (mem (r₂ .ctx) os rest₂) m₃) (en₂ : n₂ ≡ cell a b far nodePropsAt)
@@ -133,7 +133,7 @@ module _ {a b : List ℕ} (d base far rel : ℕ) {e₁ e₂ n₁ n₂ input orig
 
   pub rel-end : (sheet : Bytes) (tr : Tree patternElement) (hr : Held sheet a b tr d rel) → e₁ ≡ rel + size tr
   rel-end sheet tr hr =
-      let v = a-rel room tr hr k13 .el in
+      let v = a-rel room tr hr is-rel .el in
       let x′ : LowersExprs a b (one (v .p)) 0 (d - 1) base (rel + 1 + cell a b rel relTypesAt) e₁ (mem (r₂ .ctx) os rest₂) m₃ = rw (en₁ ∙ sym (v .flagged)) at x₁ in
       let q = x′ .next sheet (plainC (v .props)) (plain-held sheet a b (v .props) (d - 1) _ (rw (v .many) at (v .held-props))) in
       let z = plain-size (v .props) in
@@ -143,7 +143,7 @@ module _ {a b : List ℕ} (d base far rel : ℕ) {e₁ e₂ n₁ n₂ input orig
 
   pub far-end : (sheet : Bytes) (t : Tree patternElement) (hd : Held sheet a b t d far) → e₂ ≡ far + size t
   far-end sheet t hd =
-      let v = a-node room t hd k12 .el in
+      let v = a-node room t hd is-node .el in
       let x′ : LowersExprs a b (one (v .p)) 0 (d - 1) base (far + 1 + cell a b far nodeLabelsAt) e₂ m₃ m₄ = rw (en₂ ∙ sym (v .flagged)) at x₂ in
       let q = x′ .next sheet (plainC (v .props)) (plain-held sheet a b (v .props) (d - 1) _ (rw (v .many) at (v .held-props))) in
       let z = plain-size (v .props) in
@@ -156,8 +156,8 @@ module _ {a b : List ℕ} (d base far rel : ℕ) {e₁ e₂ n₁ n₂ input orig
       Blank W (base + suc rel) (base + suc e₂) → Expanded (side sheet a b first) W s c n
   unfolding push
   expand-run sheet {first} t tr n r hd hr st sr er W s c ep el q bl =
-      let vn = a-node room t hd k12 in
-      let vr = a-rel room tr hr k13 in
+      let vn = a-node room t hd is-node in
+      let vr = a-rel room tr hr is-rel in
       let E₁ : e₁ ≡ rel + size tr = rel-end sheet tr hr in
       let P = places base rel far e₁ e₂ (cell a b rel relTypesAt) (cell a b far nodeLabelsAt) (er ∙ sym E₁) (x₁ .moved .up) (x₂ .moved .up) la lb in
       let bn : Option ℕ = optionOf (cell a b far elementNamedAt) (cell a b far elementVarAt) in
@@ -195,8 +195,8 @@ module _ {a b : List ℕ} (d base far rel : ℕ) {e₁ e₂ n₁ n₂ input orig
           far = t;
           held-rel = hr;
           held-far = hd;
-          is-rel = k13;
-          is-far = k12;
+          is-rel = is-rel;
+          is-far = is-node;
           below-rel = vr .el .below (shift N base) first (m₄ .ctx .ops) (plain-below (shift N base) first (m₄ .ctx .ops) (vr .el .props) (carried-more (shift N base) first (m₃ .ctx .ops) (m₄ .ctx .ops) (y₂ .to .grow) (plainC (vr .el .props)) (y₁ .below N A (back (y₂ .to) f))));
           below-far = vn .el .below (shift N base) first (m₄ .ctx .ops) (plain-below (shift N base) first (m₄ .ctx .ops) (vn .el .props) (y₂ .below N A f));
           is = recs-are (shift N base) A t tr (vn .el .names) (vr .el .names) (vn .el .p) (vr .el .p) (vn .el .props) (vr .el .props) _ _ _ _ input origin _ _ _ _ (noted N A f .0)

@@ -67,19 +67,19 @@ module _ {a b : List ℕ} (room : Roomy a b) (sheet : Bytes) (d i : ℕ) (N : No
 abbrev pub relChain : Chain → ℕ → Read → Chain
 relChain ch stop x = record { next = stop; ctx = ch .ctx; last = ch .last; pending = pending.Rel (ch .next) x; kept = ch .kept }
 
-module _ {a b : List ℕ} (d base : ℕ) (ch : Chain) (stop : ℕ) (os rs : List ℕ) (room : Roomy a b) (st : ChainInBounds ch) (k13 : cell a b (ch .next) kindAt ≡ relKind) (en : Ends a b (ch .next) stop) {x : Read} (rd : ReadAt a b (ch .next) relPropsAt x) where
+module _ {a b : List ℕ} (d base : ℕ) (ch : Chain) (stop : ℕ) (os rs : List ℕ) (room : Roomy a b) (st : ChainInBounds ch) (is-rel : cell a b (ch .next) kindAt ≡ relKind) (en : Ends a b (ch .next) stop) {x : Read} (rd : ReadAt a b (ch .next) relPropsAt x) where
   rel-same : (sheet : Bytes) (t : Tree patternElement) → Held sheet a b t d (ch .next) → (c : Lower.Chain) → SameChain sheet a b d ch c → (r : RelStep) → stepOf t ≡ ofRel r → SameChain sheet a b d (relChain ch stop x) (record { last = c .last; pending = some r; path = c .path })
   rel-same sheet t hd c l r e = record { last = l .last; waiting = a-rel (ch .next) x refl rd t r hd e (en .each sheet patternElement d t tt hd) refl; kept = l .kept }
 
   rel-run : (sheet : Bytes) {first : ℕ} (t : Tree patternElement) → Held sheet a b t d (ch .next) → (W : Written) (s : State) (c : Lower.Chain) → Rep (side sheet a b first) W s (mem (ch .ctx) os rs) → SameChain sheet a b d ch c → Chained (side sheet a b first) W d base ch (relChain ch stop x) t (stepOf t) c s (mem (ch .ctx) os rs) (mem (ch .ctx) os rs)
   unfolding lowerElement ret
   rel-run sheet {first} t hd W s c r l =
-      let v = Elements.a-rel room t hd k13 in
+      let v = Elements.a-rel room t hd is-rel in
       subst (λ (z : Lower.Step). Chained (side sheet a b first) W d base ch (relChain ch stop x) t z c s (mem (ch .ctx) os rs) (mem (ch .ctx) os rs)) (sym (v .step))
       (record {
         to = to-wider (sub-more (base + suc (from ch), base + suc (ch .next)) W) (to-refl r);
         same = rel-same sheet t hd c l _ (v .step);
-        path = λ N A f ts. ap (λ (z : List ℕ). c .path ++ z) (sym (kept-rel room sheet d (ch .next) (shift N base) (hasLast (ch .last)) (pendingLine (ch .pending)) ts t hd k13));
+        path = λ N A f ts. ap (λ (z : List ℕ). c .path ++ z) (sym (kept-rel room sheet d (ch .next) (shift N base) (hasLast (ch .last)) (pendingLine (ch .pending)) ts t hd is-rel));
       })
 
   pub rel-law : SomeTree a b patternElement d (ch .next) → LowersElement a b d base ch (relChain ch stop x) os os rs rs
@@ -90,7 +90,7 @@ module _ {a b : List ℕ} (d base : ℕ) (ch : Chain) (stop : ℕ) (os rs : List
       record {
         moved = moved-within (le-refl _) (st .from) (st .next) (moved-refl (let q = st .from in let q′ = st .next in omega arith));
         bounded = record { from = omega arith; next = omega arith; last = st .last; kept = omega arith };
-        anchored = record { sheet = y .sheet; pending = some _; waiting = a-rel (ch .next) x refl rd (y .tree) _ (y .held) (Elements.a-rel room (y .tree) (y .held) k13 .step) z refl };
+        anchored = record { sheet = y .sheet; pending = some _; waiting = a-rel (ch .next) x refl rd (y .tree) _ (y .held) (Elements.a-rel room (y .tree) (y .held) is-rel .step) z refl };
         ahead = omega arith;
         since = λ n l h. h;
         next = λ sheet t hd. en .each sheet patternElement d t tt hd;
@@ -187,7 +187,7 @@ start-same : (c : Lower.Chain) (n : NodeStep) (s : State) (x x′ k : ℕ) → x
 start-same c n s x x′ k ex ek = rw (ex, ek)
 
 module _ {a b : List ℕ} (d base : ℕ) (ch : Chain) {e k place : ℕ} {os rest rest₁ : List ℕ} {r : Numbered} {m₂ : Mem} (room : Roomy a b) (lb : base ≤ secondPass) (st : ChainInBounds ch)
-    (k12 : cell a b (ch .next) kindAt ≡ nodeKind) (starts : StartsAnew ch) (ep : place ≡ base + (ch .next + 1)) (nm : Numbers (endpointVar (optionOf (cell a b (ch .next) elementNamedAt)
+    (is-node : cell a b (ch .next) kindAt ≡ nodeKind) (starts : StartsAnew ch) (ep : place ≡ base + (ch .next + 1)) (nm : Numbers (endpointVar (optionOf (cell a b (ch .next) elementNamedAt)
     (cell a b (ch .next) elementVarAt))) place (ch .ctx) rest rest₁ r) (lr : length rest₁ ≡ length rest) (ls : LowersStart a b d base (ch .next) (r .number) e k (mem (r .ctx) os rest₁) m₂) where
   abbrev ch′ : Chain
   ch′ = nodeChain ch e (m₂ .ctx) k (r .number) 1
@@ -207,7 +207,7 @@ module _ {a b : List ℕ} (d base : ℕ) (ch : Chain) {e k place : ℕ} {os rest
   start-run : (sheet : Bytes) {first : ℕ} (t : Tree patternElement) → Held sheet a b t d (ch .next) → (W : Written) (s : State) (c : Lower.Chain) → Rep (side sheet a b first) W s (mem (ch .ctx) os rest) → SameChain sheet a b d ch c → Blank W (base + suc (from ch)) (base + suc e) → Chained (side sheet a b first) W d base ch ch′ t (stepOf t) c s (mem (ch .ctx) os rest) m₂
   unfolding lowerElement _>>=_
   start-run sheet {first} t hd W s c rp l bl =
-      let v = a-node room t hd k12 in
+      let v = a-node room t hd is-node in
       let bn : Option ℕ = optionOf (cell a b (ch .next) elementNamedAt) (cell a b (ch .next) elementVarAt) in
       let n : NodeStep = record { bind = bn; labels = toList (v .el .n) (foldOf Lowered made (v .el .names)); props = Lower.propsOf (v .el .p) (foldOf Lowered made (v .el .props)) } in
       let f = tree-fits sheet a b t d (ch .next) hd in
@@ -225,7 +225,7 @@ module _ {a b : List ℕ} (d base : ℕ) (ch : Chain) {e k place : ℕ} {os rest
         same = rw D (record { last = refl; waiting = no-rel refl refl; kept = length-append (c .path) (r .number ∷ []) ∙ ap (λ (x : ℕ). x + 1) (l .kept) });
         path = λ N A fu ts. (let z : N (base + suc (ch .next)) ≡ r .number = back (y .to) (narrow u (rw D at fu)) .notes .at (base + suc (ch .next)) (P .low)
             (inl (P .here)) ∙ g .noted in path-one _ (c .path) _ _ _ _ _ (ap (λ (x : Lower.Chain × State). x .0 .path) D) (kept-node room sheet d (ch .next) (shift N base)
-            (hasLast (ch .last)) (pendingLine (ch .pending)) ts t hd k12) (starts-path (shift N base) ch starts) z);
+            (hasLast (ch .last)) (pendingLine (ch .pending)) ts t hd is-node) (starts-path (shift N base) ch starts) z);
       })
 
   start-moved : Moved (from ch) e (mem (ch .ctx) os rest) m₂
@@ -267,7 +267,7 @@ rel-kind room sheet d i (node patternElement line PatternElement.Rel f kids) r h
 
 module _ {a b : List ℕ} (d base : ℕ) (ch : Chain) {between : Read} {rel input origin e₁ e₂ n₁ n₂ p₁ p₂ : ℕ} {os rest rest₁ rest₂ : List ℕ} {r₁ r₂ : Numbered} {m₃ m₄ : Mem} {c₅ : LowerCtx} {os₅ : List ℕ}
     (room : Roomy a b) (lb : base ≤ secondPass) (sh : d ≤ deepest) (st : ChainInBounds ch) (w1 : ch .pending ≡ pending.Rel rel between) (h1 : ch .last ≡ last.Op input origin)
-    (k12 : cell a b (ch .next) kindAt ≡ nodeKind) (la : ch .next < maxRecords) (ep₁ : p₁ ≡ base + (ch .next + 1)) (nm₁ : Numbers (endpointVar (optionOf (cell a b (ch .next) elementNamedAt)
+    (is-node : cell a b (ch .next) kindAt ≡ nodeKind) (la : ch .next < maxRecords) (ep₁ : p₁ ≡ base + (ch .next + 1)) (nm₁ : Numbers (endpointVar (optionOf (cell a b (ch .next) elementNamedAt)
     (cell a b (ch .next) elementVarAt))) p₁ (ch .ctx) rest rest₁ r₁) (lr₁ : length rest₁ ≡ length rest) (ep₂ : p₂ ≡ base + (rel + 1))
     (nm₂ : Numbers (endpointVar (optionOf (cell a b rel elementNamedAt) (cell a b rel elementVarAt))) p₂ (r₁ .ctx) rest₁ rest₂ r₂) (lr₂ : length rest₂ ≡ length rest₁)
     (en₁ : n₁ ≡ cell a b rel relPropsAt) (x₁ : LowersExprs a b n₁ 0 (d - 1) base (rel + 1 + cell a b rel relTypesAt) e₁ (mem (r₂ .ctx) os rest₂) m₃)
@@ -285,7 +285,7 @@ module _ {a b : List ℕ} (d base : ℕ) (ch : Chain) {between : Read} {rel inpu
   waiting-kind {sheet} w = rel-kind room sheet d rel (w .tree) (w .step) (w .held) (w .is)
 
   expand-end : {sheet : Bytes} {o : Option RelStep} → RelWaits sheet a b d ch rel between o → e₁ ≡ ch .next
-  expand-end {sheet} w = rel-end d base (ch .next) rel room k12 (waiting-kind w) lb sh la ep₁ nm₁ ep₂ nm₂ en₁ x₁ en₂ x₂ pe sheet (w .tree) (w .held) ∙ sym (w .ends)
+  expand-end {sheet} w = rel-end d base (ch .next) rel room is-node (waiting-kind w) lb sh la ep₁ nm₁ ep₂ nm₂ en₁ x₁ en₂ x₂ pe sheet (w .tree) (w .held) ∙ sym (w .ends)
 
   expand-moved : e₁ ≡ ch .next → Moved (from ch) e₂ (mem (ch .ctx) os rest) (mem c₅ os₅ (m₄ .rest))
   expand-moved E =
@@ -311,10 +311,10 @@ module _ {a b : List ℕ} (d base : ℕ) (ch : Chain) {between : Read} {rel inpu
       Chained (side sheet a b first) W d base ch ch″ t (stepOf t) c s (mem (ch .ctx) os rest) (mem c₅ os₅ (m₄ .rest))
   unfolding keptRel
   expanded-run sheet {first} t hd W s c rp l w bl =
-      let v = a-node room t hd k12 in
+      let v = a-node room t hd is-node in
       let fr = from-is in
       let x =
-      expand-run d base (ch .next) rel room k12 (waiting-kind w) lb sh la ep₁ nm₁ ep₂ nm₂ en₁ x₁ en₂ x₂ pe sheet t (w .tree) _ (w .step) hd (w .held) (v .step) (w .is) (w .ends) W s c (w .there) (l .last ∙ ap lastOf h1) rp (rw fr at bl)
+      expand-run d base (ch .next) rel room is-node (waiting-kind w) lb sh la ep₁ nm₁ ep₂ nm₂ en₁ x₁ en₂ x₂ pe sheet t (w .tree) _ (w .step) hd (w .held) (v .step) (w .is) (w .ends) W s c (w .there) (l .last ∙ ap lastOf h1) rp (rw fr at bl)
       in
       subst (λ (z : Lower.Step). Chained (side sheet a b first) W d base ch ch″ t z c s (mem (ch .ctx) os rest) (mem c₅ os₅ (m₄ .rest))) (sym (v .step))
       (record {
@@ -322,7 +322,7 @@ module _ {a b : List ℕ} (d base : ℕ) (ch : Chain) {between : Read} {rel inpu
         same = rw (x .is) (record { last = ap (λ (z : ℕ). some (m₄ .ctx .ops, z)) (sym (x .number)); waiting = no-rel refl refl; kept = length-append (c .path) (x .bindRel ∷ x .bindTo ∷ []) ∙ ap (λ (z : ℕ). z + 2) (l .kept) });
         path = λ N A f ts.
             (let y = x .notes N A (rw fr at f) in
-            path-two _ (c .path) _ _ _ _ _ _ _ (ap (λ (z : Lower.Chain). z .path) (x .is)) (kept-node room sheet d (ch .next) (shift N base) (hasLast (ch .last)) (pendingLine (ch .pending)) ts t hd k12) (kept-one (shift N base) (ch .last) (ch .pending) input origin rel between h1 w1) (y .0) (y .1));
+            path-two _ (c .path) _ _ _ _ _ _ _ (ap (λ (z : Lower.Chain). z .path) (x .is)) (kept-node room sheet d (ch .next) (shift N base) (hasLast (ch .last)) (pendingLine (ch .pending)) ts t hd is-node) (kept-one (shift N base) (ch .last) (ch .pending) input origin rel between h1 w1) (y .0) (y .1));
       })
 
   pub expand-law : SomeTree a b patternElement d (ch .next) → Anchored a b d ch → LowersElement a b d base ch ch″ os os₅ rest (m₄ .rest)
@@ -338,6 +338,6 @@ module _ {a b : List ℕ} (d base : ℕ) (ch : Chain) {between : Read} {rel inpu
         anchored = record { sheet = x .sheet; pending = none; waiting = no-rel refl refl };
         ahead = omega arith;
         since = λ o l h. op-since (omega (arith, nm₁ .issued .ops, nm₂ .issued .ops, x₁ .moved .grow, x₂ .moved .grow));
-        next = λ sheet t hd. far-end d base (ch .next) rel room k12 (waiting-kind w) lb sh la ep₁ nm₁ ep₂ nm₂ en₁ x₁ en₂ x₂ pe sheet t hd;
+        next = λ sheet t hd. far-end d base (ch .next) rel room is-node (waiting-kind w) lb sh la ep₁ nm₁ ep₂ nm₂ en₁ x₁ en₂ x₂ pe sheet t hd;
         run = λ sheet t hd W s c r l bl. expanded-run sheet t hd W s c r l (rel-waits w1 (l .waiting)) bl;
       }

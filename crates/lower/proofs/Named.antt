@@ -10,7 +10,7 @@ use Rattle.model.specs.Text.{Bytes}
 use Rattle.model.specs.Field.{Fields}
 use Rattle.model.specs.Kind.{Expr, PlanExpr, expr, patternPart}
 use Rattle.model.specs.Record.{Rec, exprForms}
-use Rattle.model.specs.Tree.{Tree, Trees, node, end, _▸_, fold}
+use Rattle.model.specs.Tree.{Tree, Trees, end, _▸_, fold}
 use Rattle.model.specs.Lower.{Recs, made, _>>=_, ret, mapVar, over, exprStep, planned, lowerExpr, lowerMatchPattern, optionalJoin, copy, at}
 use Rattle.words.specs.Words.{Roomy, cell, fieldsOf, fieldOf, maxRecords}
 use Rattle.words.specs.Held.{Held, HeldOf, size, sizeOf}

@@ -27,7 +27,7 @@ use Rattle.lower.specs.Shows.{shift, InBounds, shows-short}
 use Rattle.lower.specs.Rep.{atPlace, State, Mem, mem, Written, Sub, Blank, Rep, Rooted, Moved}
 use Rattle.lower.specs.Pieces.{lowerC, SomeTree, LowersExprs}
 use Rattle.lower.specs.Patterns.{partL, LowersPart}
-use Rattle.lower.specs.Chains.{stepsOf, startL, LowersStart, LowersRel}
+use Rattle.lower.specs.Chains.{specialElements, stepsOf, startL, LowersStart, LowersRel}
 use Rattle.lower.specs.State.{sub-more, sub-within, blank-within, blank-before, blank-behind, back, to-then, to-wider, push-to, Given, number-to}
 use Rattle.lower.specs.Below.{carried-more}
 use Rattle.words.specs.Fits.{tree-fits, tree-low}
@@ -48,7 +48,7 @@ short-bounded : (i input rel far d base : ℕ) → d ≤ deepest → base ≤ se
 short-bounded i input rel far d base sh lb l h = record { shallow = omega arith; near = lb; low = l; far = λ e. h; flagged = λ e. absurd (omega arith) }
 
 module _ {a b : List ℕ} (d base i rel far e : ℕ) {p₁ p₃ p₄ e₁ e₂ k₁ : ℕ} {c₀ : LowerCtx} {os rest rest₁ rest₄ rest₅ os₆ : List ℕ} {r₁ r₃ r₄ : Numbered} {m₂ m₃ : Mem} {c₆ : LowerCtx}
-    (room : Roomy a b) (lb : base ≤ secondPass) (sh : d ≤ deepest) (k4 : (cell a b i partShortestAt ≡ 0) → ⊥) (k6 : cell a b i partElementsAt ≡ 3) (ka : cell a b (i + 1) kindAt ≡ nodeKind)
+    (room : Roomy a b) (lb : base ≤ secondPass) (sh : d ≤ deepest) (k4 : (cell a b i partShortestAt ≡ 0) → ⊥) (k6 : cell a b i partElementsAt ≡ specialElements) (ka : cell a b (i + 1) kindAt ≡ nodeKind)
     (kr : cell a b rel kindAt ≡ relKind) (kf : cell a b far kindAt ≡ nodeKind) (na : Ends a b (i + 1) rel) (nr : Ends a b rel far) (nf : Ends a b far e)
     (ep₁ : p₁ ≡ base + (i + 1 + 1)) (nm₁ : Numbers (endpointVar (optionOf (cell a b (i + 1) elementNamedAt) (cell a b (i + 1) elementVarAt))) p₁ c₀ rest rest₁ r₁)
     (lr₁ : length rest₁ ≡ length rest) (ls : LowersStart a b (d - 1) base (i + 1) (r₁ .number) e₁ k₁ (mem (r₁ .ctx) os rest₁) m₂) (lr : LowersRel a b (d - 1) base rel e₂ (m₂ .ctx)

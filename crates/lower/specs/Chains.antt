@@ -210,10 +210,14 @@ startChain i c = record { next = i + 1; ctx = c; last = last.Nothing; pending = 
 abbrev pub StartsAnew : Chain → Type 0
 StartsAnew ch = (ch .pending ≡ pending.Nothing) ⊎ (ch .last ≡ last.Nothing)
 
+-- so many elements has a special part
+abbrev pub specialElements : ℕ
+specialElements = 3
+
 -- a shortest part of exactly node, rel, node
 pub record Special (a b : List ℕ) (i rel far : ℕ) : Type 0 where
   pub shortest : (cell a b i partShortestAt ≡ 0) → ⊥
-  pub three : cell a b i partElementsAt ≡ 3
+  pub three : cell a b i partElementsAt ≡ specialElements
   pub first : cell a b (i + 1) kindAt ≡ nodeKind
   pub second : cell a b rel kindAt ≡ relKind
   pub third : cell a b far kindAt ≡ nodeKind

@@ -13,7 +13,6 @@ use Rattle.lower.specs.Side.{Side, side}
 use Rattle.lower.specs.Rep.{State, Mem, Written, Blank, Rep, To, Indexes}
 use Rattle.words.specs.Words.{maxRecords}
 use Rattle.context.specs.Tables.{secondPass}
-use Rattle.model.specs.Call.{workWords}
 
 -- what the lowering of clauses from record i to e does, whatever the state
 pub record MovedTwice (i e : ℕ) (m m′ : Mem) : Type 0 where
