@@ -12,7 +12,7 @@ use borrow.Author.Tests.{eq-eqb, ne-eqb, lt-leb, le-leb, leb-true}
 use Rattle.model.specs.Text.{Bytes, bytes, bytesFrom, same, sameBy}
 use Rattle.model.specs.Lower.{lowercase, among, aggregates}
 use Rattle.laws.specs.TextLaws.{and-left, and-right}
-use Rattle.aggregate.specs.Names.{letters, names, starts, aggregate}
+use Rattle.aggregate.specs.Names.{letters, names, starts, aggregate, letterCount}
 
 abbrev pub lowered : Bytes → Bytes
 lowered s = map (λ b. lowercase b) s
@@ -86,10 +86,10 @@ passes test zero k e h = absurd (omega arith)
 passes test (suc n) zero e h = and-left _ _ e
 passes test (suc n) (suc k) e h = passes (λ x. test (suc x)) n k (and-right (test 0) _ e) (omega arith)
 
-pub name-within : (k : ℕ) → k < names → Within 63 (getD starts k 0) (getD starts (suc k) 0)
+pub name-within : (k : ℕ) → k < names → Within letterCount (getD starts k 0) (getD starts (suc k) 0)
 unfolding all
 name-within k h =
-    let p : (leb (getD starts k 0) (getD starts (suc k) 0) && leb (getD starts (suc k) 0) 63) ≡ true = passes (λ x. leb (getD starts x 0) (getD starts (suc x) 0) && leb (getD starts (suc x) 0) 63) names k refl h in
+    let p : (leb (getD starts k 0) (getD starts (suc k) 0) && leb (getD starts (suc k) 0) letterCount) ≡ true = passes (λ x. leb (getD starts x 0) (getD starts (suc x) 0) && leb (getD starts (suc x) 0) letterCount) names k refl h in
     record { from = leb-true _ _ (and-left _ _ p); to = leb-true _ _ (and-right (leb (getD starts k 0) (getD starts (suc k) 0)) _ p) }
 
 -- ── letters ──

@@ -15,8 +15,12 @@ letters = bytes "countsumavgminmaxcollectstdevstdevppercentilecontpercentiledisc
 abbrev pub names : ℕ
 names = 10
 
+-- with so many letters together
+abbrev pub letterCount : ℕ
+letterCount = 63
+
 abbrev pub starts : List ℕ
-starts = 0 ∷ 5 ∷ 8 ∷ 11 ∷ 14 ∷ 17 ∷ 24 ∷ 29 ∷ 35 ∷ 49 ∷ 63 ∷ []
+starts = 0 ∷ 5 ∷ 8 ∷ 11 ∷ 14 ∷ 17 ∷ 24 ∷ 29 ∷ 35 ∷ 49 ∷ letterCount ∷ []
 
 unfoldable pub aggregate : ℕ → Bytes
 unfolding letters

@@ -22,8 +22,11 @@ const NAMES: usize = 10;
 // A small letter is so far behind its capital.
 const TO_SMALL: u8 = 32;
 
+// They have so many letters together.
+const LETTERS: usize = 63;
+
 // Where each name begins in the text of all of them, and where the last ends.
-const STARTS: [usize; 11] = [0, 5, 8, 11, 14, 17, 24, 29, 35, 49, 63];
+const STARTS: [usize; 11] = [0, 5, 8, 11, 14, 17, 24, 29, 35, 49, LETTERS];
 
 fn lowercase(b: u8) -> u8
     ensures { λ r. ⌜ r ≡ lowercaseOf b ⌝ }

@@ -12,16 +12,16 @@ use Rattle.model.specs.Kind.{Clause, ReadOp, clause, expr, yieldItem}
 use Rattle.model.specs.Record.{forms}
 use Rattle.model.specs.Tree.{Tree, Trees}
 use Rattle.model.specs.Lower.{Recs, _>>=_, ret, push, op, lowerExprs, lowerYields, lowerClause}
-use Rattle.model.specs.Call.{maxDepth}
 use Rattle.words.specs.Words.{cell, optionOf, maxRecords}
 use Rattle.words.specs.Held.{Held, HeldOf, RecordAt, sizeOf}
 use Rattle.words.specs.Places.{callKind, callArgsAt, callYieldsAt}
-use Rattle.context.specs.Tables.{Pushed}
+use Rattle.context.specs.Tables.{Pushed, deepest}
 use Rattle.context.specs.Ops.{beforeOf, procedureCallOp}
 use Rattle.context.specs.declared.At.{At}
 use Rattle.context.specs.declared.Before.{Before}
 use Rattle.context.specs.declared.Before.the-variants as before
 use Rattle.context.specs.declared.LowerCtx.{LowerCtx}
+use Rattle.lower.specs.Side.{side}
 use Rattle.lower.specs.Render.{Notes, Ops, renderOf, BelowOf}
 use Rattle.lower.specs.Shows.{shift, Stored, shows-call}
 use Rattle.lower.specs.Rep.{State, Mem, mem, atPlace, Written, Sub, Rep}
@@ -40,15 +40,15 @@ use Rattle.clauses.proofs.Opened.{a-call}
 use Rattle.clauses.proofs.Yields.{yields-size}
 use Rattle.clauses.proofs.Matching.{leaves}
 
-less-deep : (d : ℕ) → d ≤ maxDepth → d - 1 ≤ maxDepth
+less-deep : (d : ℕ) → d ≤ deepest → d - 1 ≤ deepest
 less-deep d h = omega arith
 
 -- a call, as it is stored
-module _ {sheet : Bytes} {a b : List ℕ} {N : Notes} {A : Ops} {k : ℕ} (i d : ℕ) (f : Fields (forms clause Clause.Call)) (args : Trees expr (f .1 .0)) (yields : Trees yieldItem (f .1 .1 .0)) (rs ss : Recs)
-    (sh : d ≤ maxDepth) (is : RecordAt sheet a b i clause Clause.Call f)
+module _ {sheet : Bytes} {a b : List ℕ} {first : ℕ} {N : Notes} {A : Ops} {k : ℕ} (i d : ℕ) (f : Fields (forms clause Clause.Call)) (args : Trees expr (f .1 .0)) (yields : Trees yieldItem (f .1 .1 .0)) (rs ss : Recs)
+    (sh : d ≤ deepest) (is : RecordAt sheet a b i clause Clause.Call f)
     (ha : HeldOf sheet a b args d (i + 1)) (hy : HeldOf sheet a b yields d (i + 1 + sizeOf args))
-    (bl : BelowOf (shift N 0) k args) (e : renderOf (shift N 0) A args ≡ rs) (e′ : renderOf (shift N 0) A yields ≡ ss) where
-  call-stored : (current : Before) → Stored sheet a b N A k (procedureCallOp (atPlace 0 i d) current) (op ReadOp.ProcedureCall (beforeOf current, (f .0, (f .1 .0, (f .1 .1 .0, (f .1 .1 .1 .0, tt))))) ∷ (rs ++ ss))
+    (bl : BelowOf (shift N 0) first k args) (e : renderOf (shift N 0) A args ≡ rs) (e′ : renderOf (shift N 0) A yields ≡ ss) where
+  call-stored : (current : Before) → Stored (side sheet a b first) N A k (procedureCallOp (atPlace 0 i d) current) (op ReadOp.ProcedureCall (beforeOf current, (f .0, (f .1 .0, (f .1 .1 .0, (f .1 .1 .1 .0, tt))))) ∷ (rs ++ ss))
   unfolding procedureCallOp beforeOf optionOf
   call-stored before.Nothing = record {
     bounded = record { shallow = sh; near = omega arith; low = is .low; far = λ e. absurd (omega arith); flagged = λ e. absurd (omega arith) };
@@ -119,8 +119,8 @@ module _ {a b : List ℕ} {at : At} {current : Before} {n n′ j e : ℕ} {c : L
     (g : ClauseAsked callKind a b at current m) (en : n ≡ cell a b (at .i) callArgsAt) (en′ : n′ ≡ cell a b (at .i) callYieldsAt)
     (x : LowersExprs a b n 0 (at .left - 1) 0 (at .i + 1) j m m₁) (y : LowersYields a b n′ j e m₁ m₂)
     (pc : Pushed (m₂ .ctx) c (m₂ .ops) os (procedureCallOp (atPlace 0 (at .i) (at .left - 1)) current)) (lo : length os ≡ length (m₂ .ops)) where
-  call-run : (sheet : Bytes) (t : Tree clause) → Held sheet a b t (at .left) (at .i) → (W : Written) (s : State) → Rep sheet a b W s m → BothBlank W (suc (at .i)) (suc e) → Leaves sheet a b W (λ s. lowerClause t (beforeOf current) s) (some (m₂ .ctx .ops)) (suc (at .i)) (suc e) s m (mem c os (m₂ .rest))
-  call-run sheet t hd W s r bl =
+  call-run : (sheet : Bytes) {first : ℕ} (t : Tree clause) → Held sheet a b t (at .left) (at .i) → (W : Written) (s : State) → Rep (side sheet a b first) W s m → BothBlank W (suc (at .i)) (suc e) → Leaves (side sheet a b first) W (λ s. lowerClause t (beforeOf current) s) (some (m₂ .ctx .ops)) (suc (at .i)) (suc e) s m (mem c os (m₂ .rest))
+  call-run sheet {first} t hd W s r bl =
       let v = a-call (g .words) t hd (g .kind) in
       let o : Option ℕ = beforeOf current in
       let up = x .moved .up in
@@ -133,7 +133,7 @@ module _ {a b : List ℕ} {at : At} {current : Before} {n n′ j e : ℕ} {c : L
       let s₂ : State = yielded (v .fields) (v .args) (v .yields) o s in
       let w = push-to m₂ c os (procedureCallOp (atPlace 0 (at .i) (at .left - 1)) current) recs (q .to .rep) pc
       (λ N A f. call-stored (at .i) (at .left - 1) (v .fields) (v .args) (v .yields) _ _ (less-deep (at .left) (g .depth)) (v .at) (v .held-args) (v .held-yields)
-      (below-of-more (shift N 0) (m₁ .ctx .ops) (m₂ .ctx .ops) (q .to .grow) (v .args) (plain-below (shift N 0) (m₁ .ctx .ops) (v .args) (p .below N A (back (q .to) f))))
+      (below-of-more (shift N 0) first (m₁ .ctx .ops) (m₂ .ctx .ops) (q .to .grow) (v .args) (plain-below (shift N 0) first (m₁ .ctx .ops) (v .args) (p .below N A (back (q .to) f))))
       (plain-render (shift N 0) A (v .args) ∙ p .shown N A (back (q .to) f)) (q .shown N A f) current) in
       let u : Sub ((0 + suc j, 0 + suc e) ∷ (0 + suc (at .i + 1), 0 + suc j) ∷ W) (bothPasses (suc (at .i)) (suc e) W) = sub-within (omega arith) (omega arith) (sub-first (omega arith) (omega arith)) in
       leaves t o (m₂ .ctx .ops) s (push recs s₂ .1) (v .lower o s ∙ call-def (v .fields) (v .args) (v .yields) o s ∙ ap (λ (z : ℕ). (some z, push recs s₂ .1)) (sym (q .to .rep .count))) (to-then (p .to) (to-then (q .to) w)) u
@@ -143,7 +143,17 @@ module _ {a b : List ℕ} {at : At} {current : Before} {n n′ j e : ℕ} {c : L
       let v = x .moved in
       let w = y .moved in
       record {
-        moved = record { up = omega (arith, v .up, w .up); here = w .here; few = omega (arith, v .few, v .up, w .few, w .up, pc .count); low = omega (arith, v .low, v .up, w .low, w .up, pc .next); met = omega (arith, v .met, v .up, w .met, w .up, pc .mapped); in-ops = lo ∙ w .in-ops ∙ v .in-ops; in-rest = w .in-rest ∙ v .in-rest; index = λ z. rw (pc .mapped) (w .index (v .index z)) };
+        moved = record {
+          up = omega (arith, v .up, w .up);
+          here = w .here;
+          grow = omega (arith, v .grow, w .grow, pc .count);
+          few = omega (arith, v .few, v .up, w .few, w .up, pc .count);
+          low = omega (arith, v .low, v .up, w .low, w .up, pc .numbers);
+          met = omega (arith, v .met, v .up, w .met, w .up, pc .mapped);
+          in-ops = lo ∙ w .in-ops ∙ v .in-ops;
+          in-rest = w .in-rest ∙ v .in-rest;
+          index = λ z. rw (pc .mapped) (w .index (v .index z));
+        };
         stands = omega (arith, pc .count);
         next = λ t hd. (let o = a-call (g .words) t hd (g .kind) in let p = args-end g en x sheet t hd in let q = y .next in let z = o .sized in let f = yields-size (o .yields) in let g = o .yielded in omega arith);
         run = call-run sheet;

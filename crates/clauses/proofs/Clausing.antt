@@ -1,6 +1,7 @@
 -- A clause by its kind: one that reads leaves an operator, one that writes what was before it. Assumes nothing.
 use mathlib.Core.Path.{_≡_, refl, ap}
 use Prim.Native.Nat.{ℕ, suc, _+_, _<_}
+use native.Mathlib.Nat.{le-refl}
 use native.Mathlib.Omega.{arith}
 use mathlib.Core.List.{List, [], _∷_}
 use mathlib.Core.Option.{Option, some}
@@ -16,6 +17,7 @@ use Rattle.context.specs.declared.At.{At}
 use Rattle.context.specs.declared.Before.{Before}
 use Rattle.context.specs.declared.Before.the-variants as before
 use Rattle.words.specs.Places.{matchKind, whereKind, withKind, returnKind, unwindKind, callKind, writeKind, kindAt}
+use Rattle.lower.specs.Side.{side}
 use Rattle.lower.specs.Rep.{State, Mem, Written, Rep}
 use Rattle.lower.specs.Clauses.{Stands, Leaves, LowersClause}
 use Rattle.lower.specs.State.{to-refl, to-wider}
@@ -39,12 +41,12 @@ unfolding beforeOf
 left-one p = p
 
 module _ (sheet : Bytes) {a b : List ℕ} (d i : ℕ) (o : Option ℕ) (m : Mem) (room : Roomy a b) (k8 : cell a b i kindAt ≡ writeKind) (li : i < maxRecords) (st : Stands o m) where
-  write-run : (t : Tree clause) → Held sheet a b t d i → (W : Written) (s : State) → Rep sheet a b W s m → Leaves sheet a b W (λ s. lowerClause t o s) o (suc i) (suc (i + 1)) s m m
-  write-run t hd W s r = let e = a-write sheet d i room t hd k8 .lower o s in record { to = rw e (to-wider sub-both (to-refl r)); left = ap (λ (x : Option ℕ × State). x .0) e }
+  write-run : {first : ℕ} (t : Tree clause) → Held sheet a b t d i → (W : Written) (s : State) → Rep (side sheet a b first) W s m → Leaves (side sheet a b first) W (λ s. lowerClause t o s) o (suc i) (suc (i + 1)) s m m
+  write-run t hd W s r = let e = a-write sheet d i room t hd k8 .lower o s in record { to = rw e (to-wider sub-both (to-refl r)); gives = ap (λ (x : Option ℕ × State). x .0) e }
 
   pub write-law : LowersClause sheet a b d i (i + 1) o o m m
   write-law = record {
-    moved = record { up = omega arith; here = omega arith; few = omega arith; low = omega arith; met = omega arith; in-ops = refl; in-rest = refl; index = λ x. x };
+    moved = record { up = omega arith; here = omega arith; grow = le-refl _; few = omega arith; low = omega arith; met = omega arith; in-ops = refl; in-rest = refl; index = λ x. x };
     stands = st;
     next = λ t hd. (let z = a-write sheet d i room t hd k8 .sized in omega arith);
     run = λ t hd W s r bl. write-run t hd W s r;

@@ -16,6 +16,7 @@ use Rattle.context.specs.Ops.{beforeOf, filterOp}
 use Rattle.context.specs.declared.At.{At}
 use Rattle.context.specs.declared.Before.{Before}
 use Rattle.context.specs.declared.LowerCtx.{LowerCtx}
+use Rattle.lower.specs.Side.{side}
 use Rattle.lower.specs.Shows.{shift, shows-filter}
 use Rattle.lower.specs.Rep.{State, Mem, mem, atPlace, Written, Rep}
 use Rattle.lower.specs.Pieces.{SomeTree, LowersExpr}
@@ -25,7 +26,7 @@ use Rattle.lower.specs.Below.{below-more}
 use Rattle.words.specs.Fits.{tree-low}
 use Rattle.projections.specs.Asked.{ClauseAsked}
 use Rattle.projections.specs.Passes.{sub-first}
-use Rattle.clauses.specs.Steps.{Input}
+use Rattle.lower.specs.Chains.{OrSource}
 use Rattle.clauses.proofs.Opened.{a-where}
 use Rattle.clauses.proofs.Matching.{leaves}
 
@@ -44,14 +45,14 @@ where-def tree o s = refl
 module _ {a b : List ℕ} {at : At} {current : Before} {k e : ℕ} {c : LowerCtx} {os : List ℕ} {m m₁ m₂ : Mem}
     (g : ClauseAsked whereKind a b at current m)
     (x : LowersExpr a b (at .left - 1) 0 (at .i + 1) e m m₁)
-    (sr : Input (orSourceAll (beforeOf current)) k m₁ m₂)
+    (sr : OrSource (m₁ .ctx .ops) (orSourceAll (beforeOf current)) k m₁ m₂)
     (pf : Pushed (m₂ .ctx) c (m₂ .ops) os (filterOp (atPlace 0 (at .i + 1) (at .left - 1)) k)) (lo : length os ≡ length (m₂ .ops)) where
-  where-run : (sheet : Bytes) (t : Tree clause) → Held sheet a b t (at .left) (at .i) → (W : Written) (s : State) → Rep sheet a b W s m → BothBlank W (suc (at .i)) (suc e) → Leaves sheet a b W (λ s. lowerClause t (beforeOf current) s) (some (m₂ .ctx .ops)) (suc (at .i)) (suc e) s m (mem c os (m₂ .rest))
-  where-run sheet t hd W s r bl =
+  where-run : (sheet : Bytes) {first : ℕ} (t : Tree clause) → Held sheet a b t (at .left) (at .i) → (W : Written) (s : State) → Rep (side sheet a b first) W s m → BothBlank W (suc (at .i)) (suc e) → Leaves (side sheet a b first) W (λ s. lowerClause t (beforeOf current) s) (some (m₂ .ctx .ops)) (suc (at .i)) (suc e) s m (mem c os (m₂ .rest))
+  where-run sheet {first} t hd W s r bl =
       let v = a-where (g .words) t hd (g .kind) in
       let sh = g .depth in
       let y = x .run sheet (v .tree) (v .held) W s r (blank-within (omega arith) (omega arith) (bl .first)) in
-      let z = sr .run sheet a b _ _ (y .to .rep) in
+      let z = sr .run sheet a b _ _ (y .to .rep .from) (y .to .rep) in
       let s₂ : State = orSourceAll (beforeOf current) (lowerExpr (v .tree) s .1) .1 in
       let recs : Recs = filter (orSourceAll (beforeOf current) (lowerExpr (v .tree) s .1) .0) (lowerExpr (v .tree) s .0) in
       let w = push-to m₂ c os (filterOp (atPlace 0 (at .i + 1) (at .left - 1)) k) recs (z .to .rep) pf
@@ -60,7 +61,7 @@ module _ {a b : List ℕ} {at : At} {current : Before} {k e : ℕ} {c : LowerCtx
         shows = shows-filter refl (record {
           tree = v .tree;
           held = v .held;
-          below = below-more (shift N 0) (m₁ .ctx .ops) (m₂ .ctx .ops) (sr .grow) (v .tree) (y .below N A (back (z .to) f));
+          below = below-more (shift N 0) first (m₁ .ctx .ops) (m₂ .ctx .ops) (sr .grow) (v .tree) (y .below N A (back (z .to) f));
           is = filter-is k _ _ _ (z .root) (y .shown N A (back (z .to) f));
         });
       }) in
@@ -70,7 +71,17 @@ module _ {a b : List ℕ} {at : At} {current : Before} {k e : ℕ} {c : LowerCtx
   where-law sheet =
       let v = x .moved in
       record {
-        moved = record { up = omega (arith, v .up); here = v .here; few = omega (arith, v .few, v .up, sr .few, pf .count); low = omega (arith, v .low, v .up, sr .next, pf .next); met = omega (arith, v .met, v .up, sr .mapped, pf .mapped); in-ops = lo ∙ sr .in-ops ∙ v .in-ops; in-rest = ap length (sr .rest) ∙ v .in-rest; index = λ z. rw (pf .mapped, sr .mapped, sr .rest) (v .index z) };
+        moved = record {
+          up = omega (arith, v .up);
+          here = v .here;
+          grow = omega (arith, v .grow, sr .grow, pf .count);
+          few = omega (arith, v .few, v .up, sr .few, pf .count);
+          low = omega (arith, v .low, v .up, sr .numbers, pf .numbers);
+          met = omega (arith, v .met, v .up, sr .mapped, pf .mapped);
+          in-ops = lo ∙ sr .in-ops ∙ v .in-ops;
+          in-rest = ap length (sr .rest) ∙ v .in-rest;
+          index = λ z. rw (pf .mapped, sr .mapped, sr .rest) (v .index z);
+        };
         stands = omega (arith, pf .count);
         next = λ t hd. (let w = a-where (g .words) t hd (g .kind) in let y = x .next sheet (w .tree) (w .held) in let z = w .sized in omega arith);
         run = where-run sheet;

@@ -17,14 +17,16 @@ use Rattle.context.specs.Tables.{Pushed}
 use Rattle.context.specs.Ops.{beforeOf, unionOp}
 use Rattle.context.specs.declared.Before.the-variants as before
 use Rattle.context.specs.declared.LowerCtx.{LowerCtx}
+use Rattle.lower.specs.Side.{side}
 use Rattle.lower.specs.Shows.{InBounds, shows-union}
 use Rattle.lower.specs.Rep.{State, Mem, mem, Written, Rep}
+use Rattle.lower.specs.Chains.{OrSource}
 use Rattle.lower.specs.Clauses.{MovedTwice, BothBlank, Leaves}
 use Rattle.projections.specs.Ready.{Ready}
 use Rattle.lower.specs.State.{to-then, to-wider, push-to}
 use Rattle.words.specs.Fits.{tree-low}
 use Rattle.clauses.specs.Turns.{inTurn}
-use Rattle.clauses.specs.Steps.{Input, clauseTurn, lowerArm, LowersClauses, LowersArm}
+use Rattle.clauses.specs.Steps.{clauseTurn, lowerArm, LowersClauses, LowersArm}
 use Rattle.projections.specs.Passes.{sub-before, both-next}
 use Rattle.clauses.proofs.Opened.{an-arm}
 use Rattle.clauses.proofs.Turning.{clauses-turns}
@@ -64,23 +66,23 @@ left-by cs below s e = clauses-turns cs none s ∙ ap (λ (x : Option ℕ). (x, 
 module _ {sheet : Bytes} {a b : List ℕ} {n e k k′ all : ℕ} {below : Option ℕ} {c : LowerCtx} {os : List ℕ} {m m₁ m₂ m₃ : Mem}
     (d i : ℕ) (o : Option ℕ) (room : Roomy a b) (en : n ≡ cell a b i armClausesAt) (ea : all ≡ cell a b i armAllAt)
     (cl : LowersClauses sheet a b n (d - 1) (i + 1) e none below m m₁)
-    (ql : Input (orSourceAll o) k m₁ m₂)
-    (qr : Input (orSourceAll below) k′ m₂ m₃)
+    (ql : OrSource (m₁ .ctx .ops) (orSourceAll o) k m₁ m₂)
+    (qr : OrSource (m₂ .ctx .ops) (orSourceAll below) k′ m₂ m₃)
     (pu : Pushed (m₃ .ctx) c (m₃ .ops) os (unionOp i k k′ all)) (lo : length os ≡ length (m₃ .ops)) where
-  arm-run : (t : Tree unionArm) → Held sheet a b t d i → (W : Written) (s : State) → Rep sheet a b W s m → BothBlank W (suc i) (suc e) → Leaves sheet a b W (λ s. lowerArm t o s) (some (m₃ .ctx .ops)) (suc i) (suc e) s m (mem c os (m₃ .rest))
+  arm-run : {first : ℕ} (t : Tree unionArm) → Held sheet a b t d i → (W : Written) (s : State) → Rep (side sheet a b first) W s m → BothBlank W (suc i) (suc e) → Leaves (side sheet a b first) W (λ s. lowerArm t o s) (some (m₃ .ctx .ops)) (suc i) (suc e) s m (mem c os (m₃ .rest))
   arm-run t hd W s r bl =
       let v = an-arm room t hd in
       let cl′ : LowersClauses sheet a b (v .n) (d - 1) (i + 1) e none below m m₁ = rw (en ∙ sym (v .many)) at cl in
       let x = cl′ .run (v .clauses) (v .held) W s r (both-next i e bl) in
       let s₁ : State = inTurn clauseTurn (v .clauses) none s .1 in
-      let y = ql .run sheet a b _ s₁ (x .to .rep) in
-      let z = qr .run sheet a b _ _ (y .to .rep) in
+      let y = ql .run sheet a b _ s₁ (x .to .rep .from) (x .to .rep) in
+      let z = qr .run sheet a b _ _ (y .to .rep .from) (y .to .rep) in
       let recs : Recs = united (v .clauses) o below (cell a b i armAllAt) s s₁ in
       let s₃ : State = righted (v .clauses) o below (cell a b i armAllAt) s s₁ in
       let pu′ : Pushed (m₃ .ctx) c (m₃ .ops) os (unionOp i k k′ (cell a b i armAllAt)) = rw ea at pu in
       let w = push-to m₃ c os (unionOp i k k′ (cell a b i armAllAt)) recs (z .to .rep) pu′ (λ N A f. record { bounded = union-sane i k k′ (cell a b i armAllAt) (tree-low sheet a b t d i hd) (v .low); shows = shows-union refl (union-is k _ k′ _ (cell a b i armAllAt) (y .root) (z .root)) }) in
-      let D = v .lower o s ∙ arm-def (v .clauses) o below (cell a b i armAllAt) s s₁ (left-by (v .clauses) below s (x .left)) ∙ ap (λ (q : ℕ). (some q, push recs s₃ .1)) (sym (z .to .rep .count)) in
-      record { to = rw D (to-wider (sub-before i e) (to-then (x .to) (to-then (y .to) (to-then (z .to) w)))); left = ap (λ (q : Option ℕ × State). q .0) D }
+      let D = v .lower o s ∙ arm-def (v .clauses) o below (cell a b i armAllAt) s s₁ (left-by (v .clauses) below s (x .gives)) ∙ ap (λ (q : ℕ). (some q, push recs s₃ .1)) (sym (z .to .rep .count)) in
+      record { to = rw D (to-wider (sub-before i e) (to-then (x .to) (to-then (y .to) (to-then (z .to) w)))); gives = ap (λ (q : Option ℕ × State). q .0) D }
 
   pub arm-law : LowersArm sheet a b d i e o (beforeOf (before.Op (m₃ .ctx .ops))) m (mem c os (m₃ .rest))
   unfolding beforeOf
@@ -90,8 +92,9 @@ module _ {sheet : Bytes} {a b : List ℕ} {n e k k′ all : ℕ} {below : Option
         moved = record {
           up = omega (arith, v .up);
           here = v .here;
+          grow = omega (arith, v .grow, ql .grow, qr .grow, pu .count);
           few = omega (arith, v .few, ql .few, qr .few, pu .count);
-          low = omega (arith, v .low, ql .next, qr .next, pu .next);
+          low = omega (arith, v .low, ql .numbers, qr .numbers, pu .numbers);
           met = omega (arith, v .met, ql .mapped, qr .mapped, pu .mapped);
           in-ops = lo ∙ qr .in-ops ∙ ql .in-ops ∙ v .in-ops;
           in-rest = ap length (qr .rest) ∙ ap length (ql .rest) ∙ v .in-rest;

@@ -1,7 +1,7 @@
 -- A `match`: the root of its parts, and how it goes with the operator before it. Assumes nothing.
 use mathlib.Core.Path.{_≡_, refl, sym, ap, _∙_}
 use Prim.Native.Nat.{ℕ, suc, _+_, _-_, _≤_, _<_}
-use native.Mathlib.Nat.{le-refl}
+use native.Mathlib.Nat.{le-refl, le-trans}
 use native.Mathlib.Omega.{arith}
 use mathlib.Core.Bool.{Bool, true, false}
 use mathlib.Core.List.{List, _∷_}
@@ -24,6 +24,7 @@ use Rattle.context.specs.declared.At.{At}
 use Rattle.context.specs.declared.Before.{Before}
 use Rattle.context.specs.declared.Before.the-variants as before
 use Rattle.context.specs.declared.LowerCtx.{LowerCtx}
+use Rattle.lower.specs.Side.{side}
 use Rattle.lower.specs.Shows.{shows-optional}
 use Rattle.lower.specs.Rep.{State, Mem, mem, Written, Sub, Rep, To, Rooted}
 use Rattle.lower.specs.Patterns.{partsL, SomeTrees, LowersParts}
@@ -35,8 +36,8 @@ use Rattle.projections.specs.Passes.{sub-first}
 use Rattle.clauses.proofs.Opened.{a-match}
 
 -- the definition ends on operator k in state s′
-pub leaves : {sheet : Bytes} {a b : List ℕ} {W W′ : Written} {lo hi : ℕ} {m m′ : Mem} (t : Tree clause) (current : Option ℕ) (k : ℕ) (s s′ : State) → lowerClause t current s ≡ (some k, s′) → To sheet a b W W′ s s′ m m′ → Sub W′ (bothPasses lo hi W) → Leaves sheet a b W (λ s. lowerClause t current s) (some k) lo hi s m m′
-leaves t current k s s′ e p u = record { to = rw e (to-wider u p); left = ap (λ (x : Option ℕ × State). x .0) e }
+pub leaves : {sheet : Bytes} {a b : List ℕ} {first : ℕ} {W W′ : Written} {lo hi : ℕ} {m m′ : Mem} (t : Tree clause) (current : Option ℕ) (k : ℕ) (s s′ : State) → lowerClause t current s ≡ (some k, s′) → To (side sheet a b first) W W′ s s′ m m′ → Sub W′ (bothPasses lo hi W) → Leaves (side sheet a b first) W (λ s. lowerClause t current s) (some k) lo hi s m m′
+leaves t current k s s′ e p u = record { to = rw e (to-wider u p); gives = ap (λ (x : Option ℕ × State). x .0) e }
 
 -- the record behind a clause, by another name
 pub ends-at : {sheet : Bytes} {a b : List ℕ} {d i e e′ : ℕ} {o o′ : Option ℕ} {m m′ : Mem} → e′ ≡ e → LowersClause sheet a b d i e o o′ m m′ → LowersClause sheet a b d i e′ o o′ m m′
@@ -59,16 +60,16 @@ unfolding optionalJoin ret beforeOf
 plain-join q k o s (inl e) = rw e
 plain-join q k o s (inr e) = rw e (join-none (eqb q 1) k s)
 
-pub plain-law : {k : ℕ} {o : Before} {m : Mem} (q : ℕ) → (q ≡ 0) ⊎ (o ≡ before.Nothing) → k < m .ctx .ops → OrSource (joinL q o k) k m m
+pub plain-law : {k : ℕ} {o : Before} {m : Mem} (q : ℕ) → (q ≡ 0) ⊎ (o ≡ before.Nothing) → k < m .ctx .ops → OrSource k (joinL q o k) k m m
 plain-law {k} {o} {m} q nj l = record {
   grow = le-refl _;
   few = omega arith;
-  next = refl;
+  numbers = refl;
   mapped = refl;
   rest = refl;
   in-ops = refl;
   low = l;
-  run = λ sheet a b W s r. record { to = rw (plain-join q k o s nj) (to-refl r); root = rw (plain-join q k o s nj) };
+  run = λ sheet a b W s h r. record { to = rw (plain-join q k o s nj) (to-refl r); root = rw (plain-join q k o s nj) };
 }
 
 -- a join
@@ -77,19 +78,19 @@ unfolding optionalJoin _>>=_ copy push beforeOf
 joined q k l o s e n = rw (e, n)
 
 module _ {q k l i : ℕ} {o : Before} {c c′ : LowerCtx} {os os′ : List ℕ} (rest : List ℕ) (q1 : q ≤ 1) (qn : (q ≡ 0) → ⊥) (is : o ≡ before.Op l) (li : i < maxRecords) (lk : k < c .ops) (pj : Pushed c c′ os os′ (optionalJoinOp i l k)) (lo : length os′ ≡ length os) where
-  joined-run : (sheet : Bytes) (a b : List ℕ) (W : Written) (s : State) → Rep sheet a b W s (mem c os rest) → Sourced sheet a b (joinL q o k) (c .ops) W s (mem c os rest) (mem c′ os′ rest)
-  joined-run sheet a b W s r =
+  joined-run : (sheet : Bytes) (a b : List ℕ) {first : ℕ} (W : Written) (s : State) → first ≤ k → Rep (side sheet a b first) W s (mem c os rest) → Sourced (side sheet a b first) (joinL q o k) (c .ops) W s (mem c os rest) (mem c′ os′ rest)
+  joined-run sheet a b W s h r =
       let D = joined q k l o s (omega arith) is in
       let recs : Recs = op ReadOp.OptionalJoin (l, tt) ∷ Lower.at (s .ops) k in
       let z = push-to (mem c os rest) c′ os′ (optionalJoinOp i l k) recs r pj
       (λ N A f. record {
         bounded = record { shallow = omega arith; near = omega arith; low = li; far = λ e. absurd (omega arith); flagged = λ e. absurd (omega arith) };
-        shows = shows-optional refl lk (ap (λ (g : Recs). op ReadOp.OptionalJoin (l, tt) ∷ g) (sym (f .ops k lk)));
+        shows = shows-optional refl h lk (ap (λ (g : Recs). op ReadOp.OptionalJoin (l, tt) ∷ g) (sym (f .ops k lk)));
       }) in
       record { to = rw D z; root = rw D (r .count) }
 
-  pub joined-law : OrSource (joinL q o k) (c .ops) (mem c os rest) (mem c′ os′ rest)
-  joined-law = record { grow = omega (arith, pj .count); few = omega (arith, pj .count); next = pj .next; mapped = pj .mapped; rest = refl; in-ops = lo; low = omega (arith, pj .count); run = joined-run }
+  pub joined-law : OrSource k (joinL q o k) (c .ops) (mem c os rest) (mem c′ os′ rest)
+  joined-law = record { grow = omega (arith, pj .count); few = omega (arith, pj .count); numbers = pj .numbers; mapped = pj .mapped; rest = refl; in-ops = lo; low = omega (arith, pj .count); run = joined-run }
 
 -- ── the clause ──
 
@@ -103,7 +104,7 @@ module _ {a b : List ℕ} {at : At} {current : Before} {m : Mem} (g : ClauseAske
 
   module _ {n q k k′ e : ℕ} {m₁ m₂ : Mem}
       (en : n ≡ cell a b (at .i) matchPartsAt) (eq : q ≡ cell a b (at .i) matchOptionalAt)
-      (p : LowersParts a b n (at .left - 1) 0 (at .i) e k m m₁) (j : OrSource (joinL q current k) k′ m₁ m₂) where
+      (p : LowersParts a b n (at .left - 1) 0 (at .i) e k m m₁) (j : OrSource k (joinL q current k) k′ m₁ m₂) where
     match-next : (sheet : Bytes) (t : Tree clause) → Held sheet a b t (at .left) (at .i) → e ≡ at .i + size t
     match-next sheet t hd =
         let v = a-match (g .words) t hd (g .kind) in
@@ -113,18 +114,18 @@ module _ {a b : List ℕ} {at : At} {current : Before} {m : Mem} (g : ClauseAske
         omega arith
 
     -- its parts
-    parts-run : (sheet : Bytes) (t : Tree clause) (hd : Held sheet a b t (at .left) (at .i)) (W : Written) (s : State) → Rep sheet a b W s m → BothBlank W (suc (at .i)) (suc e) → Rooted sheet a b W (partsL (a-match (g .words) t hd (g .kind) .parts)) k 0 (suc (at .i + 1)) (suc e) s m m₁
+    parts-run : (sheet : Bytes) {first : ℕ} (t : Tree clause) (hd : Held sheet a b t (at .left) (at .i)) (W : Written) (s : State) → Rep (side sheet a b first) W s m → BothBlank W (suc (at .i)) (suc e) → Rooted (side sheet a b first) W (partsL (a-match (g .words) t hd (g .kind) .parts)) k 0 (suc (at .i + 1)) (suc e) s m m₁
     parts-run sheet t hd W s r bl =
         let v = a-match (g .words) t hd (g .kind) in
         let p′ : LowersParts a b (v .n) (at .left - 1) 0 (at .i) e k m m₁ = rw (en ∙ sym (v .many)) at p in
         p′ .run sheet (v .parts) (v .held) W s r (blank-within (omega arith) (omega arith) (bl .first))
 
-    match-run : (sheet : Bytes) (t : Tree clause) → Held sheet a b t (at .left) (at .i) → (W : Written) (s : State) → Rep sheet a b W s m → BothBlank W (suc (at .i)) (suc e) → Leaves sheet a b W (λ s. lowerClause t (beforeOf current) s) (some k′) (suc (at .i)) (suc e) s m m₂
+    match-run : (sheet : Bytes) {first : ℕ} (t : Tree clause) → Held sheet a b t (at .left) (at .i) → (W : Written) (s : State) → Rep (side sheet a b first) W s m → BothBlank W (suc (at .i)) (suc e) → Leaves (side sheet a b first) W (λ s. lowerClause t (beforeOf current) s) (some k′) (suc (at .i)) (suc e) s m m₂
     match-run sheet t hd W s r bl =
         let v = a-match (g .words) t hd (g .kind) in
         let x = parts-run sheet t hd W s r bl in
         let s₁ : State = partsL (v .parts) s .1 in
-        let y = j .run sheet a b _ s₁ (x .to .rep) in
+        let y = j .run sheet a b _ s₁ (le-trans (r .from) (p .since)) (x .to .rep) in
         let D =
         v .lower (beforeOf current) s
         ∙ ap (λ (z : ℕ). (some (joinL (cell a b (at .i) matchOptionalAt) current z s₁ .0), joinL (cell a b (at .i) matchOptionalAt) current z s₁ .1)) (sym (x .root))
@@ -144,8 +145,9 @@ module _ {a b : List ℕ} {at : At} {current : Before} {m : Mem} (g : ClauseAske
           moved = record {
             up = v .up;
             here = v .here;
+            grow = omega (arith, v .grow, j .grow);
             few = omega (arith, v .few, j .few, u);
-            low = omega (arith, v .low, j .next, u);
+            low = omega (arith, v .low, j .numbers, u);
             met = omega (arith, v .met, j .mapped, u);
             in-ops = j .in-ops ∙ v .in-ops;
             in-rest = ap length (j .rest) ∙ v .in-rest;

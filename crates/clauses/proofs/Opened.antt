@@ -19,7 +19,7 @@ use Rattle.words.specs.Numbers.{Others, clauseNumber, clause-number}
 use Rattle.words.specs.Places.{matchKind, whereKind, withKind, returnKind, unwindKind, callKind, writeKind, kindAt, stmtClausesAt, stmtArmsAt, armAllAt, armClausesAt, matchOptionalAt, matchPartsAt, unwindVarAt, callArgsAt, callYieldsAt}
 use Rattle.lower.specs.Rep.{State}
 use Rattle.lower.specs.Patterns.{partsL}
-use Rattle.projections.specs.Kinds.{by-clause}
+use Rattle.words.specs.Kinds.{by-clause}
 use Rattle.clauses.specs.Steps.{lowerArm}
 
 -- ── the number of the kind ──

@@ -1,10 +1,9 @@
 -- What the room that there is allows: the operator before a clause, and the numbers of its variables. Assumes nothing.
 use mathlib.Core.Path.{_≡_, refl, ap, _∙_}
 use Prim.Native.Nat.{ℕ, _+_, _*_, _≤_}
-use native.Mathlib.Nat.{le-refl}
 use native.Mathlib.Omega.{arith}
 use lib.ListN.{length}
-use Rattle.model.specs.Lower.{Lowering, ret, orSourceAll}
+use Rattle.model.specs.Lower.{Lowering}
 use Rattle.words.specs.Words.{maxRecords}
 use Rattle.context.specs.Tables.{CanNumber}
 use Rattle.context.specs.Ops.{beforeOf, Under}
@@ -15,17 +14,12 @@ use Rattle.lower.specs.Rep.{Mem, Moved}
 use Rattle.lower.specs.Chains.{OrSource}
 use Rattle.lower.specs.Clauses.{Stands}
 use Rattle.projections.specs.Ready.{Ready}
-use Rattle.lower.specs.State.{to-refl}
-use Rattle.clauses.specs.Steps.{Input}
 
--- ── an operator before, or a source of everything ──
+-- ── the operator before ──
 
-pub input-there : (current : Before) (k : ℕ) (m : Mem) → current ≡ before.Op k → Input (orSourceAll (beforeOf current)) k m m
-unfolding orSourceAll ret beforeOf
-input-there current k m e = record { grow = le-refl _; few = omega arith; next = refl; mapped = refl; rest = refl; in-ops = refl; run = λ sheet a b W s r. rw e (record { to = to-refl r; root = refl }) }
-
-pub input-new : {k : ℕ} {m m′ : Mem} (current : Before) → current ≡ before.Nothing → OrSource (orSourceAll (beforeOf before.Nothing)) k m m′ → Input (orSourceAll (beforeOf current)) k m m′
-input-new current e q = record { grow = q .grow; few = q .few; next = q .next; mapped = q .mapped; rest = q .rest; in-ops = q .in-ops; run = rw e (q .run) }
+-- it is below a larger number too
+pub under-more : {o : Before} {n n′ : ℕ} → n ≤ n′ → Under o n → Under o n′
+under-more l h = record { op = λ k e. (let z = h .op k e in omega arith) }
 
 -- an operator that is left is below the count
 pub stands-under : (m : Mem) (o : Before) → Stands (beforeOf o) m → Under o (m .ctx .ops)
@@ -40,9 +34,9 @@ under-stands m (before.Op k) h = h .op k refl
 
 -- ── behind the operator before, or a source of everything, and then one pass ──
 
-module _ {L : Lowering ℕ} {k i j e : ℕ} {m m₁ m₂ : Mem} (g : Ready i m) (q : OrSource L k m m₁) (p : Moved j e m₁ m₂) (l : i ≤ j) where
+module _ {o : ℕ} {L : Lowering ℕ} {k i j e : ℕ} {m m₁ m₂ : Mem} (g : Ready i m) (q : OrSource o L k m m₁) (p : Moved j e m₁ m₂) (l : i ≤ j) where
   pub few-sourced : m₂ .ctx .ops ≤ 12 * maxRecords
   few-sourced = omega (arith, g .few, q .few, p .few, p .here, p .up)
 
   pub can-number : {place : ℕ} → place ≡ i + 1 → i ≤ maxRecords → CanNumber (m₂ .ctx) place (m₂ .rest)
-  can-number ep h = record { met = omega (arith, g .met, q .mapped, p .met, p .here, p .up); low = omega (arith, g .low, q .next, p .low, p .here, p .up); noted = omega arith; long = rw (p .in-rest ∙ ap length (q .rest)) (g .in-rest); index = p .index (rw (q .mapped, q .rest) (g .index)) }
+  can-number ep h = record { met = omega (arith, g .met, q .mapped, p .met, p .here, p .up); low = omega (arith, g .low, q .numbers, p .low, p .here, p .up); noted = omega arith; long = rw (p .in-rest ∙ ap length (q .rest)) (g .in-rest); index = p .index (rw (q .mapped, q .rest) (g .index)) }

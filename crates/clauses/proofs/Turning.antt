@@ -11,6 +11,7 @@ use Rattle.model.specs.Tree.{Tree, Trees, node, []ᵗ, _∷ᵗ_, end, _▸_}
 use Rattle.model.specs.Lower.{_>>=_, ret, lowerClause, lowerClauses, lowerArms}
 use Rattle.words.specs.Held.{Held, HeldOf, HeldSome, HeldMany, size, sizeOf}
 use Rattle.words.specs.Words.{maxRecords}
+use Rattle.lower.specs.Side.{side}
 use Rattle.lower.specs.Rep.{State, Mem, Written, Rep}
 use Rattle.context.specs.Ops.{beforeOf}
 use Rattle.context.specs.declared.Before.the-variants as before
@@ -48,9 +49,9 @@ module _ (S : Sort) (turn : Turn S) (sheet : Bytes) (a b : List ℕ) (d : ℕ) w
   unfolding size
   nil-next i []ᵗ = omega arith
 
-  nil-run : (i : ℕ) (o : Option ℕ) (m : Mem) (ts : Trees S 0) (W : Written) (s : State) → Rep sheet a b W s m → Leaves sheet a b W (λ s. inTurn turn ts o s) o (suc i) (suc i) s m m
+  nil-run : {first : ℕ} (i : ℕ) (o : Option ℕ) (m : Mem) (ts : Trees S 0) (W : Written) (s : State) → Rep (side sheet a b first) W s m → Leaves (side sheet a b first) W (λ s. inTurn turn ts o s) o (suc i) (suc i) s m m
   unfolding inTurn
-  nil-run i o m []ᵗ W s r = record { to = to-wider sub-both (to-refl r); left = refl }
+  nil-run i o m []ᵗ W s r = record { to = to-wider sub-both (to-refl r); gives = refl }
 
   pub nil-law : (i : ℕ) (o : Option ℕ) (m : Mem) → i ≤ maxRecords → Stands o m → LowersTurns S turn sheet a b 0 d i i o o m m
   nil-law i o m h st = record { moved = twice-refl h; stands = st; next = λ ts hd. nil-next i ts; run = λ ts hd W s r bl. nil-run i o m ts W s r }
@@ -63,10 +64,10 @@ module _ (S : Sort) (turn : Turn S) (sheet : Bytes) (a b : List ℕ) (d : ℕ) w
         let y = q .next ts (rw x (h .1)) in
         omega arith
 
-    both-run : (t : Tree S) (ts : Trees S n) (W : Written) (s : State) → Leaves sheet a b W (λ s. turn t o s) o₁ (suc i) (suc j) s m m₁ → Leaves sheet a b (bothPasses (suc i) (suc j) W) (λ s. inTurn turn ts o₁ s) o₂ (suc j) (suc e) (turn t o s .1) m₁ m₂ → Leaves sheet a b W (λ s. inTurn turn (t ∷ᵗ ts) o s) o₂ (suc i) (suc e) s m m₂
-    both-run t ts W s x y = let D = one-turn turn t ts o o₁ s (x .left) in record { to = rw D (to-wider (sub-turns i j e (p .moved .up) (q .moved .up)) (to-then (x .to) (y .to))); left = ap (λ (z : Option ℕ × State). z .0) D ∙ y .left }
+    both-run : {first : ℕ} (t : Tree S) (ts : Trees S n) (W : Written) (s : State) → Leaves (side sheet a b first) W (λ s. turn t o s) o₁ (suc i) (suc j) s m m₁ → Leaves (side sheet a b first) (bothPasses (suc i) (suc j) W) (λ s. inTurn turn ts o₁ s) o₂ (suc j) (suc e) (turn t o s .1) m₁ m₂ → Leaves (side sheet a b first) W (λ s. inTurn turn (t ∷ᵗ ts) o s) o₂ (suc i) (suc e) s m m₂
+    both-run t ts W s x y = let D = one-turn turn t ts o o₁ s (x .gives) in record { to = rw D (to-wider (sub-turns i j e (p .moved .up) (q .moved .up)) (to-then (x .to) (y .to))); gives = ap (λ (z : Option ℕ × State). z .0) D ∙ y .gives }
 
-    cons-run : (ts : Trees S (suc n)) → HeldOf sheet a b ts d i → (W : Written) (s : State) → Rep sheet a b W s m → BothBlank W (suc i) (suc e) → Leaves sheet a b W (λ s. inTurn turn ts o s) o₂ (suc i) (suc e) s m m₂
+    cons-run : {first : ℕ} (ts : Trees S (suc n)) → HeldOf sheet a b ts d i → (W : Written) (s : State) → Rep (side sheet a b first) W s m → BothBlank W (suc i) (suc e) → Leaves (side sheet a b first) W (λ s. inTurn turn ts o s) o₂ (suc i) (suc e) s m m₂
     unfolding Held size
     cons-run (t ∷ᵗ ts) h W s r bl =
         let u = p .moved .up in
@@ -84,7 +85,7 @@ pub record Left (S : Sort) (turn : Turn S) (sheet : Bytes) (a b : List ℕ) (d :
   pub some : HeldMany sheet a b S k d i
   pub ready : Ready i m
   pub stands : Stands o m
-  pub rest : (e : ℕ) (o′ : Option ℕ) (m′ : Mem) → LowersTurns S turn sheet a b k d i e o o′ m m′ → Done e o′ m′
+  pub finish : (e : ℕ) (o′ : Option ℕ) (m′ : Mem) → LowersTurns S turn sheet a b k d i e o o′ m m′ → Done e o′ m′
 
 module _ {S : Sort} {sheet : Bytes} {a b : List ℕ} {d : ℕ} where
   first-of : {k i : ℕ} (ts : Trees S k) → ((k ≡ 0) → ⊥) → HeldOf sheet a b ts d i → HeldSome sheet a b S d i
@@ -105,16 +106,16 @@ module _ {S : Sort} {turn : Turn S} {sheet : Bytes} {a b : List ℕ} {d : ℕ} {
 
   pub again : {k i j : ℕ} {o o₁ : Option ℕ} {m m₁ : Mem} → ((k ≡ 0) → ⊥) → Left S turn sheet a b d Done k i o m → LowersTurn S turn sheet a b d i j o o₁ m m₁ → Left S turn sheet a b d Done (k - 1) j o₁ m₁
   again {k = zero} h p q = absurd (h refl)
-  again {k = suc k} {i} h p q = less (record { some = behind i (p .some .trees) (q .next) (p .some .are); ready = ready-after (q .moved) (p .ready); stands = q .stands; rest = λ e o′ m′ r. p .rest e o′ m′ (cons-law S turn sheet a b d q r) })
+  again {k = suc k} {i} h p q = less (record { some = behind i (p .some .trees) (q .next) (p .some .are); ready = ready-after (q .moved) (p .ready); stands = q .stands; finish = λ e o′ m′ r. p .finish e o′ m′ (cons-law S turn sheet a b d q r) })
 
   pub done : {k i : ℕ} {o : Option ℕ} {m : Mem} → k ≡ 0 → Left S turn sheet a b d Done k i o m → Done i o m
-  done {k} {i} {o} {m} h p = p .rest i o m (rw h (nil-law S turn sheet a b d i o m (p .ready .here) (p .stands)))
+  done {k} {i} {o} {m} h p = p .finish i o m (rw h (nil-law S turn sheet a b d i o m (p .ready .here) (p .stands)))
 
 -- before the first round, from nothing
 pub from-nothing : {S : Sort} {turn : Turn S} {sheet : Bytes} {a b : List ℕ} {d n i : ℕ} {m : Mem} → HeldMany sheet a b S n d i → Ready i m → Left S turn sheet a b d (λ e o m′. LowersTurns S turn sheet a b n d i e none o m m′) n i (beforeOf before.Nothing) m
 unfolding beforeOf
-from-nothing x g = record { some = x; ready = g; stands = tt; rest = λ e o m′ q. q }
+from-nothing x g = record { some = x; ready = g; stands = tt; finish = λ e o m′ q. q }
 
 -- behind an operator
 pub from-one : {S : Sort} {turn : Turn S} {sheet : Bytes} {a b : List ℕ} {d n i : ℕ} {o₀ : Option ℕ} {m : Mem} → HeldMany sheet a b S n d i → Ready i m → Stands o₀ m → Left S turn sheet a b d (λ e o m′. LowersTurns S turn sheet a b n d i e o₀ o m m′) n i o₀ m
-from-one x g st = record { some = x; ready = g; stands = st; rest = λ e o m′ q. q }
+from-one x g st = record { some = x; ready = g; stands = st; finish = λ e o m′ q. q }

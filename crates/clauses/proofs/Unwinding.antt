@@ -19,6 +19,7 @@ use Rattle.context.specs.declared.At.{At}
 use Rattle.context.specs.declared.Before.{Before}
 use Rattle.context.specs.declared.LowerCtx.{LowerCtx}
 use Rattle.context.specs.declared.Numbered.{Numbered}
+use Rattle.lower.specs.Side.{side}
 use Rattle.lower.specs.Shows.{shift, shows-unwind}
 use Rattle.lower.specs.Rep.{State, Mem, mem, atPlace, Written, Sub, Rep}
 use Rattle.lower.specs.Pieces.{SomeTree, LowersExpr}
@@ -58,22 +59,22 @@ module _ (id : ℕ) (tree : Tree expr) (o : Option ℕ) (s : State) where
 
 module _ {a b : List ℕ} {at : At} {current : Before} {k e : ℕ} {c : LowerCtx} {os rest₃ : List ℕ} {r₃ : Numbered} {m m₁ m₂ : Mem}
     (asked : ClauseAsked unwindKind a b at current m)
-    (sr : OrSource (orSourceAll (beforeOf current)) k m m₁)
+    (sr : OrSource (m .ctx .ops) (orSourceAll (beforeOf current)) k m m₁)
     (x : LowersExpr a b (at .left - 1) 0 (at .i + 1) e m₁ m₂)
     (nm : Numbers (mapVar (cell a b (at .i) unwindVarAt)) (at .i + 1) (m₂ .ctx) (m₂ .rest) rest₃ r₃) (lr : length rest₃ ≡ length (m₂ .rest))
     (pu : Pushed (r₃ .ctx) c (m₂ .ops) os (unwindOp (atPlace 0 (at .i + 1) (at .left - 1)) k (r₃ .number))) (lo : length os ≡ length (m₂ .ops)) where
-  unwind-run : (sheet : Bytes) (t : Tree clause) → Held sheet a b t (at .left) (at .i) → (W : Written) (s : State) → Rep sheet a b W s m → BothBlank W (suc (at .i)) (suc e) → Leaves sheet a b W (λ s. lowerClause t (beforeOf current) s) (some (r₃ .ctx .ops)) (suc (at .i)) (suc e) s m (mem c os rest₃)
-  unwind-run sheet t hd W s r bl =
+  unwind-run : (sheet : Bytes) {first : ℕ} (t : Tree clause) → Held sheet a b t (at .left) (at .i) → (W : Written) (s : State) → Rep (side sheet a b first) W s m → BothBlank W (suc (at .i)) (suc e) → Leaves (side sheet a b first) W (λ s. lowerClause t (beforeOf current) s) (some (r₃ .ctx .ops)) (suc (at .i)) (suc e) s m (mem c os rest₃)
+  unwind-run sheet {first} t hd W s r bl =
       let v = an-unwind (asked .words) t hd (asked .kind) in
       let sh = asked .depth in
       let o : Option ℕ = beforeOf current in
       let id : ℕ = cell a b (at .i) unwindVarAt in
       let up = x .moved .up in
       let ep : at .i + 1 ≡ suc (at .i) = omega arith in
-      let z = sr .run sheet a b W s r in
+      let z = sr .run sheet a b W s (r .from) r in
       let y = x .run sheet (v .tree) (v .held) W (sourced id (v .tree) o s) (z .to .rep) (blank-within (omega arith) (omega arith) (bl .first)) in
       let W₂ : Written = (0 + suc (at .i + 1), 0 + suc e) ∷ W in
-      let g : Given sheet a b W₂ (listed id (v .tree) o s) (mapVar id) (suc (at .i)) m₂ rest₃ r₃ = number-to (mapVar id) (suc (at .i)) m₂ rest₃ r₃ (y .to .rep) (rw ep at nm) (blank-before (omega arith) (blank-within (le-refl _) (omega arith) (bl .first))) in
+      let g : Given (side sheet a b first) W₂ (listed id (v .tree) o s) (mapVar id) (suc (at .i)) m₂ rest₃ r₃ = number-to (mapVar id) (suc (at .i)) m₂ rest₃ r₃ (y .to .rep) (rw ep at nm) (blank-before (omega arith) (blank-within (le-refl _) (omega arith) (bl .first))) in
       let recs : Recs = unwound id (v .tree) o s in
       let s₃ : State = bound id (v .tree) o s in
       let w = push-to (mem (r₃ .ctx) (m₂ .ops) rest₃) c os (unwindOp (atPlace 0 (at .i + 1) (at .left - 1)) k (r₃ .number)) recs (g .to .rep) pu
@@ -82,7 +83,7 @@ module _ {a b : List ℕ} {at : At} {current : Before} {k e : ℕ} {c : LowerCtx
         shows = shows-unwind refl (record {
           tree = v .tree;
           held = v .held;
-          below = below-more (shift N 0) (m₂ .ctx .ops) (r₃ .ctx .ops) (g .to .grow) (v .tree) (y .below N A (back (g .to) f));
+          below = below-more (shift N 0) first (m₂ .ctx .ops) (r₃ .ctx .ops) (g .to .grow) (v .tree) (y .below N A (back (g .to) f));
           is = unwind-is k _ (r₃ .number) _ _ _ (z .root) (g .number) (y .shown N A (back (g .to) f));
         });
       }) in
@@ -97,8 +98,9 @@ module _ {a b : List ℕ} {at : At} {current : Before} {k e : ℕ} {c : LowerCtx
         moved = record {
           up = omega (arith, v .up);
           here = v .here;
+          grow = omega (arith, v .grow, sr .grow, n .ops, pu .count);
           few = omega (arith, v .few, v .up, sr .few, n .ops, pu .count);
-          low = omega (arith, v .low, v .up, sr .next, n .low, pu .next);
+          low = omega (arith, v .low, v .up, sr .numbers, n .low, pu .numbers);
           met = omega (arith, v .met, v .up, sr .mapped, n .met, pu .mapped);
           in-ops = lo ∙ v .in-ops ∙ sr .in-ops;
           in-rest = lr ∙ v .in-rest ∙ ap length (sr .rest);

@@ -1,6 +1,7 @@
 -- The whole statement, from any state on and from nothing. Assumes nothing.
 use mathlib.Core.Path.{_≡_, refl, sym, ap, _∙_}
 use Prim.Native.Nat.{ℕ, suc, _-_, _≤_}
+use native.Mathlib.Nat.{le-refl}
 use native.Mathlib.Omega.{arith}
 use mathlib.Core.List.{List, []}
 use mathlib.Core.Option.{Option, none}
@@ -17,6 +18,7 @@ use Rattle.words.specs.Held.{Held, HeldMany, size}
 use Rattle.context.specs.Tables.{varsOf, varsAt}
 use Rattle.context.specs.IndexLaws.{none-indexed}
 use Rattle.context.specs.declared.LowerCtx.{LowerCtx}
+use Rattle.lower.specs.Side.{Side, side}
 use Rattle.lower.specs.Rep.{State, Mem, mem, Written, Rep}
 use Rattle.lower.specs.Clauses.{bothPasses, BothBlank, Leaves}
 use Rattle.projections.specs.Ready.{maxStart, Ready}
@@ -62,15 +64,15 @@ module _ {sheet : Bytes} {a b : List ℕ} {d : ℕ} {m : Mem} (g : StatementAske
           let z = v .sized in
           omega arith
 
-      from-run : (t : Tree statement) → Held sheet a b t d 0 → (W : Written) (s : State) → Rep sheet a b W s m → BothBlank W (suc 1) (suc e) → Leaves sheet a b W (λ s. Lower.lower t s) o′ (suc 1) (suc e) s m m₂
+      from-run : {first : ℕ} (t : Tree statement) → Held sheet a b t d 0 → (W : Written) (s : State) → Rep (side sheet a b first) W s m → BothBlank W (suc 1) (suc e) → Leaves (side sheet a b first) W (λ s. Lower.lower t s) o′ (suc 1) (suc e) s m m₂
       from-run t hd W s r bl =
           let v = a-statement (g .words) t hd in
           let u = cl .moved .up in
           let u′ = ar .moved .up in
           let x = clauses-as t v .run (v .clauses) (v .held-clauses) W s r (both-within (omega arith) (omega arith) bl) in
           let y = arms-as t v .run (v .arms) (rw (clauses-as t v .next (v .clauses) (v .held-clauses)) (v .held-arms)) _ _ (x .to .rep) (both-behind 1 j e u u′ (ar .moved .here) bl) in
-          let D = v .lower s ∙ whole-def (v .clauses) (v .arms) o s (x .left) in
-          record { to = rw D (to-wider (sub-turns 1 j e u u′) (to-then (x .to) (y .to))); left = ap (λ (z : Option ℕ × State). z .0) D ∙ y .left }
+          let D = v .lower s ∙ whole-def (v .clauses) (v .arms) o s (x .gives) in
+          record { to = rw D (to-wider (sub-turns 1 j e u u′) (to-then (x .to) (y .to))); gives = ap (λ (z : Option ℕ × State). z .0) D ∙ y .gives }
 
       pub from-law : LowersFrom sheet a b d e o′ m m₂
       from-law = record { moved = twice-then (cl .moved) (ar .moved); stands = ar .stands; next = from-next; run = from-run }
@@ -78,26 +80,31 @@ module _ {sheet : Bytes} {a b : List ℕ} {d : ℕ} {m : Mem} (g : StatementAske
 -- ── with no variables ──
 
 -- tables that stand for a state stand for it without its variables too, once none is counted
-pub forgets : {sheet : Bytes} {a b : List ℕ} {W : Written} {s : State} {m : Mem} → Rep sheet a b W s m → Rep sheet a b W (forget s) (mem (forgetting (m .ctx)) (m .ops) (m .rest))
+pub forgets : {S : Side} {W : Written} {s : State} {m : Mem} → Rep S W s m → Rep S W (forget s) (mem (forgetting (m .ctx)) (m .ops) (m .rest))
 unfolding varsOf
-forgets r = record { count = r .count; state = rw (ap (λ (z : State). z .scope .next) (r .state)); shows = λ k h h′ N A f. r .shows k h h′ N A (record { notes = f .notes; ops = f .ops }) }
+forgets r = record { count = r .count; state = rw (ap (λ (z : State). z .scope .next) (r .state)); from = r .from; shows = λ k o h h′ N A f. r .shows k o h h′ N A (record { notes = f .notes; ops = f .ops }) }
 
 -- ── from nothing ──
 
 abbrev pub start : LowerCtx
-start = record { ops = 0; next = 0; mapped = 0 }
+start = record { ops = 0; numbers = 0; mapped = 0 }
 
 -- with no variables there is room for a statement, also behind another one
-pub start-ready : (c : LowerCtx) (os rs : List ℕ) → c .ops ≤ maxStart → c .next ≤ maxStart → workWords ≤ length os → workWords ≤ length rs → Ready 1 (mem (forgetting c) os rs)
+pub start-ready : (c : LowerCtx) (os rs : List ℕ) → c .ops ≤ maxStart → c .numbers ≤ maxStart → workWords ≤ length os → workWords ≤ length rs → Ready 1 (mem (forgetting c) os rs)
 start-ready c os rs lc ln lo lr = record { few = omega arith; low = omega arith; met = omega arith; here = omega arith; in-ops = lo; in-rest = lr; index = none-indexed (drop varsAt rs) }
 
 -- so behind one statement from nothing, over tables of its own
 pub ready-behind : {sheet : Bytes} {a b : List ℕ} {d e : ℕ} {o : Option ℕ} {os rs : List ℕ} {m : Mem} (os′ rs′ : List ℕ) → LowersFrom sheet a b d e o (mem start os rs) m → workWords ≤ length os′ → workWords ≤ length rs′ → Ready 1 (mem (forgetting (m .ctx)) os′ rs′)
 ready-behind {m = m} os′ rs′ p lo lr = let v = p .moved in start-ready (m .ctx) os′ rs′ (omega (arith, v .few, v .here)) (omega (arith, v .low, v .here)) lo lr
 
-start-rep : (sheet : Bytes) (a b os rs : List ℕ) → Rep sheet a b [] empty (mem start os rs)
+-- Tables of another sheet, whatever they hold, stand for a state without its variables: the operators that they hold begin behind those that there are.
+pub begins : (sheet : Bytes) (a b os rs : List ℕ) {S : Side} {W : Written} {s : State} {m : Mem} → Rep S W s m → Rep (side sheet a b (m .ctx .ops)) [] (forget s) (mem (forgetting (m .ctx)) os rs)
+unfolding varsOf
+begins sheet a b os rs r = record { count = r .count; state = rw (ap (λ (z : State). z .scope .next) (r .state)); from = le-refl _; shows = λ k o h. absurd (omega arith) }
+
+start-rep : (sheet : Bytes) (a b os rs : List ℕ) → Rep (side sheet a b 0) [] empty (mem start os rs)
 unfolding empty varsOf
-start-rep sheet a b os rs = record { count = refl; state = refl; shows = λ k h. absurd (omega arith) }
+start-rep sheet a b os rs = record { count = refl; state = refl; from = le-refl _; shows = λ k o h. absurd (omega arith) }
 
 start-blank : (lo hi : ℕ) → BothBlank [] lo hi
 start-blank lo hi = record { first = record { at = λ q a b i. i }; second = record { at = λ q a b i. i } }

@@ -20,6 +20,7 @@ use Rattle.words.specs.Places.{yieldVarAt}
 use Rattle.context.specs.Tables.{Numbers, Indexed, varsAt, maxVars, maxCount}
 use Rattle.context.specs.declared.LowerCtx.{LowerCtx}
 use Rattle.context.specs.declared.Numbered.{Numbered}
+use Rattle.lower.specs.Side.{side}
 use Rattle.lower.specs.Render.{render, recsOver}
 use Rattle.lower.specs.Rep.{State, Mem, mem, Written, Sub, Blank, Rep, Ran}
 use Rattle.lower.specs.State.{sub-more, sub-within, blank-within, blank-behind, back, to-refl, to-then, to-wider, Given, number-to}
@@ -31,7 +32,7 @@ unfolding size
 yields-size []ᵗ = refl
 yields-size (_∷ᵗ_ {n = n} (node yieldItem line k f end) ts) = let e = yields-size ts in omega arith
 
-nil-run : {sheet : Bytes} {a b : List ℕ} (i : ℕ) (m : Mem) (ts : Trees yieldItem 0) (W : Written) (s : State) → Rep sheet a b W s m → Ran sheet a b W (yieldsPiece ts) 0 (suc i) (suc i) s m m
+nil-run : {sheet : Bytes} {a b : List ℕ} {first : ℕ} (i : ℕ) (m : Mem) (ts : Trees yieldItem 0) (W : Written) (s : State) → Rep (side sheet a b first) W s m → Ran (side sheet a b first) W (yieldsPiece ts) 0 (suc i) (suc i) s m m
 unfolding lowerYields render ret
 nil-run i m []ᵗ W s r = record { to = to-wider (sub-more (0 + suc i, 0 + suc i) W) (to-refl r); shown = λ N A f. refl; below = λ N A f. tt }
 
@@ -43,15 +44,15 @@ yield-is column x y rs ss e e′ = rw (e, e′)
 
 -- one more, whose number is noted
 module _ {a b : List ℕ} {n i e : ℕ} {m m₂ : Mem} {rest₁ : List ℕ} {r₁ : Numbered} (room : Roomy a b) (nm : Numbers (mapVar (cell a b i yieldVarAt)) (i + 1) (m .ctx) (m .rest) rest₁ r₁) (lr : length rest₁ ≡ length (m .rest)) (q : LowersYields a b n (i + 1) e (mem (r₁ .ctx) (m .ops) rest₁) m₂) where
-  cons-run : (sheet : Bytes) (d : ℕ) (ts : Trees yieldItem (suc n)) → HeldOf sheet a b ts d i → (W : Written) (s : State) → Rep sheet a b W s m → Blank W (suc i) (suc e) → Ran sheet a b W (yieldsPiece ts) 0 (suc i) (suc e) s m m₂
+  cons-run : (sheet : Bytes) {first : ℕ} (d : ℕ) (ts : Trees yieldItem (suc n)) → HeldOf sheet a b ts d i → (W : Written) (s : State) → Rep (side sheet a b first) W s m → Blank W (suc i) (suc e) → Ran (side sheet a b first) W (yieldsPiece ts) 0 (suc i) (suc e) s m m₂
   unfolding Held size lowerYields render recsOver _>>=_ ret fieldsOf fieldOf
-  cons-run sheet d (node yieldItem line k (column, (id, u)) end ∷ᵗ ts) hd W s r bl =
+  cons-run sheet {first} d (node yieldItem line k (column, (id, u)) end ∷ᵗ ts) hd W s r bl =
       let up = q .moved .up in
       let ei : id ≡ cell a b i yieldVarAt = ap (λ (x : Fields (forms yieldItem tt)). x .1 .0) (shown room (hd .0 .1) .fields) in
       let el : line ≡ suc i = hd .0 .0 in
       let ep : i + 1 ≡ suc i = omega arith in
       let es : i + suc 0 ≡ i + 1 = omega arith in
-      let g : Given sheet a b W s (mapVar id) (suc i) m rest₁ r₁ = number-to (mapVar id) (suc i) m rest₁ r₁ r (rw (← ei, ep) at nm) (blank-within (le-refl _) (omega arith) bl) in
+      let g : Given (side sheet a b first) W s (mapVar id) (suc i) m rest₁ r₁ = number-to (mapVar id) (suc i) m rest₁ r₁ r (rw (← ei, ep) at nm) (blank-within (le-refl _) (omega arith) bl) in
       let y = q .run sheet d ts (rw es at (hd .1)) _ _ (g .to .rep) (blank-behind (omega arith) (blank-within (omega arith) (le-refl _) bl)) in
       let u₁ : Sub ((0 + suc (i + 1), 0 + suc e) ∷ (suc i, suc i + 1) ∷ W) ((0 + suc i, 0 + suc e) ∷ W) = sub-within (omega arith) (le-refl _) (sub-within (omega arith) (omega arith) (sub-more (0 + suc i, 0 + suc e) W)) in
       record {
@@ -69,7 +70,7 @@ module _ {a b : List ℕ} {n i e : ℕ} {m m₂ : Mem} {rest₁ : List ℕ} {r�
       let v = q .moved in
       let x = nm .issued in
       record {
-        moved = record { up = omega (arith, v .up); here = v .here; few = omega (arith, x .ops, v .few); low = omega (arith, x .low, v .low); met = omega (arith, x .met, v .met); in-ops = v .in-ops; in-rest = v .in-rest ∙ lr; index = λ z. v .index (x .index z) };
+        moved = record { up = omega (arith, v .up); here = v .here; grow = omega (arith, x .ops, v .grow); few = omega (arith, x .ops, v .few); low = omega (arith, x .low, v .low); met = omega (arith, x .met, v .met); in-ops = v .in-ops; in-rest = v .in-rest ∙ lr; index = λ z. v .index (x .index z) };
         same = q .same ∙ x .ops;
         next = omega (arith, q .next);
         run = cons-run;
@@ -86,10 +87,10 @@ pub record Left (a b : List ℕ) (Done : ℕ → LowerCtx → List ℕ → Type 
   pub some : SomeYields a b k i
   pub fits : i + k ≤ maxRecords
   pub met : c .mapped + k ≤ maxVars
-  pub low : c .next + k ≤ maxCount
+  pub low : c .numbers + k ≤ maxCount
   pub in-rest : workWords ≤ length rs
   pub index : Indexed (c .mapped) (drop varsAt rs)
-  pub rest : (e : ℕ) (c′ : LowerCtx) (rest′ : List ℕ) → ((os : List ℕ) → LowersYields a b k i e (mem c os rs) (mem c′ os rest′)) → Done e c′ rest′
+  pub finish : (e : ℕ) (c′ : LowerCtx) (rest′ : List ℕ) → ((os : List ℕ) → LowersYields a b k i e (mem c os rs) (mem c′ os rest′)) → Done e c′ rest′
 
 behind : {a b : List ℕ} (i : ℕ) (sheet : Bytes) (d : ℕ) {k : ℕ} (ts : Trees yieldItem (suc k)) → HeldOf sheet a b ts d i → SomeYields a b k (i + 1)
 unfolding Held size
@@ -110,8 +111,8 @@ module _ {a b : List ℕ} {Done : ℕ → LowerCtx → List ℕ → Type 0} wher
         low = omega (arith, p .low, nm .issued .low);
         in-rest = rw lr (p .in-rest);
         index = nm .issued .index (p .index);
-        rest = λ e c′ rest′ q. p .rest e c′ rest′ (λ os. cons-law room nm lr (q os) (omega arith));
+        finish = λ e c′ rest′ q. p .finish e c′ rest′ (λ os. cons-law room nm lr (q os) (omega arith));
       })
 
   pub done : {k i : ℕ} {c : LowerCtx} {rest : List ℕ} → k ≡ 0 → Left a b Done k i c rest → Done i c rest
-  done {k} {i} {c} {rest} h p = let f = p .fits in p .rest i c rest (λ os. rw h (nil-law a b i (mem c os rest) (omega arith)))
+  done {k} {i} {c} {rest} h p = let f = p .fits in p .finish i c rest (λ os. rw h (nil-law a b i (mem c os rest) (omega arith)))

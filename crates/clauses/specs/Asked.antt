@@ -1,23 +1,22 @@
--- What the functions that lower clauses, arms and statements ask, and what the operator before leaves, by name. Assumes nothing: these are definitions.
+-- What the functions that lower clauses, arms and statements ask, by name. Assumes nothing: these are definitions.
 use mathlib.Core.Path.{_≡_}
-use Prim.Native.Nat.{ℕ, _+_, _≤_, _<_}
+use Prim.Native.Nat.{ℕ, _+_, _≤_}
 use mathlib.Core.List.{List}
 use lib.ListN.{length, drop}
-use Rattle.model.specs.Call.{workWords, maxDepth}
+use Rattle.model.specs.Call.{workWords}
 use Rattle.model.specs.Text.{Bytes}
 use Rattle.model.specs.Kind.{Sort, clause}
-use Rattle.model.specs.Lower.{orSourceAll}
 use Rattle.words.specs.Words.{Roomy, cell, maxRecords}
 use Rattle.words.specs.Places.{writeKind, kindAt}
 use Rattle.words.specs.Held.{HeldSome, HeldMany}
-use Rattle.context.specs.Tables.{varsAt, maxVars, maxCount, Indexed}
-use Rattle.context.specs.Ops.{beforeOf, Under}
+use Rattle.context.specs.Tables.{varsAt, maxVars, maxCount, Indexed, deepest}
+use Rattle.context.specs.Ops.{Under}
 use Rattle.context.specs.declared.At.{At}
 use Rattle.context.specs.declared.Before.{Before}
 use Rattle.context.specs.declared.LowerCtx.{LowerCtx}
-use Rattle.lower.specs.Rep.{Mem, mem}
+use Rattle.lower.specs.Rep.{Mem}
 use Rattle.projections.specs.Ready.{Ready}
-use Rattle.clauses.specs.Steps.{Input, SomeYields}
+use Rattle.clauses.specs.Steps.{SomeYields}
 
 -- the clause at a place, which reads, of any kind
 pub record ReadingAsked (sheet : Bytes) (a b : List ℕ) (at : At) (current : Before) (m : Mem) : Type 0 where
@@ -25,7 +24,7 @@ pub record ReadingAsked (sheet : Bytes) (a b : List ℕ) (at : At) (current : Be
   pub held : HeldSome sheet a b clause (at .left) (at .i)
   pub reads : (cell a b (at .i) kindAt ≡ writeKind) → ⊥
   pub ready : Ready (at .i) m
-  pub depth : at .left ≤ maxDepth
+  pub depth : at .left ≤ deepest
   pub stands : Under current (m .ctx .ops)
 
 -- the tree of a sort at record i, behind an operator or none
@@ -33,7 +32,7 @@ pub record TurnAsked (s : Sort) (sheet : Bytes) (a b : List ℕ) (d i : ℕ) (cu
   pub words : Roomy a b
   pub held : HeldSome sheet a b s d i
   pub ready : Ready i m
-  pub depth : d ≤ maxDepth
+  pub depth : d ≤ deepest
   pub stands : Under current (m .ctx .ops)
 
 -- so n trees from record i on
@@ -41,7 +40,7 @@ pub record TurnsAsked (s : Sort) (sheet : Bytes) (a b : List ℕ) (n d i : ℕ) 
   pub words : Roomy a b
   pub held : HeldMany sheet a b s n d i
   pub ready : Ready i m
-  pub depth : d ≤ maxDepth
+  pub depth : d ≤ deepest
   pub stands : Under current (m .ctx .ops)
 
 -- n yields from record i on
@@ -50,12 +49,6 @@ pub record YieldsAsked (a b : List ℕ) (n i : ℕ) (c : LowerCtx) (rest : List 
   pub some : SomeYields a b n i
   pub fits : i + n ≤ maxRecords
   pub met : c .mapped + n ≤ maxVars
-  pub low : c .next + n ≤ maxCount
+  pub low : c .numbers + n ≤ maxCount
   pub in-rest : workWords ≤ length rest
   pub index : Indexed (c .mapped) (drop varsAt rest)
-
--- the operator before, or a new source of everything, at op; the next record is as it was passed
-pub record InputLeft (current : Before) (next next′ op : ℕ) (c c′ : LowerCtx) (os os′ : List ℕ) : Type 0 where
-  pub same : next′ ≡ next
-  pub near : (n : ℕ) → Under current n → op < n + c′ .ops
-  pub input : (rest : List ℕ) → Input (orSourceAll (beforeOf current)) op (mem c os rest) (mem c′ os′ rest)

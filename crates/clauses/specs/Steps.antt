@@ -1,35 +1,22 @@
 -- What the lowering of yields, of clauses and of union arms promises. Assumes nothing: these are definitions.
 use mathlib.Core.Path.{_≡_}
-use Prim.Native.Nat.{ℕ, suc, _+_, _≤_}
+use Prim.Native.Nat.{ℕ, suc, _+_}
 use mathlib.Core.List.{List, [], _∷_}
 use mathlib.Core.Option.{Option, none, some}
-use lib.ListN.{length}
 use Rattle.model.specs.Text.{Bytes}
 use Rattle.model.specs.Kind.{ReadOp, clause, unionArm, yieldItem}
 use Rattle.model.specs.Tree.{Tree, Trees, node, end, _▸_}
 use Rattle.model.specs.Lower.{Lowering, _>>=_, ret, push, op, orSourceAll, lowerYields, lowerClause, lowerClauses}
 use Rattle.words.specs.Held.{HeldOf}
+use Rattle.lower.specs.Side.{side}
 use Rattle.lower.specs.Render.{renderOf}
 use Rattle.lower.specs.Rep.{State, Mem, Written, Blank, Rep, Piece, Ran, Moved}
-use Rattle.lower.specs.Chains.{Sourced}
 use Rattle.clauses.specs.Turns.{Turn, LowersTurn, LowersTurns}
-
--- ── the operator before ──
-
--- as OrSource, but k may be any number that was given
-pub record Input (L : Lowering ℕ) (k : ℕ) (m m′ : Mem) : Type 0 where
-  pub grow : m .ctx .ops ≤ m′ .ctx .ops
-  pub few : m′ .ctx .ops ≤ m .ctx .ops + 1
-  pub next : m′ .ctx .next ≡ m .ctx .next
-  pub mapped : m′ .ctx .mapped ≡ m .ctx .mapped
-  pub rest : m′ .rest ≡ m .rest
-  pub in-ops : length (m′ .ops) ≡ length (m .ops)
-  pub run : (sheet : Bytes) (a b : List ℕ) (W : Written) (s : State) → Rep sheet a b W s m → Sourced sheet a b L k W s m m′
 
 -- ── yields ──
 
 abbrev pub yieldsPiece : {n : ℕ} → Trees yieldItem n → Piece
-yieldsPiece ts = record { lower = λ s. lowerYields ts s; render = λ N A. renderOf N A ts; below = λ N k. Unit {0} }
+yieldsPiece ts = record { lower = λ s. lowerYields ts s; render = λ N A. renderOf N A ts; below = λ N lo k. Unit {0} }
 
 -- some n yields are held, at some depth
 pub record SomeYields (a b : List ℕ) (n i : ℕ) : Type 0 where
@@ -43,7 +30,7 @@ pub record LowersYields (a b : List ℕ) (n i e : ℕ) (m m′ : Mem) : Type 0 w
   pub moved : Moved i e m m′
   pub same : m′ .ctx .ops ≡ m .ctx .ops
   pub next : e ≡ i + n
-  pub run : (sheet : Bytes) (d : ℕ) (ts : Trees yieldItem n) → HeldOf sheet a b ts d i → (W : Written) (s : State) → Rep sheet a b W s m → Blank W (suc i) (suc e) → Ran sheet a b W (yieldsPiece ts) 0 (suc i) (suc e) s m m′
+  pub run : (sheet : Bytes) {first : ℕ} (d : ℕ) (ts : Trees yieldItem n) → HeldOf sheet a b ts d i → (W : Written) (s : State) → Rep (side sheet a b first) W s m → Blank W (suc i) (suc e) → Ran (side sheet a b first) W (yieldsPiece ts) 0 (suc i) (suc e) s m m′
 
 -- ── clauses and arms ──
 

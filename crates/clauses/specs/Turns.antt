@@ -8,6 +8,7 @@ use Rattle.model.specs.Kind.{Sort}
 use Rattle.model.specs.Tree.{Tree, Trees, []ᵗ, _∷ᵗ_}
 use Rattle.model.specs.Lower.{Lowering}
 use Rattle.words.specs.Held.{Held, HeldOf, size, sizeOf}
+use Rattle.lower.specs.Side.{side}
 use Rattle.lower.specs.Rep.{State, Mem, Written, Rep}
 use Rattle.lower.specs.Clauses.{MovedTwice, BothBlank, Stands, Leaves}
 
@@ -24,11 +25,11 @@ pub record LowersTurn (S : Sort) (turn : Turn S) (sheet : Bytes) (a b : List ℕ
   pub moved : MovedTwice i e m m′
   pub stands : Stands after m′
   pub next : (t : Tree S) → Held sheet a b t d i → e ≡ i + size t
-  pub run : (t : Tree S) → Held sheet a b t d i → (W : Written) (s : State) → Rep sheet a b W s m → BothBlank W (suc i) (suc e) → Leaves sheet a b W (λ s. turn t before s) after (suc i) (suc e) s m m′
+  pub run : {first : ℕ} (t : Tree S) → Held sheet a b t d i → (W : Written) (s : State) → Rep (side sheet a b first) W s m → BothBlank W (suc i) (suc e) → Leaves (side sheet a b first) W (λ s. turn t before s) after (suc i) (suc e) s m m′
 
 -- so with the n trees from record i on
 pub record LowersTurns (S : Sort) (turn : Turn S) (sheet : Bytes) (a b : List ℕ) (n d i e : ℕ) (before after : Option ℕ) (m m′ : Mem) : Type 0 where
   pub moved : MovedTwice i e m m′
   pub stands : Stands after m′
   pub next : (ts : Trees S n) → HeldOf sheet a b ts d i → e ≡ i + sizeOf ts
-  pub run : (ts : Trees S n) → HeldOf sheet a b ts d i → (W : Written) (s : State) → Rep sheet a b W s m → BothBlank W (suc i) (suc e) → Leaves sheet a b W (λ s. inTurn turn ts before s) after (suc i) (suc e) s m m′
+  pub run : {first : ℕ} (ts : Trees S n) → HeldOf sheet a b ts d i → (W : Written) (s : State) → Rep (side sheet a b first) W s m → BothBlank W (suc i) (suc e) → Leaves (side sheet a b first) W (λ s. inTurn turn ts before s) after (suc i) (suc e) s m m′

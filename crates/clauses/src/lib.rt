@@ -1,17 +1,13 @@
 // The lowering of a whole statement: its clauses one after another, then its union arms, over the tables of crate context.
 ghost use mathlib.Core.Option.{none};
-ghost use Prim.Native.Nat.{_-_, _≤_};
-ghost use lib.ListN.{length};
-ghost use Rattle.model.specs.Call.{workWords, maxDepth};
-ghost use Rattle.model.specs.Kind.{statement, unionArm, clause};
-ghost use Rattle.words.specs.Words.{Roomy};
-ghost use Rattle.words.specs.Held.{HeldSome};
+ghost use Prim.Native.Nat.{_-_};
+ghost use Rattle.model.specs.Kind.{unionArm, clause};
 ghost use Rattle.context.specs.Ops.{beforeOf};
 ghost use Rattle.lower.specs.Rep.{mem};
 ghost use Rattle.lower.specs.Clauses.{LowersClause};
 ghost use Rattle.clauses.specs.Asked.{TurnAsked, TurnsAsked};
 ghost use Rattle.clauses.specs.Steps.{LowersClauses, LowersArm, LowersArms};
-ghost use Rattle.clauses.specs.Statement.{StatementAsked, LowersFrom, LowersStatement};
+ghost use Rattle.clauses.specs.Statement.{StatementAsked, LowersFrom, WholeAsked, LowersStatement};
 use context::At;
 use context::Before;
 use context::LowerCtx;
@@ -117,10 +113,10 @@ fn lower_arm(
     };
     let below = lower_clauses(sheet, a, b, ops, rest, c, at, n);
     let d = below.ctx;
-    let q = reading::input_or_source(ops, d, left_op, below.next);
+    let q = lower::or_source_all(ops, d, left_op, below.next);
     let e = q.ctx;
     let right_op = below.op;
-    let r = reading::input_or_source(ops, e, right_op, below.next);
+    let r = lower::or_source_all(ops, e, right_op, below.next);
     let f = r.ctx;
     let k = f.ops;
     let z = f.push(ops, op::union(i, q.op, r.op, all));
@@ -182,14 +178,12 @@ pub fn lower_from(
 
 // The statement that a and b hold, into empty tables.
 pub fn lower(sheet: &[u8], a: &[u32], b: &[u32], ops: &mut [u32], rest: &mut [u32]) -> LowerCtx
-    requires { ⌜ Roomy (now a) (now b) ⌝ }
-    requires { ⌜ HeldSome (now sheet) (now a) (now b) statement maxDepth 0 ⌝ }
-    requires { ⌜ (workWords ≤ length (now ops)) × (workWords ≤ length (now rest)) ⌝ }
+    requires { ⌜ WholeAsked (now sheet) (now a) (now b) (now ops) (now rest) ⌝ }
     ensures { λ r. ⌜ LowersStatement (now (sheet .entry)) (now (a .entry)) (now (b .entry)) (mem r (now (ops .exit)) (now (rest .exit))) ⌝ }
 {
     let start = LowerCtx {
         ops: 0,
-        next: 0,
+        numbers: 0,
         mapped: 0,
     };
     let r = lower_from(sheet, a, b, ops, rest, start, words::MAX_DEPTH);

@@ -16,7 +16,7 @@ ghost use Rattle.lower.specs.Rep.{mem};
 ghost use Rattle.lower.specs.Chains.{OrSource};
 ghost use Rattle.lower.specs.Clauses.{LowersClause};
 ghost use Rattle.projections.specs.Asked.{ClauseAsked};
-ghost use Rattle.clauses.specs.Asked.{ReadingAsked, YieldsAsked, InputLeft};
+ghost use Rattle.clauses.specs.Asked.{ReadingAsked, YieldsAsked};
 ghost use Rattle.clauses.specs.Steps.{LowersYields};
 use context::At;
 use context::Before;
@@ -26,17 +26,6 @@ use lower::Reached;
 use lower::Root;
 use words::field;
 use words::kind;
-
-// As lower::or_source_all, for an operator before that is not known to be below the count here.
-pub fn input_or_source(ops: &mut [u32], ctx: LowerCtx, current: Before, next: usize) -> Root
-    requires { ⌜ (ctx .ops < maxCount) × (workWords ≤ length (now ops)) ⌝ }
-    ensures { λ r. ⌜ InputLeft current next (r .next) (r .op) ctx (r .ctx) (now (ops .entry)) (now (ops .exit)) ⌝ }
-{
-    match current {
-        Before::Op(k) => Root { next, op: k, ctx },
-        Before::Nothing => lower::or_source_all(ops, ctx, Before::Nothing, next),
-    }
-}
 
 // The numbers of the n yields from record i on.
 pub fn lower_yields(
@@ -67,7 +56,7 @@ pub fn lower_yields(
 // How the `match` at record i goes with the operator before it, once its parts have their root: an optional one joins that operator with a copy of the root, and any other leaves the root.
 fn join_before(ops: &mut [u32], root: Root, current: Before, optional: u32, i: usize) -> Root
     requires { ⌜ (root .ctx .ops < maxCount) × (workWords ≤ length (now ops)) × (root .op < root .ctx .ops) × Under current two32 × (i < maxRecords) × (optional ≤ 1) ⌝ }
-    ensures { λ r. ⌜ (r .next ≡ root .next) × ((rest : List ℕ) → OrSource (λ s. optionalJoin (eqb optional 1) (beforeOf current) (root .op) s) (r .op) (mem (root .ctx) (now (ops .entry)) rest) (mem (r .ctx) (now (ops .exit)) rest)) ⌝ }
+    ensures { λ r. ⌜ (r .next ≡ root .next) × ((rest : List ℕ) → OrSource (root .op) (λ s. optionalJoin (eqb optional 1) (beforeOf current) (root .op) s) (r .op) (mem (root .ctx) (now (ops .entry)) rest) (mem (r .ctx) (now (ops .exit)) rest)) ⌝ }
 {
     if optional == 0 {
         return root;
@@ -135,7 +124,7 @@ pub fn lower_where(
     };
     let s = lower::lower_expr(a, b, ops, rest, ctx, below);
     let c = s.ctx;
-    let q = input_or_source(ops, c, current, s.next);
+    let q = lower::or_source_all(ops, c, current, s.next);
     let d = q.ctx;
     let k = d.ops;
     let z = d.push(ops, op::filter(below, q.op));

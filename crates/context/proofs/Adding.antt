@@ -15,30 +15,30 @@ use Rattle.context.proofs.Laws.{vars-same, found-none}
 
 module _ (c : LowerCtx) (vs vs₁ : List ℕ) (id : ℕ) (h : c .mapped < maxVars) (l : varWords ≤ length vs) (d : Entered (c .mapped) id vs vs₁) where
   abbrev vs′ : List ℕ
-  vs′ = set (set vs₁ (c .mapped * 2) id) (c .mapped * 2 + 1) (c .next)
+  vs′ = set (set vs₁ (c .mapped * 2) id) (c .mapped * 2 + 1) (c .numbers)
 
   abbrev n : ℕ
   n = c .mapped
 
   id-here : getD vs′ (n * 2) 0 ≡ id
-  id-here = getD-set-other (set vs₁ (n * 2) id) (n * 2 + 1) (n * 2) (c .next) 0 (omega arith) ∙ getD-set-same vs₁ (n * 2) id 0 (rw (d .long) (omega arith))
+  id-here = getD-set-other (set vs₁ (n * 2) id) (n * 2 + 1) (n * 2) (c .numbers) 0 (omega arith) ∙ getD-set-same vs₁ (n * 2) id 0 (rw (d .long) (omega arith))
 
-  number-here : getD vs′ (n * 2 + 1) 0 ≡ c .next
-  number-here = getD-set-same (set vs₁ (n * 2) id) (n * 2 + 1) (c .next) 0 (rw (length-set, d .long) (omega arith))
+  number-here : getD vs′ (n * 2 + 1) 0 ≡ c .numbers
+  number-here = getD-set-same (set vs₁ (n * 2) id) (n * 2 + 1) (c .numbers) 0 (rw (length-set, d .long) (omega arith))
 
   other : (q : ℕ) → ((q ≡ n * 2) → ⊥) → ((q ≡ n * 2 + 1) → ⊥) → getD vs′ q 0 ≡ getD vs₁ q 0
-  other q e₁ e₂ = getD-set-other (set vs₁ (n * 2) id) (n * 2 + 1) q (c .next) 0 e₂ ∙ getD-set-other vs₁ (n * 2) q id 0 e₁
+  other q e₁ e₂ = getD-set-other (set vs₁ (n * 2) id) (n * 2 + 1) q (c .numbers) 0 e₂ ∙ getD-set-other vs₁ (n * 2) q id 0 e₁
 
   below : (q : ℕ) → q < n * 2 → getD vs′ q 0 ≡ getD vs q 0
   below q g = other q (omega arith) (omega arith) ∙ d .vars q (omega arith)
 
-  pub new-var : foundOf (lookup (varsOf n vs) id) ≡ Nothing → Issued (mapVar id) c vs vs′ (record { number = c .next; ctx = record { ops = c .ops; next = c .next + 1; mapped = c .mapped + 1 } })
+  pub new-var : foundOf (lookup (varsOf n vs) id) ≡ Nothing → Issued (mapVar id) c vs vs′ (record { number = c .numbers; ctx = record { ops = c .ops; numbers = c .numbers + 1; mapped = c .mapped + 1 } })
   unfolding mapVar issue numbered varsOf
   new-var f =
       let e : lookup (varsOf n vs) id ≡ none = found-none _ f in
       let z : varsOf n vs′ ≡ varsOf n vs = vars-same n vs vs′ below in
       record {
-        is = λ ops. rw (e, add-one n, add-one (c .next), id-here, number-here, z);
+        is = λ ops. rw (e, add-one n, add-one (c .numbers), id-here, number-here, z);
         ops = refl;
         low = omega arith;
         met = omega arith;

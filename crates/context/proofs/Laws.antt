@@ -104,7 +104,7 @@ number-law id place n c rest vs′ rest′ r l en i k =
     let e : drop varsAt rest′ ≡ vs′ = k′ .vars ∙ part-drop rest vs′ l in
     record { issued = rw e i′; noted = record { here = k′ .noted .here; other = λ q h x. k′ .noted .other q h x ∙ part-note rest vs′ l q h } }
 
-pub unnamed-law : (b : Bind) (place : ℕ) (c : LowerCtx) (rest rest′ : List ℕ) (r : Numbered) → b ≡ bind.Unnamed → (r .number ≡ c .next) × (r .ctx .ops ≡ c .ops) × (r .ctx .next ≡ c .next + 1) × (r .ctx .mapped ≡ c .mapped) → NoteWritten place (r .number) rest rest′ → Numbers (endpointVar (bindOf b)) place c rest rest′ r
+pub unnamed-law : (b : Bind) (place : ℕ) (c : LowerCtx) (rest rest′ : List ℕ) (r : Numbered) → b ≡ bind.Unnamed → (r .number ≡ c .numbers) × (r .ctx .ops ≡ c .ops) × (r .ctx .numbers ≡ c .numbers + 1) × (r .ctx .mapped ≡ c .mapped) → NoteWritten place (r .number) rest rest′ → Numbers (endpointVar (bindOf b)) place c rest rest′ r
 unfolding endpointVar fresh issue
 unnamed-law b place c rest rest′ r z f n =
     rw z (record { issued = record { is = λ ops. rw (n .vars, f .0, f .2, f .3, add-one); ops = f .1; low = omega (arith, f .2); met = omega (arith, f .3); index = λ x. rw (n .vars, f .3) x }; noted = n .noted })
@@ -140,7 +140,7 @@ wordsOf op = op .kind ∷ op .idx ∷ op .input ∷ op .x ∷ op .y ∷ op .left
 
 pub stored : (c : LowerCtx) (o : List ℕ) (op : Op) → c .ops < maxStored → workWords ≤ length o → Pushed c (record {
   ops = c .ops + 1;
-  next = c .next;
+  numbers = c .numbers;
   mapped = c .mapped;
 }) o (set (set (set (set (set (set (set o (c .ops * opWords + 1) (op .kind)) (c .ops * opWords + 2) (op .idx)) (c .ops * opWords + 3) (op .input))
     (c .ops * opWords + 4) (op .x)) (c .ops * opWords + 5) (op .y)) (c .ops * opWords + 6) (op .left)) (c .ops * opWords + 7) (op .base)) op
@@ -151,7 +151,7 @@ stored c o op h g =
     let f : (p j : ℕ) → p < 7 → j ≡ 1 + p → getD (run o B 1 xs) (B + j) 0 ≡ getD xs p 0 = λ p j h′ e. (let e′ : B + j ≡ B + 1 + p = omega arith in rw e′ (run-at o B 1 xs p h′ (omega arith))) in
     record {
       count = refl;
-      next = refl;
+      numbers = refl;
       mapped = refl;
       here = λ _. rw (f 0 1 (omega arith) refl, f 1 2 (omega arith) refl, f 2 3 (omega arith) refl, f 3 4 (omega arith) refl, f 4 5 (omega arith) refl, f 5 6 (omega arith) refl, f 6 7 (omega arith) refl);
       other = λ k l′ l″.
@@ -159,5 +159,5 @@ stored c o op h g =
           rw (r 1 (omega arith), r 2 (omega arith), r 3 (omega arith), r 4 (omega arith), r 5 (omega arith), r 6 (omega arith), r 7 (omega arith));
     }
 
-pub not-stored : (c : LowerCtx) (o : List ℕ) (x : Op) → maxStored ≤ c .ops → Pushed c (record { ops = c .ops + 1; next = c .next; mapped = c .mapped }) o o x
-not-stored c o x h = record { count = refl; next = refl; mapped = refl; here = λ l. absurd (omega arith); other = λ k l l′. refl }
+pub not-stored : (c : LowerCtx) (o : List ℕ) (x : Op) → maxStored ≤ c .ops → Pushed c (record { ops = c .ops + 1; numbers = c .numbers; mapped = c .mapped }) o o x
+not-stored c o x h = record { count = refl; numbers = refl; mapped = refl; here = λ l. absurd (omega arith); other = λ k l l′. refl }

@@ -1,6 +1,6 @@
 -- The stored operators, one for each kind, and what stands before one. Assumes nothing: these are definitions.
 use mathlib.Core.Path.{_≡_}
-use Prim.Native.Nat.{ℕ, _<_}
+use Prim.Native.Nat.{ℕ, _≤_, _<_}
 use mathlib.Core.Option.{Option, none, some}
 use Rattle.words.specs.Words.{two32}
 use Rattle.context.specs.declared.At.{At}
@@ -23,6 +23,10 @@ bindOf (bind.Var id) = some id
 -- the operator that stands before, if there is one, is below n
 pub record Under (b : Before) (n : ℕ) : Type 0 where
   pub op : (k : ℕ) → b ≡ before.Op k → k < n
+
+-- and from n on
+pub record Since (b : Before) (n : ℕ) : Type 0 where
+  pub op : (k : ℕ) → b ≡ before.Op k → n ≤ k
 
 -- a place's numbers fit into words
 pub record Fits (at : At) : Type 0 where

@@ -6,7 +6,7 @@ use mathlib.Core.Bool.{cond}
 use lib.Dec.{eqb}
 use mathlib.Core.Option.{Option, none, some}
 use lib.ListN.{length, getD, drop, set}
-use Rattle.model.specs.Call.{workWords}
+use Rattle.model.specs.Call.{workWords, maxDepth}
 use Rattle.model.specs.Lower.{Recs, Lowering}
 use Rattle.model.specs.Lower
 use Rattle.context.specs.declared.LowerCtx.{LowerCtx}
@@ -30,6 +30,10 @@ varsAt = 4608
 -- there is room for so many variables
 abbrev pub maxVars : ℕ
 maxVars = 4352
+
+-- The lowering's promises are for trees of at most this depth. The variables' words have room for a level more each for up to maxVars less two for each record, so it may be any number up to 256; the single call needs maxDepth.
+abbrev pub deepest : ℕ
+deepest = maxDepth
 
 -- the notes of a second pass begin at this word
 abbrev pub secondPass : ℕ
@@ -125,7 +129,7 @@ foundOf (some n) = At n
 
 -- a state of the definition, by its operators, the counts and the variables' words
 abbrev pub stateOf : List Recs → LowerCtx → List ℕ → Lower.LowerCtx
-stateOf ops c vs = record { ops = ops; scope = record { vars = varsOf (c .mapped) vs; next = c .next } }
+stateOf ops c vs = record { ops = ops; scope = record { vars = varsOf (c .mapped) vs; next = c .numbers } }
 
 -- an operator as it is stored, by the words of the operators' slice
 unfoldable pub opAt : List ℕ → ℕ → Op
@@ -135,7 +139,7 @@ opAt o k = record { kind = getD o (k * opWords + 1) 0; idx = getD o (k * opWords
 pub record Issued (step : Lowering ℕ) (c : LowerCtx) (vs vs′ : List ℕ) (r : Numbered) : Type 0 where
   pub is : (ops : List Recs) → step (stateOf ops c vs) ≡ (r .number, stateOf ops (r .ctx) vs′)
   pub ops : r .ctx .ops ≡ c .ops
-  pub low : r .ctx .next ≤ c .next + 1
+  pub low : r .ctx .numbers ≤ c .numbers + 1
   pub met : r .ctx .mapped ≤ c .mapped + 1
   pub index : Indexed (c .mapped) vs → Indexed (r .ctx .mapped) vs′
 
@@ -157,7 +161,7 @@ pub record NoteWritten (place v : ℕ) (rest rest′ : List ℕ) : Type 0 where
 -- a number can be issued and noted at a place
 pub record CanNumber (c : LowerCtx) (place : ℕ) (rest : List ℕ) : Type 0 where
   pub met : c .mapped < maxVars
-  pub low : c .next < maxCount
+  pub low : c .numbers < maxCount
   pub noted : place < varsAt
   pub long : workWords ≤ length rest
   pub index : Indexed (c .mapped) (drop varsAt rest)
@@ -165,7 +169,7 @@ pub record CanNumber (c : LowerCtx) (place : ℕ) (rest : List ℕ) : Type 0 whe
 -- one more operator, stored if the table has room
 pub record Pushed (c r : LowerCtx) (o o′ : List ℕ) (x : Op) : Type 0 where
   pub count : r .ops ≡ c .ops + 1
-  pub next : r .next ≡ c .next
+  pub numbers : r .numbers ≡ c .numbers
   pub mapped : r .mapped ≡ c .mapped
   pub here : c .ops < maxStored → opAt o′ (c .ops) ≡ x
   pub other : (k : ℕ) → k < c .ops → k < maxStored → opAt o′ k ≡ opAt o k

@@ -37,7 +37,7 @@ pub const HALF_WORD: u32 = 65536;
 // How many operators, variable numbers and named variables there are. The operators' count goes on beyond their table.
 pub struct LowerCtx {
     pub ops: usize,
-    pub next: u32,
+    pub numbers: u32,
     pub mapped: usize,
 }
 
@@ -77,26 +77,26 @@ pub fn note(rest: &mut [u32], place: usize, v: u32)
 impl LowerCtx {
     // A variable that has no number yet gets the next one.
     fn new_var(self, vars: &mut [u32], id: u32) -> Numbered
-        requires { ⌜ (self .mapped < maxVars) × (self .next < maxCount) × (varWords ≤ length (now vars)) × Indexed (self .mapped) (now vars) ⌝ }
+        requires { ⌜ (self .mapped < maxVars) × (self .numbers < maxCount) × (varWords ≤ length (now vars)) × Indexed (self .mapped) (now vars) ⌝ }
         requires { ⌜ foundOf (lookup (varsOf (self .mapped) (now vars)) id) ≡ Found.Nothing ⌝ }
         ensures { λ r. ⌜ Issued (mapVar id) self (now (vars .entry)) (now (vars .exit)) r ⌝ }
     {
         index::enter(vars, self.mapped, id);
         let at = self.mapped * 2;
         vars[at] = id;
-        vars[at + 1] = self.next;
+        vars[at + 1] = self.numbers;
         Numbered {
-            number: self.next,
+            number: self.numbers,
             ctx: LowerCtx {
                 ops: self.ops,
-                next: self.next + 1,
+                numbers: self.numbers + 1,
                 mapped: self.mapped + 1,
             },
         }
     }
 
     fn map_var(self, vars: &mut [u32], id: u32) -> Numbered
-        requires { ⌜ (self .mapped < maxVars) × (self .next < maxCount) × (varWords ≤ length (now vars)) × Indexed (self .mapped) (now vars) ⌝ }
+        requires { ⌜ (self .mapped < maxVars) × (self .numbers < maxCount) × (varWords ≤ length (now vars)) × Indexed (self .mapped) (now vars) ⌝ }
         ensures { λ r. ⌜ Issued (mapVar id) self (now (vars .entry)) (now (vars .exit)) r ⌝ }
     {
         match index::find(vars, self.mapped, id) {
@@ -120,14 +120,14 @@ impl LowerCtx {
 
     // The next number, for something unnamed.
     pub fn fresh(self) -> Numbered
-        requires { ⌜ self .next < maxCount ⌝ }
-        ensures { λ r. ⌜ (r .number ≡ self .next) × (r .ctx .ops ≡ self .ops) × (r .ctx .next ≡ self .next + 1) × (r .ctx .mapped ≡ self .mapped) ⌝ }
+        requires { ⌜ self .numbers < maxCount ⌝ }
+        ensures { λ r. ⌜ (r .number ≡ self .numbers) × (r .ctx .ops ≡ self .ops) × (r .ctx .numbers ≡ self .numbers + 1) × (r .ctx .mapped ≡ self .mapped) ⌝ }
     {
         Numbered {
-            number: self.next,
+            number: self.numbers,
             ctx: LowerCtx {
                 ops: self.ops,
-                next: self.next + 1,
+                numbers: self.numbers + 1,
                 mapped: self.mapped,
             },
         }
@@ -156,7 +156,7 @@ impl LowerCtx {
         let k = self.ops;
         let more = LowerCtx {
             ops: k + 1,
-            next: self.next,
+            numbers: self.numbers,
             mapped: self.mapped,
         };
         if k >= MAX_STORED {

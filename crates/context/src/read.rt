@@ -3,6 +3,7 @@ ghost use mathlib.Core.Path.{_≡_};
 ghost use mathlib.Core.List.{_∷_};
 ghost use Prim.Native.Nat.{suc, _<_, _≤_};
 ghost use lib.ListN.{length, drop};
+ghost use Rattle.model.specs.Call.{workWords};
 ghost use Rattle.context.specs.Tables.{varsOf, varsAt, maxVars, secondPass, maxStored};
 ghost use Rattle.context.specs.Read.{noteOf};
 use crate::VARS_AT;
@@ -15,7 +16,7 @@ pub struct Named {
 
 // What is noted at record i, in the pass whose notes begin at base.
 pub fn note_of(rest: &[u32], base: usize, i: usize) -> u32
-    requires { ⌜ (base ≤ secondPass) × (i ≤ maxStored) × (16384 ≤ length (now rest)) ⌝ }
+    requires { ⌜ (base ≤ secondPass) × (i ≤ maxStored) × (workWords ≤ length (now rest)) ⌝ }
     ensures { λ r. ⌜ r ≡ noteOf (now (rest .entry)) base i ⌝ }
 {
     rest[base + i + 1]
@@ -23,7 +24,7 @@ pub fn note_of(rest: &[u32], base: usize, i: usize) -> u32
 
 // Named variable k: the newest of the first k + 1.
 pub fn variable(rest: &[u32], k: usize) -> Named
-    requires { ⌜ (k < maxVars) × (16384 ≤ length (now rest)) ⌝ }
+    requires { ⌜ (k < maxVars) × (workWords ≤ length (now rest)) ⌝ }
     ensures { λ r. ⌜ varsOf (suc k) (drop varsAt (now (rest .entry))) ≡ (r .id, r .number) ∷ varsOf k (drop varsAt (now (rest .entry))) ⌝ }
 {
     let at = VARS_AT + k * 2;

@@ -1,9 +1,8 @@
 -- The arms of the lowering of an expression, by the number of its kind. Assumes nothing.
 use mathlib.Core.Path.{_≡_, refl, ap, _∙_}
-use Prim.Native.Nat.{ℕ, suc, _+_, _-_, _≤_, _<_}
+use Prim.Native.Nat.{ℕ, suc, _+_, _-_, _≤_}
 use native.Mathlib.Nat.{le-refl}
 use native.Mathlib.Omega.{arith}
-use mathlib.Core.Bool.{Bool}
 use mathlib.Core.List.{List, _∷_, append-nil}
 use Rattle.model.specs.Text.{Bytes}
 use Rattle.model.specs.Field.{Fields}
@@ -15,13 +14,15 @@ use Rattle.words.specs.Words.{Roomy, cell, maxRecords}
 use Rattle.words.specs.Held.{Held, RecordAt, size}
 use Rattle.words.specs.Cells.{shown}
 use Rattle.words.specs.Count.{countAt}
+use Rattle.lower.specs.Side.{side}
 use Rattle.lower.specs.Render.{Ops, render, renderOf, recsOver, exprRecs, exprRest, Below, belowIn, copiesBelow}
 use Rattle.lower.specs.Render
 use Rattle.lower.specs.Shows.{shift}
 use Rattle.lower.specs.Rep.{State, Mem, Written, Sub, Ran}
 use Rattle.lower.specs.Pieces.{exprPiece, Carried, []ᶜ, lowerC, renderC, BelowC, sizeC, HeldC, carriedPiece, SomeTree, SomeCarried, LowersExpr, LowersExprs}
 use Rattle.lower.specs.State.{sub-more, sub-within, blank-within, to-wider}
-use Rattle.words.specs.Numbers.{exprNumber, sameNumber}
+use Rattle.words.specs.Numbers.{exprNumber}
+use Rattle.words.specs.Kinds.{Opens, by-expr}
 use Rattle.words.proofs.Counting.{innerNumber, inner-number, counted}
 use Rattle.lower.specs.Exprs.{moved-within, narrow}
 use Rattle.lower.specs.Carry.{plainC, plain-lower, plain-size, plain-held, plain-render, plain-below, entriesC, entries-lower, entries-size, entries-held, entries-render, entries-below}
@@ -32,24 +33,6 @@ use Rattle.words.specs.Places.{kindAt, varKind, mapKind, patKind, listPredicate
 pub number-at : {sheet : Bytes} {a b : List ℕ} {i : ℕ} {k : Expr} {f : Fields (exprForms k)} → Roomy a b → RecordAt sheet a b i expr k f → cell a b i kindAt ≡ exprNumber k
 unfolding innerNumber
 number-at {k = k} room h = inner-number expr tt _ k (shown room h .kind)
-
-pub same-low : (h : Same) → sameNumber h < 32
-unfolding sameNumber
-same-low Same.Null = omega arith
-same-low Same.Bool = omega arith
-same-low Same.Int = omega arith
-same-low Same.Float = omega arith
-same-low Same.String = omega arith
-same-low Same.Param = omega arith
-same-low Same.Prop = omega arith
-same-low Same.Index = omega arith
-same-low Same.Slice = omega arith
-same-low Same.List = omega arith
-same-low Same.BinOp = omega arith
-same-low Same.UnaryOp = omega arith
-same-low Same.Case = omega arith
-same-low Same.IsNull = omega arith
-same-low Same.InList = omega arith
 
 -- ── a record over expressions, with nothing noted at it ──
 
@@ -63,12 +46,12 @@ pub record Headed (sheet : Bytes) (a b : List ℕ) (gap d i : ℕ) (t : Tree exp
   pub head : Rec
   pub lower : (s : State) → lowerExpr t s ≡ (head ∷ lowerC list s .0, lowerC list s .1)
   pub shown : (N : Render.Notes) (A : Ops) → render N A t ≡ head ∷ renderC N A list
-  pub below : (N : Render.Notes) (k : ℕ) → BelowC N k list → Below N k t
+  pub below : (N : Render.Notes) (lo k : ℕ) → BelowC N lo k list → Below N lo k t
 
 module _ {sheet : Bytes} {a b : List ℕ} {d i : ℕ} (room : Roomy a b) where
   pub plainly : (t : Tree expr) → Held sheet a b t d i → ((cell a b i kindAt ≡ varKind) → ⊥) → ((cell a b i kindAt ≡ mapKind) → ⊥) → ((cell a b i kindAt ≡ patKind) → ⊥) → ((cell a b i kindAt ≡ listPredicateKind) → ⊥) → Headed sheet a b 0 d i t
   unfolding Held size exprNumber lowerExpr fold made exprStep over _>>=_ ret render recsOver exprRecs exprRest Below belowIn copiesBelow lowerC renderC sizeC HeldC
-  plainly (node expr line (Expr.Over h) f (ts ▸ end)) hd n32 n33 n35 n36 = record {
+  plainly (node expr line (Expr.Over h) f (ts ▸ end)) hd no-var no-map no-pat no-predicate = record {
     n = _;
     list = plainC ts;
     total = counted room tt (hd .1) ∙ (omega arith);
@@ -77,11 +60,11 @@ module _ {sheet : Bytes} {a b : List ℕ} {d i : ℕ} (room : Roomy a b) where
     head = planned (PlanExpr.Over h) f;
     lower = λ s. rw (plain-lower ts s);
     shown = λ N A. ap (λ (x : Recs). planned (PlanExpr.Over h) f ∷ x) (append-nil (renderOf N A ts) ∙ plain-render N A ts);
-    below = λ N k b. (plain-below N k ts b, tt);
+    below = λ N lo k b. (plain-below N lo k ts b, tt);
   }
-  plainly (node expr line Expr.Var f kids) hd n32 n33 n35 n36 = absurd (n32 (number-at room (hd .1)))
-  plainly (node expr line Expr.Map f kids) hd n32 n33 n35 n36 = absurd (n33 (number-at room (hd .1)))
-  plainly (node expr line Expr.Call (func, (n, (distinct, t))) (ts ▸ end)) hd n32 n33 n35 n36 = record {
+  plainly (node expr line Expr.Var f kids) hd no-var no-map no-pat no-predicate = absurd (no-var (number-at room (hd .1)))
+  plainly (node expr line Expr.Map f kids) hd no-var no-map no-pat no-predicate = absurd (no-map (number-at room (hd .1)))
+  plainly (node expr line Expr.Call (func, (n, (distinct, t))) (ts ▸ end)) hd no-var no-map no-pat no-predicate = record {
     n = n;
     list = plainC ts;
     total = counted room tt (hd .1) ∙ (omega arith);
@@ -90,18 +73,16 @@ module _ {sheet : Bytes} {a b : List ℕ} {d i : ℕ} (room : Roomy a b) where
     head = planned PlanExpr.Call (func, (n, tt));
     lower = λ s. rw (plain-lower ts s);
     shown = λ N A. ap (λ (x : Recs). planned PlanExpr.Call (func, (n, tt)) ∷ x) (append-nil (renderOf N A ts) ∙ plain-render N A ts);
-    below = λ N k b. (plain-below N k ts b, tt);
+    below = λ N lo k b. (plain-below N lo k ts b, tt);
   }
-  plainly (node expr line Expr.PatternPredicate f kids) hd n32 n33 n35 n36 = absurd (n35 (number-at room (hd .1)))
-  plainly (node expr line Expr.ListPredicate f kids) hd n32 n33 n35 n36 = absurd (n36 (number-at room (hd .1)))
-  plainly (node expr line Expr.Unresolved f end) hd n32 n33 n35 n36 = record { n = 0; list = []ᶜ; total = counted room tt (hd .1); held = tt; sized = refl; head = planned (PlanExpr.Over Same.Null) tt; lower = λ s. refl; shown = λ N A. refl; below = λ N k b. tt }
-  plainly (node expr line Expr.Undesugared f end) hd n32 n33 n35 n36 = record { n = 0; list = []ᶜ; total = counted room tt (hd .1); held = tt; sized = refl; head = planned (PlanExpr.Over Same.Null) tt; lower = λ s. refl; shown = λ N A. refl; below = λ N k b. tt }
+  plainly (node expr line Expr.PatternPredicate f kids) hd no-var no-map no-pat no-predicate = absurd (no-pat (number-at room (hd .1)))
+  plainly (node expr line Expr.ListPredicate f kids) hd no-var no-map no-pat no-predicate = absurd (no-predicate (number-at room (hd .1)))
+  plainly (node expr line Expr.Unresolved f end) hd no-var no-map no-pat no-predicate = record { n = 0; list = []ᶜ; total = counted room tt (hd .1); held = tt; sized = refl; head = planned (PlanExpr.Over Same.Null) tt; lower = λ s. refl; shown = λ N A. refl; below = λ N lo k b. tt }
+  plainly (node expr line Expr.Undesugared f end) hd no-var no-map no-pat no-predicate = record { n = 0; list = []ᶜ; total = counted room tt (hd .1); held = tt; sized = refl; head = planned (PlanExpr.Over Same.Null) tt; lower = λ s. refl; shown = λ N A. refl; below = λ N lo k b. tt }
 
-  pub mapped : (t : Tree expr) → Held sheet a b t d i → cell a b i kindAt ≡ mapKind → Headed sheet a b 1 d i t
-  unfolding Held size exprNumber lowerExpr fold made exprStep over _>>=_ ret render recsOver exprRecs exprRest Below belowIn copiesBelow
-  mapped (node expr line (Expr.Over h) f kids) hd e = let z = number-at room (hd .1) in let l = same-low h in absurd (omega arith)
-  mapped (node expr line Expr.Var f kids) hd e = let z = number-at room (hd .1) in absurd (omega arith)
-  mapped (node expr line Expr.Map (n, t) (ts ▸ end)) hd e = record {
+  mapped-of : Opens sheet a b d i expr (λ t. Headed sheet a b 1 d i t) Expr.Map
+  unfolding Held size lowerExpr fold made exprStep over _>>=_ ret render recsOver exprRecs exprRest Below belowIn copiesBelow
+  mapped-of line (n, t) (ts ▸ end) hd = record {
     n = n;
     list = entriesC ts;
     total = counted room tt (hd .1) ∙ (omega arith);
@@ -110,22 +91,21 @@ module _ {sheet : Bytes} {a b : List ℕ} {d i : ℕ} (room : Roomy a b) where
     head = planned PlanExpr.Map (n, tt);
     lower = λ s. rw (entries-lower ts s);
     shown = λ N A. ap (λ (x : Recs). planned PlanExpr.Map (n, tt) ∷ x) (append-nil (renderOf N A ts) ∙ entries-render N A ts);
-    below = λ N k b. (entries-below N k ts b, tt);
+    below = λ N lo k b. (entries-below N lo k ts b, tt);
   }
-  mapped (node expr line Expr.Call f kids) hd e = let z = number-at room (hd .1) in absurd (omega arith)
-  mapped (node expr line Expr.PatternPredicate f kids) hd e = let z = number-at room (hd .1) in absurd (omega arith)
-  mapped (node expr line Expr.ListPredicate f kids) hd e = let z = number-at room (hd .1) in absurd (omega arith)
-  mapped (node expr line Expr.Unresolved f kids) hd e = let z = number-at room (hd .1) in absurd (omega arith)
-  mapped (node expr line Expr.Undesugared f kids) hd e = let z = number-at room (hd .1) in absurd (omega arith)
+
+  pub mapped : (t : Tree expr) → Held sheet a b t d i → cell a b i kindAt ≡ mapKind → Headed sheet a b 1 d i t
+  unfolding exprNumber
+  mapped t hd e = by-expr sheet d i room (λ t. Headed sheet a b 1 d i t) Expr.Map mapped-of t hd e
 
 -- a record over its expressions is lowered by lowering them
-headed-run : {sheet : Bytes} {a b : List ℕ} {gap d base i e : ℕ} {m m′ : Mem} (t : Tree expr) (o : Headed sheet a b gap d i t) (W : Written) (s : State) → Ran sheet a b W (carriedPiece (o .list)) base (suc (i + 1)) (suc e) s m m′ → Ran sheet a b W (exprPiece t) base (suc i) (suc e) s m m′
+headed-run : {sheet : Bytes} {a b : List ℕ} {first : ℕ} {gap d base i e : ℕ} {m m′ : Mem} (t : Tree expr) (o : Headed sheet a b gap d i t) (W : Written) (s : State) → Ran (side sheet a b first) W (carriedPiece (o .list)) base (suc (i + 1)) (suc e) s m m′ → Ran (side sheet a b first) W (exprPiece t) base (suc i) (suc e) s m m′
 headed-run {base = base} {i = i} {e = e} t o W s p =
     let u : Sub ((base + suc (i + 1), base + suc e) ∷ W) ((base + suc i, base + suc e) ∷ W) = sub-within (omega arith) (le-refl _) (sub-more (base + suc i, base + suc e) W) in
     record {
       to = rw (o .lower s) (to-wider u (p .to));
       shown = λ N A f. rw (o .shown (shift N base) A, o .lower s) (ap (λ (x : Recs). o .head ∷ x) (p .shown N A (narrow u (rw (o .lower s) at f))));
-      below = λ N A f. o .below (shift N base) _ (p .below N A (narrow u (rw (o .lower s) at f)));
+      below = λ N A f. o .below (shift N base) _ _ (p .below N A (narrow u (rw (o .lower s) at f)));
     }
 
 -- what follows from lowering the expressions behind a record, if every tree there is a record over them

@@ -15,19 +15,20 @@ use Rattle.model.specs.Lower.{Recs, Lowered, made, _>>=_, ret, push, op, source
 use Rattle.model.specs.Lower
 use Rattle.words.specs.Words.{Roomy, cell, optionOf, fieldsOf, fieldOf, maxRecords}
 use Rattle.words.specs.Held.{Held, HeldOf, size, sizeOf}
-use Rattle.context.specs.Tables.{Pushed, Numbers, secondPass}
+use Rattle.context.specs.Tables.{Pushed, Numbers, secondPass, deepest}
 use Rattle.context.specs.declared.op.Op.{Op}
 use Rattle.context.specs.declared.LowerCtx.{LowerCtx}
 use Rattle.context.specs.declared.Numbered.{Numbered}
 use Rattle.words.specs.Cells.{shown}
 use Rattle.context.specs.declared.Before.{Before}
 use Rattle.context.specs.declared.Before.the-variants as before
-use Rattle.context.specs.Ops.{beforeOf, Under, bindPathOp, sourceAllOp}
+use Rattle.context.specs.Ops.{beforeOf, Under, Since, bindPathOp, sourceAllOp}
+use Rattle.lower.specs.Side.{side}
 use Rattle.lower.specs.Shows.{shows-all, shows-path}
 use Rattle.lower.specs.Rep.{atPlace, State, Mem, mem, Written, Sub, Blank, Rep, Rooted}
 use Rattle.lower.specs.Pieces.{SomeTree}
 use Rattle.lower.specs.Patterns.{SomeTrees}
-use Rattle.lower.specs.Chains.{lastOf, LastUnder, stepsOf, no-rel, SameChain, ChainInBounds, Anchored, passed, ChainedAll, LowersElements, Sourced, OrSource, chainL, LowersChain, startChain}
+use Rattle.lower.specs.Chains.{lastOf, LastUnder, LastSince, stepsOf, no-rel, SameChain, ChainInBounds, Anchored, passed, ChainedAll, LowersElements, Sourced, OrSource, BindsPath, no-path, a-path, chainL, LowersChain, startChain}
 use Rattle.lower.specs.declared.Last.{Last}
 use Rattle.lower.specs.declared.Last.the-variants as last
 use Rattle.lower.specs.declared.Chain.{Chain}
@@ -35,7 +36,6 @@ use Rattle.lower.specs.State.{sub-more, sub-within, blank-within, blank-
 use Rattle.words.specs.Fits.{tree-low}
 use Rattle.lower.proofs.Parts.{all-bounded}
 use Rattle.words.specs.Places.{partNamedAt, partVarAt, partShortestAt, partElementsAt}
-use Rattle.model.specs.Call.{maxDepth}
 
 -- ── the operator before, or a source of everything ──
 
@@ -43,25 +43,25 @@ numberOf : Option ℕ → ℕ → ℕ
 numberOf none n = n
 numberOf (some k) n = k
 
-pub source-there : (current : Before) (k : ℕ) (m : Mem) → current ≡ before.Op k → k < m .ctx .ops → OrSource (orSourceAll (beforeOf current)) k m m
+pub source-there : (current : Before) (k : ℕ) (m : Mem) → current ≡ before.Op k → k < m .ctx .ops → OrSource (m .ctx .ops) (orSourceAll (beforeOf current)) k m m
 unfolding orSourceAll ret beforeOf
-source-there current k m e l = record { grow = le-refl _; few = omega arith; next = refl; mapped = refl; rest = refl; in-ops = refl; low = l; run = λ sheet a b W s r. rw e (record { to = to-refl r; root = refl }) }
+source-there current k m e l = record { grow = le-refl _; few = omega arith; numbers = refl; mapped = refl; rest = refl; in-ops = refl; low = l; run = λ sheet a b W s h r. rw e (record { to = to-refl r; root = refl }) }
 
-pub source-new : (current : Before) (m : Mem) (c : LowerCtx) (os : List ℕ) → current ≡ before.Nothing → Pushed (m .ctx) c (m .ops) os (sourceAllOp (m .ctx .next)) → length os ≡ length (m .ops) → OrSource (orSourceAll (beforeOf current)) (m .ctx .ops) m (mem c os (m .rest))
+pub source-new : (current : Before) (m : Mem) (c : LowerCtx) (os : List ℕ) → current ≡ before.Nothing → Pushed (m .ctx) c (m .ops) os (sourceAllOp (m .ctx .numbers)) → length os ≡ length (m .ops) → OrSource (m .ctx .ops) (orSourceAll (beforeOf current)) (m .ctx .ops) m (mem c os (m .rest))
 unfolding orSourceAll pushSourceAll upcoming issue _>>=_ push beforeOf
 source-new current m c os e p lo = record {
   grow = omega (arith, p .count);
   few = omega (arith, p .count);
-  next = p .next;
+  numbers = p .numbers;
   mapped = p .mapped;
   rest = refl;
   in-ops = lo;
   low = omega (arith, p .count);
-  run = λ sheet a b W s r. rw e (record { to = push-to m c os (sourceAllOp (m .ctx .next)) (source (s .scope .next) []) r p (λ N A f. record { bounded = all-bounded (m .ctx .next); shows = shows-all refl (ap (λ (x : ℕ). source x []) (sym (upcoming-number m r))) }); root = r .count });
+  run = λ sheet a b W s h r. rw e (record { to = push-to m c os (sourceAllOp (m .ctx .numbers)) (source (s .scope .next) []) r p (λ N A f. record { bounded = all-bounded (m .ctx .numbers); shows = shows-all refl (ap (λ (x : ℕ). source x []) (sym (upcoming-number m r))) }); root = r .count });
 }
 
 -- a root as the code has it
-pub source-as : {o o′ : Option ℕ} {k : ℕ} {m m′ : Mem} → o ≡ o′ → OrSource (orSourceAll o) k m m′ → OrSource (orSourceAll o′) k m m′
+pub source-as : {o o′ : Option ℕ} {n k : ℕ} {m m′ : Mem} → o ≡ o′ → OrSource n (orSourceAll o) k m m′ → OrSource n (orSourceAll o′) k m m′
 source-as e p = rw e at p
 
 under-by : (l : Last) (n k : ℕ) → LastUnder l n → some k ≡ rootOf (lastOf l) → k < n
@@ -72,6 +72,15 @@ under-by (last.Op j origin) n k u e = let z : k ≡ j = ap (λ (o : Option ℕ).
 pub root-under : {root : Before} {l : Last} {n : ℕ} → beforeOf root ≡ rootOf (lastOf l) → LastUnder l n → Under root n
 unfolding beforeOf
 root-under {l = l} {n = n} e u = record { op = λ k h. under-by l n k u (rw h at e) }
+
+since-by : (l : Last) (n k : ℕ) → LastSince l n → some k ≡ rootOf (lastOf l) → n ≤ k
+unfolding rootOf numberOf
+since-by last.Nothing n k u e = let z : k ≡ suc k = ap (λ (o : Option ℕ). numberOf o (suc k)) e in absurd (omega arith)
+since-by (last.Op j origin) n k u e = let z : k ≡ j = ap (λ (o : Option ℕ). numberOf o 0) e in let y = u .op j origin refl in omega arith
+
+pub root-since : {root : Before} {l : Last} {n : ℕ} → beforeOf root ≡ rootOf (lastOf l) → LastSince l n → Since root n
+unfolding beforeOf
+root-since {l = l} {n = n} e u = record { op = λ k h. since-by l n k u (rw h at e) }
 
 -- ── a part, opened ──
 
@@ -115,6 +124,10 @@ start-bounded i c l = record { from = le-refl _; next = l; last = record { op = 
 pub start-anchored : (a b : List ℕ) (sheet : Bytes) (d i : ℕ) (c : LowerCtx) → Anchored a b d (startChain i c)
 start-anchored a b sheet d i c = record { sheet = sheet; pending = none; waiting = no-rel refl refl }
 
+-- the last operator of all elements was pushed since
+pub start-since : {a b : List ℕ} {n d base : ℕ} (i : ℕ) {c : LowerCtx} {ch : Chain} {os os′ rs rs′ : List ℕ} → LowersElements a b n d base (startChain i c) ch os os′ rs rs′ → LastSince (ch .last) (c .ops)
+start-since i el = el .since _ (le-refl _) (record { op = λ k origin e. absurd (last-apart e) })
+
 start-same : (sheet : Bytes) (a b : List ℕ) (d i : ℕ) (c : LowerCtx) → SameChain sheet a b d (startChain i c) noChain
 start-same sheet a b d i c = record { last = refl; waiting = no-rel refl refl; kept = refl }
 
@@ -135,7 +148,7 @@ path-is k x x′ n n′ path path′ ex en ep = rw (ex, en, ep)
 
 module _ {a b : List ℕ} {n base : ℕ} {c : LowerCtx} {ch : Chain} {os os₁ rs rs₁ : List ℕ} {k : ℕ} {m₂ : Mem} (d i : ℕ) (room : Roomy a b) (lb : base ≤ secondPass)
     (en : n ≡ cell a b i partElementsAt) (el : LowersElements a b n (d - 1) base (startChain i c) ch os os₁ rs rs₁)
-    (sr : OrSource (orSourceAll (rootOf (lastOf (ch .last)))) k (mem (ch .ctx) os₁ rs₁) m₂) where
+    (sr : OrSource (ch .ctx .ops) (orSourceAll (rootOf (lastOf (ch .last)))) k (mem (ch .ctx) os₁ rs₁) m₂) where
   chain-next : (sheet : Bytes) (t : Tree patternPart) → Held sheet a b t d i → ch .next ≡ i + size t
   chain-next sheet t hd =
       let v = a-part room t hd in
@@ -145,21 +158,21 @@ module _ {a b : List ℕ} {n base : ℕ} {c : LowerCtx} {ch : Chain} {os os₁ r
       omega arith
 
   -- elements and source
-  pub record Rooting (sheet : Bytes) (t : Tree patternPart) (W : Written) (s : State) (v : IsPart sheet a b d i t) : Type 0 where
-    pub all : ChainedAll sheet a b W (d - 1) base (startChain i c) ch (v .elements) noChain s (mem c os rs) (mem (ch .ctx) os₁ rs₁)
-    pub src : Sourced sheet a b (orSourceAll (rootOf (lastOf (ch .last)))) k (passed base (startChain i c) ch W) (afterElements (v .elements) s .1) (mem (ch .ctx) os₁ rs₁) m₂
+  pub record Rooting (sheet : Bytes) (first : ℕ) (t : Tree patternPart) (W : Written) (s : State) (v : IsPart sheet a b d i t) : Type 0 where
+    pub all : ChainedAll (side sheet a b first) W (d - 1) base (startChain i c) ch (v .elements) noChain s (mem c os rs) (mem (ch .ctx) os₁ rs₁)
+    pub src : Sourced (side sheet a b first) (orSourceAll (rootOf (lastOf (ch .last)))) k (passed base (startChain i c) ch W) (afterElements (v .elements) s .1) (mem (ch .ctx) os₁ rs₁) m₂
     pub def : (o : Option ℕ) → lowerChain o (stepsOf (v .elements)) s ≡ bindPath o k (afterElements (v .elements) s .0 .path) (orSourceAll (rootOf (lastOf (ch .last))) (afterElements (v .elements) s .1) .1)
 
-  rooting : (sheet : Bytes) (t : Tree patternPart) (hd : Held sheet a b t d i) (W : Written) (s : State) → Rep sheet a b W s (mem c os rs) → Blank W (base + suc i) (base + suc (ch .next)) → Rooting sheet t W s (a-part room t hd)
+  rooting : (sheet : Bytes) {first : ℕ} (t : Tree patternPart) (hd : Held sheet a b t d i) (W : Written) (s : State) → Rep (side sheet a b first) W s (mem c os rs) → Blank W (base + suc i) (base + suc (ch .next)) → Rooting sheet first t W s (a-part room t hd)
   rooting sheet t hd W s r bl =
       let v = a-part room t hd in
       let el′ : LowersElements a b (v .n) (d - 1) base (startChain i c) ch os os₁ rs rs₁ = rw (en ∙ sym (v .many)) at el in
       let y = el′ .run sheet (v .elements) (v .held) W s noChain r (start-same sheet a b (d - 1) i c) (blank-within (omega arith) (le-refl _) bl) in
-      let z = sr .run sheet a b _ _ (y .to .rep) in
+      let z = sr .run sheet a b _ _ (y .to .rep .from) (y .to .rep) in
       record { all = y; src = z; def = λ o. chain-def o (v .elements) s _ (ap rootOf (y .same .last)) ∙ ap (λ (x : ℕ). bindPath o x (afterElements (v .elements) s .0 .path) (orSourceAll (rootOf (lastOf (ch .last))) (afterElements (v .elements) s .1) .1)) (sym (z .root)) }
 
-  module _ (k2 : cell a b i partNamedAt ≡ 0) where
-    unnamed-run : (sheet : Bytes) (t : Tree patternPart) → Held sheet a b t d i → (W : Written) (s : State) → Rep sheet a b W s (mem c os rs) → Blank W (base + suc i) (base + suc (ch .next)) → Rooted sheet a b W (chainL t) k base (suc i) (suc (ch .next)) s (mem c os rs) m₂
+  module _ (so : c .ops ≤ k) (k2 : cell a b i partNamedAt ≡ 0) where
+    unnamed-run : (sheet : Bytes) {first : ℕ} (t : Tree patternPart) → Held sheet a b t d i → (W : Written) (s : State) → Rep (side sheet a b first) W s (mem c os rs) → Blank W (base + suc i) (base + suc (ch .next)) → Rooted (side sheet a b first) W (chainL t) k base (suc i) (suc (ch .next)) s (mem c os rs) m₂
     unfolding bindPath ret optionOf
     unnamed-run sheet t hd W s r bl =
         let v = a-part room t hd in
@@ -173,18 +186,19 @@ module _ {a b : List ℕ} {n base : ℕ} {c : LowerCtx} {ch : Chain} {os os₁ r
         let v = el .moved in
         let f = el .bounded .from in
         record {
-          moved = record { up = omega (arith, v .up); here = el .bounded .next; few = omega (arith, v .few, sr .few); low = omega (arith, v .low, sr .next); met = omega (arith, v .met, sr .mapped); in-ops = sr .in-ops ∙ v .in-ops; in-rest = ap length (sr .rest) ∙ v .in-rest; index = λ x. rw (sr .mapped, sr .rest) (v .index x) };
+          moved = record { up = omega (arith, v .up); here = el .bounded .next; grow = omega (arith, v .grow, sr .grow); few = omega (arith, v .few, sr .few); low = omega (arith, v .low, sr .numbers); met = omega (arith, v .met, sr .mapped); in-ops = sr .in-ops ∙ v .in-ops; in-rest = ap length (sr .rest) ∙ v .in-rest; index = λ x. rw (sr .mapped, sr .rest) (v .index x) };
+          since = so;
           low = sr .low;
           next = chain-next;
           run = unnamed-run;
         }
 
-  module _ {place : ℕ} {r₃ : Numbered} {rest₃ os₄ : List ℕ} {c₄ : LowerCtx} (sh : d ≤ maxDepth) (k2 : (cell a b i partNamedAt ≡ 0) → ⊥) (ep : place ≡ base + (i + 1))
+  module _ {place : ℕ} {r₃ : Numbered} {rest₃ os₄ : List ℕ} {c₄ : LowerCtx} (sh : d ≤ deepest) (k2 : (cell a b i partNamedAt ≡ 0) → ⊥) (ep : place ≡ base + (i + 1))
       (nm : Numbers (mapVar (cell a b i partVarAt)) place (m₂ .ctx) (m₂ .rest) rest₃ r₃) (lr : length rest₃ ≡ length (m₂ .rest))
       (pp : Pushed (r₃ .ctx) c₄ (m₂ .ops) os₄ (bindPathOp (atPlace base i (d - 1)) k (ch .kept) (r₃ .number))) (lo : length os₄ ≡ length (m₂ .ops)) where
-    named-run : (sheet : Bytes) (t : Tree patternPart) → Held sheet a b t d i → (W : Written) (s : State) → Rep sheet a b W s (mem c os rs) → Blank W (base + suc i) (base + suc (ch .next)) → Rooted sheet a b W (chainL t) (r₃ .ctx .ops) base (suc i) (suc (ch .next)) s (mem c os rs) (mem c₄ os₄ rest₃)
+    named-run : (sheet : Bytes) {first : ℕ} (t : Tree patternPart) → Held sheet a b t d i → (W : Written) (s : State) → Rep (side sheet a b first) W s (mem c os rs) → Blank W (base + suc i) (base + suc (ch .next)) → Rooted (side sheet a b first) W (chainL t) (r₃ .ctx .ops) base (suc i) (suc (ch .next)) s (mem c os rs) (mem c₄ os₄ rest₃)
     unfolding bindPath _>>=_ push optionOf
-    named-run sheet t hd W s r bl =
+    named-run sheet {first} t hd W s r bl =
         let v = a-part room t hd in
         let x = rooting sheet t hd W s r bl in
         let id : ℕ = cell a b i partVarAt in
@@ -195,7 +209,7 @@ module _ {a b : List ℕ} {n base : ℕ} {c : LowerCtx} {ch : Chain} {os os₁ r
         let path : List ℕ = afterElements (v .elements) s .0 .path in
         let D = v .chain s ∙ ap (λ (o : Option ℕ). lowerChain o (stepsOf (v .elements)) s) (option-some (cell a b i partNamedAt) id k2) ∙ x .def (some id) in
         let ep′ : place ≡ base + suc i = omega arith in
-        let g : Given sheet a b W₁ s₂ (mapVar id) (base + suc i) m₂ rest₃ r₃ = number-to (mapVar id) (base + suc i) m₂ rest₃ r₃ (x .src .to .rep) (rw ep′ at nm) (blank-before (omega arith) (blank-within (le-refl _) (omega arith) bl)) in
+        let g : Given (side sheet a b first) W₁ s₂ (mapVar id) (base + suc i) m₂ rest₃ r₃ = number-to (mapVar id) (base + suc i) m₂ rest₃ r₃ (x .src .to .rep) (rw ep′ at nm) (blank-before (omega arith) (blank-within (le-refl _) (omega arith) bl)) in
         let recs : Recs = op ReadOp.BindPath (k, (mapVar id s₂ .0, (length path, tt))) ∷ pathElements path in
         let y = push-to (mem (r₃ .ctx) (m₂ .ops) rest₃) c₄ os₄ (bindPathOp (atPlace base i (d - 1)) k (ch .kept) (r₃ .number)) recs (g .to .rep) pp
         (λ N A fu. record {
@@ -220,14 +234,24 @@ module _ {a b : List ℕ} {n base : ℕ} {c : LowerCtx} {ch : Chain} {os os₁ r
           moved = record {
             up = omega (arith, v .up);
             here = el .bounded .next;
+            grow = omega (arith, v .grow, sr .grow, n .ops, pp .count);
             few = omega (arith, v .few, sr .few, n .ops, pp .count);
-            low = omega (arith, v .low, sr .next, n .low, pp .next);
+            low = omega (arith, v .low, sr .numbers, n .low, pp .numbers);
             met = omega (arith, v .met, sr .mapped, n .met, pp .mapped);
             in-ops = lo ∙ sr .in-ops ∙ v .in-ops;
             in-rest = lr ∙ ap length (sr .rest) ∙ v .in-rest;
             index = λ x. rw (pp .mapped) (n .index (rw (sr .mapped, sr .rest) (v .index x)));
           };
+          since = omega (arith, v .grow, sr .grow, n .ops);
           low = omega (arith, pp .count);
           next = chain-next;
           run = named-run;
         }
+
+-- named or not
+pub chain-law : {a b : List ℕ} {n base : ℕ} {c c′ : LowerCtx} {ch : Chain} {os os₁ os′ rs rs₁ rs′ : List ℕ} {k k′ : ℕ} {m₂ : Mem} (d i : ℕ) (room : Roomy a b) (lb : base ≤ secondPass) (sh : d ≤ deepest)
+    (en : n ≡ cell a b i partElementsAt) (el : LowersElements a b n (d - 1) base (startChain i c) ch os os₁ rs rs₁)
+    (sr : OrSource (ch .ctx .ops) (orSourceAll (rootOf (lastOf (ch .last)))) k (mem (ch .ctx) os₁ rs₁) m₂) (so : c .ops ≤ k) →
+    BindsPath a b (atPlace base i (d - 1)) (ch .kept) k k′ m₂ (mem c′ os′ rs′) → length os′ ≡ length (m₂ .ops) → length rs′ ≡ length (m₂ .rest) → LowersChain a b d base i (ch .next) k′ (mem c os rs) (mem c′ os′ rs′)
+chain-law d i room lb sh en el sr so (no-path e ek em) lo lr = rw (ek, em) (unnamed-law d i room lb en el sr so e)
+chain-law d i room lb sh en el sr so (a-path ne n nm ek pp) lo lr = rw ek (named-law d i room lb en el sr sh ne refl nm lr pp lo)

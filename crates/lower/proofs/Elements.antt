@@ -20,6 +20,7 @@ use Rattle.lower.specs.Render.{Notes, Ops, render, renderOf, recsOver, B
 use Rattle.lower.specs.Rep.{State}
 use Rattle.lower.specs.Pieces.{lowerC}
 use Rattle.lower.specs.Chains.{stepOf}
+use Rattle.words.specs.Kinds.{Opens, by-element}
 use Rattle.words.specs.Numbers.{elementNumber}
 use Rattle.words.proofs.Counting.{innerNumber, inner-number, flag-one}
 use Rattle.lower.specs.Carry.{plainC}
@@ -69,15 +70,15 @@ pub record IsElement (flag : ℕ) (sheet : Bytes) (a b : List ℕ) (d i : ℕ) (
   pub sized : size t ≡ suc (n + sizeOf props)
   pub head : Rec
   pub spec : (N : Notes) (A : Ops) → specRecs N A t ≡ head ∷ (renderOf N A names ++ renderOf N A props)
-  pub below : (N : Notes) (k : ℕ) → BelowOf N k props → KidsBelow N k t
+  pub below : (N : Notes) (lo k : ℕ) → BelowOf N lo k props → KidsBelow N lo k t
 
 pub record IsNode (sheet : Bytes) (a b : List ℕ) (d i : ℕ) (t : Tree patternElement) : Type 0 where
-  pub el : IsElement 6 sheet a b d i t
+  pub el : IsElement nodePropsAt sheet a b d i t
   pub step : stepOf t ≡ ofNode (record { bind = optionOf (cell a b i elementNamedAt) (cell a b i elementVarAt); labels = toList (el .n) (foldOf Lowered made (el .names)); props = propsOf (el .p) (foldOf Lowered made (el .props)) })
   pub head : el .head ≡ rec (inPlan nodeSpec) tt (el .n, (el .p, tt))
 
 pub record IsRel (sheet : Bytes) (a b : List ℕ) (d i : ℕ) (t : Tree patternElement) : Type 0 where
-  pub el : IsElement 10 sheet a b d i t
+  pub el : IsElement relPropsAt sheet a b d i t
   pub direction : ℕ
   pub length : RelLength
   pub step : stepOf t ≡ ofRel (record { bind = optionOf (cell a b i elementNamedAt) (cell a b i elementVarAt); types = toList (el .n) (foldOf Lowered made (el .names)); direction = direction; length = length; props = propsOf (el .p) (foldOf Lowered made (el .props)) })
@@ -87,18 +88,18 @@ pub element-number : {sheet : Bytes} {a b : List ℕ} {i : ℕ} {k : PatternElem
 unfolding innerNumber
 element-number {k = k} room h = inner-number patternElement tt _ k (shown room h .kind)
 
-names-none : (N : Notes) (k : ℕ) {n : ℕ} (ts : Trees name n) → BelowOf N k ts
+names-none : (N : Notes) (lo k : ℕ) {n : ℕ} (ts : Trees name n) → BelowOf N lo k ts
 unfolding Below belowIn
-names-none N k []ᵗ = tt
-names-none N k (node name line e f end ∷ᵗ ts) = (tt, names-none N k ts)
+names-none N lo k []ᵗ = tt
+names-none N lo k (node name line e f end ∷ᵗ ts) = (tt, names-none N lo k ts)
 
 flag-of : (p : Bool) (x : ℕ) → p ≡ eqb x 1 → x ≤ 1 → one p ≡ x
 flag-of p x e h = rw e (flag-one x h)
 
 module _ {sheet : Bytes} {a b : List ℕ} {d i : ℕ} (room : Roomy a b) where
-  pub a-node : (t : Tree patternElement) → Held sheet a b t d i → cell a b i kindAt ≡ nodeKind → IsNode sheet a b d i t
-  unfolding Held size elementNumber fold made elementStep specRecs specRec render KidsBelow Below fieldsOf fieldOf
-  a-node (node patternElement line PatternElement.Node (bind, (n, (p, (span, u)))) (names ▸ props ▸ end)) hd e =
+  a-node-of : Opens sheet a b d i patternElement (λ t. IsNode sheet a b d i t) PatternElement.Node
+  unfolding Held size fold made elementStep specRecs specRec render KidsBelow Below fieldsOf fieldOf
+  a-node-of line (bind, (n, (p, (span, u)))) (names ▸ props ▸ end) hd =
       let w = shown room (hd .1) in
       let eb : bind ≡ optionOf (cell a b i elementNamedAt) (cell a b i elementVarAt) = ap (λ (x : Fields (elementForms PatternElement.Node)). x .0) (w .fields) in
       let en : n ≡ cell a b i nodeLabelsAt = ap (λ (x : Fields (elementForms PatternElement.Node)). x .1 .0) (w .fields) in
@@ -117,17 +118,19 @@ module _ {sheet : Bytes} {a b : List ℕ} {d i : ℕ} (room : Roomy a b) where
           sized = omega arith;
           head = rec (inPlan nodeSpec) tt (n, (p, tt));
           spec = λ N A. ap (λ (x : Recs). rec (inPlan nodeSpec) tt (n, (p, tt)) ∷ (renderOf N A names ++ x)) (append-nil (renderOf N A props));
-          below = λ N k q. (names-none N k names, (q, tt));
+          below = λ N lo k q. (names-none N lo k names, (q, tt));
         };
         step = rw eb;
         head = refl;
       }
-  a-node (node patternElement line PatternElement.Rel f kids) hd e = let z = element-number room (hd .1) in absurd (omega arith)
 
-  pub a-rel : (t : Tree patternElement) → Held sheet a b t d i → cell a b i kindAt ≡ relKind → IsRel sheet a b d i t
-  unfolding Held size elementNumber fold made elementStep specRecs specRec render KidsBelow Below fieldsOf fieldOf
-  a-rel (node patternElement line PatternElement.Node f kids) hd e = let z = element-number room (hd .1) in absurd (omega arith)
-  a-rel (node patternElement line PatternElement.Rel (bind, (n, (direction, (length, (p, (span, u)))))) (names ▸ props ▸ end)) hd e =
+  pub a-node : (t : Tree patternElement) → Held sheet a b t d i → cell a b i kindAt ≡ nodeKind → IsNode sheet a b d i t
+  unfolding elementNumber
+  a-node t hd e = by-element sheet d i room (λ t. IsNode sheet a b d i t) PatternElement.Node a-node-of t hd e
+
+  a-rel-of : Opens sheet a b d i patternElement (λ t. IsRel sheet a b d i t) PatternElement.Rel
+  unfolding Held size fold made elementStep specRecs specRec render KidsBelow Below fieldsOf fieldOf
+  a-rel-of line (bind, (n, (direction, (length, (p, (span, u)))))) (names ▸ props ▸ end) hd =
       let w = shown room (hd .1) in
       let eb : bind ≡ optionOf (cell a b i elementNamedAt) (cell a b i elementVarAt) = ap (λ (x : Fields (elementForms PatternElement.Rel)). x .0) (w .fields) in
       let en : n ≡ cell a b i nodeLabelsAt = ap (λ (x : Fields (elementForms PatternElement.Rel)). x .1 .0) (w .fields) in
@@ -146,13 +149,17 @@ module _ {sheet : Bytes} {a b : List ℕ} {d i : ℕ} (room : Roomy a b) where
           sized = omega arith;
           head = rec (inPlan relSpec) tt (n, (direction, (length, (p, tt))));
           spec = λ N A. ap (λ (x : Recs). rec (inPlan relSpec) tt (n, (direction, (length, (p, tt)))) ∷ (renderOf N A names ++ x)) (append-nil (renderOf N A props));
-          below = λ N k q. (names-none N k names, (q, tt));
+          below = λ N lo k q. (names-none N lo k names, (q, tt));
         };
         direction = direction;
         length = length;
         step = rw eb;
         head = refl;
       }
+
+  pub a-rel : (t : Tree patternElement) → Held sheet a b t d i → cell a b i kindAt ≡ relKind → IsRel sheet a b d i t
+  unfolding elementNumber
+  a-rel t hd e = by-element sheet d i room (λ t. IsRel sheet a b d i t) PatternElement.Rel a-rel-of t hd e
 
 -- an element is the one or the other
 pub other-element : {a b : List ℕ} (room : Roomy a b) (sheet : Bytes) (d i : ℕ) (t : Tree patternElement) → Held sheet a b t d i → ((cell a b i kindAt ≡ nodeKind) → ⊥) → cell a b i kindAt ≡ relKind

@@ -16,10 +16,11 @@ use Rattle.model.specs.Lower.{Recs, Lowered, made, _>>=_, ret, push, op, endpoi
 use Rattle.model.specs.Lower
 use Rattle.words.specs.Words.{Roomy, cell, optionOf, maxRecords}
 use Rattle.words.specs.Held.{Held, size}
-use Rattle.context.specs.Tables.{Pushed, Numbers, secondPass, varsAt}
+use Rattle.context.specs.Tables.{Pushed, Numbers, secondPass, varsAt, deepest}
 use Rattle.context.specs.declared.LowerCtx.{LowerCtx}
 use Rattle.context.specs.declared.Numbered.{Numbered}
 use Rattle.context.specs.Ops.{expandOp}
+use Rattle.lower.specs.Side.{Side, side}
 use Rattle.lower.specs.Render.{Notes, Ops, renderOf, specRecs}
 use Rattle.lower.specs.Shows.{shift, InBounds, shows-expand}
 use Rattle.lower.specs.Rep.{atPlace, State, Mem, mem, notes, Written, Sub, Blank, Future, Rep, To}
@@ -33,7 +34,6 @@ use Rattle.lower.specs.Carry.{plainC, plain-size, plain-held, plain-rend
 use Rattle.lower.proofs.Elements
 use Rattle.lower.proofs.Elements.{names-render, names-count, props-lower, props-has, a-node, a-rel}
 use Rattle.words.specs.Places.{kindAt, nodeKind, relKind, elementNamedAt, elementVarAt, nodeLabelsAt, nodePropsAt, relTypesAt, relPropsAt}
-use Rattle.model.specs.Call.{maxDepth}
 
 -- what the definition's steps make of elements that are opened
 abbrev pub nodeStep : (bind : Option ℕ) {n : ℕ} → Trees name n → (p : Bool) → Trees expr (one p) → NodeStep
@@ -113,18 +113,18 @@ recs-are : (N : Notes) (A : Ops) (t tr : Tree patternElement) {n n′ : ℕ} (na
     op ReadOp.Expand (input, (origin, (x′, (y′, tt)))) ∷ ((h′ ∷ (toList n′ (foldOf Lowered made types) ++ q′)) ++ (h ∷ (toList n (foldOf Lowered made names) ++ q))) ≡ op ReadOp.Expand (input, (origin, (x, (y, tt)))) ∷ (specRecs N A tr ++ specRecs N A t)
 recs-are N A t tr names types p p′ props props′ h h′ x y input origin x′ y′ q q′ ex ey et′ et eq′ eq = rw (ex, ey, et′, et, plain-render N A props′, plain-render N A props, eq′, eq, names-render N A types, names-render N A names)
 
-expand-bounded : (rel input origin far d base : ℕ) → d ≤ maxDepth → base ≤ secondPass → rel < maxRecords → InBounds (expandOp (atPlace base rel d) input origin far)
+expand-bounded : (rel input origin far d base : ℕ) → d ≤ deepest → base ≤ secondPass → rel < maxRecords → InBounds (expandOp (atPlace base rel d) input origin far)
 expand-bounded rel input origin far d base sh lb l = record { shallow = sh; near = lb; low = l; far = λ e. absurd (omega arith); flagged = λ e. absurd (omega arith) }
 
 module _ {a b : List ℕ} (d base far rel : ℕ) {e₁ e₂ n₁ n₂ input origin p₁ p₂ : ℕ} {c₀ : LowerCtx} {os rest rest₁ rest₂ : List ℕ} {r₁ r₂ : Numbered} {m₃ m₄ : Mem} {c₅ : LowerCtx}
-    {os₅ : List ℕ} (room : Roomy a b) (k12 : cell a b far kindAt ≡ nodeKind) (k13 : cell a b rel kindAt ≡ relKind) (lb : base ≤ secondPass) (sh : d ≤ maxDepth) (la : far < maxRecords)
+    {os₅ : List ℕ} (room : Roomy a b) (is-node : cell a b far kindAt ≡ nodeKind) (is-rel : cell a b rel kindAt ≡ relKind) (lb : base ≤ secondPass) (sh : d ≤ deepest) (la : far < maxRecords)
     (ep₁ : p₁ ≡ base + (far + 1)) (nm₁ : Numbers (endpointVar (optionOf (cell a b far elementNamedAt) (cell a b far elementVarAt))) p₁ c₀ rest rest₁ r₁) (ep₂ : p₂ ≡ base + (rel + 1))
     (nm₂ : Numbers (endpointVar (optionOf (cell a b rel elementNamedAt) (cell a b rel elementVarAt))) p₂ (r₁ .ctx) rest₁ rest₂ r₂) (en₁ : n₁ ≡ cell a b rel relPropsAt)
     (x₁ : LowersExprs a b n₁ 0 (d - 1) base (rel + 1 + cell a b rel relTypesAt) e₁ (mem (r₂ .ctx) os rest₂) m₃) (en₂ : n₂ ≡ cell a b far nodePropsAt)
     (x₂ : LowersExprs a b n₂ 0 (d - 1) base (far + 1 + cell a b far nodeLabelsAt) e₂ m₃ m₄) (pe : Pushed (m₄ .ctx) c₅ (m₄ .ops) os₅ (expandOp (atPlace base rel d) input origin far)) where
   -- what an expand has done
-  pub record Expanded (sheet : Bytes) (W : Written) (s : State) (c : Lower.Chain) (n : NodeStep) : Type 0 where
-    pub to : To sheet a b W ((base + suc rel, base + suc e₂) ∷ W) s (lowerElement c (ofNode n) s .1) (mem c₀ os rest) (mem c₅ os₅ (m₄ .rest))
+  pub record Expanded (S : Side) (W : Written) (s : State) (c : Lower.Chain) (n : NodeStep) : Type 0 where
+    pub to : To S W ((base + suc rel, base + suc e₂) ∷ W) s (lowerElement c (ofNode n) s .1) (mem c₀ os rest) (mem c₅ os₅ (m₄ .rest))
     pub bindTo : ℕ
     pub bindRel : ℕ
     pub number : r₁ .number ≡ bindTo
@@ -133,7 +133,7 @@ module _ {a b : List ℕ} (d base far rel : ℕ) {e₁ e₂ n₁ n₂ input orig
 
   pub rel-end : (sheet : Bytes) (tr : Tree patternElement) (hr : Held sheet a b tr d rel) → e₁ ≡ rel + size tr
   rel-end sheet tr hr =
-      let v = a-rel room tr hr k13 .el in
+      let v = a-rel room tr hr is-rel .el in
       let x′ : LowersExprs a b (one (v .p)) 0 (d - 1) base (rel + 1 + cell a b rel relTypesAt) e₁ (mem (r₂ .ctx) os rest₂) m₃ = rw (en₁ ∙ sym (v .flagged)) at x₁ in
       let q = x′ .next sheet (plainC (v .props)) (plain-held sheet a b (v .props) (d - 1) _ (rw (v .many) at (v .held-props))) in
       let z = plain-size (v .props) in
@@ -143,7 +143,7 @@ module _ {a b : List ℕ} (d base far rel : ℕ) {e₁ e₂ n₁ n₂ input orig
 
   pub far-end : (sheet : Bytes) (t : Tree patternElement) (hd : Held sheet a b t d far) → e₂ ≡ far + size t
   far-end sheet t hd =
-      let v = a-node room t hd k12 .el in
+      let v = a-node room t hd is-node .el in
       let x′ : LowersExprs a b (one (v .p)) 0 (d - 1) base (far + 1 + cell a b far nodeLabelsAt) e₂ m₃ m₄ = rw (en₂ ∙ sym (v .flagged)) at x₂ in
       let q = x′ .next sheet (plainC (v .props)) (plain-held sheet a b (v .props) (d - 1) _ (rw (v .many) at (v .held-props))) in
       let z = plain-size (v .props) in
@@ -151,13 +151,13 @@ module _ {a b : List ℕ} (d base far rel : ℕ) {e₁ e₂ n₁ n₂ input orig
       let w = v .many in
       omega arith
 
-  pub expand-run : (sheet : Bytes) (t tr : Tree patternElement) (n : NodeStep) (r : RelStep) (hd : Held sheet a b t d far) (hr : Held sheet a b tr d rel) → stepOf t ≡ ofNode n →
-      stepOf tr ≡ ofRel r → far ≡ rel + size tr → (W : Written) (s : State) (c : Lower.Chain) → c .pending ≡ some r → c .last ≡ some (input, origin) → Rep sheet a b W s (mem c₀ os rest) →
-      Blank W (base + suc rel) (base + suc e₂) → Expanded sheet W s c n
+  pub expand-run : (sheet : Bytes) {first : ℕ} (t tr : Tree patternElement) (n : NodeStep) (r : RelStep) (hd : Held sheet a b t d far) (hr : Held sheet a b tr d rel) → stepOf t ≡ ofNode n →
+      stepOf tr ≡ ofRel r → far ≡ rel + size tr → (W : Written) (s : State) (c : Lower.Chain) → c .pending ≡ some r → c .last ≡ some (input, origin) → Rep (side sheet a b first) W s (mem c₀ os rest) →
+      Blank W (base + suc rel) (base + suc e₂) → Expanded (side sheet a b first) W s c n
   unfolding push
-  expand-run sheet t tr n r hd hr st sr er W s c ep el q bl =
-      let vn = a-node room t hd k12 in
-      let vr = a-rel room tr hr k13 in
+  expand-run sheet {first} t tr n r hd hr st sr er W s c ep el q bl =
+      let vn = a-node room t hd is-node in
+      let vr = a-rel room tr hr is-rel in
       let E₁ : e₁ ≡ rel + size tr = rel-end sheet tr hr in
       let P = places base rel far e₁ e₂ (cell a b rel relTypesAt) (cell a b far nodeLabelsAt) (er ∙ sym E₁) (x₁ .moved .up) (x₂ .moved .up) la lb in
       let bn : Option ℕ = optionOf (cell a b far elementNamedAt) (cell a b far elementVarAt) in
@@ -172,9 +172,9 @@ module _ {a b : List ℕ} (d base far rel : ℕ) {e₁ e₂ n₁ n₂ input orig
       let recs : Recs = expandRecs bn br (vn .el .names) (vr .el .names) (vn .el .p) (vr .el .p) (vn .el .props) (vr .el .props) r₀ refl s input origin in
       let ep₁′ : p₁ ≡ base + suc far = place-at p₁ base far ep₁ in
       let ep₂′ : p₂ ≡ base + suc rel = place-at p₂ base rel ep₂ in
-      let g₁ : Given sheet a b W s (endpointVar bn) (base + suc far) (mem c₀ os rest) rest₁ r₁ = number-to (endpointVar bn) (base + suc far) (mem c₀ os rest) rest₁ r₁ q (rw ep₁′ at nm₁) (blank-within (P .rf) (P .fe) bl) in
+      let g₁ : Given (side sheet a b first) W s (endpointVar bn) (base + suc far) (mem c₀ os rest) rest₁ r₁ = number-to (endpointVar bn) (base + suc far) (mem c₀ os rest) rest₁ r₁ q (rw ep₁′ at nm₁) (blank-within (P .rf) (P .fe) bl) in
       let W₁ : Written = (base + suc far, base + suc far + 1) ∷ W in
-      let g₂ : Given sheet a b W₁ (endpointVar bn s .1) (endpointVar br) (base + suc rel) (mem (r₁ .ctx) os rest₁) rest₂ r₂ = number-to (endpointVar br) (base + suc rel) (mem (r₁ .ctx) os rest₁) rest₂ r₂ (g₁ .to .rep) (rw ep₂′ at nm₂) (blank-before (P .r1f) (blank-within (le-refl _) (P .r1e) bl)) in
+      let g₂ : Given (side sheet a b first) W₁ (endpointVar bn s .1) (endpointVar br) (base + suc rel) (mem (r₁ .ctx) os rest₁) rest₂ r₂ = number-to (endpointVar br) (base + suc rel) (mem (r₁ .ctx) os rest₁) rest₂ r₂ (g₁ .to .rep) (rw ep₂′ at nm₂) (blank-before (P .r1f) (blank-within (le-refl _) (P .r1e) bl)) in
       let hp₁ = plain-held sheet a b (vr .el .props) (d - 1) _ (rw (vr .el .many) at (vr .el .held-props)) in
       let hp₂ = plain-held sheet a b (vn .el .props) (d - 1) _ (rw (vn .el .many) at (vn .el .held-props)) in
       let y₁ = x₁′ .run sheet (plainC (vr .el .props)) hp₁ _ _ (g₂ .to .rep) (blank-behind (P .r1t) (blank-before (P .ef) (blank-within (P .rt) (P .ee) bl))) in
@@ -195,10 +195,10 @@ module _ {a b : List ℕ} (d base far rel : ℕ) {e₁ e₂ n₁ n₂ input orig
           far = t;
           held-rel = hr;
           held-far = hd;
-          is-rel = k13;
-          is-far = k12;
-          below-rel = vr .el .below (shift N base) (m₄ .ctx .ops) (plain-below (shift N base) (m₄ .ctx .ops) (vr .el .props) (carried-more (shift N base) (m₃ .ctx .ops) (m₄ .ctx .ops) (y₂ .to .grow) (plainC (vr .el .props)) (y₁ .below N A (back (y₂ .to) f))));
-          below-far = vn .el .below (shift N base) (m₄ .ctx .ops) (plain-below (shift N base) (m₄ .ctx .ops) (vn .el .props) (y₂ .below N A f));
+          is-rel = is-rel;
+          is-far = is-node;
+          below-rel = vr .el .below (shift N base) first (m₄ .ctx .ops) (plain-below (shift N base) first (m₄ .ctx .ops) (vr .el .props) (carried-more (shift N base) first (m₃ .ctx .ops) (m₄ .ctx .ops) (y₂ .to .grow) (plainC (vr .el .props)) (y₁ .below N A (back (y₂ .to) f))));
+          below-far = vn .el .below (shift N base) first (m₄ .ctx .ops) (plain-below (shift N base) first (m₄ .ctx .ops) (vn .el .props) (y₂ .below N A f));
           is = recs-are (shift N base) A t tr (vn .el .names) (vr .el .names) (vn .el .p) (vr .el .p) (vn .el .props) (vr .el .props) _ _ _ _ input origin _ _ _ _ (noted N A f .0)
               (noted N A f .1) (vr .el .spec (shift N base) A ∙ ap (λ (h : Rec). h ∷ (renderOf (shift N base) A (vr .el .names) ++ renderOf (shift N base) A (vr .el .props))) (vr .head))
               (vn .el .spec (shift N base) A ∙ ap (λ (h : Rec). h ∷ (renderOf (shift N base) A (vn .el .names) ++ renderOf (shift N base) A (vn .el .props))) (vn .head))
@@ -206,7 +206,7 @@ module _ {a b : List ℕ} (d base far rel : ℕ) {e₁ e₂ n₁ n₂ input orig
         });
       }) in
       let u : Sub W₄ ((base + suc rel, base + suc e₂) ∷ W) = sub-within (P .rl) (le-refl _) (sub-within (P .rt) (P .ee) (sub-within (le-refl _) (P .r1e) (sub-within (P .rf) (P .fe) (sub-more (base + suc rel, base + suc e₂) W)))) in
-      subst (λ (z : NodeStep). Expanded sheet W s c z) (sym en₀)
+      subst (λ (z : NodeStep). Expanded (side sheet a b first) W s c z) (sym en₀)
       (record {
         to = rw D (to-wider u (to-then (g₁ .to) (to-then (g₂ .to) (to-then (y₁ .to) (to-then (y₂ .to) y₃)))));
         bindTo = endpointVar bn s .0;

@@ -15,16 +15,17 @@ use Rattle.model.specs.Lower.{Lowering, Lowered, made, _>>=_, ret, endpointVar,
 use Rattle.model.specs.Lower
 use Rattle.words.specs.Words.{Roomy, cell, optionOf, maxRecords}
 use Rattle.words.specs.Held.{Held, size}
-use Rattle.context.specs.Tables.{Pushed, Numbers, secondPass, varsAt}
+use Rattle.context.specs.Tables.{Pushed, Numbers, secondPass, varsAt, deepest}
 use Rattle.context.specs.declared.LowerCtx.{LowerCtx}
 use Rattle.context.specs.declared.Numbered.{Numbered}
 use Rattle.context.specs.Ops.{expandOp}
 use Rattle.words.specs.Count.{Ends}
+use Rattle.lower.specs.Side.{side}
 use Rattle.lower.specs.Render.{Notes, keptRel, keptFrom}
 use Rattle.lower.specs.Shows.{shift}
 use Rattle.lower.specs.Rep.{atPlace, State, Mem, mem, notes, Written, Sub, Blank, Rep, Moved}
 use Rattle.lower.specs.Pieces.{SomeTree, LowersExprs}
-use Rattle.lower.specs.Chains.{lastOf, ReadAt, hasLast, pendingLine, fromOf, from, LastUnder, stepOf, Waiting, no-rel, a-rel, SameChain, ChainInBounds, Anchored, Chained, LowersElement, startL, LowersStart, StartsAnew}
+use Rattle.lower.specs.Chains.{lastOf, ReadAt, hasLast, pendingLine, fromOf, from, LastUnder, LastSince, stepOf, Waiting, no-rel, a-rel, SameChain, ChainInBounds, Anchored, Chained, LowersElement, startL, LowersStart, StartsAnew}
 use Rattle.lower.specs.declared.Last.{Last}
 use Rattle.lower.specs.declared.Last.the-variants as last
 use Rattle.lower.specs.declared.Pending.{Pending}
@@ -39,7 +40,6 @@ use Rattle.lower.proofs.Elements.{a-node, element-number}
 use Rattle.lower.proofs.Elements
 use Rattle.lower.proofs.Expand.{expand-run, far-end, rel-end}
 use Rattle.words.specs.Places.{kindAt, nodeKind, relKind, elementNamedAt, elementVarAt, nodePropsAt, relTypesAt, relPropsAt, nodeLabelsAt}
-use Rattle.model.specs.Call.{maxDepth}
 
 IsNodeStep : Lower.Step → Type 0
 IsNodeStep (ofNode n) = Unit {0}
@@ -67,19 +67,19 @@ module _ {a b : List ℕ} (room : Roomy a b) (sheet : Bytes) (d i : ℕ) (N : No
 abbrev pub relChain : Chain → ℕ → Read → Chain
 relChain ch stop x = record { next = stop; ctx = ch .ctx; last = ch .last; pending = pending.Rel (ch .next) x; kept = ch .kept }
 
-module _ {a b : List ℕ} (d base : ℕ) (ch : Chain) (stop : ℕ) (os rs : List ℕ) (room : Roomy a b) (st : ChainInBounds ch) (k13 : cell a b (ch .next) kindAt ≡ relKind) (en : Ends a b (ch .next) stop) {x : Read} (rd : ReadAt a b (ch .next) relPropsAt x) where
+module _ {a b : List ℕ} (d base : ℕ) (ch : Chain) (stop : ℕ) (os rs : List ℕ) (room : Roomy a b) (st : ChainInBounds ch) (is-rel : cell a b (ch .next) kindAt ≡ relKind) (en : Ends a b (ch .next) stop) {x : Read} (rd : ReadAt a b (ch .next) relPropsAt x) where
   rel-same : (sheet : Bytes) (t : Tree patternElement) → Held sheet a b t d (ch .next) → (c : Lower.Chain) → SameChain sheet a b d ch c → (r : RelStep) → stepOf t ≡ ofRel r → SameChain sheet a b d (relChain ch stop x) (record { last = c .last; pending = some r; path = c .path })
   rel-same sheet t hd c l r e = record { last = l .last; waiting = a-rel (ch .next) x refl rd t r hd e (en .each sheet patternElement d t tt hd) refl; kept = l .kept }
 
-  rel-run : (sheet : Bytes) (t : Tree patternElement) → Held sheet a b t d (ch .next) → (W : Written) (s : State) (c : Lower.Chain) → Rep sheet a b W s (mem (ch .ctx) os rs) → SameChain sheet a b d ch c → Chained sheet a b W d base ch (relChain ch stop x) t (stepOf t) c s (mem (ch .ctx) os rs) (mem (ch .ctx) os rs)
+  rel-run : (sheet : Bytes) {first : ℕ} (t : Tree patternElement) → Held sheet a b t d (ch .next) → (W : Written) (s : State) (c : Lower.Chain) → Rep (side sheet a b first) W s (mem (ch .ctx) os rs) → SameChain sheet a b d ch c → Chained (side sheet a b first) W d base ch (relChain ch stop x) t (stepOf t) c s (mem (ch .ctx) os rs) (mem (ch .ctx) os rs)
   unfolding lowerElement ret
-  rel-run sheet t hd W s c r l =
-      let v = Elements.a-rel room t hd k13 in
-      subst (λ (z : Lower.Step). Chained sheet a b W d base ch (relChain ch stop x) t z c s (mem (ch .ctx) os rs) (mem (ch .ctx) os rs)) (sym (v .step))
+  rel-run sheet {first} t hd W s c r l =
+      let v = Elements.a-rel room t hd is-rel in
+      subst (λ (z : Lower.Step). Chained (side sheet a b first) W d base ch (relChain ch stop x) t z c s (mem (ch .ctx) os rs) (mem (ch .ctx) os rs)) (sym (v .step))
       (record {
         to = to-wider (sub-more (base + suc (from ch), base + suc (ch .next)) W) (to-refl r);
         same = rel-same sheet t hd c l _ (v .step);
-        path = λ N A f ts. ap (λ (z : List ℕ). c .path ++ z) (sym (kept-rel room sheet d (ch .next) (shift N base) (hasLast (ch .last)) (pendingLine (ch .pending)) ts t hd k13));
+        path = λ N A f ts. ap (λ (z : List ℕ). c .path ++ z) (sym (kept-rel room sheet d (ch .next) (shift N base) (hasLast (ch .last)) (pendingLine (ch .pending)) ts t hd is-rel));
       })
 
   pub rel-law : SomeTree a b patternElement d (ch .next) → LowersElement a b d base ch (relChain ch stop x) os os rs rs
@@ -90,8 +90,9 @@ module _ {a b : List ℕ} (d base : ℕ) (ch : Chain) (stop : ℕ) (os rs : List
       record {
         moved = moved-within (le-refl _) (st .from) (st .next) (moved-refl (let q = st .from in let q′ = st .next in omega arith));
         bounded = record { from = omega arith; next = omega arith; last = st .last; kept = omega arith };
-        anchored = record { sheet = y .sheet; pending = some _; waiting = a-rel (ch .next) x refl rd (y .tree) _ (y .held) (Elements.a-rel room (y .tree) (y .held) k13 .step) z refl };
+        anchored = record { sheet = y .sheet; pending = some _; waiting = a-rel (ch .next) x refl rd (y .tree) _ (y .held) (Elements.a-rel room (y .tree) (y .held) is-rel .step) z refl };
         ahead = omega arith;
+        since = λ n l h. h;
         next = λ sheet t hd. en .each sheet patternElement d t tt hd;
         run = λ sheet t hd W s c r l bl. rel-run sheet t hd W s c r l;
       }
@@ -123,6 +124,10 @@ opOr (last.Op k n) = k
 op-under : {k n m : ℕ} → k < m → LastUnder (last.Op k n) m
 unfolding opOr
 op-under {k} l = record { op = λ j o e. (let z : k ≡ j = ap opOr e in omega arith) }
+
+op-since : {k n m : ℕ} → m ≤ k → LastSince (last.Op k n) m
+unfolding opOr
+op-since {k} l = record { op = λ j o e. (let z : k ≡ j = ap opOr e in omega arith) }
 
 -- the rel that waits, at its record
 pub record RelWaits (sheet : Bytes) (a b : List ℕ) (d : ℕ) (ch : Chain) (rel : ℕ) (x : Read) (o : Option RelStep) : Type 0 where
@@ -182,7 +187,7 @@ start-same : (c : Lower.Chain) (n : NodeStep) (s : State) (x x′ k : ℕ) → x
 start-same c n s x x′ k ex ek = rw (ex, ek)
 
 module _ {a b : List ℕ} (d base : ℕ) (ch : Chain) {e k place : ℕ} {os rest rest₁ : List ℕ} {r : Numbered} {m₂ : Mem} (room : Roomy a b) (lb : base ≤ secondPass) (st : ChainInBounds ch)
-    (k12 : cell a b (ch .next) kindAt ≡ nodeKind) (starts : StartsAnew ch) (ep : place ≡ base + (ch .next + 1)) (nm : Numbers (endpointVar (optionOf (cell a b (ch .next) elementNamedAt)
+    (is-node : cell a b (ch .next) kindAt ≡ nodeKind) (starts : StartsAnew ch) (ep : place ≡ base + (ch .next + 1)) (nm : Numbers (endpointVar (optionOf (cell a b (ch .next) elementNamedAt)
     (cell a b (ch .next) elementVarAt))) place (ch .ctx) rest rest₁ r) (lr : length rest₁ ≡ length rest) (ls : LowersStart a b d base (ch .next) (r .number) e k (mem (r .ctx) os rest₁) m₂) where
   abbrev ch′ : Chain
   ch′ = nodeChain ch e (m₂ .ctx) k (r .number) 1
@@ -199,28 +204,28 @@ module _ {a b : List ℕ} (d base : ℕ) (ch : Chain) {e k place : ℕ} {os rest
   start-places : ch .next < e → e ≤ maxRecords → StartPlaces
   start-places l h = let q = st .from in record { place-is = omega arith; fn = omega arith; ne = omega arith; n1 = omega arith; fn1 = omega arith; low = omega arith; here = (omega arith, omega arith) }
 
-  start-run : (sheet : Bytes) (t : Tree patternElement) → Held sheet a b t d (ch .next) → (W : Written) (s : State) (c : Lower.Chain) → Rep sheet a b W s (mem (ch .ctx) os rest) → SameChain sheet a b d ch c → Blank W (base + suc (from ch)) (base + suc e) → Chained sheet a b W d base ch ch′ t (stepOf t) c s (mem (ch .ctx) os rest) m₂
+  start-run : (sheet : Bytes) {first : ℕ} (t : Tree patternElement) → Held sheet a b t d (ch .next) → (W : Written) (s : State) (c : Lower.Chain) → Rep (side sheet a b first) W s (mem (ch .ctx) os rest) → SameChain sheet a b d ch c → Blank W (base + suc (from ch)) (base + suc e) → Chained (side sheet a b first) W d base ch ch′ t (stepOf t) c s (mem (ch .ctx) os rest) m₂
   unfolding lowerElement _>>=_
-  start-run sheet t hd W s c rp l bl =
-      let v = a-node room t hd k12 in
+  start-run sheet {first} t hd W s c rp l bl =
+      let v = a-node room t hd is-node in
       let bn : Option ℕ = optionOf (cell a b (ch .next) elementNamedAt) (cell a b (ch .next) elementVarAt) in
       let n : NodeStep = record { bind = bn; labels = toList (v .el .n) (foldOf Lowered made (v .el .names)); props = Lower.propsOf (v .el .p) (foldOf Lowered made (v .el .props)) } in
       let f = tree-fits sheet a b t d (ch .next) hd in
       let E = ls .next sheet t hd in
       let P = start-places (rw E (f .0)) (ls .moved .here) in
-      let g : Given sheet a b W s (endpointVar bn) (base + suc (ch .next)) (mem (ch .ctx) os rest) rest₁ r = number-to (endpointVar bn) (base + suc (ch .next)) (mem (ch .ctx) os rest) rest₁ r rp (rw (P .place-is) at nm) (blank-within (P .fn) (P .ne) bl) in
+      let g : Given (side sheet a b first) W s (endpointVar bn) (base + suc (ch .next)) (mem (ch .ctx) os rest) rest₁ r = number-to (endpointVar bn) (base + suc (ch .next)) (mem (ch .ctx) os rest) rest₁ r rp (rw (P .place-is) at nm) (blank-within (P .fn) (P .ne) bl) in
       let W₁ : Written = (base + suc (ch .next), base + suc (ch .next) + 1) ∷ W in
       let s₁ : State = endpointVar bn s .1 in
       let y = ls .run sheet t n hd (v .step) W₁ s₁ (g .to .rep) (blank-behind (P .n1) (blank-within (P .fn1) (le-refl _) bl)) in
       let D : lowerElement c (ofNode n) s ≡ (started c k (r .number), startL (r .number) n s₁ .1) = ap (λ (z : Lowering Lower.Chain). z s₁) (starts-def c n (endpointVar bn s .0) starts l) ∙ start-def c n (endpointVar bn s .0) s₁ ∙ start-same c n s₁ _ _ _ (sym (g .number)) (sym (y .root)) in
       let u : Sub ((base + suc (ch .next + 1), base + suc e) ∷ W₁) ((base + suc (from ch), base + suc e) ∷ W) = sub-within (P .fn1) (le-refl _) (sub-within (P .fn) (P .ne) (sub-more (base + suc (from ch), base + suc e) W)) in
-      subst (λ (x : Lower.Step). Chained sheet a b W d base ch ch′ t x c s (mem (ch .ctx) os rest) m₂) (sym (v .step))
+      subst (λ (x : Lower.Step). Chained (side sheet a b first) W d base ch ch′ t x c s (mem (ch .ctx) os rest) m₂) (sym (v .step))
       (record {
         to = rw D (to-wider u (to-then (g .to) (y .to)));
         same = rw D (record { last = refl; waiting = no-rel refl refl; kept = length-append (c .path) (r .number ∷ []) ∙ ap (λ (x : ℕ). x + 1) (l .kept) });
         path = λ N A fu ts. (let z : N (base + suc (ch .next)) ≡ r .number = back (y .to) (narrow u (rw D at fu)) .notes .at (base + suc (ch .next)) (P .low)
             (inl (P .here)) ∙ g .noted in path-one _ (c .path) _ _ _ _ _ (ap (λ (x : Lower.Chain × State). x .0 .path) D) (kept-node room sheet d (ch .next) (shift N base)
-            (hasLast (ch .last)) (pendingLine (ch .pending)) ts t hd k12) (starts-path (shift N base) ch starts) z);
+            (hasLast (ch .last)) (pendingLine (ch .pending)) ts t hd is-node) (starts-path (shift N base) ch starts) z);
       })
 
   start-moved : Moved (from ch) e (mem (ch .ctx) os rest) m₂
@@ -235,7 +240,7 @@ module _ {a b : List ℕ} (d base : ℕ) (ch : Chain) {e k place : ℕ} {os rest
       let w₂ = ls .mapped in
       let w₃ = v .few in
       let w₄ = v .up in
-      record { up = omega arith; here = v .here; few = omega arith; low = omega arith; met = omega arith; in-ops = v .in-ops; in-rest = v .in-rest ∙ lr; index = λ x. v .index (n .index x) }
+      record { up = omega arith; here = v .here; grow = let g = v .grow in omega arith; few = omega arith; low = omega arith; met = omega arith; in-ops = v .in-ops; in-rest = v .in-rest ∙ lr; index = λ x. v .index (n .index x) }
 
   pub start-law : SomeTree a b patternElement d (ch .next) → LowersElement a b d base ch ch′ os (m₂ .ops) rest (m₂ .rest)
   start-law x =
@@ -248,6 +253,7 @@ module _ {a b : List ℕ} (d base : ℕ) (ch : Chain) {e k place : ℕ} {os rest
         bounded = record { from = le-refl _; next = v .here; last = op-under (ls .low); kept = let q = st .kept in omega arith };
         anchored = record { sheet = x .sheet; pending = none; waiting = no-rel refl refl };
         ahead = omega arith;
+        since = λ o l h. op-since (omega (arith, n .ops, ls .since));
         next = λ sheet t hd. ls .next sheet t hd;
         run = λ sheet t hd W s c r l bl. start-run sheet t hd W s c r l bl;
       }
@@ -260,8 +266,8 @@ rel-kind room sheet d i (node patternElement line PatternElement.Node (bind, (n,
 rel-kind room sheet d i (node patternElement line PatternElement.Rel f kids) r hd e = element-number room (hd .1)
 
 module _ {a b : List ℕ} (d base : ℕ) (ch : Chain) {between : Read} {rel input origin e₁ e₂ n₁ n₂ p₁ p₂ : ℕ} {os rest rest₁ rest₂ : List ℕ} {r₁ r₂ : Numbered} {m₃ m₄ : Mem} {c₅ : LowerCtx} {os₅ : List ℕ}
-    (room : Roomy a b) (lb : base ≤ secondPass) (sh : d ≤ maxDepth) (st : ChainInBounds ch) (w1 : ch .pending ≡ pending.Rel rel between) (h1 : ch .last ≡ last.Op input origin)
-    (k12 : cell a b (ch .next) kindAt ≡ nodeKind) (la : ch .next < maxRecords) (ep₁ : p₁ ≡ base + (ch .next + 1)) (nm₁ : Numbers (endpointVar (optionOf (cell a b (ch .next) elementNamedAt)
+    (room : Roomy a b) (lb : base ≤ secondPass) (sh : d ≤ deepest) (st : ChainInBounds ch) (w1 : ch .pending ≡ pending.Rel rel between) (h1 : ch .last ≡ last.Op input origin)
+    (is-node : cell a b (ch .next) kindAt ≡ nodeKind) (la : ch .next < maxRecords) (ep₁ : p₁ ≡ base + (ch .next + 1)) (nm₁ : Numbers (endpointVar (optionOf (cell a b (ch .next) elementNamedAt)
     (cell a b (ch .next) elementVarAt))) p₁ (ch .ctx) rest rest₁ r₁) (lr₁ : length rest₁ ≡ length rest) (ep₂ : p₂ ≡ base + (rel + 1))
     (nm₂ : Numbers (endpointVar (optionOf (cell a b rel elementNamedAt) (cell a b rel elementVarAt))) p₂ (r₁ .ctx) rest₁ rest₂ r₂) (lr₂ : length rest₂ ≡ length rest₁)
     (en₁ : n₁ ≡ cell a b rel relPropsAt) (x₁ : LowersExprs a b n₁ 0 (d - 1) base (rel + 1 + cell a b rel relTypesAt) e₁ (mem (r₂ .ctx) os rest₂) m₃)
@@ -279,7 +285,7 @@ module _ {a b : List ℕ} (d base : ℕ) (ch : Chain) {between : Read} {rel inpu
   waiting-kind {sheet} w = rel-kind room sheet d rel (w .tree) (w .step) (w .held) (w .is)
 
   expand-end : {sheet : Bytes} {o : Option RelStep} → RelWaits sheet a b d ch rel between o → e₁ ≡ ch .next
-  expand-end {sheet} w = rel-end d base (ch .next) rel room k12 (waiting-kind w) lb sh la ep₁ nm₁ ep₂ nm₂ en₁ x₁ en₂ x₂ pe sheet (w .tree) (w .held) ∙ sym (w .ends)
+  expand-end {sheet} w = rel-end d base (ch .next) rel room is-node (waiting-kind w) lb sh la ep₁ nm₁ ep₂ nm₂ en₁ x₁ en₂ x₂ pe sheet (w .tree) (w .held) ∙ sym (w .ends)
 
   expand-moved : e₁ ≡ ch .next → Moved (from ch) e₂ (mem (ch .ctx) os rest) (mem c₅ os₅ (m₄ .rest))
   expand-moved E =
@@ -291,31 +297,32 @@ module _ {a b : List ℕ} (d base : ℕ) (ch : Chain) {between : Read} {rel inpu
       record {
         up = omega (arith, v₁ .up, v₂ .up);
         here = v₂ .here;
+        grow = omega (arith, i₁ .ops, i₂ .ops, v₁ .grow, v₂ .grow, pe .count);
         few = omega (arith, i₁ .ops, i₂ .ops, v₁ .few, v₂ .few, pe .count, v₁ .up, v₂ .up);
-        low = omega (arith, i₁ .low, i₂ .low, v₁ .low, v₂ .low, pe .next, v₁ .up, v₂ .up);
+        low = omega (arith, i₁ .low, i₂ .low, v₁ .low, v₂ .low, pe .numbers, v₁ .up, v₂ .up);
         met = omega (arith, i₁ .met, i₂ .met, v₁ .met, v₂ .met, pe .mapped, v₁ .up, v₂ .up);
         in-ops = lo ∙ v₂ .in-ops ∙ v₁ .in-ops;
         in-rest = v₂ .in-rest ∙ v₁ .in-rest ∙ lr₂ ∙ lr₁;
         index = λ x. rw (pe .mapped) (v₂ .index (v₁ .index (i₂ .index (i₁ .index x))));
       }
 
-  expanded-run : (sheet : Bytes) (t : Tree patternElement) → Held sheet a b t d (ch .next) → (W : Written) (s : State) (c : Lower.Chain) → Rep sheet a b W s (mem (ch .ctx) os rest) →
+  expanded-run : (sheet : Bytes) {first : ℕ} (t : Tree patternElement) → Held sheet a b t d (ch .next) → (W : Written) (s : State) (c : Lower.Chain) → Rep (side sheet a b first) W s (mem (ch .ctx) os rest) →
       SameChain sheet a b d ch c → RelWaits sheet a b d ch rel between (c .pending) → Blank W (base + suc (from ch)) (base + suc e₂) →
-      Chained sheet a b W d base ch ch″ t (stepOf t) c s (mem (ch .ctx) os rest) (mem c₅ os₅ (m₄ .rest))
+      Chained (side sheet a b first) W d base ch ch″ t (stepOf t) c s (mem (ch .ctx) os rest) (mem c₅ os₅ (m₄ .rest))
   unfolding keptRel
-  expanded-run sheet t hd W s c rp l w bl =
-      let v = a-node room t hd k12 in
+  expanded-run sheet {first} t hd W s c rp l w bl =
+      let v = a-node room t hd is-node in
       let fr = from-is in
       let x =
-      expand-run d base (ch .next) rel room k12 (waiting-kind w) lb sh la ep₁ nm₁ ep₂ nm₂ en₁ x₁ en₂ x₂ pe sheet t (w .tree) _ (w .step) hd (w .held) (v .step) (w .is) (w .ends) W s c (w .there) (l .last ∙ ap lastOf h1) rp (rw fr at bl)
+      expand-run d base (ch .next) rel room is-node (waiting-kind w) lb sh la ep₁ nm₁ ep₂ nm₂ en₁ x₁ en₂ x₂ pe sheet t (w .tree) _ (w .step) hd (w .held) (v .step) (w .is) (w .ends) W s c (w .there) (l .last ∙ ap lastOf h1) rp (rw fr at bl)
       in
-      subst (λ (z : Lower.Step). Chained sheet a b W d base ch ch″ t z c s (mem (ch .ctx) os rest) (mem c₅ os₅ (m₄ .rest))) (sym (v .step))
+      subst (λ (z : Lower.Step). Chained (side sheet a b first) W d base ch ch″ t z c s (mem (ch .ctx) os rest) (mem c₅ os₅ (m₄ .rest))) (sym (v .step))
       (record {
         to = rw fr (x .to);
         same = rw (x .is) (record { last = ap (λ (z : ℕ). some (m₄ .ctx .ops, z)) (sym (x .number)); waiting = no-rel refl refl; kept = length-append (c .path) (x .bindRel ∷ x .bindTo ∷ []) ∙ ap (λ (z : ℕ). z + 2) (l .kept) });
         path = λ N A f ts.
             (let y = x .notes N A (rw fr at f) in
-            path-two _ (c .path) _ _ _ _ _ _ _ (ap (λ (z : Lower.Chain). z .path) (x .is)) (kept-node room sheet d (ch .next) (shift N base) (hasLast (ch .last)) (pendingLine (ch .pending)) ts t hd k12) (kept-one (shift N base) (ch .last) (ch .pending) input origin rel between h1 w1) (y .0) (y .1));
+            path-two _ (c .path) _ _ _ _ _ _ _ (ap (λ (z : Lower.Chain). z .path) (x .is)) (kept-node room sheet d (ch .next) (shift N base) (hasLast (ch .last)) (pendingLine (ch .pending)) ts t hd is-node) (kept-one (shift N base) (ch .last) (ch .pending) input origin rel between h1 w1) (y .0) (y .1));
       })
 
   pub expand-law : SomeTree a b patternElement d (ch .next) → Anchored a b d ch → LowersElement a b d base ch ch″ os os₅ rest (m₄ .rest)
@@ -330,6 +337,7 @@ module _ {a b : List ℕ} (d base : ℕ) (ch : Chain) {between : Read} {rel inpu
         bounded = record { from = le-refl _; next = mv .here; last = op-under (omega (arith, pe .count)); kept = let q = st .kept in omega arith };
         anchored = record { sheet = x .sheet; pending = none; waiting = no-rel refl refl };
         ahead = omega arith;
-        next = λ sheet t hd. far-end d base (ch .next) rel room k12 (waiting-kind w) lb sh la ep₁ nm₁ ep₂ nm₂ en₁ x₁ en₂ x₂ pe sheet t hd;
+        since = λ o l h. op-since (omega (arith, nm₁ .issued .ops, nm₂ .issued .ops, x₁ .moved .grow, x₂ .moved .grow));
+        next = λ sheet t hd. far-end d base (ch .next) rel room is-node (waiting-kind w) lb sh la ep₁ nm₁ ep₂ nm₂ en₁ x₁ en₂ x₂ pe sheet t hd;
         run = λ sheet t hd W s c r l bl. expanded-run sheet t hd W s c r l (rel-waits w1 (l .waiting)) bl;
       }

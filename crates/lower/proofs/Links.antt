@@ -1,7 +1,7 @@
 -- Elements one after another, and the loop over them. Assumes nothing.
 use mathlib.Core.Path.{_≡_, refl, sym, _∙_}
 use Prim.Native.Nat.{ℕ, zero, suc, _+_, _-_}
-use native.Mathlib.Nat.{le-refl}
+use native.Mathlib.Nat.{le-refl, le-trans}
 use native.Mathlib.Omega.{arith}
 use mathlib.Core.List.{List, _∷_, append-nil}
 use mathlib.Core.Option.{some}
@@ -11,6 +11,7 @@ use Rattle.model.specs.Tree.{Trees, []ᵗ, _∷ᵗ_, toList, fold}
 use Rattle.model.specs.Lower.{_>>=_, ret, lowerElement, lowerElements}
 use Rattle.model.specs.Lower
 use Rattle.words.specs.Held.{Held, HeldOf, size, sizeOf}
+use Rattle.lower.specs.Side.{side}
 use Rattle.lower.specs.Render.{keptFrom}
 use Rattle.lower.specs.Rep.{State, mem, Written, Sub, Blank, Rep, RoomFor}
 use Rattle.lower.specs.Pieces.{SomeTree}
@@ -25,7 +26,7 @@ unfolding size
 none-size ch []ᵗ = omega arith
 
 module _ {a b : List ℕ} (d base : ℕ) (ch : Chain) (os rs : List ℕ) where
-  none-run : (sheet : Bytes) (ts : Trees patternElement 0) (W : Written) (s : State) (c : Lower.Chain) → Rep sheet a b W s (mem (ch .ctx) os rs) → SameChain sheet a b d ch c → ChainedAll sheet a b W d base ch ch ts c s (mem (ch .ctx) os rs) (mem (ch .ctx) os rs)
+  none-run : (sheet : Bytes) {first : ℕ} (ts : Trees patternElement 0) (W : Written) (s : State) (c : Lower.Chain) → Rep (side sheet a b first) W s (mem (ch .ctx) os rs) → SameChain sheet a b d ch c → ChainedAll (side sheet a b first) W d base ch ch ts c s (mem (ch .ctx) os rs) (mem (ch .ctx) os rs)
   unfolding lowerElements ret toList fold keptFrom
   none-run sheet []ᵗ W s c r l = record { to = to-wider (sub-more (base + suc (from ch), base + suc (from ch)) W) (to-refl r); same = l; path = λ N A f. sym (append-nil (c .path)) }
 
@@ -35,6 +36,7 @@ module _ {a b : List ℕ} (d base : ℕ) (ch : Chain) (os rs : List ℕ) where
     bounded = st;
     anchored = an;
     ahead = le-refl _;
+    since = λ n l h. h;
     next = λ sheet ts hd. none-size ch ts;
     run = λ sheet ts hd W s c r l bl. none-run sheet ts W s c r l;
   }
@@ -47,8 +49,8 @@ module _ {a b : List ℕ} {n d base : ℕ} {ch ch₁ ch₂ : Chain} {os os₁ os
       let y = q .next sheet ts (rw x (h .1)) in
       omega arith
 
-  both-run : (sheet : Bytes) (ts : Trees patternElement (suc n)) → HeldOf sheet a b ts d (ch .next) → (W : Written) (s : State) (c : Lower.Chain) → Rep sheet a b W s (mem (ch .ctx) os rs) →
-      SameChain sheet a b d ch c → Blank W (base + suc (from ch)) (base + suc (ch₂ .next)) → ChainedAll sheet a b W d base ch ch₂ ts c s (mem (ch .ctx) os rs) (mem (ch₂ .ctx) os₂ rs₂)
+  both-run : (sheet : Bytes) {first : ℕ} (ts : Trees patternElement (suc n)) → HeldOf sheet a b ts d (ch .next) → (W : Written) (s : State) (c : Lower.Chain) → Rep (side sheet a b first) W s (mem (ch .ctx) os rs) →
+      SameChain sheet a b d ch c → Blank W (base + suc (from ch)) (base + suc (ch₂ .next)) → ChainedAll (side sheet a b first) W d base ch ch₂ ts c s (mem (ch .ctx) os rs) (mem (ch₂ .ctx) os₂ rs₂)
   unfolding Held lowerElements _>>=_ toList fold
   both-run sheet (t ∷ᵗ ts) h W s c r l bl =
       let x = p .next sheet t (h .0) in
@@ -67,7 +69,7 @@ module _ {a b : List ℕ} {n d base : ℕ} {ch ch₁ ch₂ : Chain} {os os₁ os
       }
 
   pub more-law : LowersElements a b (suc n) d base ch ch₂ os os₂ rs rs₂
-  more-law = record { moved = moved-then (p .moved) (q .moved); bounded = q .bounded; anchored = q .anchored; ahead = let x = p .ahead in let y = q .ahead in omega arith; next = both-next; run = both-run }
+  more-law = record { moved = moved-then (p .moved) (q .moved); bounded = q .bounded; anchored = q .anchored; ahead = let x = p .ahead in let y = q .ahead in omega arith; since = λ n l h. q .since n (le-trans l (p .moved .grow)) (p .since n l h); next = both-next; run = both-run }
 
 -- ── the loop ──
 
@@ -77,7 +79,7 @@ pub record Left (a b : List ℕ) (d base : ℕ) (Done : Chain → List ℕ → L
   pub good : RoomFor d (from ch) (mem (ch .ctx) os rs)
   pub bounded : ChainInBounds ch
   pub anchored : Anchored a b d ch
-  pub rest : (ch′ : Chain) (os′ rs′ : List ℕ) → LowersElements a b k d base ch ch′ os os′ rs rs′ → Done ch′ os′ rs′
+  pub finish : (ch′ : Chain) (os′ rs′ : List ℕ) → LowersElements a b k d base ch ch′ os os′ rs rs′ → Done ch′ os′ rs′
 
 child-by : {a b : List ℕ} {d : ℕ} (i : ℕ) (sheet : Bytes) {k : ℕ} (ts : Trees patternElement k) → ((k ≡ 0) → ⊥) → HeldOf sheet a b ts d i → SomeTree a b patternElement d i
 unfolding Held
@@ -102,8 +104,8 @@ module _ {a b : List ℕ} {d base : ℕ} {Done : Chain → List ℕ → List ℕ
     good = good-after (q .moved) (p .good);
     bounded = q .bounded;
     anchored = q .anchored;
-    rest = λ ch′ os′ rs′ r. p .rest ch′ os′ rs′ (more-law (p .bounded) q r);
+    finish = λ ch′ os′ rs′ r. p .finish ch′ os′ rs′ (more-law (p .bounded) q r);
   })
 
   pub done : {k : ℕ} {ch : Chain} {os rs : List ℕ} → k ≡ 0 → Left a b d base Done k ch os rs → Done ch os rs
-  done {k} {ch} {os} {rs} h p = p .rest ch os rs (rw h (none-law d base ch os rs (p .bounded) (p .anchored)))
+  done {k} {ch} {os} {rs} h p = p .finish ch os rs (rw h (none-law d base ch os rs (p .bounded) (p .anchored)))

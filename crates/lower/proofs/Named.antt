@@ -1,7 +1,7 @@
 -- The arms of the lowering of an expression at which something is noted: a variable, a list predicate, a pattern. Assumes nothing.
 use mathlib.Core.Path.{_≡_, refl, sym, ap, _∙_}
 use Prim.Native.Nat.{ℕ, suc, _+_, _-_, _≤_, _<_}
-use native.Mathlib.Nat.{le-refl}
+use native.Mathlib.Nat.{le-refl, le-trans}
 use native.Mathlib.Omega.{arith}
 use mathlib.Core.List.{List, _∷_, append-nil}
 use mathlib.Core.Logic.{inl}
@@ -10,7 +10,7 @@ use Rattle.model.specs.Text.{Bytes}
 use Rattle.model.specs.Field.{Fields}
 use Rattle.model.specs.Kind.{Expr, PlanExpr, expr, patternPart}
 use Rattle.model.specs.Record.{Rec, exprForms}
-use Rattle.model.specs.Tree.{Tree, Trees, node, end, _▸_, fold}
+use Rattle.model.specs.Tree.{Tree, Trees, end, _▸_, fold}
 use Rattle.model.specs.Lower.{Recs, made, _>>=_, ret, mapVar, over, exprStep, planned, lowerExpr, lowerMatchPattern, optionalJoin, copy, at}
 use Rattle.words.specs.Words.{Roomy, cell, fieldsOf, fieldOf, maxRecords}
 use Rattle.words.specs.Held.{Held, HeldOf, size, sizeOf}
@@ -19,6 +19,7 @@ use Rattle.context.specs.declared.LowerCtx.{LowerCtx}
 use Rattle.context.specs.declared.Numbered.{Numbered}
 use Rattle.words.specs.Cells.{shown}
 use Rattle.words.specs.Count.{countAt, countBy}
+use Rattle.lower.specs.Side.{side}
 use Rattle.lower.specs.Render.{Ops, render, renderOf, recsOver, exprRecs, exprRest, Below, belowIn, copiesBelow}
 use Rattle.lower.specs.Render
 use Rattle.lower.specs.Shows.{shift}
@@ -30,7 +31,7 @@ use Rattle.words.specs.Numbers.{exprNumber}
 use Rattle.words.proofs.Counting.{counted}
 use Rattle.lower.specs.Exprs.{narrow}
 use Rattle.lower.specs.Carry.{plainC, plain-lower, plain-size, plain-held, plain-render, plain-below}
-use Rattle.lower.proofs.Arms.{number-at, same-low}
+use Rattle.words.specs.Kinds.{Opens, by-expr}
 use Rattle.words.specs.Places.{kindAt, varKind, patKind, listPredicateKind, varIdAt, patPartsAt, listPredicateVarAt}
 
 -- ── a variable that is numbered at the record, before the expressions behind it ──
@@ -44,30 +45,22 @@ pub record Naming (sheet : Bytes) (a b : List ℕ) (d i id : ℕ) (t : Tree expr
   pub head : ℕ → Rec
   pub lower : (s : State) → lowerExpr t s ≡ (head (mapVar id s .0) ∷ lowerC list (mapVar id s .1) .0, lowerC list (mapVar id s .1) .1)
   pub shown : (N : Render.Notes) (A : Ops) → render N A t ≡ head (N (suc i)) ∷ renderC N A list
-  pub below : (N : Render.Notes) (k : ℕ) → BelowC N k list → Below N k t
+  pub below : (N : Render.Notes) (lo k : ℕ) → BelowC N lo k list → Below N lo k t
 
 module _ {sheet : Bytes} {a b : List ℕ} {d i : ℕ} (room : Roomy a b) where
-  pub variable : (t : Tree expr) → Held sheet a b t d i → cell a b i kindAt ≡ varKind → Naming sheet a b d i (cell a b i varIdAt) t
-  unfolding Held size exprNumber lowerExpr fold made exprStep _>>=_ ret render recsOver exprRecs exprRest Below belowIn copiesBelow lowerC renderC sizeC HeldC fieldsOf fieldOf
-  variable (node expr line (Expr.Over h) f kids) hd e = let z = number-at room (hd .1) in let l = same-low h in absurd (omega arith)
-  variable (node expr line Expr.Var (id, t) end) hd e =
+  variable-of : Opens sheet a b d i expr (λ t. Naming sheet a b d i (cell a b i varIdAt) t) Expr.Var
+  unfolding Held size lowerExpr fold made exprStep _>>=_ ret render recsOver exprRecs exprRest Below belowIn copiesBelow lowerC renderC sizeC HeldC fieldsOf fieldOf
+  variable-of line (id, t) end hd =
       let ei : id ≡ cell a b i varIdAt = ap (λ (x : Fields (exprForms Expr.Var)). x .0) (shown room (hd .1) .fields) in
-      record { n = 0; list = []ᶜ; total = counted room tt (hd .1); held = tt; sized = refl; head = λ x. planned PlanExpr.Var (x, tt); lower = λ s. rw ei; shown = λ N A. rw (hd .0); below = λ N k b. tt }
-  variable (node expr line Expr.Map f kids) hd e = let z = number-at room (hd .1) in absurd (omega arith)
-  variable (node expr line Expr.Call f kids) hd e = let z = number-at room (hd .1) in absurd (omega arith)
-  variable (node expr line Expr.PatternPredicate f kids) hd e = let z = number-at room (hd .1) in absurd (omega arith)
-  variable (node expr line Expr.ListPredicate f kids) hd e = let z = number-at room (hd .1) in absurd (omega arith)
-  variable (node expr line Expr.Unresolved f kids) hd e = let z = number-at room (hd .1) in absurd (omega arith)
-  variable (node expr line Expr.Undesugared f kids) hd e = let z = number-at room (hd .1) in absurd (omega arith)
+      record { n = 0; list = []ᶜ; total = counted room tt (hd .1); held = tt; sized = refl; head = λ x. planned PlanExpr.Var (x, tt); lower = λ s. rw ei; shown = λ N A. rw (hd .0); below = λ N lo k b. tt }
 
-  pub predicate : (t : Tree expr) → Held sheet a b t d i → cell a b i kindAt ≡ listPredicateKind → Naming sheet a b d i (cell a b i listPredicateVarAt) t
-  unfolding Held size exprNumber lowerExpr fold made exprStep over _>>=_ ret render recsOver exprRecs exprRest Below belowIn copiesBelow fieldsOf fieldOf
-  predicate (node expr line (Expr.Over h) f kids) hd e = let z = number-at room (hd .1) in let l = same-low h in absurd (omega arith)
-  predicate (node expr line Expr.Var f kids) hd e = let z = number-at room (hd .1) in absurd (omega arith)
-  predicate (node expr line Expr.Map f kids) hd e = let z = number-at room (hd .1) in absurd (omega arith)
-  predicate (node expr line Expr.Call f kids) hd e = let z = number-at room (hd .1) in absurd (omega arith)
-  predicate (node expr line Expr.PatternPredicate f kids) hd e = let z = number-at room (hd .1) in absurd (omega arith)
-  predicate (node expr line Expr.ListPredicate (kind, (id, (pred, t))) (ts ▸ end)) hd e =
+  pub variable : (t : Tree expr) → Held sheet a b t d i → cell a b i kindAt ≡ varKind → Naming sheet a b d i (cell a b i varIdAt) t
+  unfolding exprNumber
+  variable t hd e = by-expr sheet d i room (λ t. Naming sheet a b d i (cell a b i varIdAt) t) Expr.Var variable-of t hd e
+
+  predicate-of : Opens sheet a b d i expr (λ t. Naming sheet a b d i (cell a b i listPredicateVarAt) t) Expr.ListPredicate
+  unfolding Held size lowerExpr fold made exprStep over _>>=_ ret render recsOver exprRecs exprRest Below belowIn copiesBelow fieldsOf fieldOf
+  predicate-of line (kind, (id, (pred, t))) (ts ▸ end) hd =
       let ei : id ≡ cell a b i listPredicateVarAt = ap (λ (x : Fields (exprForms Expr.ListPredicate)). x .1 .0) (shown room (hd .1) .fields) in
       record {
         n = _;
@@ -78,14 +71,16 @@ module _ {sheet : Bytes} {a b : List ℕ} {d i : ℕ} (room : Roomy a b) where
         head = λ x. planned PlanExpr.ListPredicate (kind, (x, (pred, tt)));
         lower = λ s. rw (ei, plain-lower ts (mapVar (cell a b i listPredicateVarAt) s .1));
         shown = λ N A. rw (hd .0) (ap (λ (x : Recs). planned PlanExpr.ListPredicate (kind, (N (suc i), (pred, tt))) ∷ x) (append-nil (renderOf N A ts) ∙ plain-render N A ts));
-        below = λ N k b. (plain-below N k ts b, tt);
+        below = λ N lo k b. (plain-below N lo k ts b, tt);
       }
-  predicate (node expr line Expr.Unresolved f kids) hd e = let z = number-at room (hd .1) in absurd (omega arith)
-  predicate (node expr line Expr.Undesugared f kids) hd e = let z = number-at room (hd .1) in absurd (omega arith)
 
-naming-run : {sheet : Bytes} {a b : List ℕ} {d base i e id : ℕ} {m m′ : Mem} (t : Tree expr) (o : Naming sheet a b d i id t) (W : Written) (s : State) (rest′ : List ℕ) (r : Numbered) →
-    base ≤ secondPass → i < maxRecords → i + 1 ≤ e → Given sheet a b W s (mapVar id) (base + suc i) m rest′ r → Ran sheet a b ((base + suc i, base + suc i + 1) ∷ W)
-    (carriedPiece (o .list)) base (suc (i + 1)) (suc e) (mapVar id s .1) (mem (r .ctx) (m .ops) rest′) m′ → Ran sheet a b W (exprPiece t) base (suc i) (suc e) s m m′
+  pub predicate : (t : Tree expr) → Held sheet a b t d i → cell a b i kindAt ≡ listPredicateKind → Naming sheet a b d i (cell a b i listPredicateVarAt) t
+  unfolding exprNumber
+  predicate t hd e = by-expr sheet d i room (λ t. Naming sheet a b d i (cell a b i listPredicateVarAt) t) Expr.ListPredicate predicate-of t hd e
+
+naming-run : {sheet : Bytes} {a b : List ℕ} {first : ℕ} {d base i e id : ℕ} {m m′ : Mem} (t : Tree expr) (o : Naming sheet a b d i id t) (W : Written) (s : State) (rest′ : List ℕ) (r : Numbered) →
+    base ≤ secondPass → i < maxRecords → i + 1 ≤ e → Given (side sheet a b first) W s (mapVar id) (base + suc i) m rest′ r → Ran (side sheet a b first) ((base + suc i, base + suc i + 1) ∷ W)
+    (carriedPiece (o .list)) base (suc (i + 1)) (suc e) (mapVar id s .1) (mem (r .ctx) (m .ops) rest′) m′ → Ran (side sheet a b first) W (exprPiece t) base (suc i) (suc e) s m m′
 naming-run {base = base} {i = i} {e = e} {id = id} {m = m} t o W s rest′ r lb li le g p =
     let u : Sub ((base + suc (i + 1), base + suc e) ∷ (base + suc i, base + suc i + 1) ∷ W) ((base + suc i, base + suc e) ∷ W) = sub-within (omega arith) (le-refl _) (sub-within (le-refl _) (omega arith) (sub-more (base + suc i, base + suc e) W)) in
     record {
@@ -94,7 +89,7 @@ naming-run {base = base} {i = i} {e = e} {id = id} {m = m} t o W s rest′ r lb 
           let f′ = narrow u (rw (o .lower s) at f) in
           let z : N (base + suc i) ≡ mapVar id s .0 = back (p .to) f′ .notes .at (base + suc i) (omega arith) (inl (omega arith, omega arith)) ∙ g .noted ∙ g .number in
           rw (o .shown (shift N base) A, o .lower s, z) (ap (λ (x : Recs). o .head (mapVar id s .0) ∷ x) (p .shown N A f′));
-      below = λ N A f. o .below (shift N base) _ (p .below N A (narrow u (rw (o .lower s) at f)));
+      below = λ N A f. o .below (shift N base) _ _ (p .below N A (narrow u (rw (o .lower s) at f)));
     }
 
 module _ {a b : List ℕ} {n d base i e id place : ℕ} {c : LowerCtx} {os rest rest′ : List ℕ} {r : Numbered} {m′ : Mem} (see : (sheet : Bytes) (t : Tree expr) → Held sheet a b t d i →
@@ -113,14 +108,14 @@ module _ {a b : List ℕ} {n d base i e id place : ℕ} {c : LowerCtx} {os rest 
     moved =
         let v = p .moved in
         let w = nm .issued in
-        record { up = omega (arith, v .up); here = v .here; few = omega (arith, v .few, w .ops); low = omega (arith, v .low, w .low); met = omega (arith, v .met, w .met); in-ops = v .in-ops; in-rest = v .in-rest ∙ lr; index = λ x. v .index (w .index x) };
+        record { up = omega (arith, v .up); here = v .here; grow = omega (arith, v .grow, w .ops); few = omega (arith, v .few, w .ops); low = omega (arith, v .low, w .low); met = omega (arith, v .met, w .met); in-ops = v .in-ops; in-rest = v .in-rest ∙ lr; index = λ x. v .index (w .index x) };
     next = naming-next;
-    run = λ sheet t hd W s q bl.
+    run = λ sheet {first} t hd W s q bl.
         let o = see sheet t hd in
         let u = p .moved .up in
         let p′ : LowersExprs a b (o .n) 0 (d - 1) base (i + 1) e (mem (r .ctx) os rest′) m′ = rw (en ∙ o .total) at p in
         let ep′ : place ≡ base + suc i = omega arith in
-        let g : Given sheet a b W s (mapVar id) (base + suc i) (mem c os rest) rest′ r = number-to (mapVar id) (base + suc i) (mem c os rest) rest′ r q (rw ep′ at nm) (blank-within (le-refl _) (omega arith) bl) in
+        let g : Given (side sheet a b first) W s (mapVar id) (base + suc i) (mem c os rest) rest′ r = number-to (mapVar id) (base + suc i) (mem c os rest) rest′ r q (rw ep′ at nm) (blank-within (le-refl _) (omega arith) bl) in
         naming-run t o W s rest′ r lb li u g (p′ .run sheet (o .list) (o .held) _ _ (g .to .rep) (blank-behind (omega arith) (blank-within (omega arith) (le-refl _) bl)));
   }
 
@@ -137,16 +132,12 @@ pub record Matched (sheet : Bytes) (a b : List ℕ) (d i : ℕ) (t : Tree expr) 
   pub sized : size t ≡ suc (sizeOf parts)
   pub lower : (s : State) → lowerExpr t s ≡ (planned PlanExpr.Exists tt ∷ at (partsL parts s .1 .ops) (partsL parts s .0), partsL parts s .1)
   pub shown : (N : Render.Notes) (A : Ops) → render N A t ≡ planned PlanExpr.Exists tt ∷ A (N (suc i))
-  pub below : (N : Render.Notes) (k : ℕ) → N (suc i) < k → Below N k t
+  pub below : (N : Render.Notes) (lo k : ℕ) → lo ≤ N (suc i) → N (suc i) < k → Below N lo k t
 
 module _ {sheet : Bytes} {a b : List ℕ} {d i : ℕ} (room : Roomy a b) where
-  pub pattern : (t : Tree expr) → Held sheet a b t d i → cell a b i kindAt ≡ patKind → Matched sheet a b d i t
-  unfolding Held size exprNumber lowerExpr fold made exprStep lowerMatchPattern optionalJoin copy _>>=_ ret render recsOver exprRecs exprRest Below belowIn copiesBelow fieldsOf fieldOf
-  pattern (node expr line (Expr.Over h) f kids) hd e = let z = number-at room (hd .1) in let l = same-low h in absurd (omega arith)
-  pattern (node expr line Expr.Var f kids) hd e = let z = number-at room (hd .1) in absurd (omega arith)
-  pattern (node expr line Expr.Map f kids) hd e = let z = number-at room (hd .1) in absurd (omega arith)
-  pattern (node expr line Expr.Call f kids) hd e = let z = number-at room (hd .1) in absurd (omega arith)
-  pattern (node expr line Expr.PatternPredicate (n, t) (ts ▸ end)) hd e = record {
+  pattern-of : Opens sheet a b d i expr (λ t. Matched sheet a b d i t) Expr.PatternPredicate
+  unfolding Held size lowerExpr fold made exprStep lowerMatchPattern optionalJoin copy _>>=_ ret render recsOver exprRecs exprRest Below belowIn copiesBelow fieldsOf fieldOf
+  pattern-of line (n, t) (ts ▸ end) hd = record {
     n = n;
     parts = ts;
     total = sym (ap (λ (x : Fields (exprForms Expr.PatternPredicate)). x .0) (shown room (hd .1) .fields));
@@ -154,11 +145,12 @@ module _ {sheet : Bytes} {a b : List ℕ} {d i : ℕ} (room : Roomy a b) where
     sized = omega arith;
     lower = λ s. refl;
     shown = λ N A. rw (hd .0);
-    below = λ N k l. rw (hd .0) l;
+    below = λ N lo k l h. rw (hd .0) (l, h);
   }
-  pattern (node expr line Expr.ListPredicate f kids) hd e = let z = number-at room (hd .1) in absurd (omega arith)
-  pattern (node expr line Expr.Unresolved f kids) hd e = let z = number-at room (hd .1) in absurd (omega arith)
-  pattern (node expr line Expr.Undesugared f kids) hd e = let z = number-at room (hd .1) in absurd (omega arith)
+
+  pub pattern : (t : Tree expr) → Held sheet a b t d i → cell a b i kindAt ≡ patKind → Matched sheet a b d i t
+  unfolding exprNumber
+  pattern t hd e = by-expr sheet d i room (λ t. Matched sheet a b d i t) Expr.PatternPredicate pattern-of t hd e
 
 module _ {a b : List ℕ} {n d base i e k place : ℕ} {rest′ : List ℕ} {m m₁ : Mem} (see : (sheet : Bytes) (t : Tree expr) → Held sheet a b t d i → Matched sheet a b d i t)
     (en : n ≡ cell a b i patPartsAt) (lb : base ≤ secondPass) (li : i < maxRecords) (ep : place ≡ base + (i + 1)) (p : LowersParts a b n (d - 1) base i e k m m₁)
@@ -171,8 +163,8 @@ module _ {a b : List ℕ} {n d base i e k place : ℕ} {rest′ : List ℕ} {m m
       let w = o .sized in
       omega arith
 
-  pattern-run : (sheet : Bytes) (t : Tree expr) → Held sheet a b t d i → (W : Written) (s : State) → Rep sheet a b W s m → Blank W (base + suc i) (base + suc e) → Ran sheet a b W (exprPiece t) base (suc i) (suc e) s m (mem (m₁ .ctx) (m₁ .ops) rest′)
-  pattern-run sheet t hd W s q bl =
+  pattern-run : (sheet : Bytes) {first : ℕ} (t : Tree expr) → Held sheet a b t d i → (W : Written) (s : State) → Rep (side sheet a b first) W s m → Blank W (base + suc i) (base + suc e) → Ran (side sheet a b first) W (exprPiece t) base (suc i) (suc e) s m (mem (m₁ .ctx) (m₁ .ops) rest′)
+  pattern-run sheet {first} t hd W s q bl =
       let o = see sheet t hd in
       let v = p .moved .up in
       let p′ : LowersParts a b (o .n) (d - 1) base i e k m m₁ = rw (en ∙ o .total) at p in
@@ -188,12 +180,12 @@ module _ {a b : List ℕ} {n d base i e k place : ℕ} {rest′ : List ℕ} {m m
         shown = λ N A f.
             let f′ = rw (o .lower s) at f in
             rw (o .shown (shift N base) A, o .lower s, noted N A f′) (ap (λ (x : Recs). planned PlanExpr.Exists tt ∷ x) (f′ .ops k (p .low) ∙ ap (λ (x : ℕ). at (partsL (o .parts) s .1 .ops) x) (g .root)));
-        below = λ N A f. o .below (shift N base) _ (rw (noted N A (rw (o .lower s) at f)) (p .low));
+        below = λ N A f. (let z = noted N A (rw (o .lower s) at f) in o .below (shift N base) first (m₁ .ctx .ops) (rw z (le-trans (q .from) (p .since))) (rw z (p .low)));
       }
 
   pub pattern-law : LowersExpr a b d base i e m (mem (m₁ .ctx) (m₁ .ops) rest′)
   pattern-law = record {
-    moved = let v = p .moved in record { up = v .up; here = v .here; few = v .few; low = v .low; met = v .met; in-ops = v .in-ops; in-rest = lr ∙ v .in-rest; index = λ x. rw (nt .vars) (v .index x) };
+    moved = let v = p .moved in record { up = v .up; here = v .here; grow = v .grow; few = v .few; low = v .low; met = v .met; in-ops = v .in-ops; in-rest = lr ∙ v .in-rest; index = λ x. rw (nt .vars) (v .index x) };
     next = pattern-next;
     run = pattern-run;
   }

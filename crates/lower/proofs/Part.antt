@@ -13,7 +13,7 @@ use Rattle.words.specs.Count.{Starts, Ends}
 use Rattle.lower.specs.Rep.{State, Mem}
 use Rattle.lower.specs.Pieces.{SomeTree}
 use Rattle.lower.specs.Patterns.{partL, LowersPart}
-use Rattle.lower.specs.Chains.{stepsOf, chainL, LowersChain, ReadAt, ElementAt, node-at, rel-at}
+use Rattle.lower.specs.Chains.{specialElements, stepsOf, chainL, LowersChain, ReadAt, ElementAt, node-at, rel-at}
 use Rattle.lower.specs.declared.Element.{Element}
 use Rattle.lower.specs.declared.Element.the-variants as element
 use Rattle.lower.specs.declared.Read.{Read}
@@ -56,6 +56,7 @@ rel-read (rel-at y e k p) h = let z = ap readOf (sym e ∙ h) in record { is = k
 pub chain-part : {a b : List ℕ} {d base i e k : ℕ} {m m′ : Mem} → ((sheet : Bytes) (t : Tree patternPart) → Held sheet a b t d i → (s : State) → partL t s ≡ chainL t s) → LowersChain a b d base i e k m m′ → LowersPart a b d base i e k m m′
 chain-part same p = record {
   moved = p .moved;
+  since = p .since;
   low = p .low;
   next = p .next;
   run = λ sheet t hd W s r bl.
@@ -71,7 +72,7 @@ module _ {a b : List ℕ} (d i : ℕ) (room : Roomy a b) where
   by-shape : (sheet : Bytes) (t : Tree patternPart) (hd : Held sheet a b t d i) → shapeOf (stepsOf (a-part room t hd .elements)) ≡ other → (s : State) → partL t s ≡ chainL t s
   by-shape sheet t hd e s = let v = a-part room t hd in v .shaped s ∙ other-part _ (cell a b i partShortestAt) _ s e ∙ sym (v .chain s)
 
-  pub not-three : ((cell a b i partElementsAt ≡ 3) → ⊥) → (sheet : Bytes) (t : Tree patternPart) → Held sheet a b t d i → (s : State) → partL t s ≡ chainL t s
+  pub not-three : ((cell a b i partElementsAt ≡ specialElements) → ⊥) → (sheet : Bytes) (t : Tree patternPart) → Held sheet a b t d i → (s : State) → partL t s ≡ chainL t s
   not-three h sheet t hd s = let v = a-part room t hd in by-shape sheet t hd (shape-not-three _ (λ e. h (sym (v .many) ∙ sym (steps-length (v .elements)) ∙ e))) s
 
 -- three elements of another shape
@@ -87,7 +88,7 @@ shape-third : (ss : List Step) (x y z : Step) (n : NodeStep) (r q : RelStep) →
 unfolding shapeOf
 shape-third ss x y z n r q e ex ey ez = rw (e, ex, ey, ez)
 
-module _ {a b : List ℕ} (d i : ℕ) {rel : ℕ} (room : Roomy a b) (k6 : cell a b i partElementsAt ≡ 3) (na : Ends a b (i + 1) rel) where
+module _ {a b : List ℕ} (d i : ℕ) {rel : ℕ} (room : Roomy a b) (k6 : cell a b i partElementsAt ≡ specialElements) (na : Ends a b (i + 1) rel) where
   -- where the three stand
   record Stand (sheet : Bytes) (t : Tree patternPart) (v : IsPart sheet a b d i t) : Type 0 where
     trees : Three (v .elements)
@@ -144,7 +145,7 @@ pub low-at : {a b : List ℕ} {d i : ℕ} → SomeTree a b patternElement d i �
 low-at {a} {b} {d} {i} x = let f = tree-fits (x .sheet) a b (x .tree) d i (x .held) in omega arith
 
 -- the first of three elements
-pub first-some : {a b : List ℕ} (d i : ℕ) (room : Roomy a b) → cell a b i partElementsAt ≡ 3 → SomeTree a b patternPart d i → SomeTree a b patternElement (d - 1) (i + 1)
+pub first-some : {a b : List ℕ} (d i : ℕ) (room : Roomy a b) → cell a b i partElementsAt ≡ specialElements → SomeTree a b patternPart d i → SomeTree a b patternElement (d - 1) (i + 1)
 first-some {a} {b} d i room k6 x =
     let v = a-part room (x .tree) (x .held) in
     let th = three (v .elements) (v .many ∙ k6) in

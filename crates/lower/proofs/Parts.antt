@@ -15,6 +15,7 @@ use Rattle.context.specs.Tables.{Pushed}
 use Rattle.context.specs.declared.LowerCtx.{LowerCtx}
 use Rattle.context.specs.declared.Numbered.{Numbered}
 use Rattle.context.specs.Ops.{sourceAllOp}
+use Rattle.lower.specs.Side.{side}
 use Rattle.lower.specs.Shows.{InBounds, shows-all}
 use Rattle.lower.specs.Rep.{State, Mem, mem, Written, Blank, Rep, Rooted, RoomFor, Moved}
 use Rattle.lower.specs.Pieces.{SomeTree}
@@ -39,20 +40,21 @@ parts-def t ts s = further-def (partL t s .0) ts (partL t s .1)
 
 pub record LowersFrom (a b : List ℕ) (n d base i e k₀ k : ℕ) (m m′ : Mem) : Type 0 where
   pub moved : Moved i e m m′
+  pub since : (o : ℕ) → o ≤ k₀ → o ≤ m .ctx .ops → o ≤ k
   pub low : k < m′ .ctx .ops
   pub next : (sheet : Bytes) (ts : Trees patternPart n) → HeldOf sheet a b ts d i → e ≡ i + sizeOf ts
-  pub run : (sheet : Bytes) (ts : Trees patternPart n) → HeldOf sheet a b ts d i → (W : Written) (s : State) → Rep sheet a b W s m → Blank W (base + suc i) (base + suc e) → Rooted sheet a b W (fromL k₀ ts) k base (suc i) (suc e) s m m′
+  pub run : (sheet : Bytes) {first : ℕ} (ts : Trees patternPart n) → HeldOf sheet a b ts d i → (W : Written) (s : State) → Rep (side sheet a b first) W s m → Blank W (base + suc i) (base + suc e) → Rooted (side sheet a b first) W (fromL k₀ ts) k base (suc i) (suc e) s m m′
 
 none-size : (i : ℕ) (ts : Trees patternPart 0) → i ≡ i + sizeOf ts
 unfolding size
 none-size i []ᵗ = omega arith
 
-none-run : {sheet : Bytes} {a b : List ℕ} (base i k : ℕ) (m : Mem) (ts : Trees patternPart 0) (W : Written) (s : State) → k < m .ctx .ops → Rep sheet a b W s m → Rooted sheet a b W (fromL k ts) k base (suc i) (suc i) s m m
+none-run : {sheet : Bytes} {a b : List ℕ} {first : ℕ} (base i k : ℕ) (m : Mem) (ts : Trees patternPart 0) (W : Written) (s : State) → k < m .ctx .ops → Rep (side sheet a b first) W s m → Rooted (side sheet a b first) W (fromL k ts) k base (suc i) (suc i) s m m
 unfolding fromL ret
 none-run base i k m []ᵗ W s l r = record { to = to-wider (sub-more (base + suc i, base + suc i) W) (to-refl r); root = refl; low = l }
 
 pub from-nil : (a b : List ℕ) (d base i k : ℕ) (m : Mem) → i ≤ maxRecords → k < m .ctx .ops → LowersFrom a b 0 d base i i k k m m
-from-nil a b d base i k m h l = record { moved = moved-refl h; low = l; next = λ sheet ts hd. none-size i ts; run = λ sheet ts hd W s r bl. none-run base i k m ts W s l r }
+from-nil a b d base i k m h l = record { moved = moved-refl h; since = λ o l₀ l₁. l₀; low = l; next = λ sheet ts hd. none-size i ts; run = λ sheet ts hd W s r bl. none-run base i k m ts W s l r }
 
 module _ {a b : List ℕ} {n d base i j e k₁ k : ℕ} {m m₁ m₂ : Mem} (p : LowersPart a b d base i j k₁ m m₁) (q : LowersFrom a b n d base j e k₁ k m₁ m₂) where
   both-next : (sheet : Bytes) (ts : Trees patternPart (suc n)) → HeldOf sheet a b ts d i → e ≡ i + sizeOf ts
@@ -63,26 +65,26 @@ module _ {a b : List ℕ} {n d base i j e k₁ k : ℕ} {m m₁ m₂ : Mem} (p :
       omega arith
 
 module _ {a b : List ℕ} {n d base i j e k₁ k : ℕ} {m m₁ m₂ : Mem} (p : LowersPart a b d base i j k₁ m m₁) (q : LowersFrom a b n d base j e k₁ k m₁ m₂) where
-  both-run : (sheet : Bytes) (t : Tree patternPart) (ts : Trees patternPart n) → HeldOf sheet a b (t ∷ᵗ ts) d i → (W : Written) (s : State) → Rep sheet a b W s m → Blank W (base + suc i) (base + suc e) → Rooted sheet a b W (λ s. fromL (partL t s .0) ts (partL t s .1)) k base (suc i) (suc e) s m m₂
+  both-run : (sheet : Bytes) {first : ℕ} (t : Tree patternPart) (ts : Trees patternPart n) → HeldOf sheet a b (t ∷ᵗ ts) d i → (W : Written) (s : State) → Rep (side sheet a b first) W s m → Blank W (base + suc i) (base + suc e) → Rooted (side sheet a b first) W (λ s. fromL (partL t s .0) ts (partL t s .1)) k base (suc i) (suc e) s m m₂
   unfolding Held
-  both-run sheet t ts h W s r bl =
+  both-run sheet {first} t ts h W s r bl =
       let x = p .next sheet t (h .0) in
       let u₁ = p .moved .up in
       let u₂ = q .moved .up in
       let y = p .run sheet t (h .0) W s r (blank-within (le-refl _) (omega arith) bl) in
       let z = q .run sheet ts (rw x (h .1)) _ _ (y .to .rep) (blank-behind (le-refl _) (blank-within (omega arith) (le-refl _) bl)) in
-      let z′ : Rooted sheet a b ((base + suc i, base + suc j) ∷ W) (fromL (partL t s .0) ts) k base (suc j) (suc e) (partL t s .1) m₁ m₂ = rw (y .root) at z in
+      let z′ : Rooted (side sheet a b first) ((base + suc i, base + suc j) ∷ W) (fromL (partL t s .0) ts) k base (suc j) (suc e) (partL t s .1) m₁ m₂ = rw (y .root) at z in
       record { to = to-wider (sub-within (omega arith) (le-refl _) (sub-within (le-refl _) (omega arith) (sub-more (base + suc i, base + suc e) W))) (to-then (y .to) (z′ .to)); root = z′ .root; low = z′ .low }
 
 module _ {a b : List ℕ} {n d base i j e k₁ k : ℕ} {m m₁ m₂ : Mem} (k₀ : ℕ) (p : LowersPart a b d base i j k₁ m m₁) (q : LowersFrom a b n d base j e k₁ k m₁ m₂) where
-  from-run : (sheet : Bytes) (ts : Trees patternPart (suc n)) → HeldOf sheet a b ts d i → (W : Written) (s : State) → Rep sheet a b W s m → Blank W (base + suc i) (base + suc e) → Rooted sheet a b W (fromL k₀ ts) k base (suc i) (suc e) s m m₂
+  from-run : (sheet : Bytes) {first : ℕ} (ts : Trees patternPart (suc n)) → HeldOf sheet a b ts d i → (W : Written) (s : State) → Rep (side sheet a b first) W s m → Blank W (base + suc i) (base + suc e) → Rooted (side sheet a b first) W (fromL k₀ ts) k base (suc i) (suc e) s m m₂
   unfolding fromL
   from-run sheet (t ∷ᵗ ts) h W s r bl = both-run p q sheet t ts h W s r bl
 
   pub from-cons : LowersFrom a b (suc n) d base i e k₀ k m m₂
-  from-cons = record { moved = moved-then (p .moved) (q .moved); low = q .low; next = both-next p q; run = from-run }
+  from-cons = record { moved = moved-then (p .moved) (q .moved); since = λ o l₀ l₁. q .since o (omega (arith, p .since)) (omega (arith, p .moved .grow)); low = q .low; next = both-next p q; run = from-run }
 
-  first-run : (sheet : Bytes) (ts : Trees patternPart (suc n)) → HeldOf sheet a b ts d i → (W : Written) (s : State) → Rep sheet a b W s m → Blank W (base + suc i) (base + suc e) → Rooted sheet a b W (partsL ts) k base (suc i) (suc e) s m m₂
+  first-run : (sheet : Bytes) {first : ℕ} (ts : Trees patternPart (suc n)) → HeldOf sheet a b ts d i → (W : Written) (s : State) → Rep (side sheet a b first) W s m → Blank W (base + suc i) (base + suc e) → Rooted (side sheet a b first) W (partsL ts) k base (suc i) (suc e) s m m₂
   first-run sheet (t ∷ᵗ ts) h W s r bl =
       let x = both-run p q sheet t ts h W s r bl in
       let z = parts-def t ts s in
@@ -90,15 +92,15 @@ module _ {a b : List ℕ} {n d base i j e k₁ k : ℕ} {m m₁ m₂ : Mem} (k�
 
 -- the first part, and those behind it
 pub first-law : {a b : List ℕ} {n d base j e k₁ k : ℕ} {m m₁ m₂ : Mem} (i : ℕ) → LowersPart a b d base (i + 1) j k₁ m m₁ → LowersFrom a b n d base j e k₁ k m₁ m₂ → LowersParts a b (suc n) d base i e k m m₂
-first-law i p q = record { moved = moved-within (omega arith) (le-refl _) (q .moved .here) (moved-then (p .moved) (q .moved)); low = q .low; next = both-next p q; run = first-run 0 p q }
+first-law i p q = record { moved = moved-within (omega arith) (le-refl _) (q .moved .here) (moved-then (p .moved) (q .moved)); since = q .since _ (p .since) (p .moved .grow); low = q .low; next = both-next p q; run = first-run 0 p q }
 
 -- ── no parts ──
 
 pub all-bounded : (number : ℕ) → InBounds (sourceAllOp number)
 all-bounded number = record { shallow = omega arith; near = omega arith; low = omega arith; far = λ e. absurd (omega arith); flagged = λ e. absurd (omega arith) }
 
-module _ {a b : List ℕ} (d base i : ℕ) (m : Mem) (f : Numbered) (c : LowerCtx) (os : List ℕ) (li : i < maxRecords) (fr : (f .number ≡ m .ctx .next) × (f .ctx .ops ≡ m .ctx .ops) × (f .ctx .next ≡ m .ctx .next + 1) × (f .ctx .mapped ≡ m .ctx .mapped)) (ps : Pushed (f .ctx) c (m .ops) os (sourceAllOp (f .number))) (lo : length os ≡ length (m .ops)) where
-  no-run : (sheet : Bytes) (ts : Trees patternPart 0) (W : Written) (s : State) → Rep sheet a b W s m → Rooted sheet a b W (partsL ts) (m .ctx .ops) base (suc (i + 1)) (suc (i + 1)) s m (mem c os (m .rest))
+module _ {a b : List ℕ} (d base i : ℕ) (m : Mem) (f : Numbered) (c : LowerCtx) (os : List ℕ) (li : i < maxRecords) (fr : (f .number ≡ m .ctx .numbers) × (f .ctx .ops ≡ m .ctx .ops) × (f .ctx .numbers ≡ m .ctx .numbers + 1) × (f .ctx .mapped ≡ m .ctx .mapped)) (ps : Pushed (f .ctx) c (m .ops) os (sourceAllOp (f .number))) (lo : length os ≡ length (m .ops)) where
+  no-run : (sheet : Bytes) {first : ℕ} (ts : Trees patternPart 0) (W : Written) (s : State) → Rep (side sheet a b first) W s m → Rooted (side sheet a b first) W (partsL ts) (m .ctx .ops) base (suc (i + 1)) (suc (i + 1)) s m (mem c os (m .rest))
   unfolding lowerParts toList fold _>>=_ push
   no-run sheet []ᵗ W s r =
       let x = fresh-to m (f .ctx) r (fr .1) (fr .2) (fr .3) in
@@ -112,7 +114,8 @@ module _ {a b : List ℕ} (d base i : ℕ) (m : Mem) (f : Numbered) (c : LowerCt
       let e₂ = fr .2 in
       let e₃ = fr .3 in
       record {
-        moved = record { up = omega arith; here = omega arith; few = omega (arith, ps .count); low = omega (arith, ps .next); met = omega (arith, ps .mapped); in-ops = lo; in-rest = refl; index = λ x. rw (ps .mapped, fr .3) x };
+        moved = record { up = omega arith; here = omega arith; grow = omega (arith, ps .count); few = omega (arith, ps .count); low = omega (arith, ps .numbers); met = omega (arith, ps .mapped); in-ops = lo; in-rest = refl; index = λ x. rw (ps .mapped, fr .3) x };
+        since = le-refl _;
         low = omega (arith, ps .count);
         next = λ sheet ts hd. none-size (i + 1) ts;
         run = λ sheet ts hd W s r bl. no-run sheet ts W s r;
@@ -125,7 +128,7 @@ pub record Left (a b : List ℕ) (d base : ℕ) (Done : ℕ → ℕ → Mem → 
   pub some : SomeTrees a b patternPart k d i
   pub good : RoomFor d i m
   pub low : root < m .ctx .ops
-  pub rest : (e root′ : ℕ) (m′ : Mem) → LowersFrom a b k d base i e root root′ m m′ → Done e root′ m′
+  pub finish : (e root′ : ℕ) (m′ : Mem) → LowersFrom a b k d base i e root root′ m m′ → Done e root′ m′
 
 pub child-by : {a b : List ℕ} {d : ℕ} (i : ℕ) (sheet : Bytes) {k : ℕ} (ts : Trees patternPart k) → ((k ≡ 0) → ⊥) → HeldOf sheet a b ts d i → SomeTree a b patternPart d i
 unfolding Held
@@ -149,10 +152,10 @@ module _ {a b : List ℕ} {d base : ℕ} {Done : ℕ → ℕ → Mem → Type 0}
 
   pub again : {k i j root k₁ : ℕ} {m m₁ : Mem} → ((k ≡ 0) → ⊥) → Left a b d base Done k i root m → LowersPart a b d base i j k₁ m m₁ → Left a b d base Done (k - 1) j k₁ m₁
   again {k = zero} h p q = absurd (h refl)
-  again {k = suc k} {root = root} h p q = less (record { some = behind (p .some .sheet) (p .some .trees) q (p .some .held); good = good-after (q .moved) (p .good); low = q .low; rest = λ e k′ m′ r. p .rest e k′ m′ (from-cons root q r) })
+  again {k = suc k} {root = root} h p q = less (record { some = behind (p .some .sheet) (p .some .trees) q (p .some .held); good = good-after (q .moved) (p .good); low = q .low; finish = λ e k′ m′ r. p .finish e k′ m′ (from-cons root q r) })
 
   pub done : {k i root : ℕ} {m : Mem} → k ≡ 0 → Left a b d base Done k i root m → Done i root m
-  done {k} {i} {root} {m} h p = p .rest i root m (rw h (from-nil a b d base i root m (p .good .here) (p .low)))
+  done {k} {i} {root} {m} h p = p .finish i root m (rw h (from-nil a b d base i root m (p .good .here) (p .low)))
 
 -- the first part and the loop behind it
 pub first-done : {a b : List ℕ} {n d base j e k₁ k : ℕ} {m m₁ m₂ : Mem} (i : ℕ) → ((n ≡ 0) → ⊥) → LowersPart a b d base (i + 1) j k₁ m m₁ → LowersFrom a b (n - 1) d base j e k₁ k m₁ m₂ → LowersParts a b n d base i e k m m₂
@@ -160,4 +163,4 @@ first-done {n = zero} i h p q = absurd (h refl)
 first-done {n = suc n} i h p q = let z : suc n - 1 ≡ n = omega arith in first-law i p (rw z at q)
 
 pub from-left : {a b : List ℕ} {n d base j k₁ : ℕ} {m m₁ : Mem} (i : ℕ) → ((n ≡ 0) → ⊥) → SomeTrees a b patternPart n d (i + 1) → RoomFor d (i + 1) m → LowersPart a b d base (i + 1) j k₁ m m₁ → Left a b d base (λ e k m′. LowersFrom a b (n - 1) d base j e k₁ k m₁ m′) (n - 1) j k₁ m₁
-from-left i h x g p = record { some = some-behind h x p; good = good-after (p .moved) g; low = p .low; rest = λ e k m′ q. q }
+from-left i h x g p = record { some = some-behind h x p; good = good-after (p .moved) g; low = p .low; finish = λ e k m′ q. q }

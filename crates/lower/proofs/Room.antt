@@ -25,14 +25,14 @@ use Rattle.lower.specs.declared.Chain.{Chain}
 use Rattle.model.specs.Tree.{Tree, node}
 use Rattle.words.specs.Words.{cell, Roomy, optionOf}
 use Rattle.words.specs.Held.{Held, size}
-use Rattle.context.specs.Tables.{Pushed, Issued, CanNumber, Numbers, varsAt, maxCount}
+use Rattle.context.specs.Tables.{Pushed, Issued, CanNumber, Numbers, varsAt, maxCount, deepest}
 use Rattle.context.specs.declared.op.Op.{Op}
 use Rattle.context.specs.declared.LowerCtx.{LowerCtx}
 use Rattle.context.specs.declared.Numbered.{Numbered}
 use Rattle.model.specs.Lower.{Lowering, endpointVar}
 use Rattle.context.specs.Ops.{Fits}
 use Rattle.lower.specs.Rep.{atPlace, Mem, mem, RoomFor, maxBefore}
-use Rattle.model.specs.Call.{maxDepth, workWords}
+use Rattle.model.specs.Call.{workWords}
 use Rattle.words.specs.Words.{maxRecords}
 use Rattle.context.specs.Tables.{secondPass}
 use Rattle.context.specs.declared.At.{At}
@@ -54,7 +54,7 @@ deep {a} {b} {d = d} {i = i} x = deep-by (x .sheet) a b (x .tree) d i (x .held) 
 pub record Bounds (at : At) : Type 0 where
   pub low : at .i < maxRecords
   pub deep : 1 ≤ at .left
-  pub shallow : at .left ≤ maxDepth
+  pub shallow : at .left ≤ deepest
   pub near : at .base ≤ secondPass
 
 pub bounds : {s : Sort} {a b : List ℕ} {at : At} {m : Mem} → TreeAsked s a b at m → Bounds at
@@ -87,13 +87,13 @@ module _ {d i : ℕ} {c : LowerCtx} {os rs : List ℕ} (g : RoomFor d i (mem c o
 
   -- an operator, and then what is behind the record
   pub pushed-on : {x : Op} {c′ : LowerCtx} {os′ : List ℕ} (d′ j : ℕ) → Pushed c c′ os os′ x → length os′ ≡ length os → d′ ≤ d → i + 1 ≤ j → j ≤ maxRecords → RoomFor d′ j (mem c′ os′ rs)
-  pushed-on d′ j p l ld lj h = record { few = let x = g .few in let y = p .count in omega arith; low = let x = g .low in let y = p .next in omega arith; met = let x = g .met in let y = p .mapped in omega arith; here = h; in-ops = rw l (g .in-ops); in-rest = g .in-rest; index = rw (p .mapped) (g .index) }
+  pushed-on d′ j p l ld lj h = record { few = let x = g .few in let y = p .count in omega arith; low = let x = g .low in let y = p .numbers in omega arith; met = let x = g .met in let y = p .mapped in omega arith; here = h; in-ops = rw l (g .in-ops); in-rest = g .in-rest; index = rw (p .mapped) (g .index) }
 
 pub good-at : {d i j : ℕ} {m : Mem} → i ≡ j → RoomFor d i m → RoomFor d j m
 good-at e g = rw e at g
 
 -- a place's numbers fit into words
-pub fits : {base i d : ℕ} → base ≤ secondPass → i ≤ maxRecords → d ≤ maxDepth → Fits (atPlace base i d)
+pub fits : {base i d : ℕ} → base ≤ secondPass → i ≤ maxRecords → d ≤ deepest → Fits (atPlace base i d)
 fits lb li ld = record { base = omega arith; i = omega arith; left = omega arith }
 
 pub few-ops : {d i : ℕ} {m : Mem} → RoomFor d i m → m .ctx .ops ≤ maxBefore + 2 * maxRecords
@@ -140,9 +140,9 @@ rel-end {a} {b} room d i {base} {e} {c} {os} {rest} {m′} k p sheet t hd =
     omega arith
 
 -- behind a source of everything, if there is one
-module _ {L : Lowering ℕ} {k d i : ℕ} {c c′ : LowerCtx} {os os′ rs : List ℕ} (g : RoomFor d i (mem c os rs)) (q : OrSource L k (mem c os rs) (mem c′ os′ rs)) where
+module _ {o : ℕ} {L : Lowering ℕ} {k d i : ℕ} {c c′ : LowerCtx} {os os′ rs : List ℕ} (g : RoomFor d i (mem c os rs)) (q : OrSource o L k (mem c os rs) (mem c′ os′ rs)) where
   pub source-number : (base place j : ℕ) → base ≤ secondPass → j ≤ maxRecords → place ≡ base + j → CanNumber c′ place rs
-  source-number base place j lb lj e = record { met = omega (arith, g .met, g .here, q .mapped); low = omega (arith, g .low, g .here, q .next); noted = omega arith; long = g .in-rest; index = rw (q .mapped) (g .index) }
+  source-number base place j lb lj e = record { met = omega (arith, g .met, g .here, q .mapped); low = omega (arith, g .low, g .here, q .numbers); noted = omega arith; long = g .in-rest; index = rw (q .mapped) (g .index) }
 
   pub source-few : (c′ .ops ≤ maxBefore + 2 * maxRecords + 1) × (k ≤ maxBefore + 2 * maxRecords)
   source-few = (let x = g .few in let y = g .here in let z = q .few in omega arith, let x = g .few in let y = g .here in let z = q .few in let w = q .low in omega arith)

@@ -16,17 +16,18 @@ use Rattle.model.specs.Tree.{Tree, toList, foldOf}
 use Rattle.model.specs.Lower.{Recs, Lowered, made, push, endpointVar, propsOf, shapeOf, NodeStep, RelStep, Step, ofNode, ofRel, nodeRelNode}
 use Rattle.words.specs.Words.{Roomy, cell, optionOf, maxRecords}
 use Rattle.words.specs.Held.{Held, size}
-use Rattle.context.specs.Tables.{Pushed, Numbers, secondPass}
+use Rattle.context.specs.Tables.{Pushed, Numbers, secondPass, deepest}
 use Rattle.context.specs.declared.LowerCtx.{LowerCtx}
 use Rattle.context.specs.declared.Numbered.{Numbered}
 use Rattle.context.specs.Ops.{shortestPathOp}
 use Rattle.words.specs.Count.{Ends}
+use Rattle.lower.specs.Side.{side}
 use Rattle.lower.specs.Render.{renderOf}
 use Rattle.lower.specs.Shows.{shift, InBounds, shows-short}
 use Rattle.lower.specs.Rep.{atPlace, State, Mem, mem, Written, Sub, Blank, Rep, Rooted, Moved}
 use Rattle.lower.specs.Pieces.{lowerC, SomeTree, LowersExprs}
 use Rattle.lower.specs.Patterns.{partL, LowersPart}
-use Rattle.lower.specs.Chains.{stepsOf, startL, LowersStart, LowersRel}
+use Rattle.lower.specs.Chains.{specialElements, stepsOf, startL, LowersStart, LowersRel}
 use Rattle.lower.specs.State.{sub-more, sub-within, blank-within, blank-before, blank-behind, back, to-then, to-wider, push-to, Given, number-to}
 use Rattle.lower.specs.Below.{carried-more}
 use Rattle.words.specs.Fits.{tree-fits, tree-low}
@@ -35,7 +36,6 @@ use Rattle.lower.proofs.Elements.{a-node, a-rel}
 use Rattle.lower.proofs.Chaining.{IsPart, a-part}
 use Rattle.lower.proofs.Shortest.{shortRecs, short-def, short-is, special-part, Three, three, spots, at-place, place-at}
 use Rattle.words.specs.Places.{kindAt, nodeKind, relKind, elementNamedAt, elementVarAt, relTypesAt, partNamedAt, partVarAt, partShortestAt, partElementsAt}
-use Rattle.model.specs.Call.{maxDepth}
 
 one-more : {k n : ℕ} → n ≡ k + 1 → k < n
 one-more e = omega arith
@@ -44,11 +44,11 @@ shape-three : (ss : List Step) (x y z : Step) (n b : NodeStep) (r : RelStep) →
 unfolding shapeOf
 shape-three ss x y z n b r e ex ey ez = rw (e, ex, ey, ez)
 
-short-bounded : (i input rel far d base : ℕ) → d ≤ maxDepth → base ≤ secondPass → i < maxRecords → far < maxRecords → InBounds (shortestPathOp (atPlace base i (d - 1)) input rel far)
+short-bounded : (i input rel far d base : ℕ) → d ≤ deepest → base ≤ secondPass → i < maxRecords → far < maxRecords → InBounds (shortestPathOp (atPlace base i (d - 1)) input rel far)
 short-bounded i input rel far d base sh lb l h = record { shallow = omega arith; near = lb; low = l; far = λ e. h; flagged = λ e. absurd (omega arith) }
 
 module _ {a b : List ℕ} (d base i rel far e : ℕ) {p₁ p₃ p₄ e₁ e₂ k₁ : ℕ} {c₀ : LowerCtx} {os rest rest₁ rest₄ rest₅ os₆ : List ℕ} {r₁ r₃ r₄ : Numbered} {m₂ m₃ : Mem} {c₆ : LowerCtx}
-    (room : Roomy a b) (lb : base ≤ secondPass) (sh : d ≤ maxDepth) (k4 : (cell a b i partShortestAt ≡ 0) → ⊥) (k6 : cell a b i partElementsAt ≡ 3) (ka : cell a b (i + 1) kindAt ≡ nodeKind)
+    (room : Roomy a b) (lb : base ≤ secondPass) (sh : d ≤ deepest) (k4 : (cell a b i partShortestAt ≡ 0) → ⊥) (k6 : cell a b i partElementsAt ≡ specialElements) (ka : cell a b (i + 1) kindAt ≡ nodeKind)
     (kr : cell a b rel kindAt ≡ relKind) (kf : cell a b far kindAt ≡ nodeKind) (na : Ends a b (i + 1) rel) (nr : Ends a b rel far) (nf : Ends a b far e)
     (ep₁ : p₁ ≡ base + (i + 1 + 1)) (nm₁ : Numbers (endpointVar (optionOf (cell a b (i + 1) elementNamedAt) (cell a b (i + 1) elementVarAt))) p₁ c₀ rest rest₁ r₁)
     (lr₁ : length rest₁ ≡ length rest) (ls : LowersStart a b (d - 1) base (i + 1) (r₁ .number) e₁ k₁ (mem (r₁ .ctx) os rest₁) m₂) (lr : LowersRel a b (d - 1) base rel e₂ (m₂ .ctx)
@@ -108,17 +108,22 @@ module _ {a b : List ℕ} (d base i rel far e : ℕ) {p₁ p₃ p₄ e₁ e₂ k
       record {
         up = omega (arith, v₁ .up, v₂ .up);
         here = le;
+        grow = omega (arith, i₁ .ops, i₂ .ops, i₃ .ops, i₄ .ops, v₁ .grow, v₂ .grow, pp .count);
         few = omega (arith, i₁ .ops, i₂ .ops, i₃ .ops, i₄ .ops, v₁ .few, v₂ .few, pp .count, v₁ .up, v₂ .up);
-        low = omega (arith, i₁ .low, i₂ .low, i₃ .low, i₄ .low, ls .numbers, v₂ .low, pp .next, v₁ .up, v₂ .up);
+        low = omega (arith, i₁ .low, i₂ .low, i₃ .low, i₄ .low, ls .numbers, v₂ .low, pp .numbers, v₁ .up, v₂ .up);
         met = omega (arith, i₁ .met, i₂ .met, i₃ .met, i₄ .met, ls .mapped, v₂ .met, pp .mapped, v₁ .up, v₂ .up);
         in-ops = lo ∙ v₂ .in-ops ∙ v₁ .in-ops;
         in-rest = lr₄ ∙ lr₃ ∙ v₂ .in-rest ∙ lr .kept ∙ v₁ .in-rest ∙ lr₁;
         index = λ x. rw (pp .mapped) (i₄ .index (i₃ .index (v₂ .index (i₂ .index (v₁ .index (i₁ .index x))))));
       }
 
-  special-run : (sheet : Bytes) (t : Tree patternPart) (hd : Held sheet a b t d i) (W : Written) (s : State) → Rep sheet a b W s (mem c₀ os rest) → Blank W (base + suc i) (base + suc e) → Rooted sheet a b W (partL t) (r₄ .ctx .ops) base (suc i) (suc e) s (mem c₀ os rest) (mem c₆ os₆ rest₅)
+  -- the operators before are as many as there were at least
+  special-since : c₀ .ops ≤ r₄ .ctx .ops
+  special-since = omega (arith, nm₁ .issued .ops, lr .noted .issued .ops, nm₃ .issued .ops, nm₄ .issued .ops, ls .moved .grow, lr .props .moved .grow)
+
+  special-run : (sheet : Bytes) {first : ℕ} (t : Tree patternPart) (hd : Held sheet a b t d i) (W : Written) (s : State) → Rep (side sheet a b first) W s (mem c₀ os rest) → Blank W (base + suc i) (base + suc e) → Rooted (side sheet a b first) W (partL t) (r₄ .ctx .ops) base (suc i) (suc e) s (mem c₀ os rest) (mem c₆ os₆ rest₅)
   unfolding push
-  special-run sheet t hd W s q bl =
+  special-run sheet {first} t hd W s q bl =
       let v = a-part room t hd in
       let S = sits sheet t hd in
       let va = a-node room (S .trees .first) (S .held-first) ka in
@@ -143,17 +148,17 @@ module _ {a b : List ℕ} (d base i rel far e : ℕ) {p₁ p₃ p₄ e₁ e₂ k
       let W₅ : Written = (base + suc far, base + suc far + 1) ∷ W₄ in
       let W₆ : Written = (base + suc i, base + suc i + 1) ∷ W₅ in
       let s₁ : State = endpointVar bn s .1 in
-      let g₁ : Given sheet a b W s (endpointVar bn) (base + suc (i + 1)) (mem c₀ os rest) rest₁ r₁ = number-to (endpointVar bn) (base + suc (i + 1)) (mem c₀ os rest) rest₁ r₁ q (rw (place-at p₁ base (i + 1) ep₁) at nm₁) (blank-within (P .ij) (P .j1e) bl) in
+      let g₁ : Given (side sheet a b first) W s (endpointVar bn) (base + suc (i + 1)) (mem c₀ os rest) rest₁ r₁ = number-to (endpointVar bn) (base + suc (i + 1)) (mem c₀ os rest) rest₁ r₁ q (rw (place-at p₁ base (i + 1) ep₁) at nm₁) (blank-within (P .ij) (P .j1e) bl) in
       let y₂₀ = ls′ .run sheet (S .trees .first) n₀ (S .held-first) (va .step) W₁ s₁ (g₁ .to .rep) (blank-behind (P .j1j) (blank-within (P .ij1) (P .re) bl)) in
-      let y₂ : Rooted sheet a b W₁ (startL (endpointVar bn s .0) n₀) k₁ base (suc (i + 1 + 1)) (suc rel) s₁ (mem (r₁ .ctx) os rest₁) m₂ = subst (λ (z : ℕ). Rooted sheet a b W₁ (startL z n₀) k₁ base (suc (i + 1 + 1)) (suc rel) s₁ (mem (r₁ .ctx) os rest₁) m₂) (g₁ .number) y₂₀ in
+      let y₂ : Rooted (side sheet a b first) W₁ (startL (endpointVar bn s .0) n₀) k₁ base (suc (i + 1 + 1)) (suc rel) s₁ (mem (r₁ .ctx) os rest₁) m₂ = subst (λ (z : ℕ). Rooted (side sheet a b first) W₁ (startL z n₀) k₁ base (suc (i + 1 + 1)) (suc rel) s₁ (mem (r₁ .ctx) os rest₁) m₂) (g₁ .number) y₂₀ in
       let s₂ : State = startL (endpointVar bn s .0) n₀ s₁ .1 in
-      let g₃ : Given sheet a b W₂ s₂ (endpointVar br) (base + suc rel) m₂ (lr .between) (lr .named) = number-to (endpointVar br) (base + suc rel) m₂ (lr .between) (lr .named) (y₂ .to .rep) (rw (place-at (base + (rel + 1)) base rel refl) at (lr .noted)) (blank-behind (le-refl _) (blank-behind (P .j1r) (blank-within (P .ir) (P .r1e) bl))) in
+      let g₃ : Given (side sheet a b first) W₂ s₂ (endpointVar br) (base + suc rel) m₂ (lr .between) (lr .named) = number-to (endpointVar br) (base + suc rel) m₂ (lr .between) (lr .named) (y₂ .to .rep) (rw (place-at (base + (rel + 1)) base rel refl) at (lr .noted)) (blank-behind (le-refl _) (blank-behind (P .j1r) (blank-within (P .ir) (P .r1e) bl))) in
       let hp = plain-held sheet a b (vr .el .props) (d - 1 - 1) _ (rw (vr .el .many) at (vr .el .held-props)) in
       let y₄ = x′ .run sheet (plainC (vr .el .props)) hp W₃ (endpointVar br s₂ .1) (g₃ .to .rep) (blank-behind (P .r1t) (blank-behind (P .rt) (blank-behind (P .j1t) (blank-within (P .it) (P .fe) bl)))) in
       let s₄ : State = lowerC (plainC (vr .el .props)) (endpointVar br s₂ .1) .1 in
-      let g₅ : Given sheet a b W₄ s₄ (endpointVar bt) (base + suc far) m₃ rest₄ r₃ = number-to (endpointVar bt) (base + suc far) m₃ rest₄ r₃ (y₄ .to .rep) (rw (place-at p₃ base far ep₃) at nm₃) (blank-behind (le-refl _) (blank-behind (P .r1f) (blank-behind (P .rf) (blank-behind (P .j1f) (blank-within (P .if) (P .f1e) bl))))) in
+      let g₅ : Given (side sheet a b first) W₄ s₄ (endpointVar bt) (base + suc far) m₃ rest₄ r₃ = number-to (endpointVar bt) (base + suc far) m₃ rest₄ r₃ (y₄ .to .rep) (rw (place-at p₃ base far ep₃) at nm₃) (blank-behind (le-refl _) (blank-behind (P .r1f) (blank-behind (P .rf) (blank-behind (P .j1f) (blank-within (P .if) (P .f1e) bl))))) in
       let s₅ : State = endpointVar bt s₄ .1 in
-      let g₆ : Given sheet a b W₅ s₅ (endpointVar o) (base + suc i) (mem (r₃ .ctx) (m₃ .ops) rest₄) rest₅ r₄ = number-to (endpointVar o) (base + suc i) (mem (r₃ .ctx)
+      let g₆ : Given (side sheet a b first) W₅ s₅ (endpointVar o) (base + suc i) (mem (r₃ .ctx) (m₃ .ops) rest₄) rest₅ r₄ = number-to (endpointVar o) (base + suc i) (mem (r₃ .ctx)
       (m₃ .ops) rest₄) rest₅ r₄ (g₅ .to .rep) (rw (place-at p₄ base i ep₄) at nm₄) (blank-before (P .i1f) (blank-before (P .i1t) (blank-before (P .i1r) (blank-before (P .i1j1)
       (blank-before (P .i1j) (blank-within (le-refl _) (P .i1e) bl)))))) in
       let recs : Recs = shortRecs o br bt n₀ b₀ (vr .el .names) (vr .el .p) (vr .el .props) r₀ refl refl s all in
@@ -169,7 +174,7 @@ module _ {a b : List ℕ} (d base i rel far e : ℕ) {p₁ p₃ p₄ e₁ e₂ k
           rel = S .trees .rel;
           held-rel = S .held-rel;
           is-rel = kr;
-          below-rel = vr .el .below (shift N base) (r₄ .ctx .ops) (plain-below (shift N base) (r₄ .ctx .ops) (vr .el .props) (carried-more (shift N base) (m₃ .ctx .ops) (r₄ .ctx .ops) l₃ (plainC (vr .el .props)) (y₄ .below N A f₄)));
+          below-rel = vr .el .below (shift N base) first (r₄ .ctx .ops) (plain-below (shift N base) first (r₄ .ctx .ops) (vr .el .props) (carried-more (shift N base) first (m₃ .ctx .ops) (r₄ .ctx .ops) l₃ (plainC (vr .el .props)) (y₄ .below N A f₄)));
           all = all;
           is-all = refl;
           is = short-is (shift N base) A (S .trees .rel) (vr .el .names) (vr .el .p) (vr .el .props) _ _ _ _ _ _ _ _ _ all _ (y₂ .root) (f₁ .notes .at (base + suc (i + 1)) (P .low-j)
@@ -184,4 +189,4 @@ module _ {a b : List ℕ} (d base i rel far e : ℕ) {p₁ p₃ p₄ e₁ e₂ k
   pub special-law : SomeTree a b patternPart d i → LowersPart a b d base i e (r₄ .ctx .ops) (mem c₀ os rest) (mem c₆ os₆ rest₅)
   special-law x =
       let S = sits (x .sheet) (x .tree) (x .held) in
-      record { moved = special-moved (S .start-end) (S .rel-end) (S .high) (S .fits); low = one-more (pp .count); next = λ sheet t hd. sits sheet t hd .whole; run = special-run }
+      record { moved = special-moved (S .start-end) (S .rel-end) (S .high) (S .fits); since = special-since; low = one-more (pp .count); next = λ sheet t hd. sits sheet t hd .whole; run = special-run }

@@ -2,11 +2,14 @@
 use mathlib.Core.Path.{_≡_}
 use Prim.Native.Nat.{ℕ, _+_, _-_, _≤_, _<_}
 use mathlib.Core.List.{List}
-use Rattle.model.specs.Call.{maxDepth}
 use Rattle.model.specs.Kind.{Sort, patternPart, patternElement}
-use Rattle.words.specs.Words.{Roomy, cell, maxRecords}
+use lib.ListN.{length}
+use Rattle.model.specs.Call.{workWords}
+use Rattle.words.specs.Words.{Roomy, cell, maxRecords, two32}
 use Rattle.words.specs.Places.{kindAt, nodeKind, relKind, nodePropsAt, relPropsAt}
-use Rattle.context.specs.Tables.{secondPass}
+use Rattle.context.specs.Ops.{Fits}
+use Rattle.context.specs.declared.LowerCtx.{LowerCtx}
+use Rattle.context.specs.Tables.{CanNumber, maxCount, secondPass, deepest}
 use Rattle.context.specs.declared.At.{At}
 use Rattle.lower.specs.Rep.{Mem, mem, RoomFor}
 use Rattle.lower.specs.Pieces.{SomeTree, SomeCarried}
@@ -24,7 +27,7 @@ pub record Asked (Stands : Type 0) (a b : List ℕ) (at : At) (deep : ℕ) (m : 
   pub words : Roomy a b
   pub tree : Stands
   pub room : RoomFor deep (at .i) m
-  pub depth : at .left ≤ maxDepth
+  pub depth : at .left ≤ deepest
   pub pass : at .base ≤ secondPass
 
 -- a tree of a sort
@@ -68,12 +71,23 @@ pub record SpecialAsked (a b : List ℕ) (at : At) (ends : NodeRelNode) (between
   pub rel : ReadAt a b (ends .rel) relPropsAt between
   pub to : ReadAt a b (ends .far) nodePropsAt (ends .to)
 
+-- the part at a place, over a root, and room for a number and an operator
+pub record PathAsked (a b : List ℕ) (at : At) (root : ℕ) (c : LowerCtx) (os rs : List ℕ) : Type 0 where
+  pub words : Roomy a b
+  pub low : at .i < maxRecords
+  pub fits : Fits at
+  pub near : at .base ≤ secondPass
+  pub input : root < two32
+  pub number : CanNumber c (at .base + (at .i + 1)) rs
+  pub few : c .ops < maxCount
+  pub in-ops : workWords ≤ length os
+
 -- the next element of a chain
 pub record ChainAsked (a b : List ℕ) (base left : ℕ) (ch : Chain) (os rs : List ℕ) : Type 0 where
   pub words : Roomy a b
   pub tree : SomeTree a b patternElement left (ch .next)
   pub room : RoomFor left (from ch) (mem (ch .ctx) os rs)
-  pub depth : left ≤ maxDepth
+  pub depth : left ≤ deepest
   pub pass : base ≤ secondPass
   pub bounded : ChainInBounds ch
   pub anchored : Anchored a b left ch

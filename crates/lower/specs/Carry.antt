@@ -39,10 +39,10 @@ unfolding plainC renderC render
 plain-render N A []ᵗ = refl
 plain-render N A (t ∷ᵗ ts) = rw (plain-render N A ts)
 
-pub plain-below : (N : Notes) (k : ℕ) {n : ℕ} (ts : Trees expr n) → BelowC N k (plainC ts) → BelowOf N k ts
+pub plain-below : (N : Notes) (lo k : ℕ) {n : ℕ} (ts : Trees expr n) → BelowC N lo k (plainC ts) → BelowOf N lo k ts
 unfolding plainC BelowC Below
-plain-below N k []ᵗ h = tt
-plain-below N k (t ∷ᵗ ts) h = (h .0, plain-below N k ts (h .1))
+plain-below N lo k []ᵗ h = tt
+plain-below N lo k (t ∷ᵗ ts) h = (h .0, plain-below N lo k ts (h .1))
 
 -- ── a map's keys, each with its expression behind it ──
 
@@ -76,7 +76,7 @@ entries-render N A (node entry line k (key, _) ((e ∷ᵗ []ᵗ) ▸ end) ∷ᵗ
     ap (λ (x : Recs). (rec (inPlan planEntry) tt (key, tt) ∷ x) ++ renderOf N A ts) (append-nil (render N A e ++ []) ∙ append-nil (render N A e))
     ∙ ap (λ (x : Recs). (rec (inPlan planEntry) tt (key, tt) ∷ render N A e) ++ x) (entries-render N A ts)
 
-pub entries-below : (N : Notes) (k : ℕ) {n : ℕ} (ts : Trees entry n) → BelowC N k (entriesC ts) → BelowOf N k ts
+pub entries-below : (N : Notes) (lo k : ℕ) {n : ℕ} (ts : Trees entry n) → BelowC N lo k (entriesC ts) → BelowOf N lo k ts
 unfolding entriesC BelowC Below belowIn
-entries-below N k []ᵗ h = tt
-entries-below N k (node entry line kd (key, _) ((e ∷ᵗ []ᵗ) ▸ end) ∷ᵗ ts) h = (((h .0, tt), tt), entries-below N k ts (h .1))
+entries-below N lo k []ᵗ h = tt
+entries-below N lo k (node entry line kd (key, _) ((e ∷ᵗ []ᵗ) ▸ end) ∷ᵗ ts) h = (((h .0, tt), tt), entries-below N lo k ts (h .1))

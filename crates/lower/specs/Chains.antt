@@ -10,15 +10,17 @@ use lib.ListN.{length}
 use Rattle.model.specs.Text.{Bytes}
 use Rattle.model.specs.Kind.{patternPart, patternElement}
 use Rattle.model.specs.Tree.{Tree, Trees, node, _∷ᵗ_, end, _▸_, toList, fold, foldOf}
-use Rattle.model.specs.Lower.{Lowering, Lowered, made, _>>=_, push, source, filterByProps, Step, RelStep, NodeStep, ofNode, ofRel, lowerElement, lowerElements, lowerChain, endpointVar}
+use Rattle.model.specs.Lower.{Lowering, Lowered, made, _>>=_, push, source, filterByProps, Step, RelStep, NodeStep, ofNode, ofRel, lowerElement, lowerElements, lowerChain, orSourceAll, endpointVar, mapVar}
 use Rattle.model.specs.Lower
 use Rattle.words.specs.Words.{cell, optionOf, maxRecords}
 use Rattle.words.specs.Held.{Held, HeldOf, size, sizeOf}
+use Rattle.lower.specs.Side.{Side, side}
 use Rattle.lower.specs.Render.{Notes, Ops, keptFrom}
 use Rattle.lower.specs.Shows.{shift}
 use Rattle.lower.specs.Rep.{State, Mem, mem, Written, Blank, Future, Rep, To, Rooted, Moved}
 use Rattle.lower.specs.Pieces.{LowersExprs}
-use Rattle.context.specs.Tables.{Numbers}
+use Rattle.context.specs.Tables.{Numbers, Pushed}
+use Rattle.context.specs.declared.At.{At}
 use Rattle.context.specs.declared.LowerCtx.{LowerCtx}
 use Rattle.context.specs.declared.Numbered.{Numbered}
 use Rattle.lower.specs.declared.Chain.{Chain}
@@ -29,8 +31,9 @@ use Rattle.lower.specs.declared.Pending.the-variants as pending
 use Rattle.lower.specs.declared.Element.{Element}
 use Rattle.lower.specs.declared.Element.the-variants as element
 use Rattle.lower.specs.declared.Read.{Read}
-use Rattle.context.specs.Ops.{bindOf}
-use Rattle.words.specs.Places.{kindAt, nodeKind, relKind, elementNamedAt, elementVarAt, relTypesAt, relPropsAt, partShortestAt, partElementsAt, nodeLabelsAt, nodePropsAt}
+use Rattle.context.specs.Ops.{beforeOf, bindOf, Since, bindPathOp}
+use Rattle.context.specs.declared.Before.{Before}
+use Rattle.words.specs.Places.{kindAt, nodeKind, relKind, elementNamedAt, elementVarAt, partNamedAt, partVarAt, relTypesAt, relPropsAt, partShortestAt, partElementsAt, nodeLabelsAt, nodePropsAt}
 
 -- the last operator and its node's number, as the definition has them
 abbrev pub lastOf : Last → Option (ℕ × ℕ)
@@ -79,6 +82,10 @@ pub record SameChain (sheet : Bytes) (a b : List ℕ) (d : ℕ) (ch : Chain) (c 
 pub record LastUnder (l : Last) (n : ℕ) : Type 0 where
   pub op : (k origin : ℕ) → l ≡ last.Op k origin → k < n
 
+-- and from n on
+pub record LastSince (l : Last) (n : ℕ) : Type 0 where
+  pub op : (k origin : ℕ) → l ≡ last.Op k origin → n ≤ k
+
 -- what a chain has whatever the state
 pub record ChainInBounds (ch : Chain) : Type 0 where
   pub from : from ch ≤ ch .next
@@ -97,9 +104,9 @@ abbrev pub passed : ℕ → Chain → Chain → Written → Written
 passed base ch ch′ W = (base + suc (from ch), base + suc (from ch′)) ∷ W
 
 -- one more element, of which the definition has made a step
-pub record Chained (sheet : Bytes) (a b : List ℕ) (W : Written) (d base : ℕ) (ch ch′ : Chain) (t : Tree patternElement) (x : Step) (c : Lower.Chain) (s : State) (m m′ : Mem) : Type 0 where
-  pub to : To sheet a b W (passed base ch ch′ W) s (lowerElement c x s .1) m m′
-  pub same : SameChain sheet a b d ch′ (lowerElement c x s .0)
+pub record Chained (S : Side) (W : Written) (d base : ℕ) (ch ch′ : Chain) (t : Tree patternElement) (x : Step) (c : Lower.Chain) (s : State) (m m′ : Mem) : Type 0 where
+  pub to : To S W (passed base ch ch′ W) s (lowerElement c x s .1) m m′
+  pub same : SameChain (S .sheet) (S .a) (S .b) d ch′ (lowerElement c x s .0)
   pub path : (N : Notes) (A : Ops) → Future (passed base ch ch′ W) (lowerElement c x s .1) m′ N A → {n : ℕ} (ts : Trees patternElement n) → lowerElement c x s .0 .path ++ keptFrom (shift N base) (hasLast (ch′ .last)) (pendingLine (ch′ .pending)) ts ≡ c .path ++ keptFrom (shift N base) (hasLast (ch .last)) (pendingLine (ch .pending)) (t ∷ᵗ ts)
 
 pub record LowersElement (a b : List ℕ) (d base : ℕ) (ch ch′ : Chain) (os os′ rs rs′ : List ℕ) : Type 0 where
@@ -107,16 +114,17 @@ pub record LowersElement (a b : List ℕ) (d base : ℕ) (ch ch′ : Chain) (os 
   pub bounded : ChainInBounds ch′
   pub anchored : Anchored a b d ch′
   pub ahead : ch .next ≤ ch′ .next
+  pub since : (n : ℕ) → n ≤ ch .ctx .ops → LastSince (ch .last) n → LastSince (ch′ .last) n
   pub next : (sheet : Bytes) (t : Tree patternElement) → Held sheet a b t d (ch .next) → ch′ .next ≡ ch .next + size t
-  pub run : (sheet : Bytes) (t : Tree patternElement) → Held sheet a b t d (ch .next) → (W : Written) (s : State) (c : Lower.Chain) → Rep sheet a b W s (mem (ch .ctx) os rs) → SameChain sheet a b d ch c → Blank W (base + suc (from ch)) (base + suc (ch′ .next)) → Chained sheet a b W d base ch ch′ t (stepOf t) c s (mem (ch .ctx) os rs) (mem (ch′ .ctx) os′ rs′)
+  pub run : (sheet : Bytes) {first : ℕ} (t : Tree patternElement) → Held sheet a b t d (ch .next) → (W : Written) (s : State) (c : Lower.Chain) → Rep (side sheet a b first) W s (mem (ch .ctx) os rs) → SameChain sheet a b d ch c → Blank W (base + suc (from ch)) (base + suc (ch′ .next)) → Chained (side sheet a b first) W d base ch ch′ t (stepOf t) c s (mem (ch .ctx) os rs) (mem (ch′ .ctx) os′ rs′)
 
 abbrev pub stepsOf : {n : ℕ} → Trees patternElement n → List Step
 stepsOf {n} ts = toList n (foldOf Lowered made ts)
 
 -- n more elements
-pub record ChainedAll (sheet : Bytes) (a b : List ℕ) (W : Written) (d base : ℕ) (ch ch′ : Chain) {n : ℕ} (ts : Trees patternElement n) (c : Lower.Chain) (s : State) (m m′ : Mem) : Type 0 where
-  pub to : To sheet a b W (passed base ch ch′ W) s (lowerElements c (stepsOf ts) s .1) m m′
-  pub same : SameChain sheet a b d ch′ (lowerElements c (stepsOf ts) s .0)
+pub record ChainedAll (S : Side) (W : Written) (d base : ℕ) (ch ch′ : Chain) {n : ℕ} (ts : Trees patternElement n) (c : Lower.Chain) (s : State) (m m′ : Mem) : Type 0 where
+  pub to : To S W (passed base ch ch′ W) s (lowerElements c (stepsOf ts) s .1) m m′
+  pub same : SameChain (S .sheet) (S .a) (S .b) d ch′ (lowerElements c (stepsOf ts) s .0)
   pub path : (N : Notes) (A : Ops) → Future (passed base ch ch′ W) (lowerElements c (stepsOf ts) s .1) m′ N A → lowerElements c (stepsOf ts) s .0 .path ≡ c .path ++ keptFrom (shift N base) (hasLast (ch .last)) (pendingLine (ch .pending)) ts
 
 pub record LowersElements (a b : List ℕ) (n d base : ℕ) (ch ch′ : Chain) (os os′ rs rs′ : List ℕ) : Type 0 where
@@ -124,8 +132,9 @@ pub record LowersElements (a b : List ℕ) (n d base : ℕ) (ch ch′ : Chain) (
   pub bounded : ChainInBounds ch′
   pub anchored : Anchored a b d ch′
   pub ahead : ch .next ≤ ch′ .next
+  pub since : (n : ℕ) → n ≤ ch .ctx .ops → LastSince (ch .last) n → LastSince (ch′ .last) n
   pub next : (sheet : Bytes) (ts : Trees patternElement n) → HeldOf sheet a b ts d (ch .next) → ch′ .next ≡ ch .next + sizeOf ts
-  pub run : (sheet : Bytes) (ts : Trees patternElement n) → HeldOf sheet a b ts d (ch .next) → (W : Written) (s : State) (c : Lower.Chain) → Rep sheet a b W s (mem (ch .ctx) os rs) → SameChain sheet a b d ch c → Blank W (base + suc (from ch)) (base + suc (ch′ .next)) → ChainedAll sheet a b W d base ch ch′ ts c s (mem (ch .ctx) os rs) (mem (ch′ .ctx) os′ rs′)
+  pub run : (sheet : Bytes) {first : ℕ} (ts : Trees patternElement n) → HeldOf sheet a b ts d (ch .next) → (W : Written) (s : State) (c : Lower.Chain) → Rep (side sheet a b first) W s (mem (ch .ctx) os rs) → SameChain sheet a b d ch c → Blank W (base + suc (from ch)) (base + suc (ch′ .next)) → ChainedAll (side sheet a b first) W d base ch ch′ ts c s (mem (ch .ctx) os rs) (mem (ch′ .ctx) os′ rs′)
 
 -- the operators of a node that is numbered, at record i: a source, and a filter by its props
 abbrev pub startL : ℕ → NodeStep → Lowering ℕ
@@ -133,28 +142,41 @@ startL number n = λ s. (push (source number (n .labels)) >>= λ k. filterByProp
 
 pub record LowersStart (a b : List ℕ) (d base i number e k : ℕ) (m m′ : Mem) : Type 0 where
   pub moved : Moved i e m m′
-  pub numbers : m′ .ctx .next + i + 1 ≤ m .ctx .next + e
+  pub numbers : m′ .ctx .numbers + i + 1 ≤ m .ctx .numbers + e
   pub mapped : m′ .ctx .mapped + i + 1 ≤ m .ctx .mapped + e
+  pub since : m .ctx .ops ≤ k
   pub low : k < m′ .ctx .ops
   pub next : (sheet : Bytes) (t : Tree patternElement) → Held sheet a b t d i → e ≡ i + size t
-  pub run : (sheet : Bytes) (t : Tree patternElement) (n : NodeStep) → Held sheet a b t d i → stepOf t ≡ ofNode n → (W : Written) (s : State) → Rep sheet a b W s m → Blank W (base + suc (i + 1)) (base + suc e) → Rooted sheet a b W (startL number n) k base (suc (i + 1)) (suc e) s m m′
+  pub run : (sheet : Bytes) {first : ℕ} (t : Tree patternElement) (n : NodeStep) → Held sheet a b t d i → stepOf t ≡ ofNode n → (W : Written) (s : State) → Rep (side sheet a b first) W s m → Blank W (base + suc (i + 1)) (base + suc e) → Rooted (side sheet a b first) W (startL number n) k base (suc (i + 1)) (suc e) s m m′
 
 -- ── a part as a chain ──
 
 -- the operator before, or a source of everything
-pub record Sourced (sheet : Bytes) (a b : List ℕ) (L : Lowering ℕ) (k : ℕ) (W : Written) (s : State) (m m′ : Mem) : Type 0 where
-  pub to : To sheet a b W W s (L s .1) m m′
+pub record Sourced (S : Side) (L : Lowering ℕ) (k : ℕ) (W : Written) (s : State) (m m′ : Mem) : Type 0 where
+  pub to : To S W W s (L s .1) m m′
   pub root : k ≡ L s .0
 
-pub record OrSource (L : Lowering ℕ) (k : ℕ) (m m′ : Mem) : Type 0 where
+-- L leaves operator k, with at most one more than there were; it may copy operator o
+pub record OrSource (o : ℕ) (L : Lowering ℕ) (k : ℕ) (m m′ : Mem) : Type 0 where
   pub grow : m .ctx .ops ≤ m′ .ctx .ops
   pub few : m′ .ctx .ops ≤ m .ctx .ops + 1
-  pub next : m′ .ctx .next ≡ m .ctx .next
+  pub numbers : m′ .ctx .numbers ≡ m .ctx .numbers
   pub mapped : m′ .ctx .mapped ≡ m .ctx .mapped
   pub rest : m′ .rest ≡ m .rest
   pub in-ops : length (m′ .ops) ≡ length (m .ops)
   pub low : k < m′ .ctx .ops
-  pub run : (sheet : Bytes) (a b : List ℕ) (W : Written) (s : State) → Rep sheet a b W s m → Sourced sheet a b L k W s m m′
+  pub run : (sheet : Bytes) (a b : List ℕ) {first : ℕ} (W : Written) (s : State) → first ≤ o → Rep (side sheet a b first) W s m → Sourced (side sheet a b first) L k W s m m′
+
+-- the operator before, or a new source of everything, at op, which was not there before if that one was not; the next record is as it was passed
+pub record SourceLeft (current : Before) (next next′ op : ℕ) (c c′ : LowerCtx) (os os′ : List ℕ) : Type 0 where
+  pub same : next′ ≡ next
+  pub since : (n : ℕ) → n ≤ c .ops → Since current n → n ≤ op
+  pub source : (rest : List ℕ) → OrSource (c .ops) (orSourceAll (beforeOf current)) op (mem c os rest) (mem c′ os′ rest)
+
+-- the path of the part at a place is bound over operator k, if the part is named, with so many numbers; then k′ is the root
+pub data BindsPath (a b : List ℕ) (at : At) (kept k k′ : ℕ) (m m′ : Mem) : Type 0 where
+  no-path : cell a b (at .i) partNamedAt ≡ 0 → k′ ≡ k → m′ ≡ m → BindsPath a b at kept k k′ m m′
+  a-path : ((cell a b (at .i) partNamedAt ≡ 0) → ⊥) → (n : Numbered) → Numbers (mapVar (cell a b (at .i) partVarAt)) (at .base + (at .i + 1)) (m .ctx) (m .rest) (m′ .rest) n → k′ ≡ n .ctx .ops → Pushed (n .ctx) (m′ .ctx) (m .ops) (m′ .ops) (bindPathOp at k kept (n .number)) → BindsPath a b at kept k k′ m m′
 
 unfoldable pub chainL : Tree patternPart → Lowering ℕ
 chainL (node patternPart line k (namedAs, (shortest, (n, _))) (ts ▸ end)) = λ s. lowerChain namedAs (stepsOf ts) s
@@ -162,9 +184,10 @@ chainL (node patternPart line k (namedAs, (shortest, (n, _))) (ts ▸ end)) = λ
 -- the part at record i is lowered as a chain, whatever its shape
 pub record LowersChain (a b : List ℕ) (d base i e k : ℕ) (m m′ : Mem) : Type 0 where
   pub moved : Moved i e m m′
+  pub since : m .ctx .ops ≤ k
   pub low : k < m′ .ctx .ops
   pub next : (sheet : Bytes) (t : Tree patternPart) → Held sheet a b t d i → e ≡ i + size t
-  pub run : (sheet : Bytes) (t : Tree patternPart) → Held sheet a b t d i → (W : Written) (s : State) → Rep sheet a b W s m → Blank W (base + suc i) (base + suc e) → Rooted sheet a b W (chainL t) k base (suc i) (suc e) s m m′
+  pub run : (sheet : Bytes) {first : ℕ} (t : Tree patternPart) → Held sheet a b t d i → (W : Written) (s : State) → Rep (side sheet a b first) W s m → Blank W (base + suc i) (base + suc e) → Rooted (side sheet a b first) W (chainL t) k base (suc i) (suc e) s m m′
 
 -- a rel's number is noted, and its props are lowered
 pub record LowersRel (a b : List ℕ) (d base i e : ℕ) (c : LowerCtx) (os rest : List ℕ) (m′ : Mem) : Type 0 where
@@ -187,10 +210,14 @@ startChain i c = record { next = i + 1; ctx = c; last = last.Nothing; pending = 
 abbrev pub StartsAnew : Chain → Type 0
 StartsAnew ch = (ch .pending ≡ pending.Nothing) ⊎ (ch .last ≡ last.Nothing)
 
+-- so many elements has a special part
+abbrev pub specialElements : ℕ
+specialElements = 3
+
 -- a shortest part of exactly node, rel, node
 pub record Special (a b : List ℕ) (i rel far : ℕ) : Type 0 where
   pub shortest : (cell a b i partShortestAt ≡ 0) → ⊥
-  pub three : cell a b i partElementsAt ≡ 3
+  pub three : cell a b i partElementsAt ≡ specialElements
   pub first : cell a b (i + 1) kindAt ≡ nodeKind
   pub second : cell a b rel kindAt ≡ relKind
   pub third : cell a b far kindAt ≡ nodeKind

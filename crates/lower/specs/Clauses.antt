@@ -9,27 +9,18 @@ use Rattle.model.specs.Kind.{clause}
 use Rattle.model.specs.Tree.{Tree}
 use Rattle.model.specs.Lower.{Lowering, lowerClause}
 use Rattle.words.specs.Held.{Held, size}
+use Rattle.lower.specs.Side.{Side, side}
 use Rattle.lower.specs.Rep.{State, Mem, Written, Blank, Rep, To, Indexes}
 use Rattle.words.specs.Words.{maxRecords}
 use Rattle.context.specs.Tables.{secondPass}
-use Rattle.model.specs.Call.{workWords}
-
--- there is room at record i, where a clause may begin
-pub record Ready (i : ℕ) (m : Mem) : Type 0 where
-  pub few : m .ctx .ops ≤ 4 * i
-  pub low : m .ctx .next ≤ 2 * i
-  pub met : m .ctx .mapped ≤ 2 * i
-  pub here : i ≤ maxRecords
-  pub in-ops : workWords ≤ length (m .ops)
-  pub in-rest : workWords ≤ length (m .rest)
-  pub index : Indexes m
 
 -- what the lowering of clauses from record i to e does, whatever the state
 pub record MovedTwice (i e : ℕ) (m m′ : Mem) : Type 0 where
   pub up : i ≤ e
   pub here : e ≤ maxRecords
+  pub grow : m .ctx .ops ≤ m′ .ctx .ops
   pub few : m′ .ctx .ops + 4 * i ≤ m .ctx .ops + 4 * e
-  pub low : m′ .ctx .next + 2 * i ≤ m .ctx .next + 2 * e
+  pub low : m′ .ctx .numbers + 2 * i ≤ m .ctx .numbers + 2 * e
   pub met : m′ .ctx .mapped + 2 * i ≤ m .ctx .mapped + 2 * e
   pub in-ops : length (m′ .ops) ≡ length (m .ops)
   pub in-rest : length (m′ .rest) ≡ length (m .rest)
@@ -50,13 +41,13 @@ Stands none m = Unit {0}
 Stands (some k) m = k < m .ctx .ops
 
 -- the lowering L leaves the operator o
-pub record Leaves (sheet : Bytes) (a b : List ℕ) (W : Written) (L : Lowering (Option ℕ)) (o : Option ℕ) (lo hi : ℕ) (s : State) (m m′ : Mem) : Type 0 where
-  pub to : To sheet a b W (bothPasses lo hi W) s (L s .1) m m′
-  pub left : L s .0 ≡ o
+pub record Leaves (S : Side) (W : Written) (L : Lowering (Option ℕ)) (o : Option ℕ) (lo hi : ℕ) (s : State) (m m′ : Mem) : Type 0 where
+  pub to : To S W (bothPasses lo hi W) s (L s .1) m m′
+  pub gives : L s .0 ≡ o
 
 -- the clause at record i is lowered behind one operator and leaves another; e is the record behind it
 pub record LowersClause (sheet : Bytes) (a b : List ℕ) (d i e : ℕ) (before after : Option ℕ) (m m′ : Mem) : Type 0 where
   pub moved : MovedTwice i e m m′
   pub stands : Stands after m′
   pub next : (t : Tree clause) → Held sheet a b t d i → e ≡ i + size t
-  pub run : (t : Tree clause) → Held sheet a b t d i → (W : Written) (s : State) → Rep sheet a b W s m → BothBlank W (suc i) (suc e) → Leaves sheet a b W (λ s. lowerClause t before s) after (suc i) (suc e) s m m′
+  pub run : {first : ℕ} (t : Tree clause) → Held sheet a b t d i → (W : Written) (s : State) → Rep (side sheet a b first) W s m → BothBlank W (suc i) (suc e) → Leaves (side sheet a b first) W (λ s. lowerClause t before s) after (suc i) (suc e) s m m′

@@ -9,6 +9,7 @@ use Rattle.model.specs.Kind.{expr}
 use Rattle.model.specs.Tree.{Tree}
 use Rattle.model.specs.Lower.{Recs, _>>=_, ret, lowerExpr}
 use Rattle.words.specs.Held.{size}
+use Rattle.lower.specs.Side.{side}
 use Rattle.lower.specs.Render.{Notes, Ops}
 use Rattle.lower.specs.Shows.{shift}
 use Rattle.lower.specs.Rep.{State, Mem, Written, Sub, Blank, Future, Rep, Ran, RoomFor, Moved}
@@ -20,14 +21,14 @@ use Rattle.words.specs.Words.{maxRecords}
 -- ── what moves ──
 
 pub moved-refl : {i : ℕ} {m : Mem} → i ≤ maxRecords → Moved i i m m
-moved-refl h = record { up = omega arith; here = h; few = omega arith; low = omega arith; met = omega arith; in-ops = refl; in-rest = refl; index = λ x. x }
+moved-refl h = record { up = omega arith; here = h; grow = le-refl _; few = omega arith; low = omega arith; met = omega arith; in-ops = refl; in-rest = refl; index = λ x. x }
 
 pub moved-then : {i j e : ℕ} {m m₁ m₂ : Mem} → Moved i j m m₁ → Moved j e m₁ m₂ → Moved i e m m₂
-moved-then p q = record { up = omega (arith, p .up, q .up); here = q .here; few = omega (arith, p .few, q .few); low = omega (arith, p .low, q .low); met = omega (arith, p .met, q .met); in-ops = q .in-ops ∙ p .in-ops; in-rest = q .in-rest ∙ p .in-rest; index = λ x. q .index (p .index x) }
+moved-then p q = record { up = omega (arith, p .up, q .up); here = q .here; grow = omega (arith, p .grow, q .grow); few = omega (arith, p .few, q .few); low = omega (arith, p .low, q .low); met = omega (arith, p .met, q .met); in-ops = q .in-ops ∙ p .in-ops; in-rest = q .in-rest ∙ p .in-rest; index = λ x. q .index (p .index x) }
 
 -- from an earlier record, to a later one
 pub moved-within : {i j e f : ℕ} {m m′ : Mem} → i ≤ j → e ≤ f → f ≤ maxRecords → Moved j e m m′ → Moved i f m m′
-moved-within l l′ h p = record { up = omega (arith, p .up); here = h; few = omega (arith, p .few); low = omega (arith, p .low); met = omega (arith, p .met); in-ops = p .in-ops; in-rest = p .in-rest; index = p .index }
+moved-within l l′ h p = record { up = omega (arith, p .up); here = h; grow = p .grow; few = omega (arith, p .few); low = omega (arith, p .low); met = omega (arith, p .met); in-ops = p .in-ops; in-rest = p .in-rest; index = p .index }
 
 pub good-after : {d i j : ℕ} {m m₁ : Mem} → Moved i j m m₁ → RoomFor d i m → RoomFor d j m₁
 good-after p g = record { few = omega (arith, p .few, g .few); low = omega (arith, p .low, g .low); met = omega (arith, p .met, g .met); here = p .here; in-ops = rw (p .in-ops) (g .in-ops); in-rest = rw (p .in-rest) (g .in-rest); index = p .index (g .index) }
@@ -45,23 +46,23 @@ nil-next : (gap i : ℕ) (cs : Carried 0) → i ≡ i + sizeC gap cs
 unfolding sizeC
 nil-next gap i []ᶜ = omega arith
 
-nil-run : {sheet : Bytes} {a b : List ℕ} (base i : ℕ) (m : Mem) (cs : Carried 0) (W : Written) (s : State) → Rep sheet a b W s m → Ran sheet a b W (carriedPiece cs) base (suc i) (suc i) s m m
+nil-run : {sheet : Bytes} {a b : List ℕ} {first : ℕ} (base i : ℕ) (m : Mem) (cs : Carried 0) (W : Written) (s : State) → Rep (side sheet a b first) W s m → Ran (side sheet a b first) W (carriedPiece cs) base (suc i) (suc i) s m m
 unfolding lowerC renderC BelowC ret
 nil-run base i m []ᶜ W s r = record { to = to-wider (sub-more (base + suc i, base + suc i) W) (to-refl r); shown = λ N A f. refl; below = λ N A f. tt }
 
 pub nil-law : (a b : List ℕ) (gap d base i : ℕ) (m : Mem) → i ≤ maxRecords → LowersExprs a b 0 gap d base i i m m
 nil-law a b gap d base i m h = record { moved = moved-refl h; next = λ sheet cs hd. nil-next gap i cs; run = λ sheet cs hd W s r bl. nil-run base i m cs W s r }
 
-both-run : {sheet : Bytes} {a b : List ℕ} (base o i j e : ℕ) (m m₁ m₂ : Mem) {n : ℕ} (c : Recs × Tree expr) (cs : Carried n) (W : Written) (s : State) → o ≤ i → i ≤ j → j ≤ e →
-    Ran sheet a b W (exprPiece (c .1)) base (suc i) (suc j) s m m₁ → Ran sheet a b ((base + suc i, base + suc j) ∷ W) (carriedPiece cs) base (suc j) (suc e) (lowerExpr (c .1) s .1) m₁ m₂ →
-    Ran sheet a b W (carriedPiece (c ∷ᶜ cs)) base (suc o) (suc e) s m m₂
+both-run : {sheet : Bytes} {a b : List ℕ} {first : ℕ} (base o i j e : ℕ) (m m₁ m₂ : Mem) {n : ℕ} (c : Recs × Tree expr) (cs : Carried n) (W : Written) (s : State) → o ≤ i → i ≤ j → j ≤ e →
+    Ran (side sheet a b first) W (exprPiece (c .1)) base (suc i) (suc j) s m m₁ → Ran (side sheet a b first) ((base + suc i, base + suc j) ∷ W) (carriedPiece cs) base (suc j) (suc e) (lowerExpr (c .1) s .1) m₁ m₂ →
+    Ran (side sheet a b first) W (carriedPiece (c ∷ᶜ cs)) base (suc o) (suc e) s m m₂
 unfolding lowerC renderC BelowC _>>=_ ret
-both-run base o i j e m m₁ m₂ c cs W s lo l l′ p q =
+both-run {first = first} base o i j e m m₁ m₂ c cs W s lo l l′ p q =
     let u : Sub ((base + suc j, base + suc e) ∷ (base + suc i, base + suc j) ∷ W) ((base + suc o, base + suc e) ∷ W) = sub-within (omega arith) (le-refl _) (sub-within (omega arith) (omega arith) (sub-more (base + suc o, base + suc e) W)) in
     record {
       to = to-wider u (to-then (p .to) (q .to));
       shown = λ N A f. rw (p .shown N A (back (q .to) (narrow u f)), q .shown N A (narrow u f));
-      below = λ N A f. (below-more (shift N base) (m₁ .ctx .ops) (m₂ .ctx .ops) (q .to .grow) (c .1) (p .below N A (back (q .to) (narrow u f))), q .below N A (narrow u f));
+      below = λ N A f. (below-more (shift N base) first (m₁ .ctx .ops) (m₂ .ctx .ops) (q .to .grow) (c .1) (p .below N A (back (q .to) (narrow u f))), q .below N A (narrow u f));
     }
 
 module _ {a b : List ℕ} {n d base j e : ℕ} {m m₁ m₂ : Mem} (gap i : ℕ) (p : LowersExpr a b d base (i + gap) j m m₁) (q : LowersExprs a b n gap d base j e m₁ m₂) where
@@ -72,7 +73,7 @@ module _ {a b : List ℕ} {n d base j e : ℕ} {m m₁ m₂ : Mem} (gap i : ℕ)
       let y : e ≡ j + sizeC gap cs = q .next sheet cs (rw x (h .1)) in
       omega arith
 
-  cons-run : (sheet : Bytes) (cs : Carried (suc n)) → HeldC sheet a b gap cs d i → (W : Written) (s : State) → Rep sheet a b W s m → Blank W (base + suc i) (base + suc e) → Ran sheet a b W (carriedPiece cs) base (suc i) (suc e) s m m₂
+  cons-run : (sheet : Bytes) {first : ℕ} (cs : Carried (suc n)) → HeldC sheet a b gap cs d i → (W : Written) (s : State) → Rep (side sheet a b first) W s m → Blank W (base + suc i) (base + suc e) → Ran (side sheet a b first) W (carriedPiece cs) base (suc i) (suc e) s m m₂
   unfolding HeldC
   cons-run sheet (c ∷ᶜ cs) h W s r bl =
       let u = p .moved .up in
@@ -90,7 +91,7 @@ module _ {a b : List ℕ} {n d base j e : ℕ} {m m₁ m₂ : Mem} (gap i : ℕ)
 pub record Left (a b : List ℕ) (gap d base : ℕ) (Done : ℕ → Mem → Type 0) (k i : ℕ) (m : Mem) : Type 0 where
   pub some : SomeCarried a b k gap d i
   pub good : RoomFor d i m
-  pub rest : (e : ℕ) (m′ : Mem) → LowersExprs a b k gap d base i e m m′ → Done e m′
+  pub finish : (e : ℕ) (m′ : Mem) → LowersExprs a b k gap d base i e m m′ → Done e m′
 
 child-by : {a b : List ℕ} {d : ℕ} (gap i : ℕ) (sheet : Bytes) {k : ℕ} (cs : Carried k) → ((k ≡ 0) → ⊥) → HeldC sheet a b gap cs d i → SomeTree a b expr d (i + gap)
 unfolding HeldC
@@ -113,8 +114,8 @@ module _ {a b : List ℕ} {gap d base : ℕ} {Done : ℕ → Mem → Type 0} whe
   again {k = suc k} {i} {j} {m} {m₁} h p q = less (record {
     some = behind gap i (p .some .sheet) (p .some .list) q (p .some .held);
     good = good-after (moved-within (omega arith) (le-refl _) (q .moved .here) (q .moved)) (p .good);
-    rest = λ e m′ r. p .rest e m′ (cons-law gap i q r);
+    finish = λ e m′ r. p .finish e m′ (cons-law gap i q r);
   })
 
   pub done : {k i : ℕ} {m : Mem} → k ≡ 0 → Left a b gap d base Done k i m → Done i m
-  done {k} {i} {m} h p = p .rest i m (rw h (nil-law a b gap d base i m (p .good .here)))
+  done {k} {i} {m} h p = p .finish i m (rw h (nil-law a b gap d base i m (p .good .here)))

@@ -1,3 +1,4 @@
+pub mod Side
 pub mod Render
 pub mod Shows
 pub mod Rep

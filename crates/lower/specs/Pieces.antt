@@ -7,11 +7,12 @@ use Rattle.model.specs.Kind.{Sort, expr}
 use Rattle.model.specs.Tree.{Tree}
 use Rattle.model.specs.Lower.{Recs, Lowering, _>>=_, ret, lowerExpr}
 use Rattle.words.specs.Held.{Held, size}
+use Rattle.lower.specs.Side.{side}
 use Rattle.lower.specs.Render.{Notes, Ops, render, Below}
 use Rattle.lower.specs.Rep.{State, Mem, Written, Blank, Rep, Piece, Ran, Moved}
 
 abbrev pub exprPiece : Tree expr → Piece
-exprPiece t = record { lower = λ s. lowerExpr t s; render = λ N A. render N A t; below = λ N k. Below N k t }
+exprPiece t = record { lower = λ s. lowerExpr t s; render = λ N A. render N A t; below = λ N lo k. Below N lo k t }
 
 -- n expressions, each with the records that stand before it in the plan
 pub data Carried : ℕ → Type 0 where
@@ -30,9 +31,9 @@ unfoldable pub renderC : Notes → Ops → {n : ℕ} → Carried n → Recs
 renderC N A []ᶜ = []
 renderC N A (c ∷ᶜ cs) = (c .0 ++ render N A (c .1)) ++ renderC N A cs
 
-unfoldable pub BelowC : Notes → ℕ → {n : ℕ} → Carried n → Type 0
-BelowC N k []ᶜ = Unit {0}
-BelowC N k (c ∷ᶜ cs) = Below N k (c .1) × BelowC N k cs
+unfoldable pub BelowC : Notes → (lo hi : ℕ) → {n : ℕ} → Carried n → Type 0
+BelowC N lo k []ᶜ = Unit {0}
+BelowC N lo k (c ∷ᶜ cs) = Below N lo k (c .1) × BelowC N lo k cs
 
 -- each stands so many records behind the one before it
 unfoldable pub sizeC : ℕ → {n : ℕ} → Carried n → ℕ
@@ -44,7 +45,7 @@ HeldC sheet a b gap []ᶜ d i = Unit {0}
 HeldC sheet a b gap (c ∷ᶜ cs) d i = Held sheet a b (c .1) d (i + gap) × HeldC sheet a b gap cs d (i + gap + size (c .1))
 
 abbrev pub carriedPiece : {n : ℕ} → Carried n → Piece
-carriedPiece cs = record { lower = λ s. lowerC cs s; render = λ N A. renderC N A cs; below = λ N k. BelowC N k cs }
+carriedPiece cs = record { lower = λ s. lowerC cs s; render = λ N A. renderC N A cs; below = λ N lo k. BelowC N lo k cs }
 
 -- some tree of a sort is held
 pub record SomeTree (a b : List ℕ) (s : Sort) (d i : ℕ) : Type 0 where
@@ -61,10 +62,10 @@ pub record SomeCarried (a b : List ℕ) (n gap d i : ℕ) : Type 0 where
 pub record LowersExpr (a b : List ℕ) (d base i e : ℕ) (m m′ : Mem) : Type 0 where
   pub moved : Moved i e m m′
   pub next : (sheet : Bytes) (t : Tree expr) → Held sheet a b t d i → e ≡ i + size t
-  pub run : (sheet : Bytes) (t : Tree expr) → Held sheet a b t d i → (W : Written) (s : State) → Rep sheet a b W s m → Blank W (base + suc i) (base + suc e) → Ran sheet a b W (exprPiece t) base (suc i) (suc e) s m m′
+  pub run : (sheet : Bytes) {first : ℕ} (t : Tree expr) → Held sheet a b t d i → (W : Written) (s : State) → Rep (side sheet a b first) W s m → Blank W (base + suc i) (base + suc e) → Ran (side sheet a b first) W (exprPiece t) base (suc i) (suc e) s m m′
 
 -- n expressions from record i on
 pub record LowersExprs (a b : List ℕ) (n gap d base i e : ℕ) (m m′ : Mem) : Type 0 where
   pub moved : Moved i e m m′
   pub next : (sheet : Bytes) (cs : Carried n) → HeldC sheet a b gap cs d i → e ≡ i + sizeC gap cs
-  pub run : (sheet : Bytes) (cs : Carried n) → HeldC sheet a b gap cs d i → (W : Written) (s : State) → Rep sheet a b W s m → Blank W (base + suc i) (base + suc e) → Ran sheet a b W (carriedPiece cs) base (suc i) (suc e) s m m′
+  pub run : (sheet : Bytes) {first : ℕ} (cs : Carried n) → HeldC sheet a b gap cs d i → (W : Written) (s : State) → Rep (side sheet a b first) W s m → Blank W (base + suc i) (base + suc e) → Ran (side sheet a b first) W (carriedPiece cs) base (suc i) (suc e) s m m′

@@ -1,5 +1,5 @@
 -- What trees come to in the plan, read off the numbers that are noted at their records: a note is kept by the record's line, and a pattern's copy is of the operator noted at it. Assumes nothing: these are definitions.
-use Prim.Native.Nat.{ℕ, _<_}
+use Prim.Native.Nat.{ℕ, _≤_, _<_}
 use mathlib.Core.Bool.{Bool, true, false, cond}
 use mathlib.Core.List.{List, [], _∷_, _++_}
 use mathlib.Core.Option.{Option, none, some}
@@ -66,47 +66,47 @@ unfoldable mutual
   renderIn N A end = []
   renderIn N A (ts ▸ f) = renderOf N A ts ++ renderIn N A f
 
--- every copy is of an operator below b
-unfoldable pub copiesBelow : Notes → ℕ → (line : ℕ) → Expr → Type 0 → Type 0
-copiesBelow N b line (Expr.Over h) inside = inside
-copiesBelow N b line Expr.Var inside = Unit {0}
-copiesBelow N b line Expr.Map inside = inside
-copiesBelow N b line Expr.Call inside = inside
-copiesBelow N b line Expr.PatternPredicate inside = N line < b
-copiesBelow N b line Expr.ListPredicate inside = inside
-copiesBelow N b line Expr.Unresolved inside = Unit {0}
-copiesBelow N b line Expr.Undesugared inside = Unit {0}
+-- every copy is of an operator from lo on and below hi
+unfoldable pub copiesBelow : Notes → (lo hi : ℕ) → (line : ℕ) → Expr → Type 0 → Type 0
+copiesBelow N lo hi line (Expr.Over h) inside = inside
+copiesBelow N lo hi line Expr.Var inside = Unit {0}
+copiesBelow N lo hi line Expr.Map inside = inside
+copiesBelow N lo hi line Expr.Call inside = inside
+copiesBelow N lo hi line Expr.PatternPredicate inside = (lo ≤ N line) × (N line < hi)
+copiesBelow N lo hi line Expr.ListPredicate inside = inside
+copiesBelow N lo hi line Expr.Unresolved inside = Unit {0}
+copiesBelow N lo hi line Expr.Undesugared inside = Unit {0}
 
-unfoldable pub belowIn : Notes → ℕ → (s : Sort) (line : ℕ) → Kind s → Type 0 → Type 0
-belowIn N b statement line k inside = Unit {0}
-belowIn N b unionArm line k inside = Unit {0}
-belowIn N b clause line k inside = Unit {0}
-belowIn N b projection line k inside = inside
-belowIn N b orderItem line k inside = inside
-belowIn N b patternPart line k inside = Unit {0}
-belowIn N b patternElement line k inside = Unit {0}
-belowIn N b name line k inside = Unit {0}
-belowIn N b yieldItem line k inside = Unit {0}
-belowIn N b entry line k inside = inside
-belowIn N b expr line k inside = copiesBelow N b line k inside
-belowIn N b (inPlan p) line k inside = Unit {0}
+unfoldable pub belowIn : Notes → (lo hi : ℕ) → (s : Sort) (line : ℕ) → Kind s → Type 0 → Type 0
+belowIn N lo hi statement line k inside = Unit {0}
+belowIn N lo hi unionArm line k inside = Unit {0}
+belowIn N lo hi clause line k inside = Unit {0}
+belowIn N lo hi projection line k inside = inside
+belowIn N lo hi orderItem line k inside = inside
+belowIn N lo hi patternPart line k inside = Unit {0}
+belowIn N lo hi patternElement line k inside = Unit {0}
+belowIn N lo hi name line k inside = Unit {0}
+belowIn N lo hi yieldItem line k inside = Unit {0}
+belowIn N lo hi entry line k inside = inside
+belowIn N lo hi expr line k inside = copiesBelow N lo hi line k inside
+belowIn N lo hi (inPlan p) line k inside = Unit {0}
 
 unfoldable mutual
-  pub Below : Notes → ℕ → {s : Sort} → Tree s → Type 0
-  Below N b (node s line k f kids) = belowIn N b s line k (BelowIn N b kids)
+  pub Below : Notes → (lo hi : ℕ) → {s : Sort} → Tree s → Type 0
+  Below N lo hi (node s line k f kids) = belowIn N lo hi s line k (BelowIn N lo hi kids)
 
-  pub BelowOf : Notes → ℕ → {s : Sort} {n : ℕ} → Trees s n → Type 0
-  BelowOf N b []ᵗ = Unit {0}
-  BelowOf N b (t ∷ᵗ ts) = Below N b t × BelowOf N b ts
+  pub BelowOf : Notes → (lo hi : ℕ) → {s : Sort} {n : ℕ} → Trees s n → Type 0
+  BelowOf N lo hi []ᵗ = Unit {0}
+  BelowOf N lo hi (t ∷ᵗ ts) = Below N lo hi t × BelowOf N lo hi ts
 
-  pub BelowIn : Notes → ℕ → {gs : List Group} → Forest gs → Type 0
-  BelowIn N b end = Unit {0}
-  BelowIn N b (ts ▸ f) = BelowOf N b ts × BelowIn N b f
+  pub BelowIn : Notes → (lo hi : ℕ) → {gs : List Group} → Forest gs → Type 0
+  BelowIn N lo hi end = Unit {0}
+  BelowIn N lo hi (ts ▸ f) = BelowOf N lo hi ts × BelowIn N lo hi f
 
 -- ── pattern elements ──
 
-unfoldable pub KidsBelow : Notes → ℕ → {s : Sort} → Tree s → Type 0
-KidsBelow N b (node s line k f kids) = BelowIn N b kids
+unfoldable pub KidsBelow : Notes → (lo hi : ℕ) → {s : Sort} → Tree s → Type 0
+KidsBelow N lo hi (node s line k f kids) = BelowIn N lo hi kids
 
 -- `rel` without variable or span, and `to`
 unfoldable pub specRec : (k : PatternElement) → Fields (elementForms k) → Rec

@@ -4,14 +4,14 @@ use Prim.Native.Nat.{ℕ, _+_, _*_, _≤_, _<_}
 use mathlib.Core.List.{List, [], _∷_}
 use mathlib.Core.Logic.{_⊎_}
 use lib.ListN.{length, getD, drop}
-use Rattle.model.specs.Text.{Bytes}
-use Rattle.model.specs.Call.{workWords, maxDepth}
+use Rattle.model.specs.Call.{workWords}
 use Rattle.model.specs.Lower.{Recs, Lowering, at}
 use Rattle.model.specs.Lower
 use Rattle.words.specs.Words.{maxRecords}
-use Rattle.context.specs.Tables.{stateOf, opAt, varsAt, maxStored, Indexed}
+use Rattle.context.specs.Tables.{stateOf, opAt, varsAt, maxStored, Indexed, deepest}
 use Rattle.context.specs.declared.LowerCtx.{LowerCtx}
 use Rattle.context.specs.declared.At.{At}
+use Rattle.lower.specs.Side.{Side}
 use Rattle.lower.specs.Render.{Notes, Ops}
 use Rattle.lower.specs.Shows.{Stored, shift}
 
@@ -61,15 +61,16 @@ pub record Future (W : Written) (s : State) (m : Mem) (N : Notes) (A : Ops) : Ty
   pub notes : Agree W (notes m) N
   pub ops : (k : ℕ) → k < m .ctx .ops → A k ≡ at (s .ops) k
 
--- the counts are exact, also past the table's end; those operators that it has room for are stored
-pub record Rep (sheet : Bytes) (a b : List ℕ) (W : Written) (s : State) (m : Mem) : Type 0 where
+-- the counts are exact, also past the table's end; those operators from the first on that it has room for are stored
+pub record Rep (S : Side) (W : Written) (s : State) (m : Mem) : Type 0 where
   pub count : m .ctx .ops ≡ length (s .ops)
   pub state : stateOf (s .ops) (m .ctx) (drop varsAt (m .rest)) ≡ s
-  pub shows : (k : ℕ) → k < m .ctx .ops → k < maxStored → (N : Notes) (A : Ops) → Future W s m N A → Stored sheet a b N A k (opAt (m .ops) k) (at (s .ops) k)
+  pub from : S .first ≤ m .ctx .ops
+  pub shows : (k : ℕ) → S .first ≤ k → k < m .ctx .ops → k < maxStored → (N : Notes) (A : Ops) → Future W s m N A → Stored S N A k (opAt (m .ops) k) (at (s .ops) k)
 
 -- the state s in m has become s′ in m′
-pub record To (sheet : Bytes) (a b : List ℕ) (W W′ : Written) (s s′ : State) (m m′ : Mem) : Type 0 where
-  pub rep : Rep sheet a b W′ s′ m′
+pub record To (S : Side) (W W′ : Written) (s s′ : State) (m m′ : Mem) : Type 0 where
+  pub rep : Rep S W′ s′ m′
   pub sub : Sub W W′
   pub kept : Agree W (notes m) (notes m′)
   pub old : (k : ℕ) → k < m .ctx .ops → at (s′ .ops) k ≡ at (s .ops) k
@@ -80,17 +81,17 @@ pub record To (sheet : Bytes) (a b : List ℕ) (W W′ : Written) (s s′ : Stat
 pub record Piece : Type 1 where
   pub lower : Lowering Recs
   pub render : Notes → Ops → Recs
-  pub below : Notes → ℕ → Type 0
+  pub below : Notes → (lo hi : ℕ) → Type 0
 
 -- a piece is lowered, whose notes are those from line lo to hi of the pass at base
-pub record Ran (sheet : Bytes) (a b : List ℕ) (W : Written) (P : Piece) (base lo hi : ℕ) (s : State) (m m′ : Mem) : Type 0 where
-  pub to : To sheet a b W ((base + lo, base + hi) ∷ W) s (P .lower s .1) m m′
+pub record Ran (S : Side) (W : Written) (P : Piece) (base lo hi : ℕ) (s : State) (m m′ : Mem) : Type 0 where
+  pub to : To S W ((base + lo, base + hi) ∷ W) s (P .lower s .1) m m′
   pub shown : (N : Notes) (A : Ops) → Future ((base + lo, base + hi) ∷ W) (P .lower s .1) m′ N A → P .render (shift N base) A ≡ P .lower s .0
-  pub below : (N : Notes) (A : Ops) → Future ((base + lo, base + hi) ∷ W) (P .lower s .1) m′ N A → P .below (shift N base) (m′ .ctx .ops)
+  pub below : (N : Notes) (A : Ops) → Future ((base + lo, base + hi) ∷ W) (P .lower s .1) m′ N A → P .below (shift N base) (S .first) (m′ .ctx .ops)
 
 -- an operator is pushed in the end, whose number is k
-pub record Rooted (sheet : Bytes) (a b : List ℕ) (W : Written) (L : Lowering ℕ) (k base lo hi : ℕ) (s : State) (m m′ : Mem) : Type 0 where
-  pub to : To sheet a b W ((base + lo, base + hi) ∷ W) s (L s .1) m m′
+pub record Rooted (S : Side) (W : Written) (L : Lowering ℕ) (k base lo hi : ℕ) (s : State) (m m′ : Mem) : Type 0 where
+  pub to : To S W ((base + lo, base + hi) ∷ W) s (L s .1) m m′
   pub root : k ≡ L s .0
   pub low : k < m′ .ctx .ops
 
@@ -106,12 +107,12 @@ maxBefore = 30000
 
 -- Variables that a lowering may find at record i, beside one for each record before it: those of a first pass over the same records, and one for each level of a tree that is under way.
 abbrev pub maxMet : ℕ
-maxMet = maxRecords + maxDepth
+maxMet = maxRecords + deepest
 
 -- there is room at record i, for what is at most d deep: two operators and one number for each record, and one for each level
 pub record RoomFor (d i : ℕ) (m : Mem) : Type 0 where
   pub few : m .ctx .ops + d ≤ maxBefore + 2 * i
-  pub low : m .ctx .next + d ≤ maxBefore + i
+  pub low : m .ctx .numbers + d ≤ maxBefore + i
   pub met : m .ctx .mapped + d ≤ maxMet + i
   pub here : i ≤ maxRecords
   pub in-ops : workWords ≤ length (m .ops)
@@ -122,8 +123,9 @@ pub record RoomFor (d i : ℕ) (m : Mem) : Type 0 where
 pub record Moved (i e : ℕ) (m m′ : Mem) : Type 0 where
   pub up : i ≤ e
   pub here : e ≤ maxRecords
+  pub grow : m .ctx .ops ≤ m′ .ctx .ops
   pub few : m′ .ctx .ops + 2 * i ≤ m .ctx .ops + 2 * e
-  pub low : m′ .ctx .next + i ≤ m .ctx .next + e
+  pub low : m′ .ctx .numbers + i ≤ m .ctx .numbers + e
   pub met : m′ .ctx .mapped + i ≤ m .ctx .mapped + e
   pub in-ops : length (m′ .ops) ≡ length (m .ops)
   pub in-rest : length (m′ .rest) ≡ length (m .rest)

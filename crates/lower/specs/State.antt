@@ -10,13 +10,13 @@ use native.Mathlib.Omega.{arith}
 use lib.ListN.{length, getD, drop}
 use lib.Dec.{ltb}
 use borrow.Author.Tests.{eq-eqb, ne-eqb, ltb-true, ltb-false}
-use Rattle.model.specs.Text.{Bytes}
 use Rattle.model.specs.Lower.{Recs, Lowering, at, push}
 use Rattle.model.specs.Lower
 use Rattle.context.specs.Tables.{stateOf, Noted, NoteWritten, Numbers, Pushed, varsAt}
 use Rattle.context.specs.declared.op.Op.{Op}
 use Rattle.context.specs.declared.LowerCtx.{LowerCtx}
 use Rattle.context.specs.declared.Numbered.{Numbered}
+use Rattle.lower.specs.Side.{Side}
 use Rattle.lower.specs.Render.{Ops}
 use Rattle.lower.specs.Render
 use Rattle.lower.specs.Shows.{Stored}
@@ -49,24 +49,25 @@ blank-behind {W} {x} {y} l p = record { at = λ q a b i. ⊎-elim (λ (z : (x �
 
 -- ── later states ──
 
-module _ {sheet : Bytes} {a b : List ℕ} where
-  pub back : {W W′ : Written} {s s′ : State} {m m′ : Mem} {N : Render.Notes} {A : Ops} → To sheet a b W W′ s s′ m m′ → Future W′ s′ m′ N A → Future W s m N A
+module _ {S : Side} where
+  pub back : {W W′ : Written} {s s′ : State} {m m′ : Mem} {N : Render.Notes} {A : Ops} → To S W W′ s s′ m m′ → Future W′ s′ m′ N A → Future W s m N A
   back t f = record {
     notes = record { at = λ q l i. f .notes .at q l (t .sub .at q i) ∙ t .kept .at q l i };
     ops = λ k h. (let g = t .grow in f .ops k (omega arith)) ∙ t .old k h;
   }
 
-  pub rep-wider : {W W′ : Written} {s : State} {m : Mem} → Sub W W′ → Rep sheet a b W s m → Rep sheet a b W′ s m
+  pub rep-wider : {W W′ : Written} {s : State} {m : Mem} → Sub W W′ → Rep S W s m → Rep S W′ s m
   rep-wider u r = record {
     count = r .count;
     state = r .state;
-    shows = λ k h l N A f. r .shows k h l N A (record { notes = record { at = λ q g i. f .notes .at q g (u .at q i) }; ops = f .ops });
+    from = r .from;
+    shows = λ k o h l N A f. r .shows k o h l N A (record { notes = record { at = λ q g i. f .notes .at q g (u .at q i) }; ops = f .ops });
   }
 
-  pub to-refl : {W : Written} {s : State} {m : Mem} → Rep sheet a b W s m → To sheet a b W W s s m m
+  pub to-refl : {W : Written} {s : State} {m : Mem} → Rep S W s m → To S W W s s m m
   to-refl {W} r = record { rep = r; sub = sub-refl W; kept = record { at = λ q l i. refl }; old = λ k h. refl; grow = le-refl _ }
 
-  pub to-then : {W W₁ W₂ : Written} {s s₁ s₂ : State} {m m₁ m₂ : Mem} → To sheet a b W W₁ s s₁ m m₁ → To sheet a b W₁ W₂ s₁ s₂ m₁ m₂ → To sheet a b W W₂ s s₂ m m₂
+  pub to-then : {W W₁ W₂ : Written} {s s₁ s₂ : State} {m m₁ m₂ : Mem} → To S W W₁ s s₁ m m₁ → To S W₁ W₂ s₁ s₂ m₁ m₂ → To S W W₂ s s₂ m m₂
   to-then p r = record {
     rep = r .rep;
     sub = sub-then (p .sub) (r .sub);
@@ -75,7 +76,7 @@ module _ {sheet : Bytes} {a b : List ℕ} where
     grow = let g = p .grow in let g′ = r .grow in omega arith;
   }
 
-  pub to-wider : {W W₁ W₂ : Written} {s s′ : State} {m m′ : Mem} → Sub W₁ W₂ → To sheet a b W W₁ s s′ m m′ → To sheet a b W W₂ s s′ m m′
+  pub to-wider : {W W₁ W₂ : Written} {s s′ : State} {m m′ : Mem} → Sub W₁ W₂ → To S W W₁ s s′ m m′ → To S W W₂ s s′ m m′
   to-wider u t = record { rep = rep-wider u (t .rep); sub = sub-then (t .sub) u; kept = t .kept; old = t .old; grow = t .grow }
 
 -- ── one more ──
@@ -97,14 +98,14 @@ same-written : {W : Written} (m : Mem) (place v : ℕ) (rest′ : List ℕ) → 
 same-written m place v rest′ n bl q l i = n .other q l (λ (e : q ≡ place). bl .at q (omega arith) (omega arith) i)
 
 -- a number, noted
-pub record Given (sheet : Bytes) (a b : List ℕ) (W : Written) (s : State) (step : Lowering ℕ) (place : ℕ) (m : Mem) (rest′ : List ℕ) (r : Numbered) : Type 0 where
-  pub to : To sheet a b W ((place, place + 1) ∷ W) s (step s .1) m (mem (r .ctx) (m .ops) rest′)
+pub record Given (S : Side) (W : Written) (s : State) (step : Lowering ℕ) (place : ℕ) (m : Mem) (rest′ : List ℕ) (r : Numbered) : Type 0 where
+  pub to : To S W ((place, place + 1) ∷ W) s (step s .1) m (mem (r .ctx) (m .ops) rest′)
   pub number : r .number ≡ step s .0
   pub noted : getD rest′ place 0 ≡ r .number
 
-module _ {sheet : Bytes} {a b : List ℕ} {W : Written} {s : State} where
+module _ {S : Side} {W : Written} {s : State} where
   -- an operator
-  pub push-to : (m : Mem) (c : LowerCtx) (o′ : List ℕ) (x : Op) (recs : Recs) → Rep sheet a b W s m → Pushed (m .ctx) c (m .ops) o′ x → ((N : Render.Notes) (A : Ops) → Future W s m N A → Stored sheet a b N A (m .ctx .ops) x recs) → To sheet a b W W s (push recs s .1) m (mem c o′ (m .rest))
+  pub push-to : (m : Mem) (c : LowerCtx) (o′ : List ℕ) (x : Op) (recs : Recs) → Rep S W s m → Pushed (m .ctx) c (m .ops) o′ x → ((N : Render.Notes) (A : Ops) → Future W s m N A → Stored S N A (m .ctx .ops) x recs) → To S W W s (push recs s .1) m (mem c o′ (m .rest))
   unfolding push
   push-to m c o′ x recs r p sx =
       let s′ : State = push recs s .1 in
@@ -115,10 +116,11 @@ module _ {sheet : Bytes} {a b : List ℕ} {W : Written} {s : State} where
       record {
         rep = record {
           count = let z : m .ctx .ops ≡ length (s .ops) = r .count in omega arith;
-          state = rw (p .next, p .mapped) (ap (λ (z : State). record { ops = recs ∷ s .ops; scope = z .scope }) (r .state));
-          shows = λ k h l N A f.
+          state = rw (p .numbers, p .mapped) (ap (λ (z : State). record { ops = recs ∷ s .ops; scope = z .scope }) (r .state));
+          from = omega (arith, r .from);
+          shows = λ k o h l N A f.
               ⊎-elim
-              (λ (g : k < m .ctx .ops). rw (p .other k g l, same k g) (r .shows k g l N A (early N A f)))
+              (λ (g : k < m .ctx .ops). rw (p .other k g l, same k g) (r .shows k o g l N A (early N A f)))
               (λ (g : k ≡ m .ctx .ops). (let l′ : m .ctx .ops < maxRecords = omega arith in rw (g, p .here l′, new-at recs (s .ops) (m .ctx .ops) (r .count)) (sx N A (early N A f))))
               (split-by k (m .ctx .ops) (ltb k (m .ctx .ops)) refl (rw (p .count) at h));
         };
@@ -128,7 +130,7 @@ module _ {sheet : Bytes} {a b : List ℕ} {W : Written} {s : State} where
         grow = omega arith;
       }
 
-  pub number-to : (step : Lowering ℕ) (place : ℕ) (m : Mem) (rest′ : List ℕ) (r : Numbered) → Rep sheet a b W s m → Numbers step place (m .ctx) (m .rest) rest′ r → Blank W place (place + 1) → Given sheet a b W s step place m rest′ r
+  pub number-to : (step : Lowering ℕ) (place : ℕ) (m : Mem) (rest′ : List ℕ) (r : Numbered) → Rep S W s m → Numbers step place (m .ctx) (m .rest) rest′ r → Blank W place (place + 1) → Given S W s step place m rest′ r
   number-to step place m rest′ r p n bl =
       let e : step s ≡ (r .number, stateOf (s .ops) (r .ctx) (drop varsAt rest′)) = ap step (sym (p .state)) ∙ n .issued .is (s .ops) in
       let e₁ : stateOf (s .ops) (r .ctx) (drop varsAt rest′) ≡ step s .1 = sym (ap (λ (z : ℕ × State). z .1) e) in
@@ -140,7 +142,8 @@ module _ {sheet : Bytes} {a b : List ℕ} {W : Written} {s : State} where
           rep = record {
             count = c ∙ p .count ∙ ap length (sym eo);
             state = ap (λ (z : List Recs). stateOf z (r .ctx) (drop varsAt rest′)) eo ∙ e₁;
-            shows = λ k h l N A f. rw eo (p .shows k (rw c at h) l N A (record { notes = record { at = λ q g i. f .notes .at q g (inr i) ∙ ag q g i }; ops = λ j g. f .ops j (rw c g) ∙ ap (λ (z : List Recs). at z j) eo }));
+            from = rw c (p .from);
+            shows = λ k o h l N A f. rw eo (p .shows k o (rw c at h) l N A (record { notes = record { at = λ q g i. f .notes .at q g (inr i) ∙ ag q g i }; ops = λ j g. f .ops j (rw c g) ∙ ap (λ (z : List Recs). at z j) eo }));
           };
           sub = sub-more (place, place + 1) W;
           kept = record { at = ag };
@@ -152,14 +155,15 @@ module _ {sheet : Bytes} {a b : List ℕ} {W : Written} {s : State} where
       }
 
   -- a note
-  pub note-to : (place v : ℕ) (m : Mem) (rest′ : List ℕ) → Rep sheet a b W s m → NoteWritten place v (m .rest) rest′ → Blank W place (place + 1) → To sheet a b W ((place, place + 1) ∷ W) s s m (mem (m .ctx) (m .ops) rest′)
+  pub note-to : (place v : ℕ) (m : Mem) (rest′ : List ℕ) → Rep S W s m → NoteWritten place v (m .rest) rest′ → Blank W place (place + 1) → To S W ((place, place + 1) ∷ W) s s m (mem (m .ctx) (m .ops) rest′)
   note-to place v m rest′ p n bl =
       let ag = same-written m place v rest′ (n .noted) bl in
       record {
         rep = record {
           count = p .count;
           state = rw (n .vars) (p .state);
-          shows = λ k h l N A f. p .shows k h l N A (record { notes = record { at = λ q g i. f .notes .at q g (inr i) ∙ ag q g i }; ops = f .ops });
+          from = p .from;
+          shows = λ k o h l N A f. p .shows k o h l N A (record { notes = record { at = λ q g i. f .notes .at q g (inr i) ∙ ag q g i }; ops = f .ops });
         };
         sub = sub-more (place, place + 1) W;
         kept = record { at = ag };
@@ -168,15 +172,16 @@ module _ {sheet : Bytes} {a b : List ℕ} {W : Written} {s : State} where
       }
 
   -- a number for something unnamed, which is not noted
-  pub fresh-to : (m : Mem) (c : LowerCtx) → Rep sheet a b W s m → c .ops ≡ m .ctx .ops → c .next ≡ m .ctx .next + 1 → c .mapped ≡ m .ctx .mapped → To sheet a b W W s (Lower.fresh s .1) m (mem c (m .ops) (m .rest))
+  pub fresh-to : (m : Mem) (c : LowerCtx) → Rep S W s m → c .ops ≡ m .ctx .ops → c .numbers ≡ m .ctx .numbers + 1 → c .mapped ≡ m .ctx .mapped → To S W W s (Lower.fresh s .1) m (mem c (m .ops) (m .rest))
   unfolding Lower.fresh Lower.issue
   fresh-to m c r eo en em =
-      let z : suc (m .ctx .next) ≡ suc (s .scope .next) = ap (λ (x : State). suc (x .scope .next)) (r .state) in
+      let z : suc (m .ctx .numbers) ≡ suc (s .scope .next) = ap (λ (x : State). suc (x .scope .next)) (r .state) in
       record {
         rep = record {
           count = eo ∙ r .count;
-          state = rw (em, en, add-one (m .ctx .next)) (ap (λ (x : State). record { ops = s .ops; scope = record { vars = x .scope .vars; next = suc (x .scope .next) } }) (r .state));
-          shows = λ k h l N A f. r .shows k (rw eo at h) l N A (record { notes = f .notes; ops = λ j g. f .ops j (rw eo g) });
+          state = rw (em, en, add-one (m .ctx .numbers)) (ap (λ (x : State). record { ops = s .ops; scope = record { vars = x .scope .vars; next = suc (x .scope .next) } }) (r .state));
+          from = rw eo (r .from);
+          shows = λ k o h l N A f. r .shows k o (rw eo at h) l N A (record { notes = f .notes; ops = λ j g. f .ops j (rw eo g) });
         };
         sub = sub-refl W;
         kept = record { at = λ q l i. refl };
@@ -184,9 +189,9 @@ module _ {sheet : Bytes} {a b : List ℕ} {W : Written} {s : State} where
         grow = omega arith;
       }
 
-  pub fresh-number : (m : Mem) → Rep sheet a b W s m → m .ctx .next ≡ Lower.fresh s .0
+  pub fresh-number : (m : Mem) → Rep S W s m → m .ctx .numbers ≡ Lower.fresh s .0
   unfolding Lower.fresh Lower.issue
   fresh-number m r = ap (λ (x : State). x .scope .next) (r .state)
 
-  pub upcoming-number : (m : Mem) → Rep sheet a b W s m → m .ctx .next ≡ s .scope .next
+  pub upcoming-number : (m : Mem) → Rep S W s m → m .ctx .numbers ≡ s .scope .next
   upcoming-number m r = ap (λ (x : State). x .scope .next) (r .state)

@@ -23,6 +23,7 @@ use Rattle.words.specs.Cells.{shown}
 use Rattle.context.specs.Tables.{opAt}
 use Rattle.context.specs.Read.{noteOf}
 use Rattle.context.specs.declared.op.Op.{Op}
+use Rattle.lower.specs.Side.{side}
 use Rattle.lower.specs.Render.{Notes, Ops, render, renderOf, recsOver, Below, keptFrom}
 use Rattle.lower.specs.Shows.{shift, Shows, OverExpr, ByLabels, ByPath, ByWith, ByCall, shows-all, shows-source, shows-filter, shows-expand, shows-short, shows-path, shows-optional, shows-with, shows-project, shows-aggregate, shows-order, shows-skip, shows-limit, shows-distinct, shows-unwind, shows-union, shows-call}
 use Rattle.plan_line.specs.Keywords.{word, letters, yieldWord}
@@ -234,18 +235,18 @@ module _ {sheet : Bytes} {a b rest : List ℕ} {A : Ops} {k : ℕ} {o : Op} {rec
   alone : {n i stop : ℕ} {R : Ops → Recs} (first : Rec) → ((i : ℕ) → Tail sheet a b rest o i []) → Made sheet a b (shift (noted rest) (o .base)) k (o .left) n i R stop → recs ≡ first ∷ R A → Inside sheet a b rest A k o recs n i
   alone {R = R} first t m e = behind-made first [] m (t (carriedEnd (m .list))) (rw (append-nil (R A)) e)
 
-  over-expr : {head : Rec} → ((i : ℕ) → Tail sheet a b rest o i []) → OverExpr sheet a b (noted rest) A k o head recs → Inside sheet a b rest A k o recs 1 (o .idx)
+  over-expr : {head : Rec} → ((i : ℕ) → Tail sheet a b rest o i []) → OverExpr (side sheet a b 0) (noted rest) A k o head recs → Inside sheet a b rest A k o recs 1 (o .idx)
   unfolding Held Below render
   over-expr {head} t h = alone head t (exprs-made (shift (noted rest) (o .base)) k (o .left) (h .tree ∷ᵗ []ᵗ) (o .idx) (h .held, tt) (h .below, tt)) (rw (append-nil (render (shift (noted rest) (o .base)) A (h .tree))) (h .is))
 
-  by-with : ((i : ℕ) → Tail sheet a b rest o i []) → (h : ByWith sheet a b (noted rest) A k o recs) → Inside sheet a b rest A k o recs (h .count + one (h .filtered)) (o .idx + 1)
+  by-with : ((i : ℕ) → Tail sheet a b rest o i []) → (h : ByWith (side sheet a b 0) (noted rest) A k o recs) → Inside sheet a b rest A k o recs (h .count + one (h .filtered)) (o .idx + 1)
   by-with t h =
       let N = shift (noted rest) (o .base) in
       let m = items-made N k (o .left) (h .items) (o .idx + 1) (h .held-items) (h .below-items) in
       let p : HeldOf sheet a b (h .predicate) (o .left) (carriedEnd (m .list)) = rw (m .stop-is) (h .held-predicate) in
       alone _ t (joined N k (o .left) m (exprs-made N k (o .left) (h .predicate) (carriedEnd (m .list)) p (h .below-predicate))) (h .is)
 
-  by-call : Roomy a b → o .kind ≡ 16 → (h : ByCall sheet a b (noted rest) A k o recs) → Inside sheet a b rest A k o recs (h .fields .1 .0) (o .idx + 1)
+  by-call : Roomy a b → o .kind ≡ 16 → (h : ByCall (side sheet a b 0) (noted rest) A k o recs) → Inside sheet a b rest A k o recs (h .fields .1 .0) (o .idx + 1)
   unfolding fieldsOf fieldOf
   by-call room e h =
       let N = shift (noted rest) (o .base) in
@@ -255,16 +256,16 @@ module _ {sheet : Bytes} {a b rest : List ℕ} {A : Ops} {k : ℕ} {o : Op} {rec
       let c : h .fields .1 .1 .0 ≡ cell a b (o .idx) 6 = ap (λ (f : Fields (forms clause Clause.Call)). f .1 .1 .0) (shown room (h .at) .fields) in
       behind-made _ (yieldsRecs N (y .yields)) m (yields-tail e c (y .yields)) (rw (← y .recs-are) at (h .is))
 
-  by-labels : o .kind ≡ 1 → ByLabels sheet a b (noted rest) A k o recs → Inside sheet a b rest A k o recs 0 (o .idx + 1)
+  by-labels : o .kind ≡ 1 → ByLabels (side sheet a b 0) (noted rest) A k o recs → Inside sheet a b rest A k o recs 0 (o .idx + 1)
   unfolding source
   by-labels e h =
       let m = names-made (shift (noted rest) (o .base)) A (o .left) (h .labels) (o .idx + 1) (h .held) in
       bare (o .idx + 1) _ (namesRecs (m .names)) (labels-tail e (h .counted) (m .names)) (rw (← m .recs-are) at (h .is))
 
-  by-path : o .kind ≡ 5 → (h : ByPath sheet a b (noted rest) A k o recs) → Inside sheet a b rest A k o recs 0 (o .idx + 1)
+  by-path : o .kind ≡ 5 → (h : ByPath (side sheet a b 0) (noted rest) A k o recs) → Inside sheet a b rest A k o recs 0 (o .idx + 1)
   by-path e h = bare (o .idx + 1) _ _ (path-tail e (h .counted) (record { depth = o .left; trees = h .elements; held = h .held })) (h .is)
 
-  pub inside : Roomy a b → (o .kind ≡ 3 → ⊥) → (o .kind ≡ 4 → ⊥) → (o .kind ≡ 6 → ⊥) → (o .kind ≡ 9 → ⊥) → Shows sheet a b (noted rest) A k o recs → Inside sheet a b rest A k o recs (manyOf a b o) (firstOf o)
+  pub inside : Roomy a b → (o .kind ≡ 3 → ⊥) → (o .kind ≡ 4 → ⊥) → (o .kind ≡ 6 → ⊥) → (o .kind ≡ 9 → ⊥) → Shows (side sheet a b 0) (noted rest) A k o recs → Inside sheet a b rest A k o recs (manyOf a b o) (firstOf o)
   unfolding manyBy firstBy source fieldsOf fieldOf
   inside room x y z w (shows-all q r) = by-words (rw q) (rw q) (bare (o .idx + 1) _ [] (no-tail 0 q refl refl refl (o .idx + 1)) r)
   inside room x y z w (shows-source q r) = by-words (rw q) (rw q) (by-labels q r)
@@ -272,7 +273,7 @@ module _ {sheet : Bytes} {a b rest : List ℕ} {A : Ops} {k : ℕ} {o : Op} {rec
   inside room x y z w (shows-expand q r) = absurd (x q)
   inside room x y z w (shows-short q r) = absurd (y q)
   inside room x y z w (shows-path q r) = by-words (rw q) (rw q) (by-path q r)
-  inside room x y z w (shows-optional q l r) = absurd (z q)
+  inside room x y z w (shows-optional q f l r) = absurd (z q)
   inside room x y z w (shows-with q r) = by-words (rw (q, r .counted, r .flagged)) (rw q) (by-with (no-tail 7 q refl refl refl) r)
   inside room x y z w (shows-project q r) = by-words (rw (q, r .counted)) (rw q) (alone _ (no-tail 8 q refl refl refl) (items-made (shift (noted rest) (o .base)) k (o .left) (r .items) (o .idx + 1) (r .held) (r .below)) (r .is))
   inside room x y z w (shows-aggregate q r) = absurd (w q)

@@ -60,7 +60,7 @@ module _ {sheet : Bytes} {a b os rest : List ℕ} {below base left : ℕ} where
     pub line : Line sheet a b i recs j
     pub tree : Tree expr
     pub held : Held sheet a b tree left j
-    pub under : Below (shift (noted rest) base) below tree
+    pub under : Below (shift (noted rest) base) 0 below tree
     pub others : Carried sheet a b (shift (noted rest) base) below left m (j + size tree)
     pub stop : carriedEnd others ≡ carriedEnd (h .list)
     pub text : manyText h ≡ spellRecs recs ++ (spellRecs (render (shift (noted rest) base) (h .ops) tree) ++ spellRecs (carriedRecs (h .ops) others))
@@ -170,7 +170,7 @@ name-by sheet a b left (node expr line Expr.Unresolved f kids) i h = refl
 name-by sheet a b left (node expr line Expr.Undesugared f kids) i h = refl
 
 module _ {sheet : Bytes} {a b : List ℕ} (N : Notes) (below left : ℕ) where
-  pub exprs-made : {n : ℕ} (ts : Trees expr n) (i : ℕ) → HeldOf sheet a b ts left i → BelowOf N below ts → Made sheet a b N below left n i (λ A. renderOf N A ts) (i + sizeOf ts)
+  pub exprs-made : {n : ℕ} (ts : Trees expr n) (i : ℕ) → HeldOf sheet a b ts left i → BelowOf N 0 below ts → Made sheet a b N below left n i (λ A. renderOf N A ts) (i + sizeOf ts)
   unfolding HeldOf BelowOf renderOf sizeOf carriedRecs carriedEnd
   exprs-made []ᵗ i h u = record { list = Due.none; recs-are = λ A. refl; stop-is = sym (add-zero i) }
   exprs-made (t ∷ᵗ ts) i h u =
@@ -181,7 +181,7 @@ module _ {sheet : Bytes} {a b : List ℕ} (N : Notes) (below left : ℕ) where
         stop-is = m .stop-is ∙ add-assoc i (size t) (sizeOf ts);
       }
 
-  pub entries-made : {n : ℕ} (ts : Trees entry n) (i : ℕ) → HeldOf sheet a b ts left i → BelowOf N below ts → Made sheet a b N below left n i (λ A. renderOf N A ts) (i + sizeOf ts)
+  pub entries-made : {n : ℕ} (ts : Trees entry n) (i : ℕ) → HeldOf sheet a b ts left i → BelowOf N 0 below ts → Made sheet a b N below left n i (λ A. renderOf N A ts) (i + sizeOf ts)
   unfolding Held Below render size belowIn recsOver carriedRecs carriedEnd
   entries-made []ᵗ i h u = record { list = Due.none; recs-are = λ A. refl; stop-is = sym (add-zero i) }
   entries-made (node entry line k f (e ∷ᵗ []ᵗ ▸ end) ∷ᵗ ts) i h u =
@@ -193,7 +193,7 @@ module _ {sheet : Bytes} {a b : List ℕ} (N : Notes) (below left : ℕ) where
         stop-is = m .stop-is ∙ omega arith;
       }
 
-  pub keys-made : {n : ℕ} (ts : Trees orderItem n) (i : ℕ) → HeldOf sheet a b ts left i → BelowOf N below ts → Made sheet a b N below left n i (λ A. renderOf N A ts) (i + sizeOf ts)
+  pub keys-made : {n : ℕ} (ts : Trees orderItem n) (i : ℕ) → HeldOf sheet a b ts left i → BelowOf N 0 below ts → Made sheet a b N below left n i (λ A. renderOf N A ts) (i + sizeOf ts)
   unfolding Held Below render size belowIn recsOver carriedRecs carriedEnd
   keys-made []ᵗ i h u = record { list = Due.none; recs-are = λ A. refl; stop-is = sym (add-zero i) }
   keys-made (node orderItem line k f (e ∷ᵗ []ᵗ ▸ end) ∷ᵗ ts) i h u =
@@ -205,7 +205,7 @@ module _ {sheet : Bytes} {a b : List ℕ} (N : Notes) (below left : ℕ) where
         stop-is = m .stop-is ∙ omega arith;
       }
 
-  pub items-made : {n : ℕ} (ts : Trees projection n) (i : ℕ) → HeldOf sheet a b ts left i → BelowOf N below ts → Made sheet a b N below left n i (λ A. renderOf N A ts) (i + sizeOf ts)
+  pub items-made : {n : ℕ} (ts : Trees projection n) (i : ℕ) → HeldOf sheet a b ts left i → BelowOf N 0 below ts → Made sheet a b N below left n i (λ A. renderOf N A ts) (i + sizeOf ts)
   unfolding Held Below render size belowIn recsOver item nameOf carriedRecs carriedEnd
   items-made []ᵗ i h u = record { list = Due.none; recs-are = λ A. refl; stop-is = sym (add-zero i) }
   items-made (node projection line k f (e ∷ᵗ []ᵗ ▸ end) ∷ᵗ ts) i h u =

@@ -21,6 +21,7 @@ use Rattle.words.specs.Cells.{shown}
 use Rattle.context.specs.Tables.{opAt}
 use Rattle.context.specs.Read.{noteOf}
 use Rattle.context.specs.declared.op.Op.{Op}
+use Rattle.lower.specs.Side.{side}
 use Rattle.lower.specs.Render.{Notes, Ops, specRecs}
 use Rattle.lower.specs.Shows.{shift, InBounds, Shows, OverExpr, ByLabels, ByRel, ByShortest, ByPath, ByWith, ByItems, ByParted, ByKeys, ByCall, shows-all, shows-source, shows-filter, shows-expand, shows-short, shows-path, shows-optional, shows-with, shows-project, shows-aggregate, shows-order, shows-skip, shows-limit, shows-distinct, shows-unwind, shows-union, shows-call}
 use Rattle.plan_line.specs.Keywords.{word, letters, sourceWord, filterWord, expandWord, shortWord, pathWord, optionalWord, withWord, projectWord, aggWord, orderWord, skipWord, limitWord, distinctWord, unwindWord, unionWord, callWord}
@@ -50,32 +51,32 @@ module _ (sheet : Bytes) (a b : List ℕ) (N : Notes) (A : Ops) (k : ℕ) (o : O
   abbrev pub byKind : Types
   byKind =
       (recs ≡ source (o .x) []) or
-      (ByLabels sheet a b N A k o recs) or
-      (OverExpr sheet a b N A k o (op ReadOp.Filter (o .input, tt)) recs) or
-      (ByRel sheet a b N A k o recs) or
-      (ByShortest sheet a b N A k o recs) or
-      (ByPath sheet a b N A k o recs) or
+      (ByLabels (side sheet a b 0) N A k o recs) or
+      (OverExpr (side sheet a b 0) N A k o (op ReadOp.Filter (o .input, tt)) recs) or
+      (ByRel (side sheet a b 0) N A k o recs) or
+      (ByShortest (side sheet a b 0) N A k o recs) or
+      (ByPath (side sheet a b 0) N A k o recs) or
       ((o .x < k) × (recs ≡ op ReadOp.OptionalJoin (o .input, tt) ∷ A (o .x))) or
-      (ByWith sheet a b N A k o recs) or
-      (ByItems sheet a b N A k o recs) or
-      (ByParted sheet a b N A k o recs) or
-      (ByKeys sheet a b N A k o recs) or
-      (OverExpr sheet a b N A k o (op ReadOp.Skip (o .input, tt)) recs) or
-      (OverExpr sheet a b N A k o (op ReadOp.Limit (o .input, tt)) recs) or
+      (ByWith (side sheet a b 0) N A k o recs) or
+      (ByItems (side sheet a b 0) N A k o recs) or
+      (ByParted (side sheet a b 0) N A k o recs) or
+      (ByKeys (side sheet a b 0) N A k o recs) or
+      (OverExpr (side sheet a b 0) N A k o (op ReadOp.Skip (o .input, tt)) recs) or
+      (OverExpr (side sheet a b 0) N A k o (op ReadOp.Limit (o .input, tt)) recs) or
       (recs ≡ op ReadOp.Distinct (o .input, tt) ∷ []) or
-      (OverExpr sheet a b N A k o (op ReadOp.Unwind (o .input, (o .x, tt))) recs) or
+      (OverExpr (side sheet a b 0) N A k o (op ReadOp.Unwind (o .input, (o .x, tt))) recs) or
       (recs ≡ op ReadOp.Union (o .input, (o .x, (eqb (o .y) 1, tt))) ∷ []) or
-      only (ByCall sheet a b N A k o recs)
+      only (ByCall (side sheet a b 0) N A k o recs)
 
 module _ {sheet : Bytes} {a b : List ℕ} {N : Notes} {A : Ops} {k : ℕ} {o : Op} {recs : Recs} where
-  told : Shows sheet a b N A k o recs → typeAt (byKind sheet a b N A k o recs) (o .kind)
+  told : Shows (side sheet a b 0) N A k o recs → typeAt (byKind sheet a b N A k o recs) (o .kind)
   told (shows-all q r) = subst (λ (n : ℕ). typeAt (byKind sheet a b N A k o recs) n) (sym q) r
   told (shows-source q r) = subst (λ (n : ℕ). typeAt (byKind sheet a b N A k o recs) n) (sym q) r
   told (shows-filter q r) = subst (λ (n : ℕ). typeAt (byKind sheet a b N A k o recs) n) (sym q) r
   told (shows-expand q r) = subst (λ (n : ℕ). typeAt (byKind sheet a b N A k o recs) n) (sym q) r
   told (shows-short q r) = subst (λ (n : ℕ). typeAt (byKind sheet a b N A k o recs) n) (sym q) r
   told (shows-path q r) = subst (λ (n : ℕ). typeAt (byKind sheet a b N A k o recs) n) (sym q) r
-  told (shows-optional q l r) = subst (λ (n : ℕ). typeAt (byKind sheet a b N A k o recs) n) (sym q) (l, r)
+  told (shows-optional q f l r) = subst (λ (n : ℕ). typeAt (byKind sheet a b N A k o recs) n) (sym q) (l, r)
   told (shows-with q r) = subst (λ (n : ℕ). typeAt (byKind sheet a b N A k o recs) n) (sym q) r
   told (shows-project q r) = subst (λ (n : ℕ). typeAt (byKind sheet a b N A k o recs) n) (sym q) r
   told (shows-aggregate q r) = subst (λ (n : ℕ). typeAt (byKind sheet a b N A k o recs) n) (sym q) r
@@ -87,17 +88,17 @@ module _ {sheet : Bytes} {a b : List ℕ} {N : Notes} {A : Ops} {k : ℕ} {o : O
   told (shows-union q r) = subst (λ (n : ℕ). typeAt (byKind sheet a b N A k o recs) n) (sym q) r
   told (shows-call q r) = subst (λ (n : ℕ). typeAt (byKind sheet a b N A k o recs) n) (sym q) r
 
-  pub of-kind : (n : ℕ) → o .kind ≡ n → Shows sheet a b N A k o recs → typeAt (byKind sheet a b N A k o recs) n
+  pub of-kind : (n : ℕ) → o .kind ≡ n → Shows (side sheet a b 0) N A k o recs → typeAt (byKind sheet a b N A k o recs) n
   of-kind n e h = subst (λ (x : ℕ). typeAt (byKind sheet a b N A k o recs) x) e (told h)
 
-  last-kind : Shows sheet a b N A k o recs → 15 < o .kind → o .kind ≡ 16
+  last-kind : Shows (side sheet a b 0) N A k o recs → 15 < o .kind → o .kind ≡ 16
   last-kind (shows-all q r) l = absurd (omega arith)
   last-kind (shows-source q r) l = absurd (omega arith)
   last-kind (shows-filter q r) l = absurd (omega arith)
   last-kind (shows-expand q r) l = absurd (omega arith)
   last-kind (shows-short q r) l = absurd (omega arith)
   last-kind (shows-path q r) l = absurd (omega arith)
-  last-kind (shows-optional q x r) l = absurd (omega arith)
+  last-kind (shows-optional q f x r) l = absurd (omega arith)
   last-kind (shows-with q r) l = absurd (omega arith)
   last-kind (shows-project q r) l = absurd (omega arith)
   last-kind (shows-aggregate q r) l = absurd (omega arith)
@@ -259,7 +260,7 @@ module _ (k : ℕ) {sheet : Bytes} {a b os rest : List ℕ} {A : Ops} {o : Op} (
   pub bounded-at : InBounds o
   bounded-at = rw e (p .stored k (omega arith) .bounded)
 
-  pub here : Shows sheet a b (noted rest) A k o (A k)
+  pub here : Shows (side sheet a b 0) (noted rest) A k o (A k)
   here = rw e (p .stored k (omega arith) .shows)
 
   pub planned-below : Planned sheet a b os rest k A

@@ -43,7 +43,7 @@ unfolding carriedRecs carriedEnd
 bare N below d j e = rw e (record { list = Due.none; recs-are = λ A. refl; stop-is = refl })
 
 module _ {sheet : Bytes} {a b : List ℕ} (N : Notes) (below left i n : ℕ) where
-  pub parts : Roomy a b → n ≡ countAt a b i → (t : Tree expr) (h : Held sheet a b t left i) → Below N below t → (cell a b i 0 ≡ 35 → ⊥) → Parts sheet a b N below left i n t (expr-of left t i h)
+  pub parts : Roomy a b → n ≡ countAt a b i → (t : Tree expr) (h : Held sheet a b t left i) → Below N 0 below t → (cell a b i 0 ≡ 35 → ⊥) → Parts sheet a b N below left i n t (expr-of left t i h)
   unfolding Held Below render size belowIn copiesBelow recsOver exprRecs exprRest expr-of exprNumber
   parts room e (node expr line (Expr.Over o) f (ts ▸ end)) h u z =
       let m = grouped (e ∙ counted room tt (h .1) ∙ add-zero (arity o f)) (exprs-made N below (left - 1) ts (i + 1) (h .3 .0) (u .0)) in
@@ -77,13 +77,13 @@ no-copy : {X : Type 0} {sheet : Bytes} {a b : List ℕ} {i : ℕ} → Roomy a b 
 no-copy room k f h e z = absurd (z (sym (number-is room (record { kind = k; fields = f; at = h })) ∙ e))
 
 module _ {sheet : Bytes} {a b : List ℕ} (N : Notes) (below left i : ℕ) where
-  pub copied : Roomy a b → (t : Tree expr) (h : Held sheet a b t left i) → Below N below t → cell a b i 0 ≡ 35 → Copy N below i t (expr-of left t i h)
+  pub copied : Roomy a b → (t : Tree expr) (h : Held sheet a b t left i) → Below N 0 below t → cell a b i 0 ≡ 35 → Copy N below i t (expr-of left t i h)
   unfolding Held Below render belowIn copiesBelow recsOver exprRecs exprRest expr-of exprNumber
   copied room (node expr line (Expr.Over o) f kids) h u e = no-copy room (Expr.Over o) f (h .1) e (λ x. let s = same-row o in let y : sameNumber o ≡ 35 = x in omega (arith, s .to))
   copied room (node expr line Expr.Var f kids) h u e = no-copy room Expr.Var f (h .1) e (λ x. let y : _≡_ {A = ℕ} 32 35 = x in omega arith)
   copied room (node expr line Expr.Map f kids) h u e = no-copy room Expr.Map f (h .1) e (λ x. let y : _≡_ {A = ℕ} 33 35 = x in omega arith)
   copied room (node expr line Expr.Call f kids) h u e = no-copy room Expr.Call f (h .1) e (λ x. let y : _≡_ {A = ℕ} 34 35 = x in omega arith)
-  copied room (node expr line Expr.PatternPredicate f kids) h u e = record { low = rw (h .0) at u; recs = λ A. rw (h .0) }
+  copied room (node expr line Expr.PatternPredicate f kids) h u e = record { low = rw (h .0) at (u .1); recs = λ A. rw (h .0) }
   copied room (node expr line Expr.ListPredicate f kids) h u e = no-copy room Expr.ListPredicate f (h .1) e (λ x. let y : _≡_ {A = ℕ} 36 35 = x in omega arith)
   copied room (node expr line Expr.Unresolved f kids) h u e = no-copy room Expr.Unresolved f (h .1) e (λ x. let y : _≡_ {A = ℕ} 37 35 = x in omega arith)
   copied room (node expr line Expr.Undesugared f kids) h u e = no-copy room Expr.Undesugared f (h .1) e (λ x. let y : _≡_ {A = ℕ} 38 35 = x in omega arith)
@@ -110,7 +110,7 @@ ElementMade sheet a b N below left i props R = (names : Names sheet a b (cell a 
 
 module _ {sheet : Bytes} {a b : List ℕ} (N : Notes) (below left i : ℕ) where
   -- counted by the words
-  element-made : {n p props : ℕ} (labels : Trees name n) (ps : Trees expr p) → n ≡ cell a b i 4 → p ≡ props → HeldOf sheet a b labels (left - 1) (i + 1) → HeldOf sheet a b ps (left - 1) (i + 1 + sizeOf labels) → BelowOf N below ps → ElementMade sheet a b N below left i props (λ A. renderOf N A labels ++ (renderOf N A ps ++ []))
+  element-made : {n p props : ℕ} (labels : Trees name n) (ps : Trees expr p) → n ≡ cell a b i 4 → p ≡ props → HeldOf sheet a b labels (left - 1) (i + 1) → HeldOf sheet a b ps (left - 1) (i + 1 + sizeOf labels) → BelowOf N 0 below ps → ElementMade sheet a b N below left i props (λ A. renderOf N A labels ++ (renderOf N A ps ++ []))
   element-made {n} {p} {props} labels ps e q hl hp u =
       let m : NamesMade sheet a b n (i + 1) (renderOf N (λ k. []) labels) (i + 1 + sizeOf labels) = names-made N (λ k. []) (left - 1) labels (i + 1) hl in
       let hp′ : HeldOf sheet a b ps (left - 1) (i + 1 + n) = rw (m .stop-is) hp in
@@ -120,7 +120,7 @@ module _ {sheet : Bytes} {a b : List ℕ} (N : Notes) (below left i : ℕ) where
       same-names : (A : Ops) (m : NamesMade sheet a b n (i + 1) (renderOf N (λ k. []) labels) (i + 1 + sizeOf labels)) → renderOf N A labels ≡ namesRecs (m .names)
       same-names A m = names-alike N A (λ k. []) labels ∙ sym (m .recs-are)
 
-  pub element-parts : Roomy a b → (t : Tree patternElement) → Held sheet a b t left i → KidsBelow N below t → ElementParts sheet a b N below left i t
+  pub element-parts : Roomy a b → (t : Tree patternElement) → Held sheet a b t left i → KidsBelow N 0 below t → ElementParts sheet a b N below left i t
   unfolding Held KidsBelow BelowIn renderIn specRecs fieldsOf fieldOf elementNumber
   element-parts room (node patternElement line PatternElement.Node f (labels ▸ ps ▸ end)) h u =
       let at : ElementAt sheet a b i = record { kind = PatternElement.Node; fields = f; at = h .1 } in

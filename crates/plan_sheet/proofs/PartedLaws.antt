@@ -57,7 +57,7 @@ module _ (sheet : Bytes) (a b : List ℕ) (N : Notes) (below left i : ℕ) (room
   counted-as : {n : ℕ} {stop : ℕ} {R : Ops → Recs} → n ≡ cell a b i 4 → Made sheet a b N below (left - 1) n (i + 1) R stop → Made sheet a b N below (left - 1) (cell a b i 4) (i + 1) R stop
   counted-as e m = rw (← e) m
 
-  pub agg : (t : Tree expr) → Held sheet a b t left i → Below N below t → isAggregate t ≡ true → Agg sheet a b N below left i t
+  pub agg : (t : Tree expr) → Held sheet a b t left i → Below N 0 below t → isAggregate t ≡ true → Agg sheet a b N below left i t
   unfolding Held Below belowIn copiesBelow size isAggregate aggOf spellRecs fieldsOf fieldOf
   agg (node expr line (Expr.Over h) f kids) d u e = not-true e
   agg (node expr line Expr.Var f kids) d u e = not-true e
@@ -160,14 +160,14 @@ parts-none N A aggs {m = suc m} z (p ∷ᵗ ps) = let e : suc m ≡ 0 = z in abs
 record Apart (sheet : Bytes) (a b os rest : List ℕ) (below base left at m : ℕ) (A : Ops) (aggs : Bool) (all : Recs) : Type 0 where
   tree : Tree expr
   held : Held sheet a b tree left (at + 1)
-  under : Below (shift (noted rest) base) below tree
+  under : Below (shift (noted rest) base) 0 below tree
   items : Trees projection m
   others : HeldOf sheet a b items left (at + 1 + size tree)
-  below-others : BelowOf (shift (noted rest) base) below items
+  below-others : BelowOf (shift (noted rest) base) 0 below items
   text : all ≡ partRecs (shift (noted rest) base) A aggs tree ++ partsRecs (shift (noted rest) base) A aggs items
 
 module _ {sheet : Bytes} {a b os rest : List ℕ} {below base left : ℕ} where
-  apart : (A : Ops) (aggs : Bool) (m at : ℕ) → (m ≡ 0 → ⊥) → (ps : Trees projection m) → HeldOf sheet a b ps left at → BelowOf (shift (noted rest) base) below ps → Apart sheet a b os rest below base left at (m - 1) A aggs (partsRecs (shift (noted rest) base) A aggs ps)
+  apart : (A : Ops) (aggs : Bool) (m at : ℕ) → (m ≡ 0 → ⊥) → (ps : Trees projection m) → HeldOf sheet a b ps left at → BelowOf (shift (noted rest) base) 0 below ps → Apart sheet a b os rest below base left at (m - 1) A aggs (partsRecs (shift (noted rest) base) A aggs ps)
   unfolding Held Below belowIn size
   apart A aggs zero at z []ᵗ h u = absurd (z refl)
   apart A aggs (suc m) at z (node projection line k f ((e ∷ᵗ []ᵗ) ▸ end) ∷ᵗ ps) h u =

@@ -14,6 +14,7 @@ use Rattle.words.specs.Words.{Roomy}
 use Rattle.words.specs.Held.{Held, RecordAt, size}
 use Rattle.context.specs.Tables.{opAt}
 use Rattle.context.specs.declared.op.Op.{Op}
+use Rattle.lower.specs.Side.{side}
 use Rattle.lower.specs.Render.{Notes, Ops, render, Below, specRecs, KidsBelow}
 use Rattle.lower.specs.Shows.{Stored, shift}
 
@@ -35,7 +36,7 @@ pub record Near (base left : ℕ) : Type 0 where
 -- A has the operators below n, as the tables show them
 pub record Planned (sheet : Bytes) (a b os rest : List ℕ) (n : ℕ) (A : Ops) : Type 0 where
   pub few : n ≤ 2048
-  pub stored : (k : ℕ) → k < n → Stored sheet a b (noted rest) A k (opAt os k) (A k)
+  pub stored : (k : ℕ) → k < n → Stored (side sheet a b 0) (noted rest) A k (opAt os k) (A k)
 
 -- some expression begins at record i
 pub record ExprAt (sheet : Bytes) (a b : List ℕ) (i : ℕ) : Type 0 where
@@ -73,7 +74,7 @@ pub record One (sheet : Bytes) (a b os rest : List ℕ) (below base left i : ℕ
   pub planned : Planned sheet a b os rest below ops
   pub tree : Tree expr
   pub held : Held sheet a b tree left i
-  pub under : Below (shift (noted rest) base) below tree
+  pub under : Below (shift (noted rest) base) 0 below tree
 
 abbrev pub oneText : {sheet : Bytes} {a b os rest : List ℕ} {below base left i : ℕ} → One sheet a b os rest below base left i → Bytes
 oneText {rest = rest} {base = base} h = spellRecs (render (shift (noted rest) base) (h .ops) (h .tree))
@@ -81,7 +82,7 @@ oneText {rest = rest} {base = base} h = spellRecs (render (shift (noted rest) ba
 -- n expressions one after another, from record i on
 pub data Carried (sheet : Bytes) (a b : List ℕ) (N : Notes) (below left : ℕ) : ℕ → ℕ → Type 0 where
   none : {i : ℕ} → Carried sheet a b N below left zero i
-  more : {n i : ℕ} (recs : Recs) (j : ℕ) → Line sheet a b i recs j → (t : Tree expr) → Held sheet a b t left j → Below N below t → Carried sheet a b N below left n (j + size t) → Carried sheet a b N below left (suc n) i
+  more : {n i : ℕ} (recs : Recs) (j : ℕ) → Line sheet a b i recs j → (t : Tree expr) → Held sheet a b t left j → Below N 0 below t → Carried sheet a b N below left n (j + size t) → Carried sheet a b N below left (suc n) i
 
 unfoldable pub carriedRecs : {sheet : Bytes} {a b : List ℕ} {N : Notes} {below left n i : ℕ} → Ops → Carried sheet a b N below left n i → Recs
 carriedRecs A none = []
@@ -114,7 +115,7 @@ pub record Element (sheet : Bytes) (a b os rest : List ℕ) (below base left i :
   pub planned : Planned sheet a b os rest below ops
   pub tree : Tree patternElement
   pub held : Held sheet a b tree left i
-  pub under : KidsBelow (shift (noted rest) base) below tree
+  pub under : KidsBelow (shift (noted rest) base) 0 below tree
 
 abbrev pub elementText : {sheet : Bytes} {a b os rest : List ℕ} {below base left i : ℕ} → Element sheet a b os rest below base left i → Bytes
 elementText {rest = rest} {base = base} h = spellRecs (specRecs (shift (noted rest) base) (h .ops) (h .tree))
@@ -134,7 +135,7 @@ pub record OpShown (sheet : Bytes) (a b rest : List ℕ) (o : Op) : Type 0 where
   pub ops : Ops
   pub number : ℕ
   pub recs : Recs
-  pub stored : Stored sheet a b (noted rest) ops number o recs
+  pub stored : Stored (side sheet a b 0) (noted rest) ops number o recs
 
 -- its first line is written
 abbrev pub WroteFirst : (sheet : Bytes) (a b rest : List ℕ) → Op → Page → Page → Type 0

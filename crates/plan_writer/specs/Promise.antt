@@ -6,17 +6,19 @@ use mathlib.Core.List.{List}
 use lib.ListN.{getD}
 use Rattle.model.specs.Text.{Bytes}
 use Rattle.model.specs.Lower.{LowerCtx, at}
+use Rattle.context.specs.Tables.{maxStored, maxVars}
+use Rattle.lower.specs.Side.{side}
 use Rattle.lower.specs.Rep.{Mem, Written, Rep}
 use Rattle.plan_writer.specs.Whole.{Tables}
 
--- tables that stand for a state in the lowering's own words, with at most 2,048 operators
-pub tables-of : {sheet : Bytes} {a b : List ℕ} {W : Written} {s : LowerCtx} {m : Mem} → Rep sheet a b W s m → m .ctx .ops ≤ 2048 → m .ctx .mapped ≤ 4352 → Tables sheet a b (m .ops) (m .rest) (m .ctx .ops) (m .ctx .mapped) s
+-- tables that stand for a state in the lowering's own words, from operator 0 on, of which all are stored
+pub tables-of : {sheet : Bytes} {a b : List ℕ} {W : Written} {s : LowerCtx} {m : Mem} → Rep (side sheet a b 0) W s m → m .ctx .ops ≤ maxStored → m .ctx .mapped ≤ maxVars → Tables sheet a b (m .ops) (m .rest) (m .ctx .ops) (m .ctx .mapped) s
 tables-of {s = s} {m = m} r few mapped-few =
     record {
       count = r .count;
       planned = record {
         few = few;
-        stored = λ k l. r .shows k l (omega arith) (λ q. getD (m .rest) q 0) (λ j. at (s .ops) j) (record { notes = record { at = λ q h i. refl }; ops = λ j h. refl });
+        stored = λ k l. r .shows k (omega arith) l (omega arith) (λ q. getD (m .rest) q 0) (λ j. at (s .ops) j) (record { notes = record { at = λ q h i. refl }; ops = λ j h. refl });
       };
       vars = ap (λ (x : LowerCtx). x .scope .vars) (r .state);
       few = mapped-few;

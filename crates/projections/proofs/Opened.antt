@@ -22,7 +22,7 @@ use Rattle.words.specs.Places.{withKind, returnKind, kindAt, itemsAt, withFilte
 use Rattle.lower.specs.Rep.{State}
 use Rattle.lower.specs.Pieces.{lowerC}
 use Rattle.lower.specs.Carry.{plainC}
-use Rattle.projections.specs.Kinds.{by-clause}
+use Rattle.words.specs.Kinds.{by-clause}
 use Rattle.projections.specs.Items.{exprs-lower, itemsC, items-lower}
 use Rattle.projections.specs.Promises.{Tail, tailSize, firstL, secondL}
 

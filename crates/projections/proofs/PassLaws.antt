@@ -1,6 +1,7 @@
 -- The two lowerings of a `return`'s items, each with its operators. Assumes nothing.
 use mathlib.Core.Path.{_≡_, refl, sym, ap, _∙_}
 use Prim.Native.Nat.{ℕ, zero, suc, _+_, _-_, _≤_, _<_}
+use native.Mathlib.Nat.{le-refl}
 use native.Mathlib.Omega.{arith}
 use mathlib.Core.Bool.{Bool}
 use mathlib.Core.List.{List, [], _∷_, _++_}
@@ -19,6 +20,7 @@ use Rattle.context.specs.Ops.{beforeOf, aggregateOp, projectOp, distinctOp}
 use Rattle.context.specs.declared.Before.{Before}
 use Rattle.context.specs.declared.op.Op.{Op}
 use Rattle.context.specs.declared.LowerCtx.{LowerCtx}
+use Rattle.lower.specs.Side.{side}
 use Rattle.lower.specs.Render.{Notes, Ops, keyRecs, aggRecs}
 use Rattle.lower.specs.Shows.{shift, Stored, shows-project, shows-aggregate, shows-distinct}
 use Rattle.lower.specs.Rep.{State, Mem, mem, atPlace, Written, Blank, Future, Rep, Rooted}
@@ -35,14 +37,15 @@ use Rattle.projections.proofs.PartLaws.{split-total}
 -- ── an operator, or none ──
 
 pub record Counted (c c′ : LowerCtx) (o o′ : List ℕ) : Type 0 where
+  pub grow : c .ops ≤ c′ .ops
   pub few : c′ .ops ≤ c .ops + 1
-  pub next : c′ .next ≡ c .next
+  pub numbers : c′ .numbers ≡ c .numbers
   pub mapped : c′ .mapped ≡ c .mapped
   pub same : length o′ ≡ length o
 
 pub counted : {n input k : ℕ} {x : Op} {c c′ : LowerCtx} {o o′ : List ℕ} → PushedIf n x input k c c′ o o′ → Counted c c′ o o′
-counted (none-pushed e ek ec eo) = rw (ec, eo) (record { few = omega arith; next = refl; mapped = refl; same = refl })
-counted (one-pushed e ek p lo) = record { few = omega (arith, p .count); next = p .next; mapped = p .mapped; same = lo }
+counted (none-pushed e ek ec eo) = rw (ec, eo) (record { grow = le-refl _; few = omega arith; numbers = refl; mapped = refl; same = refl })
+counted (one-pushed e ek p lo) = record { grow = omega (arith, p .count); few = omega (arith, p .count); numbers = p .numbers; mapped = p .mapped; same = lo }
 
 -- the operator that is left is there, if the one before was
 pub left-low : {n input k : ℕ} {x : Op} {c c′ : LowerCtx} {o o′ : List ℕ} → PushedIf n x input k c c′ o o′ → input < c .ops → k < c′ .ops
@@ -53,13 +56,13 @@ pub left-word : {n input k : ℕ} {x : Op} {c c′ : LowerCtx} {o o′ : List �
 left-word (none-pushed e ek ec eo) l l′ = omega arith
 left-word (one-pushed e ek p lo) l l′ = omega arith
 
-pushed-if : {sheet : Bytes} {a b : List ℕ} {W : Written} {s : State} {n input k : ℕ} {x : Op} {c′ : LowerCtx} {o′ : List ℕ} (m : Mem) (L : Lowering ℕ) (recs : Recs) →
-    Rep sheet a b W s m →
+pushed-if : {sheet : Bytes} {a b : List ℕ} {first : ℕ} {W : Written} {s : State} {n input k : ℕ} {x : Op} {c′ : LowerCtx} {o′ : List ℕ} (m : Mem) (L : Lowering ℕ) (recs : Recs) →
+    Rep (side sheet a b first) W s m →
     PushedIf n x input k (m .ctx) c′ (m .ops) o′ →
     (n ≡ 0 → L s ≡ (input, s)) →
     (((n ≡ 0) → ⊥) → L s ≡ push recs s) →
-    ((N : Notes) (A : Ops) → Future W s m N A → Stored sheet a b N A (m .ctx .ops) x recs) →
-    Sourced sheet a b L k W s m (mem c′ o′ (m .rest))
+    ((N : Notes) (A : Ops) → Future W s m N A → Stored (side sheet a b first) N A (m .ctx .ops) x recs) →
+    Sourced (side sheet a b first) L k W s m (mem c′ o′ (m .rest))
 unfolding push
 pushed-if m L recs r (none-pushed e ek ec eo) h h′ st = rw (ek, ec, eo) (record { to = rw (h e) (to-refl r); root = rw (h e) })
 pushed-if {x = x} {c′ = c′} {o′ = o′} m L recs r (one-pushed e ek p lo) h h′ st = record { to = rw (h′ e) (push-to m c′ o′ x recs r p st); root = rw (h′ e) (ek ∙ r .count) }
@@ -97,14 +100,14 @@ keys-left x y n g e f = omega arith
 
 module _ {sheet : Bytes} {a b : List ℕ} {of : ReturnItems} {current : Before} {j aggs k₀ k : ℕ} {c′ : LowerCtx} {o′ : List ℕ} {m m₁ m₂ : Mem}
     (g : FirstAsked sheet a b of current m)
-    (sr : OrSource (orSourceAll (beforeOf current)) k₀ m m₁)
+    (sr : OrSource (m .ctx .ops) (orSourceAll (beforeOf current)) k₀ m m₁)
     (pt : LowersSplit sheet a b (of .n) (of .left) (of .i + 1) j aggs m₁ m₂)
     (pi : PushedIf aggs (aggregateOp (atPlace 0 (of .i) (of .left)) k₀ (of .n - aggs) aggs) k₀ k (m₂ .ctx) c′ (m₂ .ops) o′) where
-  first-run : (items : Trees projection (of .n)) → HeldOf sheet a b items (of .left) (of .i + 1) → (W : Written) (s : State) → Rep sheet a b W s m → Blank W (0 + suc (of .i + 1)) (0 + suc j) → Rooted sheet a b W (firstL (of .n) (beforeOf current) items) k 0 (suc (of .i + 1)) (suc j) s m (mem c′ o′ (m₂ .rest))
+  first-run : {first : ℕ} (items : Trees projection (of .n)) → HeldOf sheet a b items (of .left) (of .i + 1) → (W : Written) (s : State) → Rep (side sheet a b first) W s m → Blank W (0 + suc (of .i + 1)) (0 + suc j) → Rooted (side sheet a b first) W (firstL (of .n) (beforeOf current) items) k 0 (suc (of .i + 1)) (suc j) s m (mem c′ o′ (m₂ .rest))
   first-run items hd W s r bl =
       let s₁ : State = orSourceAll (beforeOf current) s .1 in
       let S : Split = parted items s₁ in
-      let x₀ = sr .run sheet a b W s r in
+      let x₀ = sr .run sheet a b W s (r .from) r in
       let x₁ = pt .run items hd W s₁ (x₀ .to .rep) bl in
       let ek : S .keys ≡ of .n - aggs = keys-left (S .keys) (S .aggs) (of .n) aggs (split-total items s₁) (x₁ .counted) in
       let x₂ = pushed-if m₂ (λ z. aggregateIf (S .aggs) k₀ S z) (aggregated k₀ S) (x₁ .to .rep) pi
@@ -131,8 +134,9 @@ module _ {sheet : Bytes} {a b : List ℕ} {of : ReturnItems} {current : Before} 
       record {
         up = x .up;
         here = x .here;
+        grow = omega (arith, sr .grow, x .grow, y .grow);
         few = omega (arith, sr .few, x .few, y .few);
-        fresh = omega (arith, sr .next, x .low, y .next);
+        fresh = omega (arith, sr .numbers, x .low, y .numbers);
         met = omega (arith, sr .mapped, x .met, y .mapped);
         in-ops = y .same ∙ x .in-ops ∙ sr .in-ops;
         in-rest = x .in-rest ∙ ap length (sr .rest);
@@ -172,8 +176,8 @@ module _ {a b : List ℕ} {of : ReturnItems} {input j x k : ℕ} {c₁ c₂ : Lo
   second-next : (sheet : Bytes) (items : Trees projection (of .n)) → HeldOf sheet a b items (of .left) (of .i + 1) → j ≡ of .i + 1 + sizeOf items
   second-next sheet items hd = let y = it .next sheet (itemsC items) (items-held sheet a b items (of .left) (of .i + 1) hd) in let z = items-size items in omega arith
 
-  second-run : (sheet : Bytes) (items : Trees projection (of .n)) → HeldOf sheet a b items (of .left) (of .i + 1) → (W : Written) (s : State) → Rep sheet a b W s m → Blank W (secondPass + suc (of .i + 1)) (secondPass + suc j) → Rooted sheet a b W (secondL (of .n) (eqb x 1) input items) k secondPass (suc (of .i + 1)) (suc j) s m (mem c₂ o₂ (m₁ .rest))
-  second-run sheet items hd W s r bl =
+  second-run : (sheet : Bytes) {first : ℕ} (items : Trees projection (of .n)) → HeldOf sheet a b items (of .left) (of .i + 1) → (W : Written) (s : State) → Rep (side sheet a b first) W s m → Blank W (secondPass + suc (of .i + 1)) (secondPass + suc j) → Rooted (side sheet a b first) W (secondL (of .n) (eqb x 1) input items) k secondPass (suc (of .i + 1)) (suc j) s m (mem c₂ o₂ (m₁ .rest))
+  second-run sheet {first} items hd W s r bl =
       let k₁ : ℕ = m₁ .ctx .ops in
       let x₁ = it .run sheet (itemsC items) (items-held sheet a b items (of .left) (of .i + 1) hd) W s r bl in
       let x₂ = push-to m₁ c₁ o₁ (projectOp (atPlace secondPass (of .i) (of .left)) input) (projected input items s) (x₁ .to .rep) ps
@@ -184,7 +188,7 @@ module _ {a b : List ℕ} {of : ReturnItems} {input j x k : ℕ} {c₁ c₂ : Lo
           items = items;
           counted = g .counted;
           held = hd;
-          below = items-below (shift N secondPass) k₁ items (x₁ .below N A f);
+          below = items-below (shift N secondPass) first k₁ items (x₁ .below N A f);
           is = ap (λ (z : Recs). op ReadOp.Project (input, ((of .n), tt)) ∷ z) (sym (x₁ .shown N A f) ∙ sym (items-render (shift N secondPass) A items));
         });
       }) in
@@ -204,8 +208,9 @@ module _ {a b : List ℕ} {of : ReturnItems} {input j x k : ℕ} {c₁ c₂ : Lo
       record {
         up = v .up;
         here = v .here;
+        grow = omega (arith, v .grow, ps .count, y .grow);
         few = omega (arith, v .few, ps .count, y .few);
-        fresh = omega (arith, v .low, ps .next, y .next);
+        fresh = omega (arith, v .low, ps .numbers, y .numbers);
         met = omega (arith, v .met, ps .mapped, y .mapped);
         in-ops = y .same ∙ lo ∙ v .in-ops;
         in-rest = v .in-rest;

@@ -9,14 +9,14 @@ use Rattle.model.specs.Text.{Bytes}
 use Rattle.model.specs.Kind.{clause, projection}
 use Rattle.model.specs.Tree.{Tree}
 use Rattle.model.specs.Lower.{lowerClause}
-use Rattle.model.specs.Call.{maxDepth}
 use Rattle.words.specs.Words.{cell, maxRecords}
 use Rattle.words.specs.Held.{Held, HeldMany, size, sizeOf}
 use Rattle.words.specs.Places.{itemsAt, returnDistinctAt}
-use Rattle.context.specs.Tables.{secondPass}
+use Rattle.context.specs.Tables.{secondPass, deepest}
 use Rattle.context.specs.Ops.{beforeOf}
 use Rattle.context.specs.declared.At.{At}
 use Rattle.context.specs.declared.Before.{Before}
+use Rattle.lower.specs.Side.{side}
 use Rattle.lower.specs.Rep.{State, Mem, Written, Sub, Blank, Rep, RoomFor}
 use Rattle.lower.specs.Clauses.{MovedTwice, bothPasses, BothBlank, Leaves, LowersClause}
 use Rattle.lower.specs.State.{sub-within, blank-within, blank-before, blank-behind, to-then, to-wider}
@@ -56,7 +56,7 @@ module _ {sheet : Bytes} {a b : List ℕ} {at : At} {current : Before} {m : Mem}
     first-end t v = first-as (v .n) (v .counted) .next (v .items) (v .held-items)
 
     -- there is (g .asked .words) for the second
-    pub good-second : {d′ : ℕ} → d′ ≤ maxDepth → RoomFor d′ (at .i + 1) m₁
+    pub good-second : {d′ : ℕ} → d′ ≤ deepest → RoomFor d′ (at .i + 1) m₁
     good-second l =
         let r = g .asked .ready in
         let low = Room.low (g .asked .tree) in
@@ -77,7 +77,7 @@ module _ {sheet : Bytes} {a b : List ℕ} {at : At} {current : Before} {m : Mem}
       pub return-moved : MovedTwice (at .i) j₂ m m₂
       return-moved =
           let e = both-end in
-          record { up = omega (arith, q .up); here = q .here; few = omega (arith, p .few, q .few, p .up); low = omega (arith, p .fresh, q .fresh, p .up); met = omega (arith, p .met, q .met, p .up); in-ops = q .in-ops ∙ p .in-ops; in-rest = q .in-rest ∙ p .in-rest; index = λ z. q .index (p .index z) }
+          record { up = omega (arith, q .up); here = q .here; grow = omega (arith, p .grow, q .grow); few = omega (arith, p .few, q .few, p .up); low = omega (arith, p .fresh, q .fresh, p .up); met = omega (arith, p .met, q .met, p .up); in-ops = q .in-ops ∙ p .in-ops; in-rest = q .in-rest ∙ p .in-rest; index = λ z. q .index (p .index z) }
 
       pub return-tail : SomeTail a b (at .left - 1) (at .i) j₂
       return-tail = let v = a-return (g .asked .words) (g .held .tree) (g .held .is) (g .asked .kind) in rw (second-end (g .held .tree) v) (record { sheet = sheet; tail = v .tail })
@@ -93,7 +93,7 @@ module _ {sheet : Bytes} {a b : List ℕ} {at : At} {current : Before} {m : Mem}
             let y = v .sized in
             omega arith
 
-        return-run : (t : Tree clause) → Held sheet a b t (at .left) (at .i) → (W : Written) (s : State) → Rep sheet a b W s m → BothBlank W (suc (at .i)) (suc e) → Leaves sheet a b W (λ s. lowerClause t (beforeOf current) s) (some k) (suc (at .i)) (suc e) s m m₃
+        return-run : {first : ℕ} (t : Tree clause) → Held sheet a b t (at .left) (at .i) → (W : Written) (s : State) → Rep (side sheet a b first) W s m → BothBlank W (suc (at .i)) (suc e) → Leaves (side sheet a b first) W (λ s. lowerClause t (beforeOf current) s) (some k) (suc (at .i)) (suc e) s m m₃
         return-run t hd W s r bl =
             let v = a-return (g .asked .words) t hd (g .asked .kind) in
             let P : ℕ = at .i + 1 + sizeOf (v .items) in
@@ -106,7 +106,7 @@ module _ {sheet : Bytes} {a b : List ℕ} {at : At} {current : Before} {m : Mem}
             let D = v .def (beforeOf current) s k₁ k₂ (x₁ .root) (x₂ .root) in
             record {
               to = rw D (to-wider (return-sub (at .i) j j₂ P e W (p .up) eq ep l) (to-then (x₁ .to) (to-then (x₂ .to) (x₃ .to))));
-              left = rw D (ap (λ (z : ℕ). some z) (sym (x₃ .root)));
+              gives = rw D (ap (λ (z : ℕ). some z) (sym (x₃ .root)));
             }
 
         pub return-law : LowersClause sheet a b (at .left) (at .i) e (beforeOf current) (some k) m m₃

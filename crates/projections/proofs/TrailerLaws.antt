@@ -10,14 +10,14 @@ use Rattle.model.specs.Kind.{Sort, ReadOp, expr, orderItem}
 use Rattle.model.specs.Record.{Rec}
 use Rattle.model.specs.Tree.{Tree, Trees, []ᵗ, _∷ᵗ_}
 use Rattle.model.specs.Lower.{Recs, Lowering, _>>=_, ret, push, op, lowerExpr, orderBy, overExpr, lowerTrailers}
-use Rattle.model.specs.Call.{maxDepth}
 use Rattle.words.specs.Words.{cell, maxRecords}
 use Rattle.words.specs.Held.{Held, HeldOf, size, sizeOf}
 use Rattle.words.specs.Places.{keysAt, skipAt, limitAt}
-use Rattle.context.specs.Tables.{Pushed}
+use Rattle.context.specs.Tables.{Pushed, deepest}
 use Rattle.context.specs.Ops.{orderByOp}
 use Rattle.context.specs.declared.At.{At}
 use Rattle.context.specs.declared.LowerCtx.{LowerCtx}
+use Rattle.lower.specs.Side.{side}
 use Rattle.lower.specs.Render.{Notes, Ops, render, Below}
 use Rattle.lower.specs.Shows.{shift, Stored, shows-order, shows-skip, shows-limit}
 use Rattle.lower.specs.Rep.{State, Mem, mem, atPlace, Written, Blank, Rep, Rooted}
@@ -96,9 +96,9 @@ module _ {a b : List ℕ} {n input e : ℕ} {at : At} {c : LowerCtx} {os : List 
       let f = trees-fits (some .sheet) a b (some .trees) (at .left) (at .i) (g .ready .here) (some .held) .0 in
       omega arith
 
-  order-run : (sheet : Bytes) (ts : Trees orderItem n) → HeldOf sheet a b ts (at .left) (at .i) → (W : Written) (s : State) → Rep sheet a b W s m → Blank W (0 + suc (at .i)) (0 + suc e) → Rooted sheet a b W (orderL n input ts) (m₁ .ctx .ops) 0 (suc (at .i)) (suc e) s m (mem c os (m₁ .rest))
+  order-run : (sheet : Bytes) {first : ℕ} (ts : Trees orderItem n) → HeldOf sheet a b ts (at .left) (at .i) → (W : Written) (s : State) → Rep (side sheet a b first) W s m → Blank W (0 + suc (at .i)) (0 + suc e) → Rooted (side sheet a b first) W (orderL n input ts) (m₁ .ctx .ops) 0 (suc (at .i)) (suc e) s m (mem c os (m₁ .rest))
   unfolding push
-  order-run sheet ts hd W s r bl =
+  order-run sheet {first} ts hd W s r bl =
       let up = order-up in
       let here = ex .moved .here in
       let y = ex .run sheet (keysC ts) (keys-held sheet a b ts (at .left) (at .i) hd) W s r bl in
@@ -109,7 +109,7 @@ module _ {a b : List ℕ} {n input e : ℕ} {at : At} {c : LowerCtx} {os : List 
         shows = shows-order refl (record {
           keys = ts;
           held = hd;
-          below = keys-below (shift N 0) (m₁ .ctx .ops) ts (y .below N A f);
+          below = keys-below (shift N 0) first (m₁ .ctx .ops) ts (y .below N A f);
           is = ap (λ (x : Recs). op ReadOp.OrderBy (input, (n, tt)) ∷ x) (sym (y .shown N A f) ∙ sym (keys-render (shift N 0) A ts));
         });
       }) in
@@ -144,7 +144,7 @@ pub limit-input : {x : Trailer} {k n : ℕ} → x ≡ trailer.Limit k → inputO
 limit-input e l = rw e at l
 
 -- a skip or a limit, as it is stored
-over-stored : {sheet : Bytes} {a b : List ℕ} {N : Notes} {A : Ops} {k : ℕ} (x : Trailer) (i d : ℕ) (t : Tree expr) (rs : Recs) → d ≤ maxDepth → Held sheet a b t d i → Below (shift N 0) k t → render (shift N 0) A t ≡ rs → Stored sheet a b N A k (trailerOp (atPlace 0 i d) x) (headOf x ∷ rs)
+over-stored : {sheet : Bytes} {a b : List ℕ} {first : ℕ} {N : Notes} {A : Ops} {k : ℕ} (x : Trailer) (i d : ℕ) (t : Tree expr) (rs : Recs) → d ≤ deepest → Held sheet a b t d i → Below (shift N 0) first k t → render (shift N 0) A t ≡ rs → Stored (side sheet a b first) N A k (trailerOp (atPlace 0 i d) x) (headOf x ∷ rs)
 over-stored {sheet} {a} {b} (trailer.Skip input) i d t rs sh hd bl e = record {
   bounded = record { shallow = sh; near = omega arith; low = tree-low sheet a b t d i hd; far = λ e. absurd (omega arith); flagged = λ e. absurd (omega arith) };
   shows = shows-skip refl (record { tree = t; held = hd; below = bl; is = ap (λ (z : Recs). op ReadOp.Skip (input, tt) ∷ z) (sym e) });
@@ -170,7 +170,7 @@ module _ {a b : List ℕ} {n input e : ℕ} {at : At} {c : LowerCtx} {os : List 
       let f = tree-fits (some .sheet) a b (o .tree) (at .left) (at .i) hd .0 in
       omega arith
 
-  over-run : (sheet : Bytes) (ts : Trees expr n) → HeldOf sheet a b ts (at .left) (at .i) → (W : Written) (s : State) → Rep sheet a b W s m → Blank W (0 + suc (at .i)) (0 + suc e) → Rooted sheet a b W (overL n x ts) (m₁ .ctx .ops) 0 (suc (at .i)) (suc e) s m (mem c os (m₁ .rest))
+  over-run : (sheet : Bytes) {first : ℕ} (ts : Trees expr n) → HeldOf sheet a b ts (at .left) (at .i) → (W : Written) (s : State) → Rep (side sheet a b first) W s m → Blank W (0 + suc (at .i)) (0 + suc e) → Rooted (side sheet a b first) W (overL n x ts) (m₁ .ctx .ops) 0 (suc (at .i)) (suc e) s m (mem c os (m₁ .rest))
   unfolding push
   over-run sheet ts hd W s r bl =
       let o = single ts one nz in
@@ -239,7 +239,7 @@ module _ {a b : List ℕ} {n₁ e₁ k₁ : ℕ} {m m₁ : Mem} (d input i j : �
           let y = skip-end c₂ (q .next) sheet t in
           omega arith
 
-      tail-run : (sheet : Bytes) (t : Tail sheet a b d i j) → (W : Written) (s : State) → Rep sheet a b W s m → Blank W (0 + suc j) (0 + suc e₃) → Rooted sheet a b W (λ s. lowerTrailers input (t .keys) (t .skip) (t .limit) s) k₃ 0 (suc j) (suc e₃) s m m₃
+      tail-run : (sheet : Bytes) {first : ℕ} (t : Tail sheet a b d i j) → (W : Written) (s : State) → Rep (side sheet a b first) W s m → Blank W (0 + suc j) (0 + suc e₃) → Rooted (side sheet a b first) W (λ s. lowerTrailers input (t .keys) (t .skip) (t .limit) s) k₃ 0 (suc j) (suc e₃) s m m₃
       tail-run sheet t W s r bl =
           let u₁ = p .moved .up in
           let u₂ = q .moved .up in

@@ -19,6 +19,7 @@ use Rattle.context.specs.Ops.{beforeOf, withOp}
 use Rattle.context.specs.declared.At.{At}
 use Rattle.context.specs.declared.Before.{Before}
 use Rattle.context.specs.declared.LowerCtx.{LowerCtx}
+use Rattle.lower.specs.Side.{side}
 use Rattle.lower.specs.Shows.{shift, shows-with}
 use Rattle.lower.specs.Rep.{State, Mem, mem, atPlace, Written, Sub, Rep}
 use Rattle.lower.specs.Pieces.{SomeCarried, LowersExprs}
@@ -86,7 +87,7 @@ module _ {a b : List ℕ} {at : At} {current : Before} {m : Mem} (g : ClauseAske
           let v = a-with (g .words) (g .tree .tree) (g .tree .held) (g .kind) in
           rw (predicate-end (g .tree .sheet) (g .tree .tree) v) (record { sheet = g .tree .sheet; tail = v .tail })
 
-      module _ {k₀ : ℕ} {c : LowerCtx} {os : List ℕ} (sr : OrSource (orSourceAll (beforeOf current)) k₀ m m₁) (ps : Pushed (m₃ .ctx) c (m₃ .ops) os (withOp (atPlace 0 (at .i) (at .left - 1)) k₀)) (lo : length os ≡ length (m₃ .ops)) where
+      module _ {k₀ : ℕ} {c : LowerCtx} {os : List ℕ} (sr : OrSource (m .ctx .ops) (orSourceAll (beforeOf current)) k₀ m m₁) (ps : Pushed (m₃ .ctx) c (m₃ .ops) os (withOp (atPlace 0 (at .i) (at .left - 1)) k₀)) (lo : length os ≡ length (m₃ .ops)) where
         pub with-moved : MovedTwice (at .i) p m (mem c os (m₃ .rest))
         with-moved =
             let x = it .moved in
@@ -94,8 +95,9 @@ module _ {a b : List ℕ} {at : At} {current : Before} {m : Mem} (g : ClauseAske
             record {
               up = omega (arith, x .up, y .up);
               here = y .here;
+              grow = omega (arith, sr .grow, x .grow, y .grow, ps .count);
               few = omega (arith, sr .few, x .few, y .few, ps .count, x .up, y .up);
-              low = omega (arith, sr .next, x .low, y .low, ps .next, x .up, y .up);
+              low = omega (arith, sr .numbers, x .low, y .low, ps .numbers, x .up, y .up);
               met = omega (arith, sr .mapped, x .met, y .met, ps .mapped, x .up, y .up);
               in-ops = lo ∙ y .in-ops ∙ x .in-ops ∙ sr .in-ops;
               in-rest = y .in-rest ∙ x .in-rest ∙ ap length (sr .rest);
@@ -111,8 +113,8 @@ module _ {a b : List ℕ} {at : At} {current : Before} {m : Mem} (g : ClauseAske
               let y = v .sized in
               omega arith
 
-          with-run : (sheet : Bytes) (t : Tree clause) → Held sheet a b t (at .left) (at .i) → (W : Written) (s : State) → Rep sheet a b W s m → BothBlank W (suc (at .i)) (suc e) → Leaves sheet a b W (λ s. lowerClause t (beforeOf current) s) (some k) (suc (at .i)) (suc e) s m m₅
-          with-run sheet t hd W s r bl =
+          with-run : (sheet : Bytes) {first : ℕ} (t : Tree clause) → Held sheet a b t (at .left) (at .i) → (W : Written) (s : State) → Rep (side sheet a b first) W s m → BothBlank W (suc (at .i)) (suc e) → Leaves (side sheet a b first) W (λ s. lowerClause t (beforeOf current) s) (some k) (suc (at .i)) (suc e) s m m₅
+          with-run sheet {first} t hd W s r bl =
               let v = a-with (g .words) t hd (g .kind) in
               let P : ℕ = at .i + 1 + sizeOf (v .items) + sizeOf (v .predicate) in
               let ep : p ≡ P = predicate-end sheet t v in
@@ -121,7 +123,7 @@ module _ {a b : List ℕ} {at : At} {current : Before} {m : Mem} (g : ClauseAske
               let u₂ = pr .moved .up in
               let u₃ = tl .moved .up in
               let s₁ : State = orSourceAll (beforeOf current) s .1 in
-              let x₀ = sr .run sheet a b W s r in
+              let x₀ = sr .run sheet a b W s (r .from) r in
               let x₁ = items-as (v .n) (v .counted) .run sheet (itemsC (v .items)) (items-held sheet a b (v .items) (at .left - 1) (at .i + 1) (v .held-items)) W s₁ (x₀ .to .rep) (blank-within (omega arith) (omega arith) (bl .first)) in
               let x₂ = predicate-as (one (v .filtered)) (v .flagged) .run sheet (plainC (v .predicate)) (plain-held sheet a b (v .predicate) (at .left - 1) j (predicate-held sheet t v)) _ _ (x₁ .to .rep) (blank-behind (le-refl _) (blank-within (omega arith) (omega arith) (bl .first))) in
               let x₃ = push-to m₃ c os (withOp (atPlace 0 (at .i) (at .left - 1)) k₀) (withRecs (v .filtered) (v .items) (v .predicate) k₀ s₁) (x₂ .to .rep) ps
@@ -136,8 +138,8 @@ module _ {a b : List ℕ} {at : At} {current : Before} {m : Mem} (g : ClauseAske
                   flagged = v .flagged;
                   held-items = v .held-items;
                   held-predicate = v .held-predicate;
-                  below-items = items-below (shift N 0) (m₃ .ctx .ops) (v .items) (carried-more (shift N 0) (m₂ .ctx .ops) (m₃ .ctx .ops) (x₂ .to .grow) (itemsC (v .items)) (x₁ .below N A (back (x₂ .to) f)));
-                  below-predicate = plain-below (shift N 0) (m₃ .ctx .ops) (v .predicate) (x₂ .below N A f);
+                  below-items = items-below (shift N 0) first (m₃ .ctx .ops) (v .items) (carried-more (shift N 0) first (m₂ .ctx .ops) (m₃ .ctx .ops) (x₂ .to .grow) (itemsC (v .items)) (x₁ .below N A (back (x₂ .to) f)));
+                  below-predicate = plain-below (shift N 0) first (m₃ .ctx .ops) (v .predicate) (x₂ .below N A f);
                   is = shown-both _ _ _ _ _ (items-render (shift N 0) A (v .items) ∙ x₁ .shown N A (back (x₂ .to) f)) (plain-render (shift N 0) A (v .predicate) ∙ x₂ .shown N A f);
                 });
               }) in
@@ -145,7 +147,7 @@ module _ {a b : List ℕ} {at : At} {current : Before} {m : Mem} (g : ClauseAske
               let D = v .def (beforeOf current) s k₀ (m₃ .ctx .ops) (x₀ .root) (x₂ .to .rep .count) in
               record {
                 to = rw D (to-wider (with-sub (at .i) j p P e W u₁ u₂ ep u₃) (to-then (x₀ .to) (to-then (x₁ .to) (to-then (x₂ .to) (to-then x₃ (x₄ .to))))));
-                left = rw D (ap (λ (z : ℕ). some z) (sym (x₄ .root)));
+                gives = rw D (ap (λ (z : ℕ). some z) (sym (x₄ .root)));
               }
 
           pub with-law : (sheet : Bytes) → LowersClause sheet a b (at .left) (at .i) e (beforeOf current) (some k) m m₅

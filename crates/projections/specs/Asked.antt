@@ -2,13 +2,12 @@
 use mathlib.Core.Path.{_≡_}
 use Prim.Native.Nat.{ℕ, _+_, _-_, _≤_, _<_}
 use mathlib.Core.List.{List}
-use Rattle.model.specs.Call.{maxDepth}
 use Rattle.model.specs.Text.{Bytes}
 use Rattle.model.specs.Kind.{Sort, clause, projection}
 use Rattle.words.specs.Words.{Roomy, cell, maxRecords, two32}
 use Rattle.words.specs.Places.{returnKind, kindAt, itemsAt}
 use Rattle.words.specs.Held.{HeldSome, HeldMany}
-use Rattle.context.specs.Tables.{secondPass}
+use Rattle.context.specs.Tables.{secondPass, deepest}
 use Rattle.context.specs.Ops.{Under}
 use Rattle.context.specs.declared.At.{At}
 use Rattle.context.specs.declared.Before.{Before}
@@ -27,7 +26,7 @@ pub record ClauseAsked (k : ℕ) (a b : List ℕ) (at : At) (current : Before) (
   pub tree : SomeTree a b clause (at .left) (at .i)
   pub kind : cell a b (at .i) kindAt ≡ k
   pub ready : Ready (at .i) m
-  pub depth : at .left ≤ maxDepth
+  pub depth : at .left ≤ deepest
   pub stands : Under current (m .ctx .ops)
 
 -- a `return`, of the sheet that is passed
@@ -42,7 +41,7 @@ pub record ItemsAsked (a b : List ℕ) (at : At) (n : ℕ) (m : Mem) : Type 0 wh
   pub words : Roomy a b
   pub items : SomeCarried a b n 1 (at .left - 1) (at .i)
   pub room : RoomFor (at .left) (at .i) m
-  pub depth : at .left ≤ maxDepth
+  pub depth : at .left ≤ deepest
   pub pass : at .base ≤ secondPass
 
 -- n items from a place on, of the sheet that is passed
@@ -50,7 +49,7 @@ pub record SplitAsked (sheet : Bytes) (a b : List ℕ) (at : At) (n : ℕ) (m : 
   pub words : Roomy a b
   pub items : HeldMany sheet a b projection n (at .left) (at .i)
   pub room : RoomFor (at .left) (at .i) m
-  pub depth : at .left ≤ maxDepth
+  pub depth : at .left ≤ deepest
 
 -- the items of a `return`, before its first lowering
 pub record FirstAsked (sheet : Bytes) (a b : List ℕ) (of : ReturnItems) (current : Before) (m : Mem) : Type 0 where
@@ -59,7 +58,7 @@ pub record FirstAsked (sheet : Bytes) (a b : List ℕ) (of : ReturnItems) (curre
   pub items : HeldMany sheet a b projection (of .n) (of .left) (of .i + 1)
   pub ready : Ready (of .i) m
   pub low : of .i < maxRecords
-  pub depth : of .left ≤ maxDepth
+  pub depth : of .left ≤ deepest
   pub stands : Under current (m .ctx .ops)
 
 -- so before its second one, over operator `input`
@@ -69,7 +68,7 @@ pub record SecondAsked (a b : List ℕ) (of : ReturnItems) (input distinct : ℕ
   pub items : SomeTrees a b projection (of .n) (of .left) (of .i + 1)
   pub room : RoomFor (of .left) (of .i + 1) m
   pub low : of .i < maxRecords
-  pub depth : of .left ≤ maxDepth
+  pub depth : of .left ≤ deepest
   pub small : input < two32
   pub flag : distinct ≤ 1
 
@@ -80,7 +79,7 @@ pub record OverAsked (s : Sort) (a b : List ℕ) (at : At) (n input : ℕ) (m : 
   pub words : Roomy a b
   pub trees : SomeTrees a b s n (at .left) (at .i)
   pub ready : Ready (at .i) m
-  pub depth : at .left ≤ maxDepth
+  pub depth : at .left ≤ deepest
   pub stands : input < m .ctx .ops
 
 -- the trailers of the clause at record i, from a place on
@@ -89,5 +88,5 @@ pub record TailAsked (a b : List ℕ) (at : At) (i input : ℕ) (m : Mem) : Type
   pub low : i < maxRecords
   pub tail : SomeTail a b (at .left) i (at .i)
   pub ready : Ready (at .i) m
-  pub depth : at .left ≤ maxDepth
+  pub depth : at .left ≤ deepest
   pub stands : input < m .ctx .ops

@@ -52,10 +52,10 @@ items-render N A (node projection line k (alias, _) ((e ∷ᵗ []ᵗ) ▸ end) �
     ap (λ (x : Recs). (head ∷ x) ++ renderOf N A ts) (append-nil (render N A e ++ []) ∙ append-nil (render N A e))
     ∙ ap (λ (x : Recs). (head ∷ render N A e) ++ x) (items-render N A ts)
 
-pub items-below : (N : Notes) (k : ℕ) {n : ℕ} (ts : Trees projection n) → BelowC N k (itemsC ts) → BelowOf N k ts
+pub items-below : (N : Notes) (lo k : ℕ) {n : ℕ} (ts : Trees projection n) → BelowC N lo k (itemsC ts) → BelowOf N lo k ts
 unfolding itemsC BelowC Below belowIn
-items-below N k []ᵗ h = tt
-items-below N k (node projection line kd (alias, _) ((e ∷ᵗ []ᵗ) ▸ end) ∷ᵗ ts) h = (((h .0, tt), tt), items-below N k ts (h .1))
+items-below N lo k []ᵗ h = tt
+items-below N lo k (node projection line kd (alias, _) ((e ∷ᵗ []ᵗ) ▸ end) ∷ᵗ ts) h = (((h .0, tt), tt), items-below N lo k ts (h .1))
 
 -- ── sort keys ──
 
@@ -88,7 +88,7 @@ keys-render N A (node orderItem line k (descending, _) ((e ∷ᵗ []ᵗ) ▸ end
     ap (λ (x : Recs). (head ∷ x) ++ renderOf N A ts) (append-nil (render N A e ++ []) ∙ append-nil (render N A e))
     ∙ ap (λ (x : Recs). (head ∷ render N A e) ++ x) (keys-render N A ts)
 
-pub keys-below : (N : Notes) (k : ℕ) {n : ℕ} (ts : Trees orderItem n) → BelowC N k (keysC ts) → BelowOf N k ts
+pub keys-below : (N : Notes) (lo k : ℕ) {n : ℕ} (ts : Trees orderItem n) → BelowC N lo k (keysC ts) → BelowOf N lo k ts
 unfolding keysC BelowC Below belowIn
-keys-below N k []ᵗ h = tt
-keys-below N k (node orderItem line kd (descending, _) ((e ∷ᵗ []ᵗ) ▸ end) ∷ᵗ ts) h = (((h .0, tt), tt), keys-below N k ts (h .1))
+keys-below N lo k []ᵗ h = tt
+keys-below N lo k (node orderItem line kd (descending, _) ((e ∷ᵗ []ᵗ) ▸ end) ∷ᵗ ts) h = (((h .0, tt), tt), keys-below N lo k ts (h .1))

@@ -1,4 +1,3 @@
-pub mod Kinds
 pub mod Items
 pub mod Ready
 pub mod Asked

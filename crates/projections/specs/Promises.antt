@@ -18,6 +18,7 @@ use Rattle.context.specs.Ops.{skipOp, limitOp}
 use Rattle.context.specs.declared.At.{At}
 use Rattle.context.specs.declared.op.Op.{Op}
 use Rattle.context.specs.declared.LowerCtx.{LowerCtx}
+use Rattle.lower.specs.Side.{Side, side}
 use Rattle.lower.specs.Render.{Notes, Ops, BelowOf, keyRecs, aggRecs}
 use Rattle.lower.specs.Shows.{shift}
 use Rattle.lower.specs.Rep.{State, Mem, Written, Blank, Future, Rep, To, Rooted, Moved, Indexes}
@@ -32,7 +33,7 @@ pub record LowersOver {sort : Sort} (a b : List ℕ) (n d i e k : ℕ) (L : Tree
   pub moved : MovedTwice i e m m′
   pub low : k < m′ .ctx .ops
   pub next : (sheet : Bytes) (ts : Trees sort n) → HeldOf sheet a b ts d i → e ≡ i + sizeOf ts
-  pub run : (sheet : Bytes) (ts : Trees sort n) → HeldOf sheet a b ts d i → (W : Written) (s : State) → Rep sheet a b W s m → Blank W (0 + suc i) (0 + suc e) → Rooted sheet a b W (L ts) k 0 (suc i) (suc e) s m m′
+  pub run : (sheet : Bytes) {first : ℕ} (ts : Trees sort n) → HeldOf sheet a b ts d i → (W : Written) (s : State) → Rep (side sheet a b first) W s m → Blank W (0 + suc i) (0 + suc e) → Rooted (side sheet a b first) W (L ts) k 0 (suc i) (suc e) s m m′
 
 -- of a skip or a limit: the operator that it stands over, its own record, and what is stored of it
 abbrev pub inputOf : Trailer → ℕ
@@ -81,23 +82,23 @@ pub record LowersTail (a b : List ℕ) (d input i j e k : ℕ) (m m′ : Mem) : 
   pub moved : MovedTwice j e m m′
   pub low : k < m′ .ctx .ops
   pub next : (sheet : Bytes) (t : Tail sheet a b d i j) → e ≡ j + tailSize t
-  pub run : (sheet : Bytes) (t : Tail sheet a b d i j) (W : Written) (s : State) → Rep sheet a b W s m → Blank W (0 + suc j) (0 + suc e) → Rooted sheet a b W (λ s. lowerTrailers input (t .keys) (t .skip) (t .limit) s) k 0 (suc j) (suc e) s m m′
+  pub run : (sheet : Bytes) {first : ℕ} (t : Tail sheet a b d i j) (W : Written) (s : State) → Rep (side sheet a b first) W s m → Blank W (0 + suc j) (0 + suc e) → Rooted (side sheet a b first) W (λ s. lowerTrailers input (t .keys) (t .skip) (t .limit) s) k 0 (suc j) (suc e) s m m′
 
 -- ── the items of a `return` ──
 
 -- the items are lowered for the first time, which parts them into keys and so many aggregates
-pub record Splits (sheet : Bytes) (a b : List ℕ) (W : Written) {n : ℕ} (items : Trees projection n) (aggs lo hi : ℕ) (s : State) (m m′ : Mem) : Type 0 where
-  pub to : To sheet a b W ((0 + lo, 0 + hi) ∷ W) s (splitProjectionsAgg items s .1) m m′
+pub record Splits (S : Side) (W : Written) {n : ℕ} (items : Trees projection n) (aggs lo hi : ℕ) (s : State) (m m′ : Mem) : Type 0 where
+  pub to : To S W ((0 + lo, 0 + hi) ∷ W) s (splitProjectionsAgg items s .1) m m′
   pub counted : splitProjectionsAgg items s .0 .aggs ≡ aggs
   pub keys : (N : Notes) (A : Ops) → Future ((0 + lo, 0 + hi) ∷ W) (splitProjectionsAgg items s .1) m′ N A → keyRecs (shift N 0) A items ≡ splitProjectionsAgg items s .0 .keyRecs
   pub aggregates : (N : Notes) (A : Ops) → Future ((0 + lo, 0 + hi) ∷ W) (splitProjectionsAgg items s .1) m′ N A → aggRecs (shift N 0) A items ≡ splitProjectionsAgg items s .0 .aggRecs
-  pub below : (N : Notes) (A : Ops) → Future ((0 + lo, 0 + hi) ∷ W) (splitProjectionsAgg items s .1) m′ N A → BelowOf (shift N 0) (m′ .ctx .ops) items
+  pub below : (N : Notes) (A : Ops) → Future ((0 + lo, 0 + hi) ∷ W) (splitProjectionsAgg items s .1) m′ N A → BelowOf (shift N 0) (S .first) (m′ .ctx .ops) items
 
 -- so of n items from record i on, of the sheet that is passed
 pub record LowersSplit (sheet : Bytes) (a b : List ℕ) (n d i e aggs : ℕ) (m m′ : Mem) : Type 0 where
   pub moved : Moved i e m m′
   pub next : (items : Trees projection n) → HeldOf sheet a b items d i → e ≡ i + sizeOf items
-  pub run : (items : Trees projection n) → HeldOf sheet a b items d i → (W : Written) (s : State) → Rep sheet a b W s m → Blank W (0 + suc i) (0 + suc e) → Splits sheet a b W items aggs (suc i) (suc e) s m m′
+  pub run : {first : ℕ} (items : Trees projection n) → HeldOf sheet a b items d i → (W : Written) (s : State) → Rep (side sheet a b first) W s m → Blank W (0 + suc i) (0 + suc e) → Splits (side sheet a b first) W items aggs (suc i) (suc e) s m m′
 
 -- an operator x is pushed unless n is 0, and then the one before is left
 pub data PushedIf (n : ℕ) (x : Op) (input k : ℕ) (c c′ : LowerCtx) (o o′ : List ℕ) : Type 0 where
@@ -108,14 +109,15 @@ pub data PushedIf (n : ℕ) (x : Op) (input k : ℕ) (c c′ : LowerCtx) (o o′
 pub record LowersPass (sheet : Bytes) (a b : List ℕ) (n d base i e k : ℕ) (L : Trees projection n → Lowering ℕ) (m m′ : Mem) : Type 0 where
   pub up : i ≤ e
   pub here : e ≤ maxRecords
+  pub grow : m .ctx .ops ≤ m′ .ctx .ops
   pub few : m′ .ctx .ops + 2 * i ≤ m .ctx .ops + 2 + 2 * e
-  pub fresh : m′ .ctx .next + i ≤ m .ctx .next + e
+  pub fresh : m′ .ctx .numbers + i ≤ m .ctx .numbers + e
   pub met : m′ .ctx .mapped + i ≤ m .ctx .mapped + e
   pub in-ops : length (m′ .ops) ≡ length (m .ops)
   pub in-rest : length (m′ .rest) ≡ length (m .rest)
   pub index : Indexes m → Indexes m′
   pub next : (items : Trees projection n) → HeldOf sheet a b items d i → e ≡ i + sizeOf items
-  pub run : (items : Trees projection n) → HeldOf sheet a b items d i → (W : Written) (s : State) → Rep sheet a b W s m → Blank W (base + suc i) (base + suc e) → Rooted sheet a b W (L items) k base (suc i) (suc e) s m m′
+  pub run : {first : ℕ} (items : Trees projection n) → HeldOf sheet a b items d i → (W : Written) (s : State) → Rep (side sheet a b first) W s m → Blank W (base + suc i) (base + suc e) → Rooted (side sheet a b first) W (L items) k base (suc i) (suc e) s m m′
 
 abbrev pub firstL : (n : ℕ) → Option ℕ → Trees projection n → Lowering ℕ
 firstL n current items = λ s. (do

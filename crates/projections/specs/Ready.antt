@@ -12,7 +12,7 @@ maxStart = 4 * maxRecords
 -- there is room at record i, where a clause may begin
 pub record Ready (i : ℕ) (m : Mem) : Type 0 where
   pub few : m .ctx .ops ≤ maxStart + 4 * i
-  pub low : m .ctx .next ≤ maxStart + 2 * i
+  pub low : m .ctx .numbers ≤ maxStart + 2 * i
   pub met : m .ctx .mapped ≤ 2 * i
   pub here : i ≤ maxRecords
   pub in-ops : workWords ≤ length (m .ops)

@@ -1,17 +1,18 @@
 -- The room that clauses have: what it allows of a call below, and how the steps of a clause add up. Assumes nothing.
 use mathlib.Core.Path.{_≡_, refl, _∙_}
 use Prim.Native.Nat.{ℕ, _+_, _*_, _≤_, _<_}
+use native.Mathlib.Nat.{le-refl}
 use native.Mathlib.Omega.{arith}
 use mathlib.Core.List.{List}
 use lib.ListN.{length}
-use Rattle.model.specs.Call.{workWords, maxDepth}
+use Rattle.model.specs.Call.{workWords}
 use Rattle.model.specs.Text.{Bytes}
 use Rattle.model.specs.Kind.{Sort}
 use Rattle.model.specs.Tree.{Tree, node}
 use Rattle.model.specs.Lower.{Lowering}
 use Rattle.words.specs.Words.{maxRecords}
 use Rattle.words.specs.Held.{Held, HeldSome, HeldMany}
-use Rattle.context.specs.Tables.{Pushed, secondPass, maxCount}
+use Rattle.context.specs.Tables.{Pushed, secondPass, maxCount, deepest}
 use Rattle.context.specs.Ops.{Fits}
 use Rattle.context.specs.declared.At.{At}
 use Rattle.context.specs.declared.Before.{Before}
@@ -54,13 +55,13 @@ some-trees {sheet} x = record { sheet = sheet; trees = x .trees; held = x .are }
 
 -- ── places ──
 
-pub fits : {base i d : ℕ} → base ≤ secondPass → i ≤ maxRecords → d ≤ maxDepth → Fits (atPlace base i d)
+pub fits : {base i d : ℕ} → base ≤ secondPass → i ≤ maxRecords → d ≤ deepest → Fits (atPlace base i d)
 fits lb li ld = record { base = omega arith; i = omega arith; left = omega arith }
 
 -- ── where a clause may begin ──
 
 -- room for what is at most d deep, from record j on
-pub ready-good : {d i j : ℕ} {m : Mem} → Ready i m → i ≤ j → j ≤ maxRecords → d ≤ maxDepth → RoomFor d j m
+pub ready-good : {d i j : ℕ} {m : Mem} → Ready i m → i ≤ j → j ≤ maxRecords → d ≤ deepest → RoomFor d j m
 ready-good g l h ld = record { few = omega (arith, g .few); low = omega (arith, g .low); met = omega (arith, g .met); here = h; in-ops = g .in-ops; in-rest = g .in-rest; index = g .index }
 
 pub ready-after : {i e : ℕ} {m m′ : Mem} → MovedTwice i e m m′ → Ready i m → Ready e m′
@@ -76,10 +77,10 @@ few g = omega (arith, g .few, g .here)
 pub record Bounds (d i ops : ℕ) : Type 0 where
   pub low : i < maxRecords
   pub deep : 1 ≤ d
-  pub shallow : d ≤ maxDepth
+  pub shallow : d ≤ deepest
   pub few : ops ≤ 8 * maxRecords
 
-pub bounds-of : {a b : List ℕ} {s : Sort} {d i : ℕ} {m : Mem} → SomeTree a b s d i → Ready i m → d ≤ maxDepth → Bounds d i (m .ctx .ops)
+pub bounds-of : {a b : List ℕ} {s : Sort} {d i : ℕ} {m : Mem} → SomeTree a b s d i → Ready i m → d ≤ deepest → Bounds d i (m .ctx .ops)
 bounds-of x g h = record { low = low x; deep = deep x; shallow = h; few = few g }
 
 pub bounds : {a b : List ℕ} {k : ℕ} {at : At} {current : Before} {m : Mem} → ClauseAsked k a b at current m → Bounds (at .left) (at .i) (m .ctx .ops)
@@ -88,18 +89,18 @@ bounds g = bounds-of (g .tree) (g .ready) (g .depth)
 -- ── what moves ──
 
 pub twice-refl : {i : ℕ} {m : Mem} → i ≤ maxRecords → MovedTwice i i m m
-twice-refl h = record { up = omega arith; here = h; few = omega arith; low = omega arith; met = omega arith; in-ops = refl; in-rest = refl; index = λ x. x }
+twice-refl h = record { up = omega arith; here = h; grow = le-refl _; few = omega arith; low = omega arith; met = omega arith; in-ops = refl; in-rest = refl; index = λ x. x }
 
 pub twice-then : {i j e : ℕ} {m m₁ m₂ : Mem} → MovedTwice i j m m₁ → MovedTwice j e m₁ m₂ → MovedTwice i e m m₂
-twice-then p q = record { up = omega (arith, p .up, q .up); here = q .here; few = omega (arith, p .few, q .few); low = omega (arith, p .low, q .low); met = omega (arith, p .met, q .met); in-ops = q .in-ops ∙ p .in-ops; in-rest = q .in-rest ∙ p .in-rest; index = λ x. q .index (p .index x) }
+twice-then p q = record { up = omega (arith, p .up, q .up); here = q .here; grow = omega (arith, p .grow, q .grow); few = omega (arith, p .few, q .few); low = omega (arith, p .low, q .low); met = omega (arith, p .met, q .met); in-ops = q .in-ops ∙ p .in-ops; in-rest = q .in-rest ∙ p .in-rest; index = λ x. q .index (p .index x) }
 
 -- one pass alone
 pub twice-once : {i e : ℕ} {m m′ : Mem} → Moved i e m m′ → MovedTwice i e m m′
-twice-once p = record { up = p .up; here = p .here; few = omega (arith, p .few, p .up); low = omega (arith, p .low, p .up); met = omega (arith, p .met, p .up); in-ops = p .in-ops; in-rest = p .in-rest; index = p .index }
+twice-once p = record { up = p .up; here = p .here; grow = p .grow; few = omega (arith, p .few, p .up); low = omega (arith, p .low, p .up); met = omega (arith, p .met, p .up); in-ops = p .in-ops; in-rest = p .in-rest; index = p .index }
 
 -- at least one record, and then an operator
 pub twice-pushed : {i j : ℕ} {c : LowerCtx} {os : List ℕ} {x : Op} {m m₁ : Mem} → Moved i j m m₁ → i + 1 ≤ j → Pushed (m₁ .ctx) c (m₁ .ops) os x → length os ≡ length (m₁ .ops) → MovedTwice i j m (mem c os (m₁ .rest))
-twice-pushed p l q lo = record { up = p .up; here = p .here; few = omega (arith, p .few, q .count); low = omega (arith, p .low, p .up, q .next); met = omega (arith, p .met, p .up, q .mapped); in-ops = lo ∙ p .in-ops; in-rest = p .in-rest; index = λ x. rw (q .mapped) (p .index x) }
+twice-pushed p l q lo = record { up = p .up; here = p .here; grow = omega (arith, p .grow, q .count); few = omega (arith, p .few, q .count); low = omega (arith, p .low, p .up, q .numbers); met = omega (arith, p .met, p .up, q .mapped); in-ops = lo ∙ p .in-ops; in-rest = p .in-rest; index = λ x. rw (q .mapped) (p .index x) }
 
 -- ── behind one pass over records that are ready ──
 
@@ -112,9 +113,9 @@ module _ {i j e : ℕ} {m m′ : Mem} (g : Ready i m) (p : Moved j e m m′) (l 
 
 -- ── behind the operator before, or a source of everything ──
 
-module _ {L : Lowering ℕ} {k i : ℕ} {m m₁ : Mem} (g : Ready i m) (q : OrSource L k m m₁) where
-  pub good-source : {j : ℕ} (d : ℕ) → i + 1 ≤ j → j ≤ maxRecords → d ≤ maxDepth → RoomFor d j m₁
-  good-source d l h ld = record { few = omega (arith, g .few, q .few); low = omega (arith, g .low, q .next); met = omega (arith, g .met, q .mapped); here = h; in-ops = rw (q .in-ops) (g .in-ops); in-rest = rw (q .rest) (g .in-rest); index = rw (q .mapped, q .rest) (g .index) }
+module _ {o : ℕ} {L : Lowering ℕ} {k i : ℕ} {m m₁ : Mem} (g : Ready i m) (q : OrSource o L k m m₁) where
+  pub good-source : {j : ℕ} (d : ℕ) → i + 1 ≤ j → j ≤ maxRecords → d ≤ deepest → RoomFor d j m₁
+  good-source d l h ld = record { few = omega (arith, g .few, q .few); low = omega (arith, g .low, q .numbers); met = omega (arith, g .met, q .mapped); here = h; in-ops = rw (q .in-ops) (g .in-ops); in-rest = rw (q .rest) (g .in-rest); index = rw (q .mapped, q .rest) (g .index) }
 
   -- its number is small
   pub few-source : k ≤ 8 * maxRecords

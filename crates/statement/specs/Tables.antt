@@ -11,6 +11,7 @@ use Rattle.model.specs.Refusal.{Answer as Values}
 use Rattle.model.specs.Call.{Outcome, written, testPlan, maxDepth, maxPlan}
 use Rattle.words.specs.Held.{HeldSome}
 use Rattle.context.specs.Tables.{maxVars}
+use Rattle.lower.specs.Side.{side}
 use Rattle.lower.specs.Rep.{Mem, Written, Rep}
 use Rattle.clauses.specs.Statement.{LowersStatement}
 use Rattle.plan_writer.specs.Promise.{tables-of}
@@ -26,7 +27,7 @@ pub record Lowered (sheet : Bytes) (a b : List ℕ) (m : Mem) : Type 0 where
   pub met : m .ctx .mapped ≤ maxVars
   pub written : Written
   pub state : LowerCtx
-  pub rep : Rep sheet a b written state m
+  pub rep : Rep (side sheet a b 0) written state m
 
 pub lowered : {sheet : Bytes} {a b : List ℕ} {m : Mem} → HeldSome sheet a b statement maxDepth 0 → LowersStatement sheet a b m → Lowered sheet a b m
 lowered h l = let r = l .run (h .tree) (h .is) in record { met = l .met; written = r .written; state = lowerStatement (h .tree); rep = r .rep }
@@ -36,23 +37,23 @@ module _ {sheet : Bytes} {a b : List ℕ} {m : Mem} where
   some-tables l h = record { state = l .state; tables = tables-of (l .rep) h (l .met) }
 
   -- counts of the state, as the code has them
-  module _ {W : Written} {s : LowerCtx} (r : Rep sheet a b W s m) where
+  module _ {W : Written} {s : LowerCtx} (r : Rep (side sheet a b 0) W s m) where
     pub ops-count : m .ctx .ops ≡ length (s .ops)
     ops-count = r .count
 
-    pub next-count : m .ctx .next ≡ s .scope .next
+    pub next-count : m .ctx .numbers ≡ s .scope .next
     next-count = ap (λ (z : LowerCtx). z .scope .next) (r .state)
 
 -- ── the plan, as it is answered ──
 
-module _ {sheet : Bytes} {a b : List ℕ} {m : Mem} {W : Written} {s : LowerCtx} (r : Rep sheet a b W s m) where
+module _ {sheet : Bytes} {a b : List ℕ} {m : Mem} {W : Written} {s : LowerCtx} (r : Rep (side sheet a b 0) W s m) where
   pub full-ops : (slice : Bytes) → maxPlan < m .ctx .ops → Gives slice slice Answer.PlanFull (testPlan s)
   full-ops slice h = too-many slice s (rw (ops-count r) at h)
 
-  pub full-numbers : (slice : Bytes) → maxPlan < m .ctx .next → Gives slice slice Answer.PlanFull (testPlan s)
+  pub full-numbers : (slice : Bytes) → maxPlan < m .ctx .numbers → Gives slice slice Answer.PlanFull (testPlan s)
   full-numbers slice h = too-far slice s (rw (next-count r) at h)
 
-  module _ (slice slice′ : Bytes) (p : Plan) (met : m .ctx .mapped ≤ maxVars) (ops : m .ctx .ops ≤ maxPlan) (next : m .ctx .next ≤ maxPlan) (w : WrotePlan sheet a b (m .ops) (m .rest) (m .ctx .ops) (m .ctx .mapped) slice slice′ p) where
+  module _ (slice slice′ : Bytes) (p : Plan) (met : m .ctx .mapped ≤ maxVars) (ops : m .ctx .ops ≤ maxPlan) (next : m .ctx .numbers ≤ maxPlan) (w : WrotePlan sheet a b (m .ops) (m .rest) (m .ctx .ops) (m .ctx .mapped) slice slice′ p) where
     told : (x : Answer) → answerOf x ≡ Whole.answerOf p → Gives slice slice′ x (testPlan s)
     told x e = wrote slice s slice′ x (rw (ops-count r) at ops) (rw (next-count r) at next) (subst (λ (z : Values). _≡_ {A = Outcome} (record { answer = z; slice = slice′ }) (written (planSheet s) slice)) (sym e) (w s (tables-of r ops met)))
 

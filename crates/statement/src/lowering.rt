@@ -9,6 +9,7 @@ ghost use Rattle.model.specs.Tree.{Tree};
 ghost use Rattle.model.specs.Lower.{LowerCtx as State};
 ghost use Rattle.model.specs.Call.{short, planned, testPlan, maxDepth, lowerCall};
 ghost use Rattle.words.specs.Held.{Held, HeldSome};
+ghost use Rattle.lower.specs.Side.{side};
 ghost use Rattle.lower.specs.Rep.{mem, Rep, Written};
 ghost use Rattle.plan_sheet.specs.Due.{Room};
 ghost use Rattle.statement.specs.Answer.{answerOf};
@@ -41,12 +42,12 @@ fn write_lowered(
 ) -> Answer
     requires { ⌜ Room (now a) (now b) (now ops) (now rest) ⌝ }
     requires { ⌜ Lowered (now sheet) (now a) (now b) (mem ctx (now ops) (now rest)) ⌝ }
-    ensures { λ r. ⌜ ((W : Written) (s : State) → Rep (now (sheet .entry)) (now (a .entry)) (now (b .entry)) W s (mem ctx (now (ops .entry)) (now (rest .entry))) → Gives (now (plan .entry)) (now (plan .exit)) r (testPlan s)) ⌝ }
+    ensures { λ r. ⌜ ((W : Written) (s : State) → Rep (side (now (sheet .entry)) (now (a .entry)) (now (b .entry)) 0) W s (mem ctx (now (ops .entry)) (now (rest .entry))) → Gives (now (plan .entry)) (now (plan .exit)) r (testPlan s)) ⌝ }
 {
     if MAX_OPERATORS < ctx.ops {
         return Answer::PlanFull;
     }
-    if MAX_NUMBERS < ctx.next {
+    if MAX_NUMBERS < ctx.numbers {
         return Answer::PlanFull;
     }
     match write_plan(plan, sheet, a, b, ops, rest, ctx.ops, ctx.mapped) {

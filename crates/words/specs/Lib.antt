@@ -3,6 +3,7 @@ pub mod Places
 pub mod Held
 pub mod Cells
 pub mod Numbers
+pub mod Kinds
 pub mod Table
 pub mod TableLaws
 pub mod LastLaws

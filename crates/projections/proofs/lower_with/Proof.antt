@@ -68,7 +68,7 @@ lower-items-requires c κs =
     let n : tie.After-count = search ways depth 9 in
     let s : tie.Start = search ways depth 9 in
     let l = Room.bounds (s .pre) in
-    let good = Room.good-source (s .pre .ready) (q .or-source-all .ensures .1 _) (s .args .at .left - 1) (le-refl _) (omega (arith, l .low)) (omega (arith, l .shallow)) in
+    let good = Room.good-source (s .pre .ready) (q .or-source-all .ensures .source _) (s .args .at .left - 1) (le-refl _) (omega (arith, l .low)) (omega (arith, l .shallow)) in
     record { words = s .pre .words; items = WithLaws.with-items (s .pre) (n .count .ensures .0); room = good; depth = omega (arith, l .shallow); pass = omega arith }
 
 lower-exprs-requires : tie.Need-lower-exprs-requires
@@ -79,7 +79,7 @@ lower-exprs-requires c κs =
     let n : tie.After-count = search ways depth 9 in
     let s : tie.Start = search ways depth 9 in
     let l = Room.bounds (s .pre) in
-    let good = Room.good-source (s .pre .ready) (q .or-source-all .ensures .1 _) (s .args .at .left - 1) (le-refl _) (omega (arith, l .low)) (omega (arith, l .shallow)) in
+    let good = Room.good-source (s .pre .ready) (q .or-source-all .ensures .source _) (s .args .at .left - 1) (le-refl _) (omega (arith, l .low)) (omega (arith, l .shallow)) in
     let predicate = WithLaws.with-predicate (s .pre) (n .count .ensures .0) (i .lower-items .ensures) (n₂ .count2 .ensures .0) in
     record { words = s .pre .words; tree = predicate; room = Exprs.good-after (i .lower-items .ensures .moved) good; depth = omega (arith, l .shallow); pass = omega arith }
 
@@ -88,7 +88,7 @@ with-requires c κs =
     let q : tie.After-or-source-all = search ways depth 9 in
     let s : tie.Start = search ways depth 9 in
     let l = Room.bounds (s .pre) in
-    let input = Room.few-source (s .pre .ready) (q .or-source-all .ensures .1 _) in
+    let input = Room.few-source (s .pre .ready) (q .or-source-all .ensures .source _) in
     (Room.fits (omega arith) (omega (arith, l .low)) (omega (arith, l .shallow)), omega (arith, input))
 
 push-requires : tie.Need-push-requires
@@ -98,7 +98,7 @@ push-requires c κs =
     let q : tie.After-or-source-all = search ways depth 9 in
     let s : tie.Start = search ways depth 9 in
     let l = Room.bounds (s .pre) in
-    let good = Room.good-source (s .pre .ready) (q .or-source-all .ensures .1 _) (s .args .at .left - 1) (le-refl _) (omega (arith, l .low)) (omega (arith, l .shallow)) in
+    let good = Room.good-source (s .pre .ready) (q .or-source-all .ensures .source _) (s .args .at .left - 1) (le-refl _) (omega (arith, l .low)) (omega (arith, l .shallow)) in
     let room = Room.can-push (Exprs.good-after (x .lower-exprs .ensures .moved) (Exprs.good-after (i .lower-items .ensures .moved) good)) in
     (omega (arith, room .0), room .1)
 
@@ -115,7 +115,7 @@ lower-trailers-requires c κs =
     let l = Room.bounds (s .pre) in
     let pushed = pushed-as (made .with .ensures) (p .push .ensures) in
     let tail = WithLaws.with-tail (s .pre) (n .count .ensures .0) (i .lower-items .ensures) (n₂ .count2 .ensures .0) (x .lower-exprs .ensures) in
-    let moved = WithLaws.with-moved (s .pre) (n .count .ensures .0) (i .lower-items .ensures) (n₂ .count2 .ensures .0) (x .lower-exprs .ensures) (q .or-source-all .ensures .1 _) pushed (p .push .kept .1 .0) in
+    let moved = WithLaws.with-moved (s .pre) (n .count .ensures .0) (i .lower-items .ensures) (n₂ .count2 .ensures .0) (x .lower-exprs .ensures) (q .or-source-all .ensures .source _) pushed (p .push .kept .1 .0) in
     record {
       words = s .pre .words;
       low = l .low;
@@ -153,7 +153,7 @@ returns c =
     let n : tie.After-count = search ways depth 9 in
     let s : tie.Start = search ways depth 9 in
     let pushed = pushed-as (made .with .ensures) (p .push .ensures) in
-    WithLaws.with-law (s .pre) (n .count .ensures .0) (i .lower-items .ensures) (n₂ .count2 .ensures .0) (x .lower-exprs .ensures) (q .or-source-all .ensures .1 _) pushed (p .push .kept .1 .0) (t .lower-trailers .ensures)
+    WithLaws.with-law (s .pre) (n .count .ensures .0) (i .lower-items .ensures) (n₂ .count2 .ensures .0) (x .lower-exprs .ensures) (q .or-source-all .ensures .source _) pushed (p .push .kept .1 .0) (t .lower-trailers .ensures)
 
 pub lower-with-spec : {M : Type 1} → statement M
 lower-with-spec =

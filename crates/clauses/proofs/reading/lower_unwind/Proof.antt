@@ -58,7 +58,7 @@ lower-expr-requires c κs =
     record {
       words = s .pre .words;
       tree = Unwinding.some-list (s .pre);
-      room = Room.good-source (s .pre .ready) (q .or-source-all .ensures .1 _) _ (omega arith) (omega (arith, l .low)) (omega (arith, l .shallow));
+      room = Room.good-source (s .pre .ready) (q .or-source-all .ensures .source _) _ (omega arith) (omega (arith, l .low)) (omega (arith, l .shallow));
       depth = omega (arith, l .shallow);
       pass = omega arith;
     }
@@ -69,14 +69,14 @@ number-requires c κs =
     let q : tie.After-or-source-all = search ways depth 9 in
     let s : tie.Start = search ways depth 9 in
     let l = Room.bounds (s .pre) in
-    Inputs.can-number (s .pre .ready) (q .or-source-all .ensures .1 _) (e .lower-expr .ensures .moved) (omega arith) (omega arith) (omega (arith, l .low))
+    Inputs.can-number (s .pre .ready) (q .or-source-all .ensures .source _) (e .lower-expr .ensures .moved) (omega arith) (omega arith) (omega (arith, l .low))
 
 unwind-requires : tie.Need-unwind-requires
 unwind-requires c κs =
     let q : tie.After-or-source-all = search ways depth 9 in
     let s : tie.Start = search ways depth 9 in
     let l = Room.bounds (s .pre) in
-    let input = Room.few-source (s .pre .ready) (q .or-source-all .ensures .1 _) in
+    let input = Room.few-source (s .pre .ready) (q .or-source-all .ensures .source _) in
     (Room.fits (omega arith) (omega (arith, l .low)) (omega (arith, l .shallow)), omega (arith, input))
 
 push-requires : tie.Need-push-requires
@@ -85,7 +85,7 @@ push-requires c κs =
     let e : tie.After-lower-expr = search ways depth 9 in
     let q : tie.After-or-source-all = search ways depth 9 in
     let s : tie.Start = search ways depth 9 in
-    let few = Inputs.few-sourced (s .pre .ready) (q .or-source-all .ensures .1 _) (e .lower-expr .ensures .moved) (omega arith) in
+    let few = Inputs.few-sourced (s .pre .ready) (q .or-source-all .ensures .source _) (e .lower-expr .ensures .moved) (omega arith) in
     (omega (arith, few, n .number .ensures .issued .ops), rw (e .lower-expr .kept .1 .1 .0 ∙ q .or-source-all .kept .0) (s .pre .ready .in-ops))
 
 same-length : tie.Need-same-length
@@ -111,7 +111,7 @@ returns c =
     let w : tie.After-word = search ways depth 9 in
     let s : tie.Start = search ways depth 9 in
     let pushed = pushed-as (made .unwind .ensures) (p .push .ensures) in
-    Unwinding.unwind-law (s .pre) (q .or-source-all .ensures .1 _) (e .lower-expr .ensures) (Yields.numbered (w .word .ensures) (n .number .ensures)) (n .number .kept .1 .0) pushed (p .push .kept .1 .0)
+    Unwinding.unwind-law (s .pre) (q .or-source-all .ensures .source _) (e .lower-expr .ensures) (Yields.numbered (w .word .ensures) (n .number .ensures)) (n .number .kept .1 .0) pushed (p .push .kept .1 .0)
 
 pub lower-unwind-spec : {M : Type 1} → statement M
 lower-unwind-spec =

@@ -5,6 +5,7 @@ use native.Mathlib.Omega.{arith}
 use Rattle.context.specs.OpLaws.{pushed-as}
 use Rattle.projections.specs.Room
 use Rattle.clauses.proofs.Filtering
+use Rattle.clauses.proofs.Room as Inputs
 use Rattle.clauses.proofs.Matching
 use Rattle.clauses.proofs.reading.lower_where.Statement.{statement}
 use Rattle.clauses.proofs.reading.lower_where.Tie as tie
@@ -13,16 +14,16 @@ use Rattle.clauses.proofs.reading.lower_where.Tie as tie
 abbrev to-filter : tie.After-push → tie.After-filter
 to-filter c = search
 
-abbrev to-input-or-source : tie.After-filter → tie.After-input-or-source
-to-input-or-source c = search
+abbrev to-or-source-all : tie.After-filter → tie.After-or-source-all
+to-or-source-all c = search
 
-abbrev to-lower-expr : tie.After-input-or-source → tie.After-lower-expr
+abbrev to-lower-expr : tie.After-or-source-all → tie.After-lower-expr
 to-lower-expr c = search
 
 abbrev to-start : tie.After-lower-expr → tie.Start
 to-start c = search
 
-ruleset ways = (to-filter, to-input-or-source, to-lower-expr, to-start)
+ruleset ways = (to-filter, to-or-source-all, to-lower-expr, to-start)
 
 add-first : tie.Need-add-first
 add-first c =
@@ -46,39 +47,39 @@ lower-expr-requires c κs =
       pass = omega arith;
     }
 
-input-or-source-requires : tie.Need-input-or-source-requires
-input-or-source-requires c κs =
+or-source-all-requires : tie.Need-or-source-all-requires
+or-source-all-requires c κs =
     let e : tie.After-lower-expr = search ways depth 9 in
     let s : tie.Start = search ways depth 9 in
     let few = Room.few-after (s .pre .ready) (e .lower-expr .ensures .moved) (omega arith) in
     let held = Room.ops-after (s .pre .ready) (e .lower-expr .ensures .moved) (omega arith) in
-    (omega (arith, few), held)
+    ((omega (arith, few), held), Inputs.under-more (e .lower-expr .ensures .moved .grow) (s .pre .stands))
 
 filter-requires : tie.Need-filter-requires
 filter-requires c κs =
-    let q : tie.After-input-or-source = search ways depth 9 in
+    let q : tie.After-or-source-all = search ways depth 9 in
     let e : tie.After-lower-expr = search ways depth 9 in
     let s : tie.Start = search ways depth 9 in
     let l = Room.bounds (s .pre) in
     let few = Room.few-after (s .pre .ready) (e .lower-expr .ensures .moved) (omega arith) in
-    let left = q .input-or-source .ensures in
-    (Room.fits (omega arith) (omega (arith, l .low)) (omega (arith, l .shallow)), omega (arith, few, l .few, left .near _ (s .pre .stands), left .input [] .few))
+    let source = q .or-source-all .ensures in
+    (Room.fits (omega arith) (omega (arith, l .low)) (omega (arith, l .shallow)), omega (arith, few, source .source [] .low, source .source [] .few))
 
 push-requires : tie.Need-push-requires
 push-requires c κs =
-    let q : tie.After-input-or-source = search ways depth 9 in
+    let q : tie.After-or-source-all = search ways depth 9 in
     let e : tie.After-lower-expr = search ways depth 9 in
     let s : tie.Start = search ways depth 9 in
     let few = Room.few-after (s .pre .ready) (e .lower-expr .ensures .moved) (omega arith) in
     let held = Room.ops-after (s .pre .ready) (e .lower-expr .ensures .moved) (omega arith) in
-    (omega (arith, few, q .input-or-source .ensures .input [] .few), rw (q .input-or-source .kept .0) held)
+    (omega (arith, few, q .or-source-all .ensures .source [] .few), rw (q .or-source-all .kept .0) held)
 
 same-length : tie.Need-same-length
 same-length c =
     let p : tie.After-push = search ways depth 9 in
-    let q : tie.After-input-or-source = search ways depth 9 in
+    let q : tie.After-or-source-all = search ways depth 9 in
     let e : tie.After-lower-expr = search ways depth 9 in
-    p .push .kept .1 .0 ∙ q .input-or-source .kept .0 ∙ e .lower-expr .kept .1 .1 .0
+    p .push .kept .1 .0 ∙ q .or-source-all .kept .0 ∙ e .lower-expr .kept .1 .1 .0
 
 same-length-2 : tie.Need-same-length-2
 same-length-2 c =
@@ -89,13 +90,13 @@ returns : tie.Need-returns
 returns c =
     let p : tie.After-push = search ways depth 9 in
     let made : tie.After-filter = search ways depth 9 in
-    let q : tie.After-input-or-source = search ways depth 9 in
+    let q : tie.After-or-source-all = search ways depth 9 in
     let e : tie.After-lower-expr = search ways depth 9 in
     let s : tie.Start = search ways depth 9 in
-    let left = q .input-or-source .ensures in
+    let source = q .or-source-all .ensures in
     let pushed = pushed-as (made .filter .ensures) (p .push .ensures) in
-    let law = Filtering.where-law (s .pre) (e .lower-expr .ensures) (left .input _) pushed (p .push .kept .1 .0) in
-    λ sheet. Matching.ends-at (left .same) (law sheet)
+    let law = Filtering.where-law (s .pre) (e .lower-expr .ensures) (source .source _) pushed (p .push .kept .1 .0) in
+    λ sheet. Matching.ends-at (source .same) (law sheet)
 
 pub lower-where-spec : {M : Type 1} → statement M
 lower-where-spec =
@@ -104,7 +105,7 @@ lower-where-spec =
     add-first
     sub-less
     lower-expr-requires
-    input-or-source-requires
+    or-source-all-requires
     filter-requires
     push-requires
     same-length

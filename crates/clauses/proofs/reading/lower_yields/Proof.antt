@@ -41,7 +41,7 @@ loop-holds : here tie.Need-loop-holds
 loop-holds c =
     let s : here tie.Start = search ways depth 9 in
     let g = s .pre in
-    (record { some = g .some; fits = g .fits; met = g .met; low = g .low; in-rest = g .in-rest; index = g .index; rest = λ e c′ rest′ q. q }, refl)
+    (record { some = g .some; fits = g .fits; met = g .met; low = g .low; in-rest = g .in-rest; index = g .index; finish = λ e c′ rest′ q. q }, refl)
 
 word-requires : here tie.Need-word-requires
 word-requires c κs =

@@ -49,7 +49,7 @@ module _ (t : ℕ) where
         good = Exprs.good-from (le-refl _) (omega arith) (omega arith) (start .pre .1 .room);
         bounded = Chaining.start-bounded _ _ (omega arith);
         anchored = Chaining.start-anchored (start .args .a .now) (start .args .b .now) (start .pre .1 .tree .trees .sheet) _ _ _;
-        rest = λ ch′ os′ rs′ q. q;
+        finish = λ ch′ os′ rs′ q. q;
       }
 
   lower-element-requires : here lts.Need-lower-element-requires

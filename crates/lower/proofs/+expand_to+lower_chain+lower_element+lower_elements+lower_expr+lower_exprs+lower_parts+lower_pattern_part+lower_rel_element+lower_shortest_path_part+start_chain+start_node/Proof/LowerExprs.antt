@@ -38,7 +38,7 @@ module _ (t : ℕ) where
   loop-holds : here lts.Need-loop-holds
   loop-holds c =
       let start : here lts.Start = search ways in
-      record { some = (start .pre .1 .tree); good = (start .pre .1 .room); rest = λ e m′ q. q }
+      record { some = (start .pre .1 .tree); good = (start .pre .1 .room); finish = λ e m′ q. q }
 
   add-j : here lts.Need-add-j
   add-j c =

@@ -22,6 +22,11 @@ back-precheck-statement c = search
 
 ruleset ways = (back-write-lowered, back-lower, back-enum-told, back-e, back-precheck-statement)
 
+lower-requires : tie.Need-lower-requires
+lower-requires c κs =
+    let start : tie.Start = search ways in
+    record { words = start .pre .0 .records; held = start .pre .1; in-ops = start .pre .0 .in-ops; in-rest = start .pre .0 .in-rest }
+
 write-lowered-requires : tie.Need-write-lowered-requires
 write-lowered-requires c κs =
     let after-lower : tie.After-lower = search ways in
@@ -59,7 +64,7 @@ lower-checked-spec =
     (tie.spec
     (λ c κs. search needs)
     (λ c. search needs)
-    (λ c κs. search needs)
+    lower-requires
     write-lowered-requires
     (λ c. search needs)
     (λ c. search needs)
