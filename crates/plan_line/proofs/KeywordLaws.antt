@@ -13,16 +13,16 @@ use Rattle.words.specs.TableLaws.{passesTo, passes-at}
 use Rattle.output.specs.Page.{Page, Puts}
 use Rattle.output.specs.Writes.{sets-append}
 use Rattle.output.specs.Wide.{power}
-use Rattle.plan_line.specs.Keywords.{word, letters, numbers, unpacked}
+use Rattle.plan_line.specs.Keywords.{word, wordCount, letters, numbers, unpacked}
 
 -- ── numbers ──
 
 numberTest : ℕ → Bool
 numberTest k = same (unpacked 8 (getD numbers k 0)) (word k)
 
-number-word : (k : ℕ) → k < 46 → unpacked 8 (getD numbers k 0) ≡ word k
+number-word : (k : ℕ) → k < wordCount → unpacked 8 (getD numbers k 0) ≡ word k
 unfolding numberTest passesTo unpacked word letters bytes bytesFrom same sameBy
-number-word k h = same-sound _ _ (passes-at numberTest 46 refl k h)
+number-word k h = same-sound _ _ (passes-at numberTest wordCount refl k h)
 
 -- ── bytes ──
 
@@ -68,7 +68,7 @@ pub record Unpacking (w : ℕ) (p : Bytes) (at k v : ℕ) (q : Bytes) : Type 0 w
   pub long : length q ≡ length p
   pub low : k ≤ length p
 
-pub unpack-start : (w : ℕ) {p : Bytes} {at : ℕ} → w < 18446744073709551616 → at ≤ length p → Unpacking w p at at w p
+pub unpack-start : (w : ℕ) {p : Bytes} {at : ℕ} → w < power 256 8 → at ≤ length p → Unpacking w p at at w p
 unpack-start w h l = record { left = 8; few = omega arith; done = []; text = refl; here = omega arith; page = refl; long = refl; low = l }
 
 module _ {w : ℕ} {p : Bytes} {at k v : ℕ} {q : Bytes} (u : Unpacking w p at k v q) where
@@ -111,5 +111,5 @@ module _ {w : ℕ} {p : Bytes} {at k v : ℕ} {q : Bytes} (u : Unpacking w p at 
       u .page ∙ ap (sets p at) (sym (append-nil (u .done)) ∙ rw (none-unpacked (u .left)) at t)
 
 -- the bytes of a keyword's number are the keyword
-pub put-word : {g h : Page} (k w : ℕ) → k < 46 → w ≡ getD numbers k 0 → Puts (unpacked 8 w) g h → Puts (word k) g h
+pub put-word : {g h : Page} (k w : ℕ) → k < wordCount → w ≡ getD numbers k 0 → Puts (unpacked 8 w) g h → Puts (word k) g h
 put-word k w h e p = rw (e, number-word k h) at p

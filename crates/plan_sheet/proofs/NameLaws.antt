@@ -16,55 +16,35 @@ use Rattle.output.specs.Page.{Page, Puts}
 use Rattle.output.specs.Writes.{_⨾_, stay}
 use Rattle.words.specs.Words.{Roomy, cell, fieldOf, fieldsOf}
 use Rattle.words.specs.Held.{Held, HeldOf, RecordAt, PlaceAt, size, sizeOf}
-use Rattle.words.specs.Table.{sorts, sortOf}
 use Rattle.words.specs.Cells.{shown}
 use Rattle.lower.specs.Render.{Notes, Ops, recsOver, render, renderOf, specRec}
 use Rattle.words.proofs.Counting.{innerNumber, inner-number}
 use Rattle.words.specs.Numbers.{elementNumber}
-use Rattle.plan_line.specs.Keywords.{word, letters, toWord, nameWord, relWord}
-use Rattle.plan_line.specs.Field.{plain, allPlain, fieldText, lineText}
+use Rattle.plan_line.specs.Keywords.{word, letters, toWord, relWord}
+use Rattle.plan_line.specs.Copy.{SomeRecord, Copied}
 use Rattle.plan_line.specs.Row.{rowText, relText}
 use Rattle.plan_sheet.specs.Due.{Names, no-names, name-more, namesRecs, ElementAt}
-use Rattle.plan_line.proofs.FieldLaws.{flag-decimal, behind-append, place-text}
-use Rattle.plan_line.proofs.RowLaws.{record-line, row-rec}
-use Rattle.plan_sheet.proofs.HeadLaws.{Lined, fielded, line-is, texts-at}
+use Rattle.plan_line.proofs.RowLaws.{flag-decimal, behind-append, place-text, record-line, row-rec}
+use Rattle.plan_sheet.proofs.HeadLaws.{some-record, texts-at}
 
 -- ── names ──
 
 module _ {sheet : Bytes} {a b : List ℕ} (room : Roomy a b) where
-  name-number : {i : ℕ} {f : Fields (forms name tt)} → RecordAt sheet a b i name tt f → cell a b i 0 ≡ 14
-  unfolding innerNumber
-  name-number {i} h = inner-number name tt (cell a b i 0) tt (shown room h .kind)
-
-  name-lined : {i : ℕ} {f : Fields (forms name tt)} → RecordAt sheet a b i name tt f → Lined sheet a b i 14 nameWord (rec name tt f)
-  unfolding sorts sortOf allPlain plain spellRec keyword word letters bytes bytesFrom
-  name-lined {i} {f} h =
-      record {
-        fields = rw (name-number h) at (fielded 7 (omega arith) room h refl);
-        low = omega arith;
-        is = rw (name-number h) at (line-is 7 (omega arith) room h (word nameWord)) ∙ sym (record-line (word nameWord) (spellFields (forms name tt) f));
-      }
-
-  pub first-lined : {n i : ℕ} → (n ≡ 0 → ⊥) → Names sheet a b n i → (f : Fields (forms name tt)) × Lined sheet a b i 14 nameWord (rec name tt f)
-  first-lined z no-names = absurd (z refl)
-  first-lined z (name-more f h c) = (f, name-lined h)
-
-  pub first-low : {n i : ℕ} → (n ≡ 0 → ⊥) → Names sheet a b n i → i < 2048
-  first-low z no-names = absurd (z refl)
-  first-low z (name-more f h c) = h .low
+  pub first-record : {n i : ℕ} → (n ≡ 0 → ⊥) → Names sheet a b n i → SomeRecord sheet a b i
+  first-record z no-names = absurd (z refl)
+  first-record z (name-more f h c) = some-record room h
 
   -- what is left of the names h
   pub record NamesStill {n i : ℕ} (h : Names sheet a b n i) (start : Page) (m at : ℕ) (p : Page) : Type 0 where
     pub others : Names sheet a b m at
     pub text : (q : Page) → Puts (spellRecs (namesRecs others)) p q → Puts (spellRecs (namesRecs h)) start q
 
-  names-step : {n i m at : ℕ} {start p q : Page} (h : Names sheet a b n i) → (m ≡ 0 → ⊥) → (others : Names sheet a b m at) → ((q : Page) → Puts (spellRecs (namesRecs others)) p q → Puts (spellRecs (namesRecs h)) start q) → Puts (lineText (word nameWord) sheet a b at 14) p q → NamesStill h start (m - 1) (at + 1) q
+  names-step : {n i m at : ℕ} {start p q : Page} (h : Names sheet a b n i) → (m ≡ 0 → ⊥) → (others : Names sheet a b m at) → ((q : Page) → Puts (spellRecs (namesRecs others)) p q → Puts (spellRecs (namesRecs h)) start q) → Copied sheet a b at p q → NamesStill h start (m - 1) (at + 1) q
   unfolding namesRecs spellRecs
   names-step h z no-names text w = absurd (z refl)
   names-step {m = suc m} h z (name-more f r c) text w =
       let e : suc m - 1 ≡ m = omega arith in
-      let put = rw (name-lined r .is) at w in
-      rw e (record { others = c; text = λ q v. text q (put ⨾ v) })
+      rw e (record { others = c; text = λ q v. text q (w .line name tt f r ⨾ v) })
 
 -- the loop over n names
 pub record NamesGoing (sheet : Bytes) (a b : List ℕ) (n i : ℕ) (start : Page) (m at : ℕ) (p : Page) : Type 0 where
@@ -76,7 +56,7 @@ pub record NamesGoing (sheet : Bytes) (a b : List ℕ) (n i : ℕ) (start : Page
 pub names-going : {sheet : Bytes} {a b : List ℕ} {n i : ℕ} {p : Page} → Names sheet a b n i → NamesGoing sheet a b n i p n i p
 names-going h = record { some = h; each = λ h. (h, λ q r. r); sum = refl; long = refl }
 
-pub names-again : {sheet : Bytes} {a b : List ℕ} {n i m at : ℕ} {start p q : Page} → Roomy a b → (m ≡ 0 → ⊥) → NamesGoing sheet a b n i start m at p → Puts (lineText (word nameWord) sheet a b at 14) p q → length (q .bytes) ≡ length (p .bytes) → NamesGoing sheet a b n i start (m - 1) (at + 1) q
+pub names-again : {sheet : Bytes} {a b : List ℕ} {n i m at : ℕ} {start p q : Page} → Roomy a b → (m ≡ 0 → ⊥) → NamesGoing sheet a b n i start m at p → Copied sheet a b at p q → length (q .bytes) ≡ length (p .bytes) → NamesGoing sheet a b n i start (m - 1) (at + 1) q
 names-again room z g w l =
     record {
       some = names-step room (g .some) z (g .some) (λ q r. r) w .others;
@@ -142,7 +122,7 @@ module _ {sheet : Bytes} {a b : List ℕ} {i : ℕ} (room : Roomy a b) where
   rel-place PatternElement.Rel f at e = texts-at room at .1 .1 .1 .0
 
   rel-fields : PlaceAt Field.length sheet (cell a b i 8) (cell a b i 9) → (k : PatternElement) (f : Fields (elementForms k)) → RecordAt sheet a b i patternElement k f → (elementNumber k ≡ 12 → ⊥) → spellRec (specRec k f) ≡ relText (cell a b i 4) (cell a b i 6) (slice (cell a b i 8) (cell a b i 9) sheet) (cell a b i 10)
-  unfolding elementNumber specRec spellRec keyword planKeyword word letters bytes bytesFrom spellFields spell fieldsOf fieldOf relText behind fieldText
+  unfolding elementNumber specRec spellRec keyword planKeyword word letters bytes bytesFrom spellFields spell fieldsOf fieldOf relText behind
   rel-fields p PatternElement.Node f at e = absurd (e refl)
   rel-fields p PatternElement.Rel f at e =
       let s = shown room at in

@@ -26,8 +26,7 @@ use Rattle.lower.specs.Shows.{shift, InBounds, Shows, OverExpr, ByLabels, ByRel
 use Rattle.plan_line.specs.Keywords.{word, letters, sourceWord, filterWord, expandWord, shortWord, pathWord, optionalWord, withWord, projectWord, aggWord, orderWord, skipWord, limitWord, distinctWord, unwindWord, unionWord, callWord}
 use Rattle.plan_line.specs.Row.{numbersText, rowText, callText}
 use Rattle.plan_sheet.specs.Due.{noted, Planned, SomePlan, OpShown, WroteFirst, Element, WroteElement, WroteOp}
-use Rattle.plan_line.proofs.FieldLaws.{flag-decimal}
-use Rattle.plan_line.proofs.RowLaws.{record-line, row-rec, place-escape}
+use Rattle.plan_line.proofs.RowLaws.{flag-decimal, record-line, row-rec, place-escape}
 use Rattle.plan_sheet.proofs.HeadLaws.{texts-at}
 use Rattle.plan_sheet.proofs.DueLaws.{planned-less, spell-append}
 use Rattle.plan_sheet.proofs.NameLaws.{names-made}

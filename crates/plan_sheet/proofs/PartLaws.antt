@@ -17,12 +17,13 @@ use Rattle.words.specs.Words.{Roomy, cell, fieldOf, fieldsOf}
 use Rattle.words.specs.Held.{Held, HeldOf, RecordAt, size, sizeOf}
 use Rattle.words.specs.Cells.{shown}
 use Rattle.lower.specs.Render.{Notes, Ops, exprRecs, exprRest, recsOver, render, renderOf, renderIn, Below, BelowOf, BelowIn, belowIn, copiesBelow, specRec, specRecs, KidsBelow}
+use Rattle.words.specs.Places.{patKind}
 use Rattle.words.specs.Count.{countAt}
 use Rattle.words.proofs.Counting.{counted, flag-one}
-use Rattle.words.specs.Numbers.{sameNumber, exprNumber, elementNumber}
+use Rattle.words.specs.Numbers.{sameNumber, same-low, exprNumber, elementNumber}
 use Rattle.plan_sheet.specs.Due.{ExprAt, ElementAt, Carried, carriedRecs, carriedEnd, Names, namesRecs}
 use Rattle.plan_sheet.specs.Due
-use Rattle.plan_sheet.proofs.HeadLaws.{number-is, same-row}
+use Rattle.plan_sheet.proofs.HeadLaws.{number-is}
 use Rattle.plan_sheet.proofs.DueLaws.{Made, expr-of, exprs-made, entries-made}
 use Rattle.plan_sheet.proofs.NameLaws.{NamesMade, names-made, names-alike, element-number}
 
@@ -79,7 +80,7 @@ no-copy room k f h e z = absurd (z (sym (number-is room (record { kind = k; fiel
 module _ {sheet : Bytes} {a b : List ℕ} (N : Notes) (below left i : ℕ) where
   pub copied : Roomy a b → (t : Tree expr) (h : Held sheet a b t left i) → Below N below t → cell a b i 0 ≡ 35 → Copy N below i t (expr-of left t i h)
   unfolding Held Below render belowIn copiesBelow recsOver exprRecs exprRest expr-of exprNumber
-  copied room (node expr line (Expr.Over o) f kids) h u e = no-copy room (Expr.Over o) f (h .1) e (λ x. let s = same-row o in let y : sameNumber o ≡ 35 = x in omega (arith, s .to))
+  copied room (node expr line (Expr.Over o) f kids) h u e = no-copy room (Expr.Over o) f (h .1) e (λ x. let y : sameNumber o ≡ patKind = x in omega (arith, same-low o))
   copied room (node expr line Expr.Var f kids) h u e = no-copy room Expr.Var f (h .1) e (λ x. let y : _≡_ {A = ℕ} 32 35 = x in omega arith)
   copied room (node expr line Expr.Map f kids) h u e = no-copy room Expr.Map f (h .1) e (λ x. let y : _≡_ {A = ℕ} 33 35 = x in omega arith)
   copied room (node expr line Expr.Call f kids) h u e = no-copy room Expr.Call f (h .1) e (λ x. let y : _≡_ {A = ℕ} 34 35 = x in omega arith)

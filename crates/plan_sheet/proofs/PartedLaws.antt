@@ -27,8 +27,7 @@ use Rattle.plan_line.specs.Keywords.{word, letters, aggFnWord}
 use Rattle.plan_line.specs.Row.{namedText}
 use Rattle.plan_sheet.specs.Due.{noted, Planned, One, Carried, carriedRecs, carriedEnd, Many, WroteOne, WroteMany, WroteFirst}
 use Rattle.plan_sheet.specs.Parted.{keys, aggregates, partRecs, partsRecs, Items, WrotePart, WroteParts}
-use Rattle.plan_line.proofs.FieldLaws.{flag-decimal}
-use Rattle.plan_line.proofs.RowLaws.{named-rec, place-escape}
+use Rattle.plan_line.proofs.RowLaws.{flag-decimal, named-rec, place-escape}
 use Rattle.plan_sheet.proofs.HeadLaws.{texts-at}
 use Rattle.plan_sheet.proofs.DueLaws.{Made, exprs-made, deeper, spell-append}
 use Rattle.plan_sheet.proofs.OpLaws.{of-kind, here, shown-at, planned-below, first-more}

@@ -33,7 +33,7 @@ use Rattle.plan_sheet.proofs.NameLaws.{element-number}
 
 number-line : (n : ℕ) → spellRecs (pathElements (n ∷ [])) ≡ rowText elementWord (n ∷ [])
 unfolding pathElements spellRecs keyword planKeyword word letters bytes bytesFrom spellFields spell
-number-line n = append-nil (spellRec (rec (inPlan pathElement) tt (n, tt))) ∙ row-rec (rec (inPlan pathElement) tt (n, tt)) 42 (n ∷ []) refl refl
+number-line n = append-nil (spellRec (rec (inPlan pathElement) tt (n, tt))) ∙ row-rec (rec (inPlan pathElement) tt (n, tt)) elementWord (n ∷ []) refl refl
 
 path-append : (xs ys : List ℕ) → spellRecs (pathElements (xs ++ ys)) ≡ spellRecs (pathElements xs) ++ spellRecs (pathElements ys)
 unfolding pathElements spellRecs

@@ -12,7 +12,8 @@ ghost use Rattle.plan_line.specs.Keywords.{fnWord, listPredicateWord};
 ghost use Rattle.plan_line.specs.Row.{rowText, namedText};
 ghost use Rattle.model.specs.Lower.{exprHead};
 ghost use Rattle.plan_sheet.specs.Due.{ExprAt, SomeLine, WroteLine};
-use plan_line::field::put_line;
+use plan_line::copy::put_copied;
+use plan_line::field::put_int;
 use plan_line::row;
 use plan_line::word;
 use words::field;
@@ -66,16 +67,13 @@ pub fn put_expr(
 {
     match kind {
         kind::VAR => row::put_row1(plan, out, word::VAR, n),
-        kind::MAP => put_line(plan, out, sheet, a, b, i, kind::MAP as usize, word::MAP),
+        kind::INT => put_int(plan, out, a, b, i),
         kind::FN => put_call(plan, out, sheet, a, b, i),
         kind::PAT => row::put_row0(plan, out, word::EXISTS),
         kind::LIST_PREDICATE => put_any(plan, out, a, b, i, n),
         kind::UNRES => row::put_row0(plan, out, word::NULL),
         kind::UNDES => row::put_row0(plan, out, word::NULL),
-        _ => {
-            let k = kind as usize;
-            put_line(plan, out, sheet, a, b, i, k, k - word::SAME_FROM)
-        }
+        _ => put_copied(plan, out, sheet, a, b, i),
     }
 }
 
@@ -96,12 +94,12 @@ pub fn put_before(
     match kind {
         kind::ENTRY => {
             let next = i + 1;
-            let o = put_line(plan, out, sheet, a, b, i, kind::ENTRY as usize, word::NAME);
+            let o = put_copied(plan, out, sheet, a, b, i);
             Wrote { next, out: o }
         }
         kind::KEY => {
             let next = i + 1;
-            let o = put_line(plan, out, sheet, a, b, i, kind::KEY as usize, word::KEY);
+            let o = put_copied(plan, out, sheet, a, b, i);
             Wrote { next, out: o }
         }
         kind::ITEM => {

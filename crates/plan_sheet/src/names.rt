@@ -13,7 +13,7 @@ ghost use Rattle.words.specs.Places.{kindAt, nodeLabelsAt, nodePropsAt, relType
 ghost use Rattle.plan_line.specs.Keywords.{toWord};
 ghost use Rattle.plan_line.specs.Row.{rowText, relText};
 use crate::head::Wrote;
-use plan_line::field::put_line;
+use plan_line::copy::put_copied;
 use plan_line::field::put_number;
 use plan_line::field::put_text;
 use plan_line::keyword::put_keyword;
@@ -39,7 +39,7 @@ pub fn put_names(
     let mut left = n;
     let mut o = out;
     while left != 0 {
-        o = put_line(plan, o, sheet, a, b, at, kind::NAME as usize, word::NAME);
+        o = put_copied(plan, o, sheet, a, b, at);
         at += 1;
         left -= 1;
     }
