@@ -34,6 +34,10 @@ use Rattle.plan_line.proofs.RowLaws.{flag-decimal, row-rec, named-rec, int-rec,
 abbrev pub rewritten : List ℕ
 rewritten = undesKind ∷ unresKind ∷ listPredicateKind ∷ patKind ∷ fnKind ∷ intKind ∷ varKind ∷ []
 
+-- the kinds of the lines that stand before expressions, likewise
+abbrev pub lines : List ℕ
+lines = itemKind ∷ keyKind ∷ entryKind ∷ []
+
 from-first : {A : Type 0} (t : Bool) (f n : ℕ) (o : Option A) (k : A) → t ≡ ltb n f → cond t none o ≡ some k → f ≤ n
 from-first true f n o k l h = let z : _≡_ {A = ℕ} 0 1 = cc in absurd (omega arith)
 from-first false f n o k l h = ltb-false n f (sym l)
@@ -52,6 +56,20 @@ copied-kind c n Expr.PatternPredicate f e z = absurd (other-than c patKind rewri
 copied-kind c n Expr.ListPredicate f e z = absurd (other-than c listPredicateKind rewritten z refl e)
 copied-kind c n Expr.Unresolved f e z = absurd (other-than c unresKind rewritten z refl e)
 copied-kind c n Expr.Undesugared f e z = absurd (other-than c undesKind rewritten z refl e)
+
+-- the record of a line
+module _ {sheet : Bytes} {a b : List ℕ} {i : ℕ} where
+  pub some-record : {s : Sort} {k : Kind s} {f : Fields (forms s k)} → RecordAt sheet a b i s k f → SomeRecord sheet a b i
+  some-record {s} {k} {f} h = record { sort = s; kind = k; fields = f; at = h }
+
+  pub line-record : {recs : Recs} {j : ℕ} → Line sheet a b i recs j → SomeRecord sheet a b i
+  line-record (Line.bare h) = some-record (h .at)
+  line-record (Line.named h) = some-record h
+  line-record (Line.keyed h) = some-record h
+  line-record (Line.aliased h) = some-record (h .at)
+
+  pub line-low : {recs : Recs} {j : ℕ} → Line sheet a b i recs j → i < maxRecords
+  line-low l = line-record l .at .low
 
 module _ {sheet : Bytes} {a b : List ℕ} {i : ℕ} (room : Roomy a b) where
   -- so, read off the words one by one
@@ -123,9 +141,6 @@ module _ {sheet : Bytes} {a b : List ℕ} {i : ℕ} (room : Roomy a b) where
   unfolding kindOf firstKind
   expr-high h = from-first (ltb (cell a b i kindAt) nullKind) nullKind (cell a b i kindAt) _ (h .kind) refl (shown room (h .at) .kind)
 
-  pub some-record : {s : Sort} {k : Kind s} {f : Fields (forms s k)} → RecordAt sheet a b i s k f → SomeRecord sheet a b i
-  some-record {s} {k} {f} h = record { sort = s; kind = k; fields = f; at = h }
-
   -- ── the line before an expression ──
 
   entry-number : {f : Fields (forms entry tt)} → RecordAt sheet a b i entry tt f → cell a b i kindAt ≡ entryKind
@@ -139,16 +154,6 @@ module _ {sheet : Bytes} {a b : List ℕ} {i : ℕ} (room : Roomy a b) where
   item-number : {f : Fields (forms projection tt)} → RecordAt sheet a b i projection tt f → cell a b i kindAt ≡ itemKind
   unfolding numbered firstKind kinds
   item-number h = number-of projection (λ x. itemKind) refl (cell a b i kindAt) tt (shown room h .kind)
-
-  -- the record of a line
-  pub line-record : {recs : Recs} {j : ℕ} → Line sheet a b i recs j → SomeRecord sheet a b i
-  line-record (Line.bare h) = some-record (h .at)
-  line-record (Line.named h) = some-record h
-  line-record (Line.keyed h) = some-record h
-  line-record (Line.aliased h) = some-record (h .at)
-
-  pub line-low : {recs : Recs} {j : ℕ} → Line sheet a b i recs j → i < maxRecords
-  line-low l = line-record l .at .low
 
   pub item-there : {recs : Recs} {j : ℕ} → cell a b i kindAt ≡ itemKind → Line sheet a b i recs j → ItemAt sheet a b i
   item-there e (Line.bare h) = absurd (omega (arith, expr-high h))
@@ -179,9 +184,9 @@ module _ {sheet : Bytes} {a b : List ℕ} {i : ℕ} (room : Roomy a b) where
     aliased-put e (Line.keyed h) p = absurd (omega (arith, key-number h))
     aliased-put e (Line.aliased h) p = (refl, rw append-nil (p h))
 
-  pub bare-put : {g : Page} {recs : Recs} {j : ℕ} → (cell a b i kindAt ≡ entryKind → ⊥) → (cell a b i kindAt ≡ keyKind → ⊥) → (cell a b i kindAt ≡ itemKind → ⊥) → Line sheet a b i recs j → (i ≡ j) × Puts (spellRecs recs) g g
+  pub bare-put : {g : Page} {recs : Recs} {j : ℕ} (kind : ℕ) → kind ≡ cell a b i kindAt → Others kind lines → Line sheet a b i recs j → (i ≡ j) × Puts (spellRecs recs) g g
   unfolding spellRecs
-  bare-put p q r (Line.bare h) = (refl, stay)
-  bare-put p q r (Line.named h) = absurd (p (entry-number h))
-  bare-put p q r (Line.keyed h) = absurd (q (key-number h))
-  bare-put p q r (Line.aliased h) = absurd (r (item-number (h .at)))
+  bare-put kind e z (Line.bare h) = (refl, stay)
+  bare-put kind e z (Line.named h) = absurd (other-than kind entryKind lines z refl (e ∙ entry-number h))
+  bare-put kind e z (Line.keyed h) = absurd (other-than kind keyKind lines z refl (e ∙ key-number h))
+  bare-put kind e z (Line.aliased h) = absurd (other-than kind itemKind lines z refl (e ∙ item-number (h .at)))

@@ -32,7 +32,7 @@ use Rattle.plan_sheet.proofs.HeadLaws.{some-record, texts-at}
 module _ {sheet : Bytes} {a b : List ℕ} (room : Roomy a b) where
   pub first-record : {n i : ℕ} → (n ≡ 0 → ⊥) → Names sheet a b n i → SomeRecord sheet a b i
   first-record z no-names = absurd (z refl)
-  first-record z (name-more f h c) = some-record room h
+  first-record z (name-more f h c) = some-record h
 
   -- what is left of the names h
   pub record NamesStill {n i : ℕ} (h : Names sheet a b n i) (start : Page) (m at : ℕ) (p : Page) : Type 0 where

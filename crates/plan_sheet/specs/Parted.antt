@@ -2,7 +2,7 @@
 use mathlib.Core.Path.{_≡_}
 use Prim.Native.Nat.{ℕ, _+_}
 use mathlib.Core.Bool.{Bool, true, false, cond}
-use mathlib.Core.List.{List, []}
+use mathlib.Core.List.{List, [], _++_}
 use Rattle.model.specs.Text.{Bytes}
 use Rattle.model.specs.Kind.{projection, expr}
 use Rattle.model.specs.Record.{spellRecs}
@@ -14,14 +14,7 @@ use Rattle.lower.specs.Render.{Notes, Ops, render, BelowOf, isAggregate, aggOf,
 use Rattle.lower.specs.Shows.{shift}
 use Rattle.plan_sheet.specs.Due.{noted, Planned, One}
 
--- which part: the keys, or the aggregates
-abbrev pub keys : Bool
-keys = false
-
-abbrev pub aggregates : Bool
-aggregates = true
-
--- what an item's expression adds to the aggregates, or to the keys
+-- what an item's expression adds to the aggregates, or else to the keys
 unfoldable pub partRecs : Notes → Ops → (aggs : Bool) → Tree expr → Recs
 partRecs N A true e = cond (isAggregate e) (aggOf N A e) []
 partRecs N A false e = cond (isAggregate e) [] (render N A e)
@@ -43,3 +36,7 @@ WrotePart sheet a b os rest below base left i aggs p next q = (h : One sheet a b
 
 abbrev pub WroteParts : (sheet : Bytes) (a b os rest : List ℕ) (below base left n i : ℕ) (aggs : Bool) → Page → Page → Type 0
 WroteParts sheet a b os rest below base left n i aggs p q = (h : Items sheet a b os rest below base left n i) → Puts (spellRecs (partsRecs (shift (noted rest) base) (h .ops) aggs (h .items))) p q
+
+-- the keys, and behind them the aggregates
+abbrev pub WroteItems : (sheet : Bytes) (a b os rest : List ℕ) (below base left n i : ℕ) → Page → Page → Type 0
+WroteItems sheet a b os rest below base left n i p q = (h : Items sheet a b os rest below base left n i) → Puts (spellRecs (keyRecs (shift (noted rest) base) (h .ops) (h .items) ++ aggRecs (shift (noted rest) base) (h .ops) (h .items))) p q

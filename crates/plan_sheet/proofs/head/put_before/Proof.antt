@@ -33,32 +33,32 @@ ruleset ways = (back-put-copied2, back-put-copied, back-put-item, back-at-match-
 word-requires : tie.Need-word-requires
 word-requires c κs =
     let start : tie.Start = search ways in
-    (HeadLaws.line-low (start .pre .0) (start .pre .1 .line), (omega arith, start .pre .0))
+    (HeadLaws.line-low (start .pre .1 .line), (omega arith, start .pre .0))
 
 add-next : tie.Need-add-next
 add-next c =
     let start : tie.Start = search ways in
-    omega (arith, HeadLaws.line-low (start .pre .0) (start .pre .1 .line))
+    omega (arith, HeadLaws.line-low (start .pre .1 .line))
 
 put-copied-requires : tie.Need-put-copied-requires
 put-copied-requires c κs =
     let start : tie.Start = search ways in
-    (start .pre .0, HeadLaws.line-record (start .pre .0) (start .pre .1 .line))
+    (start .pre .0, HeadLaws.line-record (start .pre .1 .line))
 
 add-next-2 : tie.Need-add-next-2
 add-next-2 c =
     let start : tie.Start = search ways in
-    omega (arith, HeadLaws.line-low (start .pre .0) (start .pre .1 .line))
+    omega (arith, HeadLaws.line-low (start .pre .1 .line))
 
 put-copied-requires-2 : tie.Need-put-copied-requires-2
 put-copied-requires-2 c κs =
     let start : tie.Start = search ways in
-    (start .pre .0, HeadLaws.line-record (start .pre .0) (start .pre .1 .line))
+    (start .pre .0, HeadLaws.line-record (start .pre .1 .line))
 
 add-next-3 : tie.Need-add-next-3
 add-next-3 c =
     let start : tie.Start = search ways in
-    omega (arith, HeadLaws.line-low (start .pre .0) (start .pre .1 .line))
+    omega (arith, HeadLaws.line-low (start .pre .1 .line))
 
 put-item-requires : tie.Need-put-item-requires
 put-item-requires c κs =
@@ -99,12 +99,7 @@ returns-4 c =
     let after-word : tie.After-word = search ways in
     let start : tie.Start = search ways in
     λ recs j l.
-    HeadLaws.bare-put
-    (start .pre .0)
-    (λ e. (c .match .rest .0 .0 .1) ((after-word .word .ensures) ∙ e))
-    (λ e. (c .match .rest .0 .1) ((after-word .word .ensures) ∙ e))
-    (λ e. (c .match .rest .1) ((after-word .word .ensures) ∙ e))
-    l
+    HeadLaws.bare-put (start .pre .0) _ (after-word .word .ensures) (c .match .rest) l
 
 pub put-before-spec : {M : Type 1} → statement M
 put-before-spec =

@@ -94,7 +94,7 @@ put-any-requires c κs =
 put-copied-requires : tie.Need-put-copied-requires
 put-copied-requires c κs =
     let start : tie.Start = search ways in
-    (start .pre .0, HeadLaws.some-record (start .pre .0) (start .pre .1 .0 .at))
+    (start .pre .0, HeadLaws.some-record (start .pre .1 .0 .at))
 
 returns : tie.Need-returns
 returns c =

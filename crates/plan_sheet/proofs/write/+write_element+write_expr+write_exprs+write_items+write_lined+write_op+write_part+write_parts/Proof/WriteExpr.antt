@@ -7,8 +7,8 @@ use Prim.Native.Nat.{ℕ}
 use borrow.Fn.Kinds.{In, Out}
 use Rattle.plan_sheet.proofs.write.write_expr.Reads as reads
 use Rattle.plan_sheet.proofs.write.write_expr.Kinds as kinds
-use Rattle.plan_sheet.proofs.write.+write_aggregate+write_aggregates+write_element+write_expr+write_exprs+write_key+write_keys+write_op.Lts-write_expr as lts
-use Rattle.plan_sheet.proofs.write.+write_aggregate+write_aggregates+write_element+write_expr+write_exprs+write_key+write_keys+write_op.Proof.Claims.{write-expr-at, write-expr-calls}
+use Rattle.plan_sheet.proofs.write.+write_element+write_expr+write_exprs+write_items+write_lined+write_op+write_part+write_parts.Lts-write_expr as lts
+use Rattle.plan_sheet.proofs.write.+write_element+write_expr+write_exprs+write_items+write_lined+write_op+write_part+write_parts.Proof.Claims.{write-expr-at, write-expr-calls}
 
 module _ (t : ℕ) where
   -- a place or a need of this function, at the measure t
@@ -22,8 +22,17 @@ module _ (t : ℕ) where
   abbrev back-write-op : here lts.After-write-op → here lts.Then1
   back-write-op c = search
 
-  abbrev back-children : here lts.After-children → here lts.Else1
+  abbrev back-children : here lts.After-children → here lts.Else2
   back-children c = search
+
+  abbrev back-then2 : here lts.Then2 → here lts.After-is-leaf
+  back-then2 c = search
+
+  abbrev back-else2 : here lts.Else2 → here lts.After-is-leaf
+  back-else2 c = search
+
+  abbrev back-is-leaf : here lts.After-is-leaf → here lts.Else1
+  back-is-leaf c = search
 
   abbrev back-then1 : here lts.Then1 → here lts.After-put-expr
   back-then1 c = search
@@ -40,7 +49,7 @@ module _ (t : ℕ) where
   abbrev back-word : here lts.After-word → here lts.Start
   back-word c = search
 
-  ruleset ways = (back-write-exprs, back-write-op, back-children, back-then1, back-else1, back-put-expr, back-note-of, back-word)
+  ruleset ways = (back-write-exprs, back-write-op, back-children, back-then2, back-else2, back-is-leaf, back-then1, back-else1, back-put-expr, back-note-of, back-word)
 
   word-requires : here lts.Need-word-requires
   word-requires c κs =
@@ -92,13 +101,28 @@ module _ (t : ℕ) where
       (copy .write-op .ensures)
       (c .skip .ensures)
 
-  add-t22 : here lts.Need-add-t22
-  add-t22 c =
+  add-next : here lts.Need-add-next
+  add-next c =
       let s : here lts.Start = search ways depth 9 in
       omega (arith, CycleLaws.one-low (s .pre .1 .1 .1))
 
-  sub-t23 : here lts.Need-sub-t23
-  sub-t23 c =
+  leaf-returns : here lts.Need-returns-2
+  leaf-returns c =
+      let then : here lts.Then2 = search ways depth 9 in
+      let told : here lts.After-is-leaf = search ways depth 9 in
+      let head : here lts.After-put-expr = search ways depth 9 in
+      let note : here lts.After-note-of = search ways depth 9 in
+      let kind : here lts.After-word = search ways depth 9 in
+      let s : here lts.Start = search ways depth 9 in
+      CycleLaws.leaf-wrote
+      (s .pre .1 .0 .records)
+      (kind .word .ensures)
+      (sym (told .is-leaf .ensures) ∙ then .if2 .taken)
+      (note .note-of .ensures)
+      (head .put-expr .ensures)
+
+  sub-left : here lts.Need-sub-left
+  sub-left c =
       let s : here lts.Start = search ways depth 9 in
       omega (arith, CycleLaws.one-deep (s .pre .1 .1 .1))
 
@@ -123,8 +147,8 @@ module _ (t : ℕ) where
         ),
       )
 
-  returns-2 : here lts.Need-returns-2
-  returns-2 c =
+  returns-3 : here lts.Need-returns-3
+  returns-3 c =
       let kids : here lts.After-write-exprs = search ways depth 9 in
       let count : here lts.After-children = search ways depth 9 in
       let else : here lts.Else1 = search ways depth 9 in
@@ -156,9 +180,12 @@ module _ (t : ℕ) where
       skip-requires
       (λ c. search needs)
       returns
-      add-t22
-      sub-t23
+      add-next
+      (λ c κs. search needs)
+      (λ c. search needs)
+      leaf-returns
+      sub-left
       children-requires
       write-exprs-requires
       (λ c. search needs)
-      returns-2
+      returns-3
