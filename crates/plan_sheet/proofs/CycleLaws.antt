@@ -10,10 +10,10 @@ use Rattle.model.specs.Kind.{expr}
 use Rattle.model.specs.Record.{spellRec, spellRecs}
 use Rattle.output.specs.Page.{Page, on, Puts}
 use Rattle.output.specs.Writes.{_⨾_}
-use Rattle.words.specs.Words.{Roomy, cell}
+use Rattle.words.specs.Words.{Roomy, cell, maxRecords}
 use Rattle.words.specs.Held.{size}
 use Rattle.words.specs.Numbers.{Others, other-than}
-use Rattle.words.specs.Places.{kindAt, partKind, nodeKind, relKind, entryKind, propKind, indexKind, sliceKind, listKind, binKind, unKind, caseKind, isNullKind, inKind, mapKind, fnKind, patKind, listPredicateKind}
+use Rattle.words.specs.Places.{kindAt, partKind, nodeKind, relKind, entryKind, propKind, indexKind, sliceKind, listKind, binKind, unKind, caseKind, isNullKind, inKind, mapKind, fnKind, patKind, listPredicateKind, nodeLabelsAt, nodePropsAt, relPropsAt}
 use Rattle.words.proofs.Counting.{none-left}
 use Rattle.context.specs.Read.{noteOf}
 use Rattle.lower.specs.Render.{render, specRec}
@@ -35,7 +35,7 @@ module _ {sheet : Bytes} {a b os rest : List ℕ} {below base left i : ℕ} wher
   pub one-at : One sheet a b os rest below base left i → ExprAt sheet a b i
   one-at h = expr-of left (h .tree) i (h .held)
 
-  pub one-low : One sheet a b os rest below base left i → i < 2048
+  pub one-low : One sheet a b os rest below base left i → i < maxRecords
   one-low h = one-at h .at .low
 
   pub one-deep : One sheet a b os rest below base left i → 0 < left
@@ -45,7 +45,7 @@ module _ {sheet : Bytes} {a b os rest : List ℕ} {below base left i : ℕ} wher
   starts h = record { sheet = sheet; sort = expr; depth = left; tree = h .tree; inner = tt; held = h .held }
 
   -- a pattern: the operator that it copies
-  module _ (room : Roomy a b) {n : ℕ} (e : cell a b i 0 ≡ 35) (noted-is : n ≡ noteOf rest base i) (h : One sheet a b os rest below base left i) where
+  module _ (room : Roomy a b) {n : ℕ} (e : cell a b i kindAt ≡ patKind) (noted-is : n ≡ noteOf rest base i) (h : One sheet a b os rest below base left i) where
     copy-of : Copy (shift (noted rest) base) below i (h .tree) (one-at h)
     unfolding one-at
     copy-of = copied (shift (noted rest) base) below left i room (h .tree) (h .held) (h .under) e
@@ -66,7 +66,7 @@ module _ {sheet : Bytes} {a b os rest : List ℕ} {below base left i : ℕ} wher
         (ends .each sheet expr left (h .tree) tt (h .held), rw recs (head (one-at h) ⨾ op (h .ops) copy-planned))
 
   -- any other: what is below it
-  module _ (room : Roomy a b) {m : ℕ} (count : m ≡ countAt a b i) (z : cell a b i 0 ≡ 35 → ⊥) (h : One sheet a b os rest below base left i) where
+  module _ (room : Roomy a b) {m : ℕ} (count : m ≡ countAt a b i) (z : cell a b i kindAt ≡ patKind → ⊥) (h : One sheet a b os rest below base left i) where
     kid-parts : Parts sheet a b (shift (noted rest) base) below left i m (h .tree) (one-at h)
     unfolding one-at
     kid-parts = parts (shift (noted rest) base) below left i m room count (h .tree) (h .held) (h .under) z
@@ -124,13 +124,13 @@ module _ {sheet : Bytes} {a b os rest : List ℕ} {below base left i : ℕ} (roo
   pub element-is : ElementParts sheet a b (shift (noted rest) base) below left i (h .tree)
   element-is = element-parts (shift (noted rest) base) below left i room (h .tree) (h .held) (h .under)
 
-  pub element-names : {n : ℕ} → n ≡ cell a b i 4 → Names sheet a b n (i + 1)
+  pub element-names : {n : ℕ} → n ≡ cell a b i nodeLabelsAt → Names sheet a b n (i + 1)
   element-names c = rw c (element-is .names)
 
-  module _ {kind n props : ℕ} (k : kind ≡ cell a b i 0) (c : n ≡ cell a b i 4) (e : props ≡ cond (eqb kind 12) (cell a b i 6) (cell a b i 10)) where
+  module _ {kind n props : ℕ} (k : kind ≡ cell a b i kindAt) (c : n ≡ cell a b i nodeLabelsAt) (e : props ≡ cond (eqb kind nodeKind) (cell a b i nodePropsAt) (cell a b i relPropsAt)) where
     module _ {next : ℕ} {p q : Page} (names : (x : Names sheet a b n (i + 1)) → (next ≡ i + 1 + n) × Puts (spellRecs (namesRecs x)) p q) where
-      names-put : (next ≡ i + 1 + cell a b i 4) × Puts (spellRecs (namesRecs (element-is .names))) p q
-      names-put = let f : (x : Names sheet a b (cell a b i 4) (i + 1)) → (next ≡ i + 1 + cell a b i 4) × Puts (spellRecs (namesRecs x)) p q = rw c at names in f (element-is .names)
+      names-put : (next ≡ i + 1 + cell a b i nodeLabelsAt) × Puts (spellRecs (namesRecs (element-is .names))) p q
+      names-put = let f : (x : Names sheet a b (cell a b i nodeLabelsAt) (i + 1)) → (next ≡ i + 1 + cell a b i nodeLabelsAt) × Puts (spellRecs (namesRecs x)) p q = rw c at names in f (element-is .names)
 
       pub element-props : Many sheet a b os rest below base (left - 1) props next
       element-props = rw (names-put .0, e, k) (record { ops = h .ops; planned = h .planned; list = element-is .list })
@@ -138,6 +138,6 @@ module _ {sheet : Bytes} {a b os rest : List ℕ} {below base left i : ℕ} (roo
       pub element-wrote : {start r : Page} {last : ℕ} → ((x : ElementAt sheet a b i) → Puts (spellRec (specRec (x .kind) (x .fields))) start p) → WroteMany sheet a b os rest below base (left - 1) props next q last r → Puts (elementText h) start r
       unfolding spellRecs
       element-wrote {start} {r} {last} head many =
-          let m : WroteMany sheet a b os rest below base (left - 1) (propsAt a b i) (i + 1 + cell a b i 4) q last r = rw (e, k, names-put .0) at many in
+          let m : WroteMany sheet a b os rest below base (left - 1) (propsAt a b i) (i + 1 + cell a b i nodeLabelsAt) q last r = rw (e, k, names-put .0) at many in
           let w = m (record { ops = h .ops; planned = h .planned; list = element-is .list }) in
           rw (element-is .recs (h .ops)) (head (element-is .at) ⨾ rw (spell-append (namesRecs (element-is .names)) (carriedRecs (h .ops) (element-is .list))) (names-put .1 ⨾ w .1))

@@ -25,7 +25,7 @@ use Rattle.words.specs.Numbers.{Others, other-than, exprNumber}
 use Rattle.plan_line.specs.Keywords.{word, letters, varWord, existsWord, nullWord, listPredicateWord, fnWord}
 use Rattle.plan_line.specs.Copy.{SomeRecord, Copied}
 use Rattle.plan_line.specs.Row.{rowText, namedText, intText, intLowAt, intHighAt}
-use Rattle.plan_sheet.specs.Due.{ExprAt, ItemAt, namedRec, itemName, Line}
+use Rattle.plan_sheet.specs.Due.{ExprAt, ItemAt, namedRec, itemName, Line, TextIn, textAt}
 use Rattle.plan_line.proofs.RowLaws.{flag-decimal, row-rec, named-rec, int-rec, place-escape}
 
 -- ── expressions ──
@@ -114,16 +114,16 @@ module _ {sheet : Bytes} {a b : List ℕ} {i : ℕ} (room : Roomy a b) where
     unfolding kindOf firstKind nth kinds sames
     call-place e = at-kind Expr.Call (h .kind) (λ k f. RecordAt sheet a b i expr k f → PlaceAt text sheet (cell a b i nameAt) (cell a b i (nameAt + 1))) (kind-is h fnKind Expr.Call e refl) (λ f at. texts-at at .0) (h .fields) (h .at)
 
-    pub call-in : cell a b i kindAt ≡ fnKind → (cell a b i nameAt ≤ cell a b i (nameAt + 1)) × (cell a b i (nameAt + 1) ≤ length sheet)
+    pub call-in : cell a b i kindAt ≡ fnKind → TextIn sheet a b i nameAt
     call-in e = let p = call-place e in (p .from, p .to)
 
-    call-fields : PlaceAt text sheet (cell a b i nameAt) (cell a b i (nameAt + 1)) → (f : Fields (exprForms Expr.Call)) → RecordAt sheet a b i expr Expr.Call f → spellRec (exprHead n Expr.Call f) ≡ namedText fnWord (slice (cell a b i nameAt) (cell a b i (nameAt + 1)) sheet) (cell a b i fnArgsAt ∷ [])
+    call-fields : PlaceAt text sheet (cell a b i nameAt) (cell a b i (nameAt + 1)) → (f : Fields (exprForms Expr.Call)) → RecordAt sheet a b i expr Expr.Call f → spellRec (exprHead n Expr.Call f) ≡ namedText fnWord (textAt sheet a b i nameAt) (cell a b i fnArgsAt ∷ [])
     unfolding keyword planKeyword planExprKeyword word letters bytes bytesFrom spellFields spell fieldsOf fieldOf
-    call-fields p f at = named-rec _ fnWord (slice (cell a b i nameAt) (cell a b i (nameAt + 1)) sheet) (cell a b i fnArgsAt ∷ []) refl (rw (shown room at .fields) (rw (place-escape p)))
+    call-fields p f at = named-rec _ fnWord (textAt sheet a b i nameAt) (cell a b i fnArgsAt ∷ []) refl (rw (shown room at .fields) (rw (place-escape p)))
 
-    pub call-head : cell a b i kindAt ≡ fnKind → spellRec (exprHead n (h .kind) (h .fields)) ≡ namedText fnWord (slice (cell a b i nameAt) (cell a b i (nameAt + 1)) sheet) (cell a b i fnArgsAt ∷ [])
+    pub call-head : cell a b i kindAt ≡ fnKind → spellRec (exprHead n (h .kind) (h .fields)) ≡ namedText fnWord (textAt sheet a b i nameAt) (cell a b i fnArgsAt ∷ [])
     unfolding kindOf firstKind nth kinds sames
-    call-head e = at-kind Expr.Call (h .kind) (λ k f. RecordAt sheet a b i expr k f → spellRec (exprHead n k f) ≡ namedText fnWord (slice (cell a b i nameAt) (cell a b i (nameAt + 1)) sheet) (cell a b i fnArgsAt ∷ [])) (kind-is h fnKind Expr.Call e refl) (call-fields (call-place e)) (h .fields) (h .at)
+    call-head e = at-kind Expr.Call (h .kind) (λ k f. RecordAt sheet a b i expr k f → spellRec (exprHead n k f) ≡ namedText fnWord (textAt sheet a b i nameAt) (cell a b i fnArgsAt ∷ [])) (kind-is h fnKind Expr.Call e refl) (call-fields (call-place e)) (h .fields) (h .at)
 
     int-fields : (f : Fields (exprForms (Expr.Over Same.Int))) → RecordAt sheet a b i expr (Expr.Over Same.Int) f → spellRec (exprHead n (Expr.Over Same.Int) f) ≡ intText (intOf (cell a b i intLowAt) (cell a b i intHighAt))
     unfolding keyword planKeyword planExprKeyword sameKeyword word letters bytes bytesFrom spellFields spell fieldsOf fieldOf

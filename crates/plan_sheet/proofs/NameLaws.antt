@@ -23,9 +23,10 @@ use Rattle.words.specs.Numbers.{elementNumber}
 use Rattle.plan_line.specs.Keywords.{word, letters, toWord, relWord}
 use Rattle.plan_line.specs.Copy.{SomeRecord, Copied}
 use Rattle.plan_line.specs.Row.{rowText, relText}
-use Rattle.plan_sheet.specs.Due.{Names, no-names, name-more, namesRecs, ElementAt}
+use Rattle.plan_sheet.specs.Due.{Names, no-names, name-more, namesRecs, ElementAt, TextIn, textAt}
 use Rattle.plan_line.proofs.RowLaws.{flag-decimal, behind-append, place-text, record-line, row-rec}
 use Rattle.plan_sheet.proofs.HeadLaws.{some-record, texts-at}
+use Rattle.words.specs.Places.{kindAt, nodeKind, nodeLabelsAt, nodePropsAt, relDirectionAt, relKind, relLengthAt, relPropsAt, relTypesAt}
 
 -- ── names ──
 
@@ -105,48 +106,48 @@ four : (p q r s t : Bytes) → (p ++ (q ++ (r ++ s))) ++ t ≡ p ++ (q ++ (r ++ 
 four p q r s t = append-assoc p (q ++ (r ++ s)) t ∙ ap (λ (x : Bytes). p ++ x) (append-assoc q (r ++ s) t ∙ ap (λ (x : Bytes). q ++ x) (append-assoc r s t))
 
 module _ {sheet : Bytes} {a b : List ℕ} {i : ℕ} (room : Roomy a b) where
-  pub element-number : (h : ElementAt sheet a b i) → cell a b i 0 ≡ elementNumber (h .kind)
+  pub element-number : (h : ElementAt sheet a b i) → cell a b i kindAt ≡ elementNumber (h .kind)
   unfolding innerNumber
-  element-number h = inner-number patternElement tt (cell a b i 0) (h .kind) (shown room (h .at) .kind)
+  element-number h = inner-number patternElement tt (cell a b i kindAt) (h .kind) (shown room (h .at) .kind)
 
-  node-fields : (k : PatternElement) (f : Fields (elementForms k)) → RecordAt sheet a b i patternElement k f → elementNumber k ≡ 12 → spellRec (specRec k f) ≡ rowText toWord (cell a b i 4 ∷ cell a b i 6 ∷ [])
+  node-fields : (k : PatternElement) (f : Fields (elementForms k)) → RecordAt sheet a b i patternElement k f → elementNumber k ≡ nodeKind → spellRec (specRec k f) ≡ rowText toWord (cell a b i nodeLabelsAt ∷ cell a b i nodePropsAt ∷ [])
   unfolding elementNumber specRec keyword planKeyword word letters bytes bytesFrom spellFields spell fieldsOf fieldOf
   node-fields PatternElement.Node f at e =
       let s = shown room at in
-      row-rec _ toWord (cell a b i 4 ∷ cell a b i 6 ∷ []) refl (rw (s .fields) (rw (flag-decimal (cell a b i 6) (s .flags .1 .1 .0))))
-  node-fields PatternElement.Rel f at e = let z : _≡_ {A = ℕ} 13 12 = e in absurd (omega arith)
+      row-rec _ toWord (cell a b i nodeLabelsAt ∷ cell a b i nodePropsAt ∷ []) refl (rw (s .fields) (rw (flag-decimal (cell a b i nodePropsAt) (s .flags .1 .1 .0))))
+  node-fields PatternElement.Rel f at e = let z : _≡_ {A = ℕ} relKind nodeKind = e in absurd (omega arith)
 
-  rel-place : (k : PatternElement) (f : Fields (elementForms k)) → RecordAt sheet a b i patternElement k f → (elementNumber k ≡ 12 → ⊥) → PlaceAt Field.length sheet (cell a b i 8) (cell a b i 9)
+  rel-place : (k : PatternElement) (f : Fields (elementForms k)) → RecordAt sheet a b i patternElement k f → (elementNumber k ≡ nodeKind → ⊥) → PlaceAt Field.length sheet (cell a b i relLengthAt) (cell a b i (relLengthAt + 1))
   unfolding elementNumber
   rel-place PatternElement.Node f at e = absurd (e refl)
   rel-place PatternElement.Rel f at e = texts-at room at .1 .1 .1 .0
 
-  rel-fields : PlaceAt Field.length sheet (cell a b i 8) (cell a b i 9) → (k : PatternElement) (f : Fields (elementForms k)) → RecordAt sheet a b i patternElement k f → (elementNumber k ≡ 12 → ⊥) → spellRec (specRec k f) ≡ relText (cell a b i 4) (cell a b i 6) (slice (cell a b i 8) (cell a b i 9) sheet) (cell a b i 10)
+  rel-fields : PlaceAt Field.length sheet (cell a b i relLengthAt) (cell a b i (relLengthAt + 1)) → (k : PatternElement) (f : Fields (elementForms k)) → RecordAt sheet a b i patternElement k f → (elementNumber k ≡ nodeKind → ⊥) → spellRec (specRec k f) ≡ relText (cell a b i relTypesAt) (cell a b i relDirectionAt) (textAt sheet a b i relLengthAt) (cell a b i relPropsAt)
   unfolding elementNumber specRec spellRec keyword planKeyword word letters bytes bytesFrom spellFields spell fieldsOf fieldOf relText behind
   rel-fields p PatternElement.Node f at e = absurd (e refl)
   rel-fields p PatternElement.Rel f at e =
       let s = shown room at in
-      let len : Bytes = slice (cell a b i 8) (cell a b i 9) sheet in
-      let props : spellFlag (f .1 .1 .1 .1 .0) ≡ decimal (cell a b i 10) = rw (s .fields) (flag-decimal (cell a b i 10) (s .flags .1 .1 .1 .1 .0)) in
+      let len : Bytes = textAt sheet a b i relLengthAt in
+      let props : spellFlag (f .1 .1 .1 .1 .0) ≡ decimal (cell a b i relPropsAt) = rw (s .fields) (flag-decimal (cell a b i relPropsAt) (s .flags .1 .1 .1 .1 .0)) in
       let body : behind tab (spell Field.length (f .1 .1 .1 .0)) ≡ tab ∷ len = rw (s .fields) (place-text p) in
-      let tail : behind tab (spell Field.length (f .1 .1 .1 .0) ++ (spellFlag (f .1 .1 .1 .1 .0) ∷ [])) ≡ (tab ∷ len) ++ (tab ∷ decimal (cell a b i 10)) =
+      let tail : behind tab (spell Field.length (f .1 .1 .1 .0) ++ (spellFlag (f .1 .1 .1 .1 .0) ∷ [])) ≡ (tab ∷ len) ++ (tab ∷ decimal (cell a b i relPropsAt)) =
       behind-append tab (spell Field.length (f .1 .1 .1 .0)) (spellFlag (f .1 .1 .1 .1 .0) ∷ [])
-      ∙ rw (props, append-nil (decimal (cell a b i 10))) (ap (λ (x : Bytes). x ++ (tab ∷ decimal (cell a b i 10))) body) in
-      let types : f .1 .0 ≡ cell a b i 4 = ap (λ (x : Fields (elementForms PatternElement.Rel)). x .1 .0) (s .fields) in
-      let direction : f .1 .1 .0 ≡ cell a b i 6 = ap (λ (x : Fields (elementForms PatternElement.Rel)). x .1 .1 .0) (s .fields) in
+      ∙ rw (props, append-nil (decimal (cell a b i relPropsAt))) (ap (λ (x : Bytes). x ++ (tab ∷ decimal (cell a b i relPropsAt))) body) in
+      let types : f .1 .0 ≡ cell a b i relTypesAt = ap (λ (x : Fields (elementForms PatternElement.Rel)). x .1 .0) (s .fields) in
+      let direction : f .1 .1 .0 ≡ cell a b i relDirectionAt = ap (λ (x : Fields (elementForms PatternElement.Rel)). x .1 .1 .0) (s .fields) in
       record-line (word relWord) _
-      ∙ ap (λ (x : Bytes). word relWord ++ x) (rw (tail, types, direction) (four (tab ∷ decimal (cell a b i 4)) (tab ∷ decimal (cell a b i 6)) (tab ∷ len) (tab ∷ decimal (cell a b i 10)) (lineFeed ∷ [])))
+      ∙ ap (λ (x : Bytes). word relWord ++ x) (rw (tail, types, direction) (four (tab ∷ decimal (cell a b i relTypesAt)) (tab ∷ decimal (cell a b i relDirectionAt)) (tab ∷ len) (tab ∷ decimal (cell a b i relPropsAt)) (lineFeed ∷ [])))
 
   module _ (h : ElementAt sheet a b i) where
-    pub node-line : cell a b i 0 ≡ 12 → spellRec (specRec (h .kind) (h .fields)) ≡ rowText toWord (cell a b i 4 ∷ cell a b i 6 ∷ [])
+    pub node-line : cell a b i kindAt ≡ nodeKind → spellRec (specRec (h .kind) (h .fields)) ≡ rowText toWord (cell a b i nodeLabelsAt ∷ cell a b i nodePropsAt ∷ [])
     node-line e = node-fields (h .kind) (h .fields) (h .at) (sym (element-number h) ∙ e)
 
-    pub rel-in : (cell a b i 0 ≡ 12 → ⊥) → (cell a b i 8 ≤ cell a b i 9) × (cell a b i 9 ≤ length sheet)
+    pub rel-in : (cell a b i kindAt ≡ nodeKind → ⊥) → TextIn sheet a b i relLengthAt
     rel-in e = let p = rel-place (h .kind) (h .fields) (h .at) (λ x. e (element-number h ∙ x)) in (p .from, p .to)
 
-    pub rel-line : (cell a b i 0 ≡ 12 → ⊥) → spellRec (specRec (h .kind) (h .fields)) ≡ relText (cell a b i 4) (cell a b i 6) (slice (cell a b i 8) (cell a b i 9) sheet) (cell a b i 10)
+    pub rel-line : (cell a b i kindAt ≡ nodeKind → ⊥) → spellRec (specRec (h .kind) (h .fields)) ≡ relText (cell a b i relTypesAt) (cell a b i relDirectionAt) (textAt sheet a b i relLengthAt) (cell a b i relPropsAt)
     rel-line e =
-        let n : elementNumber (h .kind) ≡ 12 → ⊥ = λ x. e (element-number h ∙ x) in
+        let n : elementNumber (h .kind) ≡ nodeKind → ⊥ = λ x. e (element-number h ∙ x) in
         rel-fields (rel-place (h .kind) (h .fields) (h .at) n) (h .kind) (h .fields) (h .at) n
 
 -- ── pieces of a line, by the words that were read ──

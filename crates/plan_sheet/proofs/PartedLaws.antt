@@ -14,7 +14,7 @@ use Rattle.model.specs.Tree.{Tree, Trees, node, []ᵗ, _∷ᵗ_, end, _▸_}
 use Rattle.model.specs.Lower.{Recs}
 use Rattle.output.specs.Page.{Page, Puts}
 use Rattle.output.specs.Writes.{_⨾_, stay}
-use Rattle.words.specs.Words.{Roomy, cell, fieldOf, fieldsOf}
+use Rattle.words.specs.Words.{Roomy, cell, fieldOf, fieldsOf, maxRecords}
 use Rattle.words.specs.Held.{Held, HeldOf, RecordAt, PlaceAt, size}
 use Rattle.words.specs.Cells.{shown}
 use Rattle.context.specs.Tables.{opAt}
@@ -25,35 +25,37 @@ use Rattle.words.specs.Count.{Ends}
 use Rattle.aggregate.specs.Names.{SomeExpr}
 use Rattle.plan_line.specs.Keywords.{word, letters, aggFnWord}
 use Rattle.plan_line.specs.Row.{namedText}
-use Rattle.plan_sheet.specs.Due.{noted, Planned, One, Carried, carriedRecs, carriedEnd, Many, WroteOne, WroteMany, WroteFirst}
+use Rattle.plan_sheet.specs.Due.{noted, Planned, One, Carried, carriedRecs, carriedEnd, Many, WroteOne, WroteMany, WroteFirst, TextIn, textAt}
 use Rattle.plan_sheet.specs.Parted.{partRecs, partsRecs, Items, WrotePart, WroteParts, WroteItems}
 use Rattle.plan_line.proofs.RowLaws.{flag-decimal, named-rec, place-escape}
 use Rattle.plan_sheet.proofs.HeadLaws.{texts-at}
 use Rattle.plan_sheet.proofs.DueLaws.{Made, exprs-made, deeper, spell-append}
 use Rattle.plan_sheet.proofs.OpLaws.{of-kind, here, shown-at, planned-below, first-more}
+use Rattle.context.specs.Ops.{aggregateKind}
+use Rattle.words.specs.Places.{fnArgsAt, fnDistinctAt, itemsAt, nameAt}
 
 -- ── an aggregate ──
 
 -- its line, and its arguments as expressions
 pub record Agg (sheet : Bytes) (a b : List ℕ) (N : Notes) (below left i : ℕ) (t : Tree expr) : Type 0 where
-  pub low : i < 2048
+  pub low : i < maxRecords
   pub deep : 0 < left
-  pub place : PlaceAt text sheet (cell a b i 2) (cell a b i 3)
-  pub list : Carried sheet a b N below (left - 1) (cell a b i 4) (i + 1)
+  pub place : PlaceAt text sheet (cell a b i nameAt) (cell a b i (nameAt + 1))
+  pub list : Carried sheet a b N below (left - 1) (cell a b i fnArgsAt) (i + 1)
   pub stop : carriedEnd list ≡ i + size t
-  pub text : (A : Ops) → spellRecs (aggOf N A t) ≡ namedText aggFnWord (slice (cell a b i 2) (cell a b i 3) sheet) (cell a b i 4 ∷ cell a b i 6 ∷ []) ++ spellRecs (carriedRecs A list)
+  pub text : (A : Ops) → spellRecs (aggOf N A t) ≡ namedText aggFnWord (textAt sheet a b i nameAt) (cell a b i fnArgsAt ∷ cell a b i fnDistinctAt ∷ []) ++ spellRecs (carriedRecs A list)
 
-call-agg : (sheet : Bytes) (a b : List ℕ) (i : ℕ) → Roomy a b → (f : Fields (exprForms Expr.Call)) → RecordAt sheet a b i expr Expr.Call f → spellRec (rec (inPlan aggExpr) tt (f .0, (f .1 .0, (f .1 .1 .0, tt)))) ≡ namedText aggFnWord (slice (cell a b i 2) (cell a b i 3) sheet) (cell a b i 4 ∷ cell a b i 6 ∷ [])
+call-agg : (sheet : Bytes) (a b : List ℕ) (i : ℕ) → Roomy a b → (f : Fields (exprForms Expr.Call)) → RecordAt sheet a b i expr Expr.Call f → spellRec (rec (inPlan aggExpr) tt (f .0, (f .1 .0, (f .1 .1 .0, tt)))) ≡ namedText aggFnWord (textAt sheet a b i nameAt) (cell a b i fnArgsAt ∷ cell a b i fnDistinctAt ∷ [])
 unfolding keyword planKeyword word letters bytes bytesFrom spellFields spell fieldsOf fieldOf
 call-agg sheet a b i room f at =
     let s = shown room at in
-    named-rec _ aggFnWord (slice (cell a b i 2) (cell a b i 3) sheet) (cell a b i 4 ∷ cell a b i 6 ∷ []) refl (rw (s .fields) (rw (place-escape (texts-at room at .0), flag-decimal (cell a b i 6) (s .flags .1 .1 .0))))
+    named-rec _ aggFnWord (textAt sheet a b i nameAt) (cell a b i fnArgsAt ∷ cell a b i fnDistinctAt ∷ []) refl (rw (s .fields) (rw (place-escape (texts-at room at .0), flag-decimal (cell a b i fnDistinctAt) (s .flags .1 .1 .0))))
 
 not-true : {X : Type 0} → false ≡ true → X
 not-true e = let z : _≡_ {A = ℕ} 0 1 = cc in absurd (omega arith)
 
 module _ (sheet : Bytes) (a b : List ℕ) (N : Notes) (below left i : ℕ) (room : Roomy a b) where
-  counted-as : {n : ℕ} {stop : ℕ} {R : Ops → Recs} → n ≡ cell a b i 4 → Made sheet a b N below (left - 1) n (i + 1) R stop → Made sheet a b N below (left - 1) (cell a b i 4) (i + 1) R stop
+  counted-as : {n : ℕ} {stop : ℕ} {R : Ops → Recs} → n ≡ cell a b i fnArgsAt → Made sheet a b N below (left - 1) n (i + 1) R stop → Made sheet a b N below (left - 1) (cell a b i fnArgsAt) (i + 1) R stop
   counted-as e m = rw (← e) m
 
   pub agg : (t : Tree expr) → Held sheet a b t left i → Below N below t → isAggregate t ≡ true → Agg sheet a b N below left i t
@@ -62,7 +64,7 @@ module _ (sheet : Bytes) (a b : List ℕ) (N : Notes) (below left i : ℕ) (room
   agg (node expr line Expr.Var f kids) d u e = not-true e
   agg (node expr line Expr.Map f kids) d u e = not-true e
   agg (node expr line Expr.Call f (args ▸ end)) d u e =
-      let n : f .1 .0 ≡ cell a b i 4 = ap (λ (x : Fields (exprForms Expr.Call)). x .1 .0) (shown room (d .1) .fields) in
+      let n : f .1 .0 ≡ cell a b i fnArgsAt = ap (λ (x : Fields (exprForms Expr.Call)). x .1 .0) (shown room (d .1) .fields) in
       let m = counted-as n (exprs-made N below (left - 1) args (i + 1) (d .3 .0) (u .0)) in
       record {
         low = d .1 .low;
@@ -125,16 +127,16 @@ module _ {sheet : Bytes} {a b os rest : List ℕ} {below base left i : ℕ} wher
     pub agg-is : Agg sheet a b (shift (noted rest) base) below left i (h .tree)
     agg-is = agg sheet a b (shift (noted rest) base) below left i room (h .tree) (h .held) (h .under) (sym (told left (h .tree) (h .held)) ∙ e)
 
-    pub agg-in : (cell a b i 2 ≤ cell a b i 3) × (cell a b i 3 ≤ length sheet)
+    pub agg-in : TextIn sheet a b i nameAt
     agg-in = (agg-is .place .from, agg-is .place .to)
 
-    pub args : {n : ℕ} → n ≡ cell a b i 4 → Many sheet a b os rest below base (left - 1) n (i + 1)
+    pub args : {n : ℕ} → n ≡ cell a b i fnArgsAt → Many sheet a b os rest below base (left - 1) n (i + 1)
     args q = rw q (record { ops = h .ops; planned = h .planned; list = agg-is .list })
 
-    pub agg-wrote : (aggs : Bool) {n next : ℕ} {p q r : Page} → not (Bool·beq is aggs) ≡ false → n ≡ cell a b i 4 → Puts (namedText aggFnWord (slice (cell a b i 2) (cell a b i 3) sheet) (cell a b i 4 ∷ cell a b i 6 ∷ [])) p q → WroteMany sheet a b os rest below base (left - 1) n (i + 1) q next r → (next ≡ i + size (h .tree)) × Puts (spellRecs (partRecs (shift (noted rest) base) (h .ops) aggs (h .tree))) p r
+    pub agg-wrote : (aggs : Bool) {n next : ℕ} {p q r : Page} → not (Bool·beq is aggs) ≡ false → n ≡ cell a b i fnArgsAt → Puts (namedText aggFnWord (textAt sheet a b i nameAt) (cell a b i fnArgsAt ∷ cell a b i fnDistinctAt ∷ [])) p q → WroteMany sheet a b os rest below base (left - 1) n (i + 1) q next r → (next ≡ i + size (h .tree)) × Puts (spellRecs (partRecs (shift (noted rest) base) (h .ops) aggs (h .tree))) p r
     unfolding partRecs
     agg-wrote aggs {n} {next} {p} {q} {r} same c line many =
-        let m : WroteMany sheet a b os rest below base (left - 1) (cell a b i 4) (i + 1) q next r = rw c at many in
+        let m : WroteMany sheet a b os rest below base (left - 1) (cell a b i fnArgsAt) (i + 1) q next r = rw c at many in
         let w = m (record { ops = h .ops; planned = h .planned; list = agg-is .list }) in
         let y : isAggregate (h .tree) ≡ true = sym (told left (h .tree) (h .held)) ∙ e in
         (w .0 ∙ agg-is .stop, rw (← alike is aggs same, e, y, agg-is .text (h .ops)) (line ⨾ w .1))
@@ -229,14 +231,14 @@ items-wrote {rest = rest} {base = base} ks gs h = rw (spell-append (keyRecs (shi
 
 -- ── a whole operator ──
 
-module _ (k : ℕ) {sheet : Bytes} {a b os rest : List ℕ} {A : Ops} {o : Op} (p : Planned sheet a b os rest (k + 1) A) (e : o ≡ opAt os k) (c : o .kind ≡ 9) {n : ℕ} (count : n ≡ cell a b (o .idx) 2) where
+module _ (k : ℕ) {sheet : Bytes} {a b os rest : List ℕ} {A : Ops} {o : Op} (p : Planned sheet a b os rest (k + 1) A) (e : o ≡ opAt os k) (c : o .kind ≡ aggregateKind) {n : ℕ} (count : n ≡ cell a b (o .idx) itemsAt) where
   pub items-of : Items sheet a b os rest k (o .base) (o .left) n (o .idx + 1)
-  items-of = let s = of-kind 9 c (here k p e) in rw (count ∙ sym (s .counted)) (record { ops = A; planned = planned-below k p e; items = s .items; held = s .held; under = s .below })
+  items-of = let s = of-kind aggregateKind c (here k p e) in rw (count ∙ sym (s .counted)) (record { ops = A; planned = planned-below k p e; items = s .items; held = s .held; under = s .below })
 
   pub parted-wrote : {g g′ g″ : Page} → WroteFirst sheet a b rest o g g′ → WroteItems sheet a b os rest k (o .base) (o .left) n (o .idx + 1) g′ g″ → Puts (spellRecs (A k)) g g″
   unfolding shown-at
   parted-wrote {g} {g′} {g″} first items =
-      let s = of-kind 9 c (here k p e) in
+      let s = of-kind aggregateKind c (here k p e) in
       let h : Items sheet a b os rest k (o .base) (o .left) (s .count) (o .idx + 1) = record { ops = A; planned = planned-below k p e; items = s .items; held = s .held; under = s .below } in
       let v : WroteItems sheet a b os rest k (o .base) (o .left) (s .count) (o .idx + 1) g′ g″ = rw (count ∙ sym (s .counted)) at items in
       rw (first-more (s .is)) (first (shown-at k p e) ⨾ v h)

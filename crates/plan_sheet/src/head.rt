@@ -6,12 +6,12 @@ ghost use lib.ListN.{length};
 ghost use lib.Seq.{slice};
 ghost use Rattle.model.specs.Record.{spellRec};
 ghost use Rattle.output.specs.Page.{on, Puts};
-ghost use Rattle.words.specs.Words.{Roomy, cell};
-ghost use Rattle.words.specs.Places.{kindAt, fnArgsAt, listPredicateKindAt, listPredicatePredAt};
+ghost use Rattle.words.specs.Words.{Roomy, cell, maxRecords};
+ghost use Rattle.words.specs.Places.{kindAt, fnArgsAt, listPredicateKindAt, listPredicatePredAt, nameAt};
 ghost use Rattle.plan_line.specs.Keywords.{fnWord, listPredicateWord};
 ghost use Rattle.plan_line.specs.Row.{rowText, namedText};
 ghost use Rattle.model.specs.Lower.{exprHead};
-ghost use Rattle.plan_sheet.specs.Due.{ExprAt, isLeaf, SomeLine, WroteLine};
+ghost use Rattle.plan_sheet.specs.Due.{ExprAt, isLeaf, SomeLine, WroteLine, TextIn, textAt};
 use plan_line::copy::put_copied;
 use plan_line::field::put_int;
 use plan_line::row;
@@ -28,9 +28,9 @@ pub struct Wrote {
 // A function's name and how many arguments it has.
 fn put_call(plan: &mut [u8], out: usize, sheet: &[u8], a: &[u32], b: &[u32], i: usize) -> usize
     requires { ⌜ Roomy (now a) (now b) ⌝ }
-    requires { ⌜ i < 2048 ⌝ }
-    requires { ⌜ (cell (now a) (now b) i 2 ≤ cell (now a) (now b) i 3) × (cell (now a) (now b) i 3 ≤ length (now sheet)) ⌝ }
-    ensures { λ r. ⌜ Puts (namedText fnWord (slice (cell (now (a .entry)) (now (b .entry)) i 2) (cell (now (a .entry)) (now (b .entry)) i 3) (now (sheet .entry))) (cell (now (a .entry)) (now (b .entry)) i fnArgsAt ∷ [])) (on (now (plan .entry)) out) (on (now (plan .exit)) r) ⌝ }
+    requires { ⌜ i < maxRecords ⌝ }
+    requires { ⌜ TextIn (now sheet) (now a) (now b) i nameAt ⌝ }
+    ensures { λ r. ⌜ Puts (namedText fnWord (textAt (now (sheet .entry)) (now (a .entry)) (now (b .entry)) i nameAt) (cell (now (a .entry)) (now (b .entry)) i fnArgsAt ∷ [])) (on (now (plan .entry)) out) (on (now (plan .exit)) r) ⌝ }
 {
     let s = words::word(a, b, i, field::NAME);
     let e = words::word(a, b, i, field::NAME + 1);
@@ -41,7 +41,7 @@ fn put_call(plan: &mut [u8], out: usize, sheet: &[u8], a: &[u32], b: &[u32], i: 
 // A list predicate, whose variable has the number n.
 fn put_any(plan: &mut [u8], out: usize, a: &[u32], b: &[u32], i: usize, n: u32) -> usize
     requires { ⌜ Roomy (now a) (now b) ⌝ }
-    requires { ⌜ i < 2048 ⌝ }
+    requires { ⌜ i < maxRecords ⌝ }
     ensures { λ r. ⌜ Puts (rowText listPredicateWord (cell (now (a .entry)) (now (b .entry)) i listPredicateKindAt ∷ n ∷ cell (now (a .entry)) (now (b .entry)) i listPredicatePredAt ∷ [])) (on (now (plan .entry)) out) (on (now (plan .exit)) r) ⌝ }
 {
     let x = words::word(a, b, i, field::LIST_PREDICATE_KIND);

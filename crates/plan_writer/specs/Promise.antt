@@ -8,9 +8,10 @@ use Rattle.model.specs.Text.{Bytes}
 use Rattle.model.specs.Lower.{LowerCtx, at}
 use Rattle.lower.specs.Rep.{Mem, Written, Rep}
 use Rattle.plan_writer.specs.Whole.{Tables}
+use Rattle.context.specs.Tables.{maxStored, maxVars}
 
 -- tables that stand for a state in the lowering's own words, with at most 2,048 operators
-pub tables-of : {sheet : Bytes} {a b : List ℕ} {W : Written} {s : LowerCtx} {m : Mem} → Rep sheet a b W s m → m .ctx .ops ≤ 2048 → m .ctx .mapped ≤ 4352 → Tables sheet a b (m .ops) (m .rest) (m .ctx .ops) (m .ctx .mapped) s
+pub tables-of : {sheet : Bytes} {a b : List ℕ} {W : Written} {s : LowerCtx} {m : Mem} → Rep sheet a b W s m → m .ctx .ops ≤ maxStored → m .ctx .mapped ≤ maxVars → Tables sheet a b (m .ops) (m .rest) (m .ctx .ops) (m .ctx .mapped) s
 tables-of {s = s} {m = m} r few mapped-few =
     record {
       count = r .count;
