@@ -3,12 +3,12 @@ use mathlib.Core.Path.{_≡_, refl, sym, ap, _∙_}
 use Prim.Native.Nat.{ℕ, suc, _+_, _-_, _<_}
 use native.Mathlib.Omega.{arith}
 use mathlib.Core.Bool.{Bool, true, false, cond, false≢true}
-use mathlib.Core.List.{List, [], _∷_}
+use mathlib.Core.List.{List, [], _∷_, append-nil}
 use lib.Dec.{eqb}
 use Rattle.model.specs.Text.{Bytes}
 use Rattle.model.specs.Kind.{expr}
 use Rattle.model.specs.Record.{spellRec, spellRecs}
-use Rattle.output.specs.Page.{Page, on, Puts}
+use Rattle.output.specs.Page.{Page, Puts}
 use Rattle.output.specs.Writes.{_⨾_}
 use Rattle.words.specs.Words.{Roomy, cell, maxRecords}
 use Rattle.words.specs.Held.{size}
@@ -20,9 +20,9 @@ use Rattle.lower.specs.Render.{render, specRec}
 use Rattle.lower.specs.Shows.{shift}
 use Rattle.words.specs.Count.{countAt, Starts, Ends}
 use Rattle.model.specs.Lower.{exprHead}
-use Rattle.plan_sheet.specs.Due.{noted, Near, Planned, SomePlan, ExprAt, isLeaf, ElementAt, One, oneText, Many, Element, elementText, Names, namesRecs, carriedRecs, WroteOne, WroteMany, WroteLine, WroteOp}
-use Rattle.plan_sheet.proofs.DueLaws.{expr-of, planned-less, spell-append, first-there, none-wrote}
-use Rattle.plan_sheet.proofs.HeadLaws.{lines, bare-put}
+use Rattle.plan_sheet.specs.Due.{noted, Near, Planned, SomePlan, ExprAt, isLeaf, ElementAt, One, oneText, Many, Element, elementText, Names, namesRecs, Line, carriedRecs, carriedEnd, WroteOne, WroteMany, WroteOp}
+use Rattle.plan_sheet.specs.Due
+use Rattle.plan_sheet.proofs.DueLaws.{expr-of, planned-less, spell-append, none-wrote}
 use Rattle.plan_sheet.proofs.PartLaws.{Parts, parts, Copy, copied, deep, propsAt, ElementParts, element-parts}
 
 -- one level down
@@ -43,6 +43,14 @@ module _ {sheet : Bytes} {a b os rest : List ℕ} {below base left i : ℕ} wher
 
   pub starts : One sheet a b os rest below base left i → Starts a b i
   starts h = record { sheet = sheet; sort = expr; depth = left; tree = h .tree; inner = tt; held = h .held }
+
+  -- one that has no line before it, as the first of one
+  pub alone : One sheet a b os rest below base left i → Many sheet a b os rest below base left 1 i
+  alone h = record { ops = h .ops; planned = h .planned; list = Due.more [] i (Line.bare (one-at h)) (h .tree) (h .held) (h .under) Due.none }
+
+  pub alone-wrote : {next : ℕ} {p q : Page} → WroteMany sheet a b os rest below base left 1 i p next q → WroteOne sheet a b os rest below base left i p next q
+  unfolding alone carriedRecs carriedEnd
+  alone-wrote w h = let o = w (alone h) in (o .0, rw (append-nil (render (shift (noted rest) base) (h .ops) (h .tree))) at (o .1))
 
   -- a pattern: the operator that it copies
   module _ (room : Roomy a b) {n : ℕ} (e : cell a b i kindAt ≡ patKind) (noted-is : n ≡ noteOf rest base i) (h : One sheet a b os rest below base left i) where
@@ -103,14 +111,6 @@ parents =
     ∷ sliceKind ∷ indexKind ∷ propKind ∷ entryKind ∷ relKind ∷ nodeKind ∷ partKind ∷ []
 
 module _ {sheet : Bytes} {a b : List ℕ} {i : ℕ} (room : Roomy a b) {kind : ℕ} (k : kind ≡ cell a b i kindAt) (leaf : isLeaf kind ≡ true) where
-  -- no line stands before it
-  pub leaf-bare : {p : Page} → WroteLine sheet a b i p i p
-  unfolding isLeaf
-  leaf-bare recs j l = bare-put room kind k (leaf-other kind leaf lines refl) l
-
-  pub leaf-at : {os rest : List ℕ} {below base left : ℕ} → Many sheet a b os rest below base left 1 i → ExprAt sheet a b i
-  leaf-at h = one-at (first-there {p = on [] 0} {q = on [] 0} h leaf-bare)
-
   pub leaf-wrote : {os rest : List ℕ} {below base left n : ℕ} {p q : Page} → n ≡ noteOf rest base i → ((x : ExprAt sheet a b i) → Puts (spellRec (exprHead n (x .kind) (x .fields))) p q) → WroteOne sheet a b os rest below base left i p (i + 1) q
   unfolding isLeaf
   leaf-wrote noted-is head h =

@@ -1,11 +1,9 @@
 // Expressions, elements of patterns and operators, with the operators that they copy.
 ghost use Prim.Native.Nat.{_+_};
 ghost use Rattle.output.specs.Page.{on};
-ghost use Rattle.plan_sheet.specs.Due.{Room, One, Many, Element, Near, SomePlan, WroteOne, WroteMany, WroteElement, WroteOp};
+ghost use Rattle.plan_sheet.specs.Due.{Room, One, Many, Element, Near, SomePlan, WroteMany, WroteElement, WroteOp};
 ghost use Rattle.plan_sheet.specs.Parted.{Items, WrotePart, WroteParts, WroteItems};
 use crate::head::Wrote;
-use crate::head::is_leaf;
-use crate::head::put_expr;
 use aggregate::is_aggregate;
 use context::op;
 use context::read::note_of;
@@ -50,48 +48,8 @@ pub struct Parts {
     pub aggregates: bool,
 }
 
-// The expression at a record.
+// The expression at a record, behind its line if it has one.
 fn write_expr(
-    plan: &mut [u8],
-    out: usize,
-    sheet: &[u8],
-    a: &[u32],
-    b: &[u32],
-    ops: &[u32],
-    rest: &[u32],
-    at: At,
-) -> Wrote
-    requires { ⌜ Room (now a) (now b) (now ops) (now rest) ⌝ }
-    requires { ⌜ Near (at .base) (at .left) ⌝ }
-    requires { ⌜ One (now sheet) (now a) (now b) (now ops) (now rest) (at .below) (at .base) (at .left) (at .i) ⌝ }
-    ensures { λ r. ⌜ WroteOne (now (sheet .entry)) (now (a .entry)) (now (b .entry)) (now (ops .entry)) (now (rest .entry)) (at .below) (at .base) (at .left) (at .i) (on (now (plan .entry)) out) (r .next) (on (now (plan .exit)) (r .out)) ⌝ }
-{
-    let i = at.i;
-    let kind = words::word(a, b, i, field::KIND);
-    let n = note_of(rest, at.base, i);
-    let o = put_expr(plan, out, sheet, a, b, i, kind, n);
-    if kind == kind::PAT {
-        let p = write_op(plan, o, sheet, a, b, ops, rest, n as usize);
-        let next = skip(a, b, i);
-        return Wrote { next, out: p };
-    }
-    let next = i + 1;
-    if is_leaf(kind) {
-        return Wrote { next, out: o };
-    }
-    let left = at.left - 1;
-    let run = Run {
-        base: at.base,
-        i: next,
-        left,
-        below: at.below,
-        n: words::records::children(a, b, i),
-    };
-    write_exprs(plan, o, sheet, a, b, ops, rest, run)
-}
-
-// The expression at a record, behind its line if it has one. Most have none and are one line themselves: those are written with no call that could come back here.
-fn write_lined(
     plan: &mut [u8],
     out: usize,
     sheet: &[u8],
@@ -106,22 +64,30 @@ fn write_lined(
     requires { ⌜ Many (now sheet) (now a) (now b) (now ops) (now rest) (at .below) (at .base) (at .left) 1 (at .i) ⌝ }
     ensures { λ r. ⌜ WroteMany (now (sheet .entry)) (now (a .entry)) (now (b .entry)) (now (ops .entry)) (now (rest .entry)) (at .below) (at .base) (at .left) 1 (at .i) (on (now (plan .entry)) out) (r .next) (on (now (plan .exit)) (r .out)) ⌝ }
 {
-    let i = at.i;
+    let line = crate::head::put_before(plan, out, sheet, a, b, at.i);
+    let i = line.next;
     let kind = words::word(a, b, i, field::KIND);
-    if is_leaf(kind) {
-        let n = note_of(rest, at.base, i);
-        let o = put_expr(plan, out, sheet, a, b, i, kind, n);
+    let n = note_of(rest, at.base, i);
+    let o = crate::head::put_expr(plan, line.out, sheet, a, b, i, kind, n);
+    if crate::head::is_leaf(kind) {
         let next = i + 1;
         return Wrote { next, out: o };
     }
-    let h = crate::head::put_before(plan, out, sheet, a, b, i);
-    let behind = At {
+    if kind == kind::PAT {
+        let p = write_op(plan, o, sheet, a, b, ops, rest, n as usize);
+        let next = skip(a, b, i);
+        return Wrote { next, out: p };
+    }
+    let first = i + 1;
+    let left = at.left - 1;
+    let run = Run {
         base: at.base,
-        i: h.next,
-        left: at.left,
+        i: first,
+        left,
         below: at.below,
+        n: words::records::children(a, b, i),
     };
-    write_expr(plan, h.out, sheet, a, b, ops, rest, behind)
+    write_exprs(plan, o, sheet, a, b, ops, rest, run)
 }
 
 // Expressions, each behind its line if it has one.
@@ -150,7 +116,7 @@ fn write_exprs(
             left: run.left,
             below: run.below,
         };
-        let w = write_lined(plan, o, sheet, a, b, ops, rest, at);
+        let w = write_expr(plan, o, sheet, a, b, ops, rest, at);
         o = w.out;
         i = w.next;
         due -= 1;

@@ -7,8 +7,8 @@ use Prim.Native.Nat.{ℕ}
 use borrow.Fn.Kinds.{In, Out}
 use Rattle.plan_sheet.proofs.write.write_part.Reads as reads
 use Rattle.plan_sheet.proofs.write.write_part.Kinds as kinds
-use Rattle.plan_sheet.proofs.write.+write_element+write_expr+write_exprs+write_items+write_lined+write_op+write_part+write_parts.Lts-write_part as lts
-use Rattle.plan_sheet.proofs.write.+write_element+write_expr+write_exprs+write_items+write_lined+write_op+write_part+write_parts.Proof.Claims.{write-part-at, write-part-calls}
+use Rattle.plan_sheet.proofs.write.+write_element+write_expr+write_exprs+write_items+write_op+write_part+write_parts.Lts-write_part as lts
+use Rattle.plan_sheet.proofs.write.+write_element+write_expr+write_exprs+write_items+write_op+write_part+write_parts.Proof.Claims.{write-part-at, write-part-calls}
 
 module _ (t : ℕ) where
   -- a place or a need of this function, at the measure t
@@ -128,7 +128,7 @@ module _ (t : ℕ) where
   write-expr-requires : here lts.Need-write-expr-requires
   write-expr-requires c κs =
       let s : here lts.Start = search ways depth 9 in
-      (omega (arith, s .pre .0), s .pre .1)
+      (omega (arith, s .pre .0), (s .pre .1 .0, (s .pre .1 .1 .0, CycleLaws.alone (s .pre .1 .1 .1))))
 
   returns-3 : here lts.Need-returns-3
   returns-3 c =
@@ -136,7 +136,7 @@ module _ (t : ℕ) where
       let else : here lts.Else2 = search ways depth 9 in
       let same : here lts.Else1 = search ways depth 9 in
       let told : here lts.After-is-aggregate = search ways depth 9 in
-      PartedLaws.key-wrote _ (told .is-aggregate .ensures) (same .if1 .left) (else .if2 .left) (one .write-expr .ensures)
+      PartedLaws.key-wrote _ (told .is-aggregate .ensures) (same .if1 .left) (else .if2 .left) (CycleLaws.alone-wrote (one .write-expr .ensures))
 
   pub meets : {M : Type 1} → lts.Closed (write-part-calls t) (write-part-at t) reads.Post M
   meets =

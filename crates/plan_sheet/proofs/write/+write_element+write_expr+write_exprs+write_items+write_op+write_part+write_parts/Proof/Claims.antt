@@ -4,28 +4,25 @@ use borrow.Fn.Kinds.{In}
 use borrow.Fn.PlainCycle.{Measures, is, falls, and}
 use Rattle.plan_sheet.proofs.write.write_element.Reads as write-element
 use Rattle.plan_sheet.proofs.write.write_element.Kinds as write-element-kinds
-use Rattle.plan_sheet.proofs.write.+write_element+write_expr+write_exprs+write_items+write_lined+write_op+write_part+write_parts.Lts-write_element as write-element-lts
+use Rattle.plan_sheet.proofs.write.+write_element+write_expr+write_exprs+write_items+write_op+write_part+write_parts.Lts-write_element as write-element-lts
 use Rattle.plan_sheet.proofs.write.write_expr.Reads as write-expr
 use Rattle.plan_sheet.proofs.write.write_expr.Kinds as write-expr-kinds
-use Rattle.plan_sheet.proofs.write.+write_element+write_expr+write_exprs+write_items+write_lined+write_op+write_part+write_parts.Lts-write_expr as write-expr-lts
+use Rattle.plan_sheet.proofs.write.+write_element+write_expr+write_exprs+write_items+write_op+write_part+write_parts.Lts-write_expr as write-expr-lts
 use Rattle.plan_sheet.proofs.write.write_exprs.Reads as write-exprs
 use Rattle.plan_sheet.proofs.write.write_exprs.Kinds as write-exprs-kinds
-use Rattle.plan_sheet.proofs.write.+write_element+write_expr+write_exprs+write_items+write_lined+write_op+write_part+write_parts.Lts-write_exprs as write-exprs-lts
+use Rattle.plan_sheet.proofs.write.+write_element+write_expr+write_exprs+write_items+write_op+write_part+write_parts.Lts-write_exprs as write-exprs-lts
 use Rattle.plan_sheet.proofs.write.write_items.Reads as write-items
 use Rattle.plan_sheet.proofs.write.write_items.Kinds as write-items-kinds
-use Rattle.plan_sheet.proofs.write.+write_element+write_expr+write_exprs+write_items+write_lined+write_op+write_part+write_parts.Lts-write_items as write-items-lts
-use Rattle.plan_sheet.proofs.write.write_lined.Reads as write-lined
-use Rattle.plan_sheet.proofs.write.write_lined.Kinds as write-lined-kinds
-use Rattle.plan_sheet.proofs.write.+write_element+write_expr+write_exprs+write_items+write_lined+write_op+write_part+write_parts.Lts-write_lined as write-lined-lts
+use Rattle.plan_sheet.proofs.write.+write_element+write_expr+write_exprs+write_items+write_op+write_part+write_parts.Lts-write_items as write-items-lts
 use Rattle.plan_sheet.proofs.write.write_op.Reads as write-op
 use Rattle.plan_sheet.proofs.write.write_op.Kinds as write-op-kinds
-use Rattle.plan_sheet.proofs.write.+write_element+write_expr+write_exprs+write_items+write_lined+write_op+write_part+write_parts.Lts-write_op as write-op-lts
+use Rattle.plan_sheet.proofs.write.+write_element+write_expr+write_exprs+write_items+write_op+write_part+write_parts.Lts-write_op as write-op-lts
 use Rattle.plan_sheet.proofs.write.write_part.Reads as write-part
 use Rattle.plan_sheet.proofs.write.write_part.Kinds as write-part-kinds
-use Rattle.plan_sheet.proofs.write.+write_element+write_expr+write_exprs+write_items+write_lined+write_op+write_part+write_parts.Lts-write_part as write-part-lts
+use Rattle.plan_sheet.proofs.write.+write_element+write_expr+write_exprs+write_items+write_op+write_part+write_parts.Lts-write_part as write-part-lts
 use Rattle.plan_sheet.proofs.write.write_parts.Reads as write-parts
 use Rattle.plan_sheet.proofs.write.write_parts.Kinds as write-parts-kinds
-use Rattle.plan_sheet.proofs.write.+write_element+write_expr+write_exprs+write_items+write_lined+write_op+write_part+write_parts.Lts-write_parts as write-parts-lts
+use Rattle.plan_sheet.proofs.write.+write_element+write_expr+write_exprs+write_items+write_op+write_part+write_parts.Lts-write_parts as write-parts-lts
 use Rattle.aggregate.proofs.is_aggregate.Reads as is-aggregate-reads
 use Rattle.words.proofs.records.children.Reads as children-reads
 use Rattle.words.proofs.records.count.Reads as count-reads
@@ -46,28 +43,25 @@ use Rattle.context.proofs.op.read_op.Reads as read-op-reads
 use Rattle.words.proofs.word.Reads as word-reads
 
 abbrev pub μ-write-element : Measures 6 write-element-kinds.ps ℕ
-μ-write-element κs a = 512 * a .1 .1 .1 .1 .1 .1 .1 .0 .below + 4 * a .1 .1 .1 .1 .1 .1 .1 .0 .left + 3
+μ-write-element κs a = 256 * a .1 .1 .1 .1 .1 .1 .1 .0 .below + 3 * a .1 .1 .1 .1 .1 .1 .1 .0 .left + 2
 
 abbrev pub μ-write-expr : Measures 6 write-expr-kinds.ps ℕ
-μ-write-expr κs a = 512 * a .1 .1 .1 .1 .1 .1 .1 .0 .below + 4 * a .1 .1 .1 .1 .1 .1 .1 .0 .left
+μ-write-expr κs a = 256 * a .1 .1 .1 .1 .1 .1 .1 .0 .below + 3 * a .1 .1 .1 .1 .1 .1 .1 .0 .left
 
 abbrev pub μ-write-exprs : Measures 6 write-exprs-kinds.ps ℕ
-μ-write-exprs κs a = 512 * a .1 .1 .1 .1 .1 .1 .1 .0 .below + 4 * a .1 .1 .1 .1 .1 .1 .1 .0 .left + 2
+μ-write-exprs κs a = 256 * a .1 .1 .1 .1 .1 .1 .1 .0 .below + 3 * a .1 .1 .1 .1 .1 .1 .1 .0 .left + 1
 
 abbrev pub μ-write-items : Measures 6 write-items-kinds.ps ℕ
-μ-write-items κs a = 512 * a .1 .1 .1 .1 .1 .1 .1 .0 .below + 4 * a .1 .1 .1 .1 .1 .1 .1 .0 .left + 3
-
-abbrev pub μ-write-lined : Measures 6 write-lined-kinds.ps ℕ
-μ-write-lined κs a = 512 * a .1 .1 .1 .1 .1 .1 .1 .0 .below + 4 * a .1 .1 .1 .1 .1 .1 .1 .0 .left + 1
+μ-write-items κs a = 256 * a .1 .1 .1 .1 .1 .1 .1 .0 .below + 3 * a .1 .1 .1 .1 .1 .1 .1 .0 .left + 3
 
 abbrev pub μ-write-op : Measures 6 write-op-kinds.ps ℕ
-μ-write-op κs a = 512 * a .1 .1 .1 .1 .1 .1 .1 .0 + 511
+μ-write-op κs a = 256 * a .1 .1 .1 .1 .1 .1 .1 .0 + 255
 
 abbrev pub μ-write-part : Measures 6 write-part-kinds.ps ℕ
-μ-write-part κs a = 512 * a .1 .1 .1 .1 .1 .1 .1 .0 .below + 4 * a .1 .1 .1 .1 .1 .1 .1 .0 .left + 1
+μ-write-part κs a = 256 * a .1 .1 .1 .1 .1 .1 .1 .0 .below + 3 * a .1 .1 .1 .1 .1 .1 .1 .0 .left + 1
 
 abbrev pub μ-write-parts : Measures 6 write-parts-kinds.ps ℕ
-μ-write-parts κs a = 512 * a .1 .1 .1 .1 .1 .1 .1 .0 .below + 4 * a .1 .1 .1 .1 .1 .1 .1 .0 .left + 2
+μ-write-parts κs a = 256 * a .1 .1 .1 .1 .1 .1 .1 .0 .below + 3 * a .1 .1 .1 .1 .1 .1 .1 .0 .left + 2
 
 abbrev pub write-element-at : ℕ → In 6 write-element-kinds.ps
 write-element-at t =
@@ -100,14 +94,6 @@ write-items-at t =
 abbrev pub write-items-below : ℕ → In 6 write-items-kinds.ps
 write-items-below t =
     and 6 write-items-kinds.ps (falls 6 write-items-kinds.ps _<_ μ-write-items t) write-items.Pre
-
-abbrev pub write-lined-at : ℕ → In 6 write-lined-kinds.ps
-write-lined-at t =
-    and 6 write-lined-kinds.ps (is 6 write-lined-kinds.ps μ-write-lined t) write-lined.Pre
-
-abbrev pub write-lined-below : ℕ → In 6 write-lined-kinds.ps
-write-lined-below t =
-    and 6 write-lined-kinds.ps (falls 6 write-lined-kinds.ps _<_ μ-write-lined t) write-lined.Pre
 
 abbrev pub write-op-at : ℕ → In 6 write-op-kinds.ps
 write-op-at t =
@@ -151,18 +137,20 @@ write-element-calls t = (
 
 abbrev pub write-expr-calls : ℕ → write-expr-lts.Claims
 write-expr-calls t = (
+  put-before-reads.Asked,
+  put-before-reads.Learnt,
   word-reads.Asked,
   word-reads.Learnt,
   note-of-reads.Asked,
   note-of-reads.Learnt,
   put-expr-reads.Asked,
   put-expr-reads.Learnt,
+  is-leaf-reads.Asked,
+  is-leaf-reads.Learnt,
   write-op-below t,
   write-op.Post,
   skip-reads.Asked,
   skip-reads.Learnt,
-  is-leaf-reads.Asked,
-  is-leaf-reads.Learnt,
   children-reads.Asked,
   children-reads.Learnt,
   write-exprs-below t,
@@ -171,30 +159,14 @@ write-expr-calls t = (
 
 abbrev pub write-exprs-calls : ℕ → write-exprs-lts.Claims
 write-exprs-calls t = (
-  write-lined-below t,
-  write-lined.Post,
+  write-expr-below t,
+  write-expr.Post,
 )
 
 abbrev pub write-items-calls : ℕ → write-items-lts.Claims
 write-items-calls t = (
   write-parts-below t,
   write-parts.Post,
-)
-
-abbrev pub write-lined-calls : ℕ → write-lined-lts.Claims
-write-lined-calls t = (
-  word-reads.Asked,
-  word-reads.Learnt,
-  is-leaf-reads.Asked,
-  is-leaf-reads.Learnt,
-  note-of-reads.Asked,
-  note-of-reads.Learnt,
-  put-expr-reads.Asked,
-  put-expr-reads.Learnt,
-  put-before-reads.Asked,
-  put-before-reads.Learnt,
-  write-expr-below t,
-  write-expr.Post,
 )
 
 abbrev pub write-op-calls : ℕ → write-op-lts.Claims
