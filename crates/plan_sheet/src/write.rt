@@ -262,7 +262,6 @@ fn write_items(
         n: run.n,
         aggregates: false,
     };
-    let o = write_parts(plan, out, sheet, a, b, ops, rest, keys);
     let aggregates = Parts {
         base: run.base,
         i: run.i,
@@ -271,6 +270,7 @@ fn write_items(
         n: run.n,
         aggregates: true,
     };
+    let o = write_parts(plan, out, sheet, a, b, ops, rest, keys);
     write_parts(plan, o, sheet, a, b, ops, rest, aggregates)
 }
 

@@ -1,5 +1,6 @@
 -- `put_copied` meets its contract. Assumes nothing.
 use Rattle.plan_line.proofs.CopyLaws.{line-in, copied}
+use native.Mathlib.Omega.{arith}
 use borrow.Author.Needs.{needs}
 use Rattle.plan_line.proofs.copy.put_copied.Statement.{statement}
 use Rattle.plan_line.proofs.copy.put_copied.Tie as tie
@@ -9,7 +10,8 @@ put-within-requires c κs =
     let end : tie.After-word2 = search in
     let begin : tie.After-word = search in
     let start : tie.Start = search in
-    line-in _ _ _ (begin .word .ensures) (end .word2 .ensures) (start .pre .1)
+    let inside = line-in _ _ _ (begin .word .ensures) (end .word2 .ensures) (start .pre .1) in
+    (omega (arith, inside .0), omega (arith, inside .0, inside .1))
 
 returns : tie.Need-returns
 returns c =
