@@ -56,13 +56,13 @@ module _ {d n : ℕ} {p : Bytes} {at : ℕ} where
   fill-more zero some c e = absurd (some refl)
   fill-more (suc k) {v} {x} {q} some c e =
       let less : suc k - 1 ≡ k = omega arith in
-      let next : at + suc k ≡ suc (at + k) = omega arith in
+      let behind : at + suc k ≡ suc (at + k) = omega arith in
       rw less (record {
         low = omega (arith, c .low);
         long = length-set q (at + k) x ∙ c .long;
         tail = x ∷ c .tail;
         text = rw e (sym (append-assoc (tens k (v / 10)) ((48 + v % 10) ∷ []) (c .tail)) ∙ c .text);
-        page = rw (c .page, next) (set-before (c .tail) p (at + k) (suc (at + k)) x (omega arith));
+        page = rw (c .page, behind) (set-before (c .tail) p (at + k) (suc (at + k)) x (omega arith));
       })
 
   pub fill-all : {k v : ℕ} {q : Bytes} → k ≡ 0 → Filling d n p at k v q → q ≡ sets p at (tens d n)

@@ -22,7 +22,7 @@ pub record Written (t p q : Bytes) (o : ℕ) : Type 0 where
 module _ {t p q : Bytes} {o : ℕ} (e : Puts t (on p 0) (on q o)) (small : length p < most) where
   pub wrote : length t ≤ length p → Written t p q o
   wrote fits =
-      let next = e .next in
+      let moved = e .moved in
       record {
         slice = e .stored (record { inside = omega arith; small = omega arith }) ∙ sets-eq t p 0 (omega arith) ∙ rw zero-add;
         at = omega arith;
@@ -31,11 +31,11 @@ module _ {t p q : Bytes} {o : ℕ} (e : Puts t (on p 0) (on q o)) (small : lengt
 -- a text that is written from the start of a page, and nothing where it does not fit
 module _ (t p q : Bytes) (o : ℕ) (e : Puts t (on p 0) (on q o)) (small : length p < most) where
   pub too-long : length p < o → take 0 q ≡ cond (ltb (length p) (length t)) [] t
-  too-long h = let next = e .next in rw (lt-ltb (length p) (length t) (omega arith))
+  too-long h = let moved = e .moved in rw (lt-ltb (length p) (length t) (omega arith))
 
   pub long-enough : o ≤ length p → take o q ≡ cond (ltb (length p) (length t)) [] t
   long-enough h =
-      let next = e .next in
+      let moved = e .moved in
       let fits : length t ≤ length p = omega arith in
       let w = wrote e small fits in
       rw (le-ltb (length p) (length t) fits, w .slice, w .at) (take-append-seam t (drop (length t) p))
@@ -51,7 +51,7 @@ module _ (p : Bytes) (small : length p < most) {t q : Bytes} {o : ℕ} (first : 
   pub refuses : length (q ++ p) < o → record { answer = plainRefusal 10; slice = q ++ p } ≡ written t p
   unfolding written
   refuses h =
-      let next = first .next in
+      let moved = first .moved in
       let l : length p < o = rw (none q (first .long)) at h in
       rw (none q (first .long), lt-ltb (length p) (length t) (omega arith))
 
@@ -59,7 +59,7 @@ module _ (p : Bytes) (small : length p < most) {t q : Bytes} {o : ℕ} (first : 
   pub accepts : {q′ : Bytes} {o′ : ℕ} → o ≤ length (q ++ p) → Puts t (on (q ++ p) 0) (on q′ o′) → record { answer = accepted o′; slice = q′ } ≡ written t p
   unfolding written
   accepts {q′} {o′} h second =
-      let next = first .next in
+      let moved = first .moved in
       let l : o ≤ length p = rw (none q (first .long)) at h in
       let s : Puts t (on p 0) (on q′ o′) = rw (none q (first .long)) at second in
       let w = wrote s small (omega arith) in

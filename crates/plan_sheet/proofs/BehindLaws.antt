@@ -100,7 +100,9 @@ module _ {sheet : Bytes} {a b rest : List ℕ} {base : ℕ} where
   pub yields-going : {n i : ℕ} {p : Page} → Yields sheet a b n i → YieldsGoing sheet a b rest base n i p n i p
   yields-going h = record { some = h; each = λ h. record { others = h; text = λ q r. r }; long = refl }
 
-  pub yields-again : {n i m at s e number : ℕ} {start p q : Page} → Roomy a b → (m ≡ 0 → ⊥) → YieldsGoing sheet a b rest base n i start m at p → s ≡ cell a b at yieldNameAt → e ≡ cell a b at (yieldNameAt + 1) → number ≡ noteOf rest base at → Puts (namedText yieldWord (slice s e sheet) (number ∷ [])) p q → length (q .bytes) ≡ length (p .bytes) → YieldsGoing sheet a b rest base n i start (m - 1) (at + 1) q
+  pub yields-again :
+      {n i m at s e number : ℕ} {start p q : Page} → Roomy a b → (m ≡ 0 → ⊥) → YieldsGoing sheet a b rest base n i start m at p
+      → s ≡ cell a b at yieldNameAt → e ≡ cell a b at (yieldNameAt + 1) → number ≡ noteOf rest base at → Puts (namedText yieldWord (slice s e sheet) (number ∷ [])) p q → length (q .bytes) ≡ length (p .bytes) → YieldsGoing sheet a b rest base n i start (m - 1) (at + 1) q
   yields-again {at = at} {number = number} {p = p} {q = q} room z g x y e w l =
       let line : Puts (namedText yieldWord (textAt sheet a b at yieldNameAt) (number ∷ [])) p q = rw (x, y) at w in
       record {

@@ -24,9 +24,8 @@ use Rattle.lower.specs.Shows.{shift}
 use Rattle.words.specs.Count.{Ends}
 use Rattle.aggregate.specs.Names.{SomeExpr}
 use Rattle.plan_line.specs.Keywords.{word, letters, aggFnWord}
-use Rattle.plan_line.specs.Row.{namedText}
 use Rattle.plan_sheet.specs.Due.{noted, Planned, One, Carried, carriedRecs, carriedEnd, Many, WroteOne, WroteMany, WroteFirst, TextIn, textAt}
-use Rattle.plan_sheet.specs.Parted.{partRecs, partsRecs, Items, WrotePart, WroteParts, WroteItems}
+use Rattle.plan_sheet.specs.Parted.{aggText, partRecs, partsRecs, Items, WrotePart, WroteParts, WroteItems}
 use Rattle.plan_line.proofs.RowLaws.{flag-decimal, named-rec, place-escape}
 use Rattle.plan_sheet.proofs.HeadLaws.{texts-at}
 use Rattle.plan_sheet.proofs.DueLaws.{Made, exprs-made, deeper, spell-append}
@@ -43,9 +42,9 @@ pub record Agg (sheet : Bytes) (a b : List ℕ) (N : Notes) (below left i : ℕ)
   pub place : PlaceAt text sheet (cell a b i nameAt) (cell a b i (nameAt + 1))
   pub list : Carried sheet a b N below (left - 1) (cell a b i fnArgsAt) (i + 1)
   pub stop : carriedEnd list ≡ i + size t
-  pub text : (A : Ops) → spellRecs (aggOf N A t) ≡ namedText aggFnWord (textAt sheet a b i nameAt) (cell a b i fnArgsAt ∷ cell a b i fnDistinctAt ∷ []) ++ spellRecs (carriedRecs A list)
+  pub text : (A : Ops) → spellRecs (aggOf N A t) ≡ aggText sheet a b i ++ spellRecs (carriedRecs A list)
 
-call-agg : (sheet : Bytes) (a b : List ℕ) (i : ℕ) → Roomy a b → (f : Fields (exprForms Expr.Call)) → RecordAt sheet a b i expr Expr.Call f → spellRec (rec (inPlan aggExpr) tt (f .0, (f .1 .0, (f .1 .1 .0, tt)))) ≡ namedText aggFnWord (textAt sheet a b i nameAt) (cell a b i fnArgsAt ∷ cell a b i fnDistinctAt ∷ [])
+call-agg : (sheet : Bytes) (a b : List ℕ) (i : ℕ) → Roomy a b → (f : Fields (exprForms Expr.Call)) → RecordAt sheet a b i expr Expr.Call f → spellRec (rec (inPlan aggExpr) tt (f .0, (f .1 .0, (f .1 .1 .0, tt)))) ≡ aggText sheet a b i
 unfolding keyword planKeyword word letters bytes bytesFrom spellFields spell fieldsOf fieldOf
 call-agg sheet a b i room f at =
     let s = shown room at in
@@ -133,7 +132,7 @@ module _ {sheet : Bytes} {a b os rest : List ℕ} {below base left i : ℕ} wher
     pub args : {n : ℕ} → n ≡ cell a b i fnArgsAt → Many sheet a b os rest below base (left - 1) n (i + 1)
     args q = rw q (record { ops = h .ops; planned = h .planned; list = agg-is .list })
 
-    pub agg-wrote : (aggs : Bool) {n next : ℕ} {p q r : Page} → not (Bool·beq is aggs) ≡ false → n ≡ cell a b i fnArgsAt → Puts (namedText aggFnWord (textAt sheet a b i nameAt) (cell a b i fnArgsAt ∷ cell a b i fnDistinctAt ∷ [])) p q → WroteMany sheet a b os rest below base (left - 1) n (i + 1) q next r → (next ≡ i + size (h .tree)) × Puts (spellRecs (partRecs (shift (noted rest) base) (h .ops) aggs (h .tree))) p r
+    pub agg-wrote : (aggs : Bool) {n next : ℕ} {p q r : Page} → not (Bool·beq is aggs) ≡ false → n ≡ cell a b i fnArgsAt → Puts (aggText sheet a b i) p q → WroteMany sheet a b os rest below base (left - 1) n (i + 1) q next r → (next ≡ i + size (h .tree)) × Puts (spellRecs (partRecs (shift (noted rest) base) (h .ops) aggs (h .tree))) p r
     unfolding partRecs
     agg-wrote aggs {n} {next} {p} {q} {r} same c line many =
         let m : WroteMany sheet a b os rest below base (left - 1) (cell a b i fnArgsAt) (i + 1) q next r = rw c at many in

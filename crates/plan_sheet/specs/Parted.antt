@@ -2,17 +2,25 @@
 use mathlib.Core.Path.{_≡_}
 use Prim.Native.Nat.{ℕ, _+_}
 use mathlib.Core.Bool.{Bool, true, false, cond}
-use mathlib.Core.List.{List, [], _++_}
+use mathlib.Core.List.{List, [], _∷_, _++_}
 use Rattle.model.specs.Text.{Bytes}
 use Rattle.model.specs.Kind.{projection, expr}
 use Rattle.model.specs.Record.{spellRecs}
 use Rattle.model.specs.Tree.{Tree, Trees}
 use Rattle.model.specs.Lower.{Recs}
 use Rattle.output.specs.Page.{Page, Puts}
+use Rattle.words.specs.Words.{cell}
 use Rattle.words.specs.Held.{HeldOf, size}
+use Rattle.words.specs.Places.{nameAt, fnArgsAt, fnDistinctAt}
 use Rattle.lower.specs.Render.{Notes, Ops, render, BelowOf, isAggregate, aggOf, keyRecs, aggRecs}
 use Rattle.lower.specs.Shows.{shift}
-use Rattle.plan_sheet.specs.Due.{noted, Planned, One}
+use Rattle.plan_line.specs.Keywords.{aggFnWord}
+use Rattle.plan_line.specs.Row.{namedText}
+use Rattle.plan_sheet.specs.Due.{noted, textAt, Planned, One}
+
+-- the line of the aggregate at record i
+abbrev pub aggText : Bytes → List ℕ → List ℕ → ℕ → Bytes
+aggText sheet a b i = namedText aggFnWord (textAt sheet a b i nameAt) (cell a b i fnArgsAt ∷ cell a b i fnDistinctAt ∷ [])
 
 -- what an item's expression adds to the aggregates, or else to the keys
 unfoldable pub partRecs : Notes → Ops → (aggs : Bool) → Tree expr → Recs

@@ -8,9 +8,10 @@ ghost use Rattle.model.specs.Record.{spellRec};
 ghost use Rattle.output.specs.Page.{on, Puts};
 ghost use Rattle.words.specs.Words.{Roomy, cell, maxRecords};
 ghost use Rattle.words.specs.Places.{fnArgsAt, fnDistinctAt, nameAt};
-ghost use Rattle.plan_line.specs.Keywords.{itemWord, aggFnWord};
+ghost use Rattle.plan_line.specs.Keywords.{itemWord};
 ghost use Rattle.plan_line.specs.Row.{namedText};
 ghost use Rattle.model.specs.Lower.{exprAlias};
+ghost use Rattle.plan_sheet.specs.Parted.{aggText};
 ghost use Rattle.plan_sheet.specs.Due.{ExprAt, ItemAt, namedRec, itemName, TextIn, textAt};
 use output::put_byte;
 use plan_line::keyword::put_keyword;
@@ -94,7 +95,7 @@ pub fn put_agg(plan: &mut [u8], out: usize, sheet: &[u8], a: &[u32], b: &[u32], 
     requires { ⌜ Roomy (now a) (now b) ⌝ }
     requires { ⌜ i < maxRecords ⌝ }
     requires { ⌜ TextIn (now sheet) (now a) (now b) i nameAt ⌝ }
-    ensures { λ r. ⌜ Puts (namedText aggFnWord (textAt (now (sheet .entry)) (now (a .entry)) (now (b .entry)) i nameAt) (cell (now (a .entry)) (now (b .entry)) i fnArgsAt ∷ cell (now (a .entry)) (now (b .entry)) i fnDistinctAt ∷ [])) (on (now (plan .entry)) out) (on (now (plan .exit)) r) ⌝ }
+    ensures { λ r. ⌜ Puts (aggText (now (sheet .entry)) (now (a .entry)) (now (b .entry)) i) (on (now (plan .entry)) out) (on (now (plan .exit)) r) ⌝ }
 {
     let s = words::word(a, b, i, field::NAME);
     let e = words::word(a, b, i, field::NAME + 1);

@@ -36,12 +36,12 @@ pub fn put_names(
     ensures { λ r. ⌜ ((h : Names (now (sheet .entry)) (now (a .entry)) (now (b .entry)) n i) → (r .next ≡ i + n) × Puts (spellRecs (namesRecs h)) (on (now (plan .entry)) out) (on (now (plan .exit)) (r .out))) ⌝ }
 {
     let mut at = i;
-    let mut left = n;
+    let mut due = n;
     let mut o = out;
-    while left != 0 {
+    while due != 0 {
         o = put_copied(plan, o, sheet, a, b, at);
         at += 1;
-        left -= 1;
+        due -= 1;
     }
     Wrote { next: at, out: o }
 }

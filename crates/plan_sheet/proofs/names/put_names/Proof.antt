@@ -7,10 +7,10 @@ use Rattle.plan_sheet.proofs.names.put_names.Statement.{statement}
 use Rattle.plan_sheet.proofs.names.put_names.Tie as tie
 
 abbrev Inv-loop : tie.InvT-loop
-Inv-loop plan₀ out sheet a b i n at₀ left₀ o₀ plan at left o = NameLaws.NamesGoing sheet a b n i (on plan₀ o₀) left at (on plan o)
+Inv-loop plan₀ out sheet a b i n at₀ due₀ o₀ plan at due o = NameLaws.NamesGoing sheet a b n i (on plan₀ o₀) due at (on plan o)
 
 abbrev μ-loop : tie.MeasureT-loop
-μ-loop plan₀ out sheet a b i n at₀ left₀ o₀ plan at left o = left
+μ-loop plan₀ out sheet a b i n at₀ due₀ o₀ plan at due o = due
 
 -- a place or a need, at the loops' invariants and measures
 abbrev here : (tie.InvT-loop → tie.MeasureT-loop → Type 0) → Type 0
