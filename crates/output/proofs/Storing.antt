@@ -1,11 +1,11 @@
 -- What the loops that store leave, turn by turn: bytes from the first on, and digits from the last on. Assumes nothing: every law is proved.
-use mathlib.Core.Path.{_≡_, refl, sym, ap, _∙_}
+use mathlib.Core.Path.{_≡_, refl, sym, _∙_}
 use mathlib.Core.List.{[], _∷_, _++_, append-nil, append-assoc}
 use Prim.Native.Nat.{ℕ, zero, suc, _+_, _-_, _/_, _%_, _<_, _≤_}
 use native.Mathlib.Omega.{arith}
 use native.Mathlib.Numerals.{add-one}
 use lib.ListN.{length, set, getD, take, length-set}
-use lib.Seq.{sets, set-comm, length-sets, take-suc, take-all}
+use lib.Seq.{sets, set-comm, take-suc, take-all}
 use Rattle.model.specs.Text.{Bytes}
 use Rattle.output.specs.Wide.{tens}
 use Rattle.output.specs.Writes.{sets-append}

@@ -1,17 +1,17 @@
 -- What a whole text does from the start: from `Puts` to plain lists, and to the call's definition of a written plan. Assumes nothing: every law is proved.
-use mathlib.Core.Path.{_≡_, refl, ap, _∙_}
+use mathlib.Core.Path.{_≡_, refl, _∙_}
 use mathlib.Core.Bool.{cond}
 use mathlib.Core.List.{[], _∷_, _++_}
-use Prim.Native.Nat.{ℕ, suc, _+_, _<_, _≤_, min}
+use Prim.Native.Nat.{ℕ, _+_, _<_, _≤_}
 use native.Mathlib.Omega.{arith}
 use native.Mathlib.Nat.{zero-add}
 use lib.Dec.{ltb}
 use lib.ListN.{length, take, drop}
-use lib.Seq.{sets, sets-eq, take-append-seam}
+use lib.Seq.{sets-eq, take-append-seam}
 use borrow.Author.Tests.{lt-ltb, le-ltb}
 use Rattle.model.specs.Text.{Bytes}
 use Rattle.model.specs.Call.{plainRefusal, accepted, written}
-use Rattle.output.specs.Page.{Page, on, most, Fits, Puts}
+use Rattle.output.specs.Page.{on, most, Puts}
 
 -- what a text that fits leaves of the slice p: the slice q and the cursor o
 pub record Written (t p q : Bytes) (o : ℕ) : Type 0 where

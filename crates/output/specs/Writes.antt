@@ -1,14 +1,14 @@
 -- How writes join, what they keep, and the two ways of a text in the code. Assumes nothing: every law is proved.
 use mathlib.Core.Path.{_≡_, refl, ap, _∙_, sym}
 use mathlib.Core.List.{[], _∷_, _++_}
-use Prim.Native.Nat.{ℕ, suc, _+_, _<_, _≤_, min}
+use Prim.Native.Nat.{ℕ, suc, _+_, _<_, min}
 use native.Mathlib.Omega.{arith}
 use native.Mathlib.Nat.{add-zero}
 use native.Mathlib.Numerals.{add-one}
 use lib.ListN.{length, set, length-append}
 use lib.Seq.{sets, length-sets}
 use Rattle.model.specs.Text.{Bytes}
-use Rattle.output.specs.Page.{Page, on, most, Fits, Puts}
+use Rattle.output.specs.Page.{Page, on, most, Puts}
 
 infixr 40 _⨾_
 -- ── any write ──

@@ -6,7 +6,7 @@ use mathlib.Core.Bool.{Bool}
 use mathlib.Core.List.{[], _∷_, _++_, append-nil, append-assoc}
 use lib.ListN.{length, set, getD, length-append, length-set}
 use lib.Seq.{sets}
-use borrow.Author.Tests.{eq-eqb, ne-eqb}
+use borrow.Author.Tests.{ne-eqb}
 use Rattle.model.specs.Text.{Bytes, bytes, bytesFrom, same, sameBy}
 use Rattle.laws.specs.TextLaws.{same-sound}
 use Rattle.words.specs.TableLaws.{passesTo, passes-at}

@@ -1,13 +1,12 @@
 -- The name of an item, off its record and its expression's. Assumes nothing: every law is proved.
 use mathlib.Core.Path.{_≡_, refl, sym, ap, _∙_}
-use Prim.Native.Nat.{ℕ, zero, suc, _+_, _/_, _%_, _≤_, _<_}
+use Prim.Native.Nat.{ℕ, zero, suc, _+_, _/_, _%_, _<_}
 use native.Mathlib.Omega.{arith}
 use mathlib.Core.Bool.{Bool, true, false, cond}
 use mathlib.Core.List.{List, [], _∷_, _++_, append-assoc}
 use mathlib.Core.Option.{none, some}
 use borrow.Author.Tests.{ne-eqb, ltb-true}
 use lib.Dec.{ltb}
-use lib.ListN.{length}
 use lib.Seq.{slice}
 use Rattle.model.specs.Text.{Bytes, behind, decimal, digits, bytes, bytesFrom, escapeByte, escape, unescape, tab, lineFeed}
 use Rattle.model.specs.Field.{Fields, text, spell, spellFields}

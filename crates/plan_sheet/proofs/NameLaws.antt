@@ -1,6 +1,6 @@
 -- Names one after another, and the line of a pattern's element. Assumes nothing: every law is proved.
 use mathlib.Core.Path.{_≡_, refl, sym, ap, _∙_}
-use Prim.Native.Nat.{ℕ, suc, _+_, _-_, _≤_, _<_}
+use Prim.Native.Nat.{ℕ, suc, _+_, _-_, _≤_}
 use native.Mathlib.Omega.{arith}
 use mathlib.Core.List.{List, [], _∷_, _++_, append-nil, append-assoc}
 use lib.ListN.{length}
@@ -9,7 +9,7 @@ use Rattle.model.specs.Text.{Bytes, tab, lineFeed, behind, decimal, bytes, byte
 use Rattle.model.specs.Field.{Fields, spell, spellFlag, spellFields}
 use Rattle.model.specs.Field
 use Rattle.model.specs.Kind.{PatternElement, patternElement, name}
-use Rattle.model.specs.Record.{rec, forms, elementForms, keyword, planKeyword, spellRec, spellRecs}
+use Rattle.model.specs.Record.{rec, elementForms, keyword, planKeyword, spellRec, spellRecs}
 use Rattle.model.specs.Tree.{Trees, node, []ᵗ, _∷ᵗ_, end}
 use Rattle.model.specs.Lower.{Recs}
 use Rattle.output.specs.Page.{Page, Puts}

@@ -1,11 +1,10 @@
 -- The keys and the aggregates among the items of a `return`. Assumes nothing: every law is proved.
 use mathlib.Core.Path.{_≡_, refl, sym, ap, _∙_}
-use Prim.Native.Nat.{ℕ, zero, suc, _+_, _-_, _≤_, _<_}
+use Prim.Native.Nat.{ℕ, zero, suc, _+_, _-_, _<_}
 use native.Mathlib.Omega.{arith}
 use mathlib.Core.Bool.{Bool, true, false, not, Bool·beq, false≢true}
 use mathlib.Core.List.{List, [], _∷_, _++_}
 use lib.ListN.{length}
-use lib.Seq.{slice}
 use Rattle.model.specs.Text.{Bytes, bytes, bytesFrom}
 use Rattle.model.specs.Field.{Fields, text, spell, spellFields}
 use Rattle.model.specs.Kind.{Expr, projection, expr, inPlan, aggExpr}

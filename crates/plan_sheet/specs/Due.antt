@@ -6,9 +6,9 @@ use mathlib.Core.Bool.{Bool, true, false, cond}
 use lib.Dec.{eqb, ltb}
 use lib.ListN.{length, getD, take}
 use lib.Seq.{slice}
-use Rattle.model.specs.Text.{Bytes, bytes, decimal}
+use Rattle.model.specs.Text.{Bytes}
 use Rattle.model.specs.Field.{Fields}
-use Rattle.model.specs.Kind.{Same, Expr, PatternElement, PlanExpr, projection, orderItem, patternElement, name, entry, expr, inPlan, planProjection, orderKey, planEntry}
+use Rattle.model.specs.Kind.{Expr, PatternElement, projection, orderItem, patternElement, name, entry, expr, inPlan, planProjection, orderKey, planEntry}
 use Rattle.model.specs.Record.{Rec, rec, forms, exprForms, elementForms, spellRecs}
 use Rattle.model.specs.Tree.{Tree}
 use Rattle.model.specs.Lower.{Recs, exprAlias, aliasOr}

@@ -1,8 +1,6 @@
 // The first line of an operator that a clause makes.
 ghost use mathlib.Core.List.{[], _∷_, _++_};
-ghost use Prim.Native.Nat.{_<_, _≤_};
-ghost use lib.ListN.{length};
-ghost use lib.Seq.{slice};
+ghost use Prim.Native.Nat.{_<_};
 ghost use Rattle.model.specs.Text.{tab, lineFeed};
 ghost use Rattle.model.specs.Field.{spellOption};
 ghost use Rattle.output.specs.Page.{on, Puts};

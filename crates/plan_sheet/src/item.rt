@@ -1,13 +1,11 @@
 // The line of an item: its alias, or a name by its expression; and that of an aggregate.
-ghost use mathlib.Core.List.{[], _∷_, _++_};
-ghost use Prim.Native.Nat.{_+_, _<_, _≤_};
-ghost use lib.ListN.{length};
-ghost use lib.Seq.{slice};
+ghost use mathlib.Core.List.{[], _++_};
+ghost use Prim.Native.Nat.{_+_, _<_};
 ghost use Rattle.model.specs.Text.{bytes, decimal};
 ghost use Rattle.model.specs.Record.{spellRec};
 ghost use Rattle.output.specs.Page.{on, Puts};
-ghost use Rattle.words.specs.Words.{Roomy, cell, maxRecords};
-ghost use Rattle.words.specs.Places.{fnArgsAt, fnDistinctAt, nameAt};
+ghost use Rattle.words.specs.Words.{Roomy, maxRecords};
+ghost use Rattle.words.specs.Places.{nameAt};
 ghost use Rattle.plan_line.specs.Keywords.{itemWord};
 ghost use Rattle.plan_line.specs.Row.{namedText};
 ghost use Rattle.model.specs.Lower.{exprAlias};

@@ -1,9 +1,7 @@
 // Names one after another, and the line of a pattern's element.
 ghost use mathlib.Core.Path.{_≡_};
 ghost use mathlib.Core.List.{[], _∷_};
-ghost use Prim.Native.Nat.{_+_, _<_, _≤_};
-ghost use lib.ListN.{length};
-ghost use lib.Seq.{slice};
+ghost use Prim.Native.Nat.{_+_, _<_};
 ghost use Rattle.model.specs.Record.{spellRec, spellRecs};
 ghost use Rattle.output.specs.Page.{on, Puts};
 ghost use Rattle.words.specs.Words.{Roomy, cell, maxRecords};
