@@ -1,13 +1,13 @@
 -- What the loops that store leave, turn by turn: bytes from the first on, and digits from the last on. Assumes nothing: every law is proved.
-use mathlib.Core.Path.{_≡_, refl, sym, ap, _∙_}
+use mathlib.Core.Path.{_≡_, refl, sym, _∙_}
 use mathlib.Core.List.{[], _∷_, _++_, append-nil, append-assoc}
 use Prim.Native.Nat.{ℕ, zero, suc, _+_, _-_, _/_, _%_, _<_, _≤_}
 use native.Mathlib.Omega.{arith}
 use native.Mathlib.Numerals.{add-one}
 use lib.ListN.{length, set, getD, take, length-set}
-use lib.Seq.{sets, set-comm, length-sets, take-suc, take-all}
+use lib.Seq.{sets, set-comm, take-suc, take-all}
 use Rattle.model.specs.Text.{Bytes}
-use Rattle.output.specs.Wide.{wide}
+use Rattle.output.specs.Wide.{tens}
 use Rattle.output.specs.Writes.{sets-append}
 
 -- ── from the first on ──
@@ -40,34 +40,34 @@ set-before [] p i j x h = refl
 set-before (b ∷ t) p i j x h = set-before t (set p j b) i (suc j) x (omega arith) ∙ rw (set-comm p j i b x (λ e. omega arith))
 
 -- k digits of v are left, before those of the tail
-pub record Filling (f : ℕ → ℕ) (b d n : ℕ) (p : Bytes) (at k v : ℕ) (q : Bytes) : Type 0 where
+pub record Filling (d n : ℕ) (p : Bytes) (at k v : ℕ) (q : Bytes) : Type 0 where
   pub low : k ≤ d
   pub long : length q ≡ length p
   pub tail : Bytes
-  pub text : wide f b k v ++ tail ≡ wide f b d n
+  pub text : tens k v ++ tail ≡ tens d n
   pub page : q ≡ sets p (at + k) tail
 
-module _ {f : ℕ → ℕ} {b d n : ℕ} {p : Bytes} {at : ℕ} where
-  pub fill-start : Filling f b d n p at d n p
-  fill-start = record { low = omega arith; long = refl; tail = []; text = append-nil (wide f b d n); page = refl }
+module _ {d n : ℕ} {p : Bytes} {at : ℕ} where
+  pub fill-start : Filling d n p at d n p
+  fill-start = record { low = omega arith; long = refl; tail = []; text = append-nil (tens d n); page = refl }
 
-  pub fill-more : (k : ℕ) {v x : ℕ} {q : Bytes} → (k ≡ 0 → ⊥) → Filling f b d n p at k v q → x ≡ f (v % b) → Filling f b d n p at (k - 1) (v / b) (set q (at + (k - 1)) x)
-  unfolding wide
+  pub fill-more : (k : ℕ) {v x : ℕ} {q : Bytes} → (k ≡ 0 → ⊥) → Filling d n p at k v q → x ≡ 48 + v % 10 → Filling d n p at (k - 1) (v / 10) (set q (at + (k - 1)) x)
+  unfolding tens
   fill-more zero some c e = absurd (some refl)
   fill-more (suc k) {v} {x} {q} some c e =
       let less : suc k - 1 ≡ k = omega arith in
-      let next : at + suc k ≡ suc (at + k) = omega arith in
+      let behind : at + suc k ≡ suc (at + k) = omega arith in
       rw less (record {
         low = omega (arith, c .low);
         long = length-set q (at + k) x ∙ c .long;
         tail = x ∷ c .tail;
-        text = rw e (sym (append-assoc (wide f b k (v / b)) (f (v % b) ∷ []) (c .tail)) ∙ c .text);
-        page = rw (c .page, next) (set-before (c .tail) p (at + k) (suc (at + k)) x (omega arith));
+        text = rw e (sym (append-assoc (tens k (v / 10)) ((48 + v % 10) ∷ []) (c .tail)) ∙ c .text);
+        page = rw (c .page, behind) (set-before (c .tail) p (at + k) (suc (at + k)) x (omega arith));
       })
 
-  pub fill-all : {k v : ℕ} {q : Bytes} → k ≡ 0 → Filling f b d n p at k v q → q ≡ sets p at (wide f b d n)
-  unfolding wide
+  pub fill-all : {k v : ℕ} {q : Bytes} → k ≡ 0 → Filling d n p at k v q → q ≡ sets p at (tens d n)
+  unfolding tens
   fill-all {k} {v} {q} z c =
-      let c′ : Filling f b d n p at 0 v q = rw z at c in
+      let c′ : Filling d n p at 0 v q = rw z at c in
       let e : at + 0 ≡ at = omega arith in
       c′ .page ∙ rw (e, c′ .text)

@@ -25,5 +25,5 @@ pub record Fits (n : ℕ) (g : Page) : Type 0 where
 -- the contract of every writer, by which the text t takes the page g to g′: the cursor goes on by the text's length, up to `most`, and a text that fits is stored. What one that does not fit leaves inside the slice is not promised.
 pub record Puts (t : Bytes) (g g′ : Page) : Type 0 where
   pub long : length (g′ .bytes) ≡ length (g .bytes)
-  pub next : min (g′ .out) most ≡ min (g .out + length t) most
+  pub moved : min (g′ .out) most ≡ min (g .out + length t) most
   pub stored : Fits (length t) g → g′ .bytes ≡ sets (g .bytes) (g .out) t

@@ -1,18 +1,18 @@
 -- What a whole text does from the start: from `Puts` to plain lists, and to the call's definition of a written plan. Assumes nothing: every law is proved.
-use mathlib.Core.Path.{_≡_, refl, ap, _∙_}
+use mathlib.Core.Path.{_≡_, refl, _∙_}
 use mathlib.Core.Bool.{cond}
 use mathlib.Core.List.{[], _∷_, _++_}
-use Prim.Native.Nat.{ℕ, suc, _+_, _<_, _≤_, min}
+use Prim.Native.Nat.{ℕ, _+_, _<_, _≤_}
 use native.Mathlib.Omega.{arith}
 use native.Mathlib.Nat.{zero-add}
 use lib.Dec.{ltb}
 use lib.ListN.{length, take, drop}
-use lib.Seq.{sets, sets-eq, take-append-seam}
+use lib.Seq.{sets-eq, take-append-seam}
 use borrow.Author.Tests.{lt-ltb, le-ltb}
 use Rattle.model.specs.Text.{Bytes}
 use Rattle.model.specs.Refusal.{Refusal, accepted, valuesOf}
 use Rattle.model.specs.Call.{written}
-use Rattle.output.specs.Page.{Page, on, most, Fits, Puts}
+use Rattle.output.specs.Page.{on, most, Puts}
 
 -- what a text that fits leaves of the slice p: the slice q and the cursor o
 pub record Written (t p q : Bytes) (o : ℕ) : Type 0 where
@@ -23,7 +23,7 @@ pub record Written (t p q : Bytes) (o : ℕ) : Type 0 where
 module _ {t p q : Bytes} {o : ℕ} (e : Puts t (on p 0) (on q o)) (small : length p < most) where
   pub wrote : length t ≤ length p → Written t p q o
   wrote fits =
-      let next = e .next in
+      let moved = e .moved in
       record {
         slice = e .stored (record { inside = omega arith; small = omega arith }) ∙ sets-eq t p 0 (omega arith) ∙ rw zero-add;
         at = omega arith;
@@ -32,11 +32,11 @@ module _ {t p q : Bytes} {o : ℕ} (e : Puts t (on p 0) (on q o)) (small : lengt
 -- a text that is written from the start of a page, and nothing where it does not fit
 module _ (t p q : Bytes) (o : ℕ) (e : Puts t (on p 0) (on q o)) (small : length p < most) where
   pub too-long : length p < o → take 0 q ≡ cond (ltb (length p) (length t)) [] t
-  too-long h = let next = e .next in rw (lt-ltb (length p) (length t) (omega arith))
+  too-long h = let moved = e .moved in rw (lt-ltb (length p) (length t) (omega arith))
 
   pub long-enough : o ≤ length p → take o q ≡ cond (ltb (length p) (length t)) [] t
   long-enough h =
-      let next = e .next in
+      let moved = e .moved in
       let fits : length t ≤ length p = omega arith in
       let w = wrote e small fits in
       rw (le-ltb (length p) (length t) fits, w .slice, w .at) (take-append-seam t (drop (length t) p))
@@ -52,7 +52,7 @@ module _ (p : Bytes) (small : length p < most) {t q : Bytes} {o : ℕ} (first : 
   pub refuses : length (q ++ p) < o → record { answer = valuesOf Refusal.NoRoom; slice = q ++ p } ≡ written t p
   unfolding written
   refuses h =
-      let next = first .next in
+      let moved = first .moved in
       let l : length p < o = rw (none q (first .long)) at h in
       rw (none q (first .long), lt-ltb (length p) (length t) (omega arith))
 
@@ -60,7 +60,7 @@ module _ (p : Bytes) (small : length p < most) {t q : Bytes} {o : ℕ} (first : 
   pub accepts : {q′ : Bytes} {o′ : ℕ} → o ≤ length (q ++ p) → Puts t (on (q ++ p) 0) (on q′ o′) → record { answer = accepted o′; slice = q′ } ≡ written t p
   unfolding written
   accepts {q′} {o′} h second =
-      let next = first .next in
+      let moved = first .moved in
       let l : o ≤ length p = rw (none q (first .long)) at h in
       let s : Puts t (on p 0) (on q′ o′) = rw (none q (first .long)) at second in
       let w = wrote s small (omega arith) in

@@ -1,14 +1,14 @@
 -- How writes join, what they keep, and the two ways of a text in the code. Assumes nothing: every law is proved.
 use mathlib.Core.Path.{_≡_, refl, ap, _∙_, sym}
 use mathlib.Core.List.{[], _∷_, _++_}
-use Prim.Native.Nat.{ℕ, suc, _+_, _<_, _≤_, min}
+use Prim.Native.Nat.{ℕ, suc, _+_, _<_, min}
 use native.Mathlib.Omega.{arith}
 use native.Mathlib.Nat.{add-zero}
 use native.Mathlib.Numerals.{add-one}
 use lib.ListN.{length, set, length-append}
 use lib.Seq.{sets, length-sets}
 use Rattle.model.specs.Text.{Bytes}
-use Rattle.output.specs.Page.{Page, on, most, Fits, Puts}
+use Rattle.output.specs.Page.{Page, on, most, Puts}
 
 infixr 40 _⨾_
 -- ── any write ──
@@ -23,9 +23,9 @@ _⨾_ {t} {u} {g} {g′} a b =
     let both = length-append t u in
     record {
       long = b .long ∙ a .long;
-      next = let x = a .next in let y = b .next in omega arith;
+      moved = let x = a .moved in let y = b .moved in omega arith;
       stored = λ f.
-          let x = a .next in
+          let x = a .moved in
           let long = a .long in
           let inside = f .inside in
           let small = f .small in
@@ -36,7 +36,7 @@ _⨾_ {t} {u} {g} {g′} a b =
 
 -- no write is a write of no text
 pub stay : {g : Page} → Puts [] g g
-stay {g} = record { long = refl; next = rw (add-zero (g .out)); stored = λ f. refl }
+stay {g} = record { long = refl; moved = rw (add-zero (g .out)); stored = λ f. refl }
 
 -- a write keeps the slice's length
 pub same : {t p q : Bytes} {o r : ℕ} → Puts t (on p o) (on q r) → length q ≡ length p
@@ -47,11 +47,11 @@ same e = e .long
 module _ (t p : Bytes) (at : ℕ) where
   -- the end is behind the slice's
   pub counted : {n r : ℕ} → n ≡ length t → r ≡ min (at + n) most → length p < r → Puts t (on p at) (on p r)
-  counted l e h = record { long = refl; next = omega arith; stored = λ f. let inside = f .inside in absurd (omega arith) }
+  counted l e h = record { long = refl; moved = omega arith; stored = λ f. let inside = f .inside in absurd (omega arith) }
 
   -- it is not
   pub stored : {q : Bytes} {n r : ℕ} → n ≡ length t → r ≡ min (at + n) most → q ≡ sets p at t → Puts t (on p at) (on q r)
-  stored l e s = record { long = ap length s ∙ length-sets p at t; next = omega arith; stored = λ f. s }
+  stored l e s = record { long = ap length s ∙ length-sets p at t; moved = omega arith; stored = λ f. s }
 
 -- the same of a byte b and a text t behind it
 module _ (b : ℕ) (t p : Bytes) (at : ℕ) where

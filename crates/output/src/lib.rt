@@ -5,9 +5,9 @@ ghost use Prim.Native.Nat.{_+_, _<_, _≤_, min};
 ghost use lib.IntN.{natAbs};
 ghost use lib.ListN.{length};
 ghost use lib.Seq.{sets};
-ghost use Rattle.model.specs.Text.{tab, decimal, signed, hexDigit, hexDigits};
+ghost use Rattle.model.specs.Text.{tab, decimal, signed};
 ghost use Rattle.output.specs.Page.{most, on, Puts};
-ghost use Rattle.output.specs.Wide.{Counted, tens, sixteens};
+ghost use Rattle.output.specs.Wide.{Counted, tens};
 
 // The largest cursor.
 const MOST: usize = 18446744073709551615;
@@ -186,39 +186,4 @@ pub fn put_signed(plan: &mut [u8], out: usize, n: i64) -> usize
         return put_decimal(plan, o, m);
     }
     put_decimal(plan, out, m)
-}
-
-// A hexadecimal digit, lower case.
-fn hex_digit(d: u8) -> u8
-    requires { ⌜ d < 16 ⌝ }
-    ensures { λ r. ⌜ r ≡ hexDigit d ⌝ }
-{
-    if d < 10 { b'0' + d } else { b'a' + (d - 10) }
-}
-
-// The last 16 hexadecimal digits of n, inside the slice.
-fn store_hex(plan: &mut [u8], at: usize, n: u64)
-    requires { ⌜ at + 16 ≤ length (now plan) ⌝ }
-    ensures { λ r. ⌜ now (plan .exit) ≡ sets (now (plan .entry)) at (sixteens 16 n) ⌝ }
-{
-    let mut v = n;
-    let mut k = 16;
-    while k != 0 {
-        k -= 1;
-        let last = (v % 16) as u8;
-        plan[at + k] = hex_digit(last);
-        v = v / 16;
-    }
-}
-
-// All 64 bits, in 16 hexadecimal digits.
-pub fn put_hex(plan: &mut [u8], out: usize, n: u64) -> usize
-    ensures { λ r. ⌜ Puts (hexDigits 16 n) (on (now (plan .entry)) out) (on (now (plan .exit)) r) ⌝ }
-{
-    let end = more(out, 16);
-    if plan.len() < end {
-        return end;
-    }
-    store_hex(plan, out, n);
-    end
 }

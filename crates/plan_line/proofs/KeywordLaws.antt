@@ -6,23 +6,23 @@ use mathlib.Core.Bool.{Bool}
 use mathlib.Core.List.{[], _∷_, _++_, append-nil, append-assoc}
 use lib.ListN.{length, set, getD, length-append, length-set}
 use lib.Seq.{sets}
-use borrow.Author.Tests.{eq-eqb, ne-eqb}
+use borrow.Author.Tests.{ne-eqb}
 use Rattle.model.specs.Text.{Bytes, bytes, bytesFrom, same, sameBy}
 use Rattle.laws.specs.TextLaws.{same-sound}
 use Rattle.words.specs.TableLaws.{passesTo, passes-at}
 use Rattle.output.specs.Page.{Page, Puts}
 use Rattle.output.specs.Writes.{sets-append}
 use Rattle.output.specs.Wide.{power}
-use Rattle.plan_line.specs.Keywords.{word, letters, numbers, unpacked}
+use Rattle.plan_line.specs.Keywords.{word, wordCount, letters, numbers, unpacked}
 
 -- ── numbers ──
 
 numberTest : ℕ → Bool
 numberTest k = same (unpacked 8 (getD numbers k 0)) (word k)
 
-number-word : (k : ℕ) → k < 46 → unpacked 8 (getD numbers k 0) ≡ word k
+number-word : (k : ℕ) → k < wordCount → unpacked 8 (getD numbers k 0) ≡ word k
 unfolding numberTest passesTo unpacked word letters bytes bytesFrom same sameBy
-number-word k h = same-sound _ _ (passes-at numberTest 46 refl k h)
+number-word k h = same-sound _ _ (passes-at numberTest wordCount refl k h)
 
 -- ── bytes ──
 
@@ -59,23 +59,23 @@ so-many d {w} few low high = sym (unpacked-long 8 d w few low high)
 
 -- the bytes of w are stored but for those of v
 pub record Unpacking (w : ℕ) (p : Bytes) (at k v : ℕ) (q : Bytes) : Type 0 where
-  pub left : ℕ
-  pub few : Bytewise left v
+  pub due : ℕ
+  pub few : Bytewise due v
   pub done : Bytes
-  pub text : done ++ unpacked left v ≡ unpacked 8 w
+  pub text : done ++ unpacked due v ≡ unpacked 8 w
   pub here : k ≡ at + length done
   pub page : q ≡ sets p at done
   pub long : length q ≡ length p
   pub low : k ≤ length p
 
-pub unpack-start : (w : ℕ) {p : Bytes} {at : ℕ} → w < 18446744073709551616 → at ≤ length p → Unpacking w p at at w p
-unpack-start w h l = record { left = 8; few = omega arith; done = []; text = refl; here = omega arith; page = refl; long = refl; low = l }
+pub unpack-start : (w : ℕ) {p : Bytes} {at : ℕ} → w < power 256 8 → at ≤ length p → Unpacking w p at at w p
+unpack-start w h l = record { due = 8; few = omega arith; done = []; text = refl; here = omega arith; page = refl; long = refl; low = l }
 
 module _ {w : ℕ} {p : Bytes} {at k v : ℕ} {q : Bytes} (u : Unpacking w p at k v q) where
   -- there is room for the next
   pub unpack-room : (v ≡ 0 → ⊥) → at + length (unpacked 8 w) ≤ length p → k < length q
   unfolding unpacked
-  unpack-room b fits = go (u .left) (u .few) (u .text)
+  unpack-room b fits = go (u .due) (u .few) (u .text)
     where
       go : (n : ℕ) → Bytewise n v → u .done ++ unpacked n v ≡ unpacked 8 w → k < length q
       go zero f t = absurd (b f)
@@ -89,13 +89,13 @@ module _ {w : ℕ} {p : Bytes} {at k v : ℕ} {q : Bytes} (u : Unpacking w p at 
 
   pub unpack-more : (v ≡ 0 → ⊥) → at + length (unpacked 8 w) ≤ length p → Unpacking w p at (k + 1) (v / 256) (set q k (v % 256))
   unfolding unpacked
-  unpack-more b fits = go (u .left) (u .few) (u .text)
+  unpack-more b fits = go (u .due) (u .few) (u .text)
     where
       go : (n : ℕ) → Bytewise n v → u .done ++ unpacked n v ≡ unpacked 8 w → Unpacking w p at (k + 1) (v / 256) (set q k (v % 256))
       go zero f t = absurd (b f)
       go (suc n) f t =
           record {
-            left = n;
+            due = n;
             few = f;
             done = u .done ++ (v % 256 ∷ []);
             text = append-assoc (u .done) (v % 256 ∷ []) (unpacked n (v / 256)) ∙ rw (ne-eqb v 0 b) at t;
@@ -107,9 +107,9 @@ module _ {w : ℕ} {p : Bytes} {at k v : ℕ} {q : Bytes} (u : Unpacking w p at 
 
   pub unpack-done : v ≡ 0 → q ≡ sets p at (unpacked 8 w)
   unpack-done e =
-      let t : u .done ++ unpacked (u .left) 0 ≡ unpacked 8 w = rw e at (u .text) in
-      u .page ∙ ap (sets p at) (sym (append-nil (u .done)) ∙ rw (none-unpacked (u .left)) at t)
+      let t : u .done ++ unpacked (u .due) 0 ≡ unpacked 8 w = rw e at (u .text) in
+      u .page ∙ ap (sets p at) (sym (append-nil (u .done)) ∙ rw (none-unpacked (u .due)) at t)
 
 -- the bytes of a keyword's number are the keyword
-pub put-word : {g h : Page} (k w : ℕ) → k < 46 → w ≡ getD numbers k 0 → Puts (unpacked 8 w) g h → Puts (word k) g h
+pub put-word : {g h : Page} (k w : ℕ) → k < wordCount → w ≡ getD numbers k 0 → Puts (unpacked 8 w) g h → Puts (word k) g h
 put-word k w h e p = rw (e, number-word k h) at p

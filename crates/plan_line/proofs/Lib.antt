@@ -1,5 +1,4 @@
 pub mod KeywordLaws
-pub mod FieldLaws
-pub mod WordLaws
+pub mod CopyLaws
 pub mod SignedLaws
 pub mod RowLaws

@@ -1,19 +1,47 @@
 -- Records as lines of numbers and names. Assumes nothing: every law is proved.
 use mathlib.Core.Path.{_≡_, refl, sym, ap, _∙_}
-use Prim.Native.Nat.{ℕ, zero, suc}
-use mathlib.Core.List.{List, [], _∷_, _++_, map, tail, append-assoc}
+use Prim.Native.Nat.{ℕ, zero, suc, _≤_}
+use native.Mathlib.Omega.{arith}
+use mathlib.Core.List.{List, [], _∷_, _++_, map, tail, append-nil, append-assoc}
+use lib.Dec.{eqb}
+use lib.IntN.{ℤ}
 use lib.Seq.{slice}
-use Rattle.model.specs.Text.{Bytes, tab, lineFeed, behind, join, decimal, escape, unescape}
-use Rattle.model.specs.Field.{text, spell, spellOption, spellFields}
+use Rattle.model.specs.Text.{Bytes, tab, lineFeed, behind, join, decimal, digits, signed, escape, unescape}
+use Rattle.model.specs.Field.{Form, text, spell, spellFlag, spellOption, spellFields}
 use Rattle.model.specs.Record.{Rec, forms, keyword, spellRec}
 use Rattle.output.specs.Page.{Page, Puts}
 use Rattle.output.specs.Writes.{_⨾_}
-use Rattle.words.specs.Words.{optionOf, fieldOf}
+use Rattle.laws.specs.TextLaws.{join-split}
+use Rattle.words.specs.Words.{optionOf, fieldOf, piecesOf}
 use Rattle.words.specs.Held.{PlaceAt}
-use Rattle.plan_line.specs.Keywords.{word}
-use Rattle.plan_line.specs.Row.{numbersText, rowText, namedText}
-use Rattle.plan_line.proofs.FieldLaws.{one-piece, place-text}
-use Rattle.plan_line.specs.Field.{fieldText}
+use Rattle.plan_line.specs.Keywords.{word, intWord}
+use Rattle.plan_line.specs.Row.{numbersText, rowText, namedText, intText}
+
+-- ── a field ──
+
+one-piece : (p : Bytes) → behind tab (p ∷ []) ≡ tab ∷ p
+unfolding behind
+one-piece p = ap (λ (s : Bytes). tab ∷ s) (append-nil p)
+
+-- the pieces of a text, behind tabs
+pieces-back : (s : Bytes) → behind tab (piecesOf s) ≡ tab ∷ s
+unfolding behind piecesOf join
+pieces-back s = ap (λ (t : Bytes). tab ∷ t) (join-split tab s)
+
+-- a field that stands in the sheet is spelled as the sheet has it
+pub place-text : {f : Form} {sheet : Bytes} {x y : ℕ} → PlaceAt f sheet x y → behind tab (spell f (fieldOf f sheet x y)) ≡ tab ∷ slice x y sheet
+place-text {f} {sheet} {x} {y} h = ap (behind tab) (h .spelled) ∙ pieces-back (slice x y sheet)
+
+pub flag-decimal : (x : ℕ) → x ≤ 1 → spellFlag (eqb x 1) ≡ decimal x
+unfolding spellFlag decimal digits
+flag-decimal zero h = refl
+flag-decimal (suc zero) h = refl
+flag-decimal (suc (suc x)) h = absurd (omega arith)
+
+pub behind-append : (sep : ℕ) (ps qs : List Bytes) → behind sep (ps ++ qs) ≡ behind sep ps ++ behind sep qs
+unfolding behind
+behind-append sep [] qs = refl
+behind-append sep (p ∷ ps) qs = ap (λ (s : Bytes). sep ∷ s) (ap (λ (s : Bytes). p ++ s) (behind-append sep ps qs) ∙ sym (append-assoc p (behind sep ps) (behind sep qs)))
 
 -- ── a line piece by piece ──
 
@@ -62,7 +90,11 @@ pub named-rec : (r : Rec) (k : ℕ) (name : Bytes) (ns : List ℕ) → keyword (
 unfolding spellRec namedText numbersText behind
 named-rec r k name ns e p = record-line (keyword (r .sort) (r .kind)) (spellFields (forms (r .sort) (r .kind)) (r .fields)) ∙ rw (e, p) (ap (λ (s : Bytes). word k ++ (tab ∷ s)) (append-assoc name (behind tab (map (λ n. decimal n) ns)) (lineFeed ∷ [])))
 
+pub int-rec : (r : Rec) (z : ℤ) → keyword (r .sort) (r .kind) ≡ word intWord → spellFields (forms (r .sort) (r .kind)) (r .fields) ≡ signed z ∷ [] → spellRec r ≡ intText z
+unfolding spellRec intText
+int-rec r z e p = record-line (keyword (r .sort) (r .kind)) (spellFields (forms (r .sort) (r .kind)) (r .fields)) ∙ rw (e, p, one-piece (signed z))
+
 -- a name is spelled as the sheet has it
 pub place-escape : {sheet : Bytes} {x y : ℕ} → PlaceAt text sheet x y → escape (unescape (slice x y sheet)) ≡ slice x y sheet
-unfolding fieldText spell fieldOf
+unfolding spell fieldOf
 place-escape {sheet} {x} {y} h = ap (λ (s : Bytes). tail s) (sym (one-piece (escape (unescape (slice x y sheet)))) ∙ place-text h)

@@ -9,23 +9,30 @@ use lib.Signed.{mag}
 use mir.Syntax.{w64}
 use mir.Val.{SFits, toZ, ofZ}
 use mir.Facts.{toZ-ofZ, toZ-pos}
-use mathlib.Core.List.{_∷_}
 use Rattle.model.specs.Text.{signed}
 use Rattle.output.specs.Page.{Page, Puts}
-use Rattle.words.specs.Words.{intOf}
+use Rattle.words.specs.Words.{intOf, two31, two32}
+
+-- a signed number of 64 bits is smaller
+abbrev two63 : ℕ
+two63 = 9223372036854775808
 
 minus-one : (n : ℕ) → negsuc 0 -ℤ pos n ≡ negsuc n
 minus-one zero = refl
 minus-one (suc n) = rw zero-add
 
 -- the code's number: 64 bits, read again
-pub put-held : (z v : ℤ) {g g′ : Page} → mag z < 9223372036854775808 → z ≡ v → Puts (9 ∷ signed (toZ w64 (ofZ w64 z))) g g′ → Puts (9 ∷ signed v) g g′
+pub put-held : (z v : ℤ) {g g′ : Page} → mag z < two63 → z ≡ v → Puts (signed (toZ w64 (ofZ w64 z))) g g′ → Puts (signed v) g g′
 put-held z v f e h = let k : SFits w64 z = record { sfits = f } in rw (toZ-ofZ k, e) at h
 
-module _ (low high n : ℕ) (l : low < 4294967296) where
+-- the number by the words that were read
+pub read-from : {z : ℤ} {low high x y : ℕ} → z ≡ intOf low high → low ≡ x → high ≡ y → z ≡ intOf x y
+read-from e p q = rw (← p, ← q) e
+
+module _ (low high n : ℕ) (l : low < two32) where
   -- the high word's top bit is not set
-  module _ (h : high < 2147483648) (e : n ≡ high * 4294967296 + low) where
-    small : n < 9223372036854775808
+  module _ (h : high < two31) (e : n ≡ high * two32 + low) where
+    small : n < two63
     small = omega arith
 
     pub plain-fits : SFits w64 (pos n)
@@ -33,11 +40,11 @@ module _ (low high n : ℕ) (l : low < 4294967296) where
 
     pub plain-is : toZ w64 n ≡ intOf low high
     unfolding intOf
-    plain-is = toZ-pos w64 {n = n} small ∙ rw (lt-ltb high 2147483648 h, e)
+    plain-is = toZ-pos w64 {n = n} small ∙ rw (lt-ltb high two31 h, e)
 
   -- it is set
-  module _ (h : 2147483648 ≤ high) (k : high < 4294967296) (e : n ≡ (high - 2147483648) * 4294967296 + low) where
-    less : n < 9223372036854775808
+  module _ (h : two31 ≤ high) (k : high < two32) (e : n ≡ (high - two31) * two32 + low) where
+    less : n < two63
     less = omega arith
 
     pub rest-fits : SFits w64 (pos n)
@@ -51,4 +58,4 @@ module _ (low high n : ℕ) (l : low < 4294967296) where
 
     pub below-is : toZ w64 (ofZ w64 (negsuc 0 -ℤ toZ w64 n)) ≡ intOf low high
     unfolding intOf
-    below-is = toZ-ofZ below-fits ∙ down ∙ rw (le-ltb high 2147483648 h, e)
+    below-is = toZ-ofZ below-fits ∙ down ∙ rw (le-ltb high two31 h, e)

@@ -7,13 +7,13 @@ use lib.ListN.{getD}
 use lib.Seq.{slice}
 use Rattle.model.specs.Text.{Bytes, bytes}
 
--- the expressions that are the same in both sheets, the others, the operators, and what stands below those
+-- of expressions, of operators, and of what stands below those
 unfoldable pub letters : Bytes
 unfolding bytes
-letters = bytes "nullboolintfloatstrparampropindexslicelistbinuncaseisnullinvarmapfnexistslistpsourceexpandfilterprojectaggorderskiplimitdistinctunwindunionwithoptionalshortpathcallplanreltoitemaggfkeyevnameyield"
+letters = bytes "nullintvarfnexistslistpsourceexpandfilterprojectaggorderskiplimitdistinctunwindunionwithoptionalshortpathcallplanreltoitemaggfevyield"
 
 abbrev pub starts : List ℕ
-starts = 0 ∷ 4 ∷ 8 ∷ 11 ∷ 16 ∷ 19 ∷ 24 ∷ 28 ∷ 33 ∷ 38 ∷ 42 ∷ 45 ∷ 47 ∷ 51 ∷ 57 ∷ 59 ∷ 62 ∷ 65 ∷ 67 ∷ 73 ∷ 78 ∷ 84 ∷ 90 ∷ 96 ∷ 103 ∷ 106 ∷ 111 ∷ 115 ∷ 120 ∷ 128 ∷ 134 ∷ 139 ∷ 143 ∷ 151 ∷ 156 ∷ 160 ∷ 164 ∷ 168 ∷ 171 ∷ 173 ∷ 177 ∷ 181 ∷ 184 ∷ 185 ∷ 186 ∷ 190 ∷ 195 ∷ []
+starts = 0 ∷ 4 ∷ 7 ∷ 10 ∷ 12 ∷ 18 ∷ 23 ∷ 29 ∷ 35 ∷ 41 ∷ 48 ∷ 51 ∷ 56 ∷ 60 ∷ 65 ∷ 73 ∷ 79 ∷ 84 ∷ 88 ∷ 96 ∷ 101 ∷ 105 ∷ 109 ∷ 113 ∷ 116 ∷ 118 ∷ 122 ∷ 126 ∷ 127 ∷ 128 ∷ 133 ∷ []
 
 unfoldable pub word : ℕ → Bytes
 unfolding letters
@@ -23,153 +23,100 @@ word k = slice (getD starts k 0) (getD starts (suc k) 0) letters
 
 -- there are so many
 abbrev pub wordCount : ℕ
-wordCount = 46
+wordCount = 30
 
--- of the expressions that are the same in both sheets, in the order of their kinds of records
+-- of expressions
 abbrev pub nullWord : ℕ
 nullWord = 0
 
-abbrev pub boolWord : ℕ
-boolWord = 1
-
 abbrev pub intWord : ℕ
-intWord = 2
+intWord = 1
 
-abbrev pub floatWord : ℕ
-floatWord = 3
-
-abbrev pub strWord : ℕ
-strWord = 4
-
-abbrev pub paramWord : ℕ
-paramWord = 5
-
-abbrev pub propWord : ℕ
-propWord = 6
-
-abbrev pub indexWord : ℕ
-indexWord = 7
-
-abbrev pub sliceWord : ℕ
-sliceWord = 8
-
-abbrev pub listWord : ℕ
-listWord = 9
-
-abbrev pub binWord : ℕ
-binWord = 10
-
-abbrev pub unWord : ℕ
-unWord = 11
-
-abbrev pub caseWord : ℕ
-caseWord = 12
-
-abbrev pub isNullWord : ℕ
-isNullWord = 13
-
-abbrev pub inWord : ℕ
-inWord = 14
-
--- of the other expressions
 abbrev pub varWord : ℕ
-varWord = 15
-
-abbrev pub mapWord : ℕ
-mapWord = 16
+varWord = 2
 
 abbrev pub fnWord : ℕ
-fnWord = 17
+fnWord = 3
 
 abbrev pub existsWord : ℕ
-existsWord = 18
+existsWord = 4
 
 abbrev pub listPredicateWord : ℕ
-listPredicateWord = 19
+listPredicateWord = 5
 
 -- of operators
 abbrev pub sourceWord : ℕ
-sourceWord = 20
+sourceWord = 6
 
 abbrev pub expandWord : ℕ
-expandWord = 21
+expandWord = 7
 
 abbrev pub filterWord : ℕ
-filterWord = 22
+filterWord = 8
 
 abbrev pub projectWord : ℕ
-projectWord = 23
+projectWord = 9
 
 abbrev pub aggWord : ℕ
-aggWord = 24
+aggWord = 10
 
 abbrev pub orderWord : ℕ
-orderWord = 25
+orderWord = 11
 
 abbrev pub skipWord : ℕ
-skipWord = 26
+skipWord = 12
 
 abbrev pub limitWord : ℕ
-limitWord = 27
+limitWord = 13
 
 abbrev pub distinctWord : ℕ
-distinctWord = 28
+distinctWord = 14
 
 abbrev pub unwindWord : ℕ
-unwindWord = 29
+unwindWord = 15
 
 abbrev pub unionWord : ℕ
-unionWord = 30
+unionWord = 16
 
 abbrev pub withWord : ℕ
-withWord = 31
+withWord = 17
 
 abbrev pub optionalWord : ℕ
-optionalWord = 32
+optionalWord = 18
 
 abbrev pub shortWord : ℕ
-shortWord = 33
+shortWord = 19
 
 abbrev pub pathWord : ℕ
-pathWord = 34
+pathWord = 20
 
 abbrev pub callWord : ℕ
-callWord = 35
+callWord = 21
 
 -- of the first line, and of what stands below operators
 abbrev pub planWord : ℕ
-planWord = 36
+planWord = 22
 
 abbrev pub relWord : ℕ
-relWord = 37
+relWord = 23
 
 abbrev pub toWord : ℕ
-toWord = 38
+toWord = 24
 
 abbrev pub itemWord : ℕ
-itemWord = 39
+itemWord = 25
 
 abbrev pub aggFnWord : ℕ
-aggFnWord = 40
-
-abbrev pub keyWord : ℕ
-keyWord = 41
+aggFnWord = 26
 
 abbrev pub elementWord : ℕ
-elementWord = 42
+elementWord = 27
 
 abbrev pub variableWord : ℕ
-variableWord = 43
-
-abbrev pub nameWord : ℕ
-nameWord = 44
+variableWord = 28
 
 abbrev pub yieldWord : ℕ
-yieldWord = 45
-
--- the kind of the record whose keyword is the first
-abbrev pub sameFrom : ℕ
-sameFrom = 17
+yieldWord = 29
 
 -- ── as packed numbers ──
 
@@ -177,22 +124,8 @@ sameFrom = 17
 abbrev pub numbers : List ℕ
 numbers =
     0x6c6c756e  -- null
-    ∷ 0x6c6f6f62  -- bool
     ∷ 0x746e69  -- int
-    ∷ 0x74616f6c66  -- float
-    ∷ 0x727473  -- str
-    ∷ 0x6d61726170  -- param
-    ∷ 0x706f7270  -- prop
-    ∷ 0x7865646e69  -- index
-    ∷ 0x6563696c73  -- slice
-    ∷ 0x7473696c  -- list
-    ∷ 0x6e6962  -- bin
-    ∷ 0x6e75  -- un
-    ∷ 0x65736163  -- case
-    ∷ 0x6c6c756e7369  -- isnull
-    ∷ 0x6e69  -- in
     ∷ 0x726176  -- var
-    ∷ 0x70616d  -- map
     ∷ 0x6e66  -- fn
     ∷ 0x737473697865  -- exists
     ∷ 0x707473696c  -- listp
@@ -217,10 +150,8 @@ numbers =
     ∷ 0x6f74  -- to
     ∷ 0x6d657469  -- item
     ∷ 0x66676761  -- aggf
-    ∷ 0x79656b  -- key
     ∷ 0x65  -- e
     ∷ 0x76  -- v
-    ∷ 0x656d616e  -- name
     ∷ 0x646c656979  -- yield
     ∷ []
 

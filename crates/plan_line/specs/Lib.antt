@@ -1,3 +1,3 @@
 pub mod Keywords
-pub mod Field
+pub mod Copy
 pub mod Row

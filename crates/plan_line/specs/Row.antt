@@ -1,10 +1,11 @@
--- The text of a line of numbers, and of one with a name before them. Assumes nothing: these are definitions.
+-- The text of a line of numbers, of one with a name before them, and of a signed number's. Assumes nothing: these are definitions.
 use Prim.Native.Nat.{ℕ}
 use mathlib.Core.List.{List, [], _∷_, _++_, map}
-use Rattle.model.specs.Text.{Bytes, tab, lineFeed, behind, decimal}
+use lib.IntN.{ℤ}
+use Rattle.model.specs.Text.{Bytes, tab, lineFeed, behind, decimal, signed}
 use mathlib.Core.Option.{Option}
 use Rattle.model.specs.Field.{spellOption}
-use Rattle.plan_line.specs.Keywords.{word, relWord, callWord}
+use Rattle.plan_line.specs.Keywords.{word, intWord, relWord, callWord}
 
 unfoldable pub numbersText : List ℕ → Bytes
 numbersText ns = behind tab (map (λ n. decimal n) ns)
@@ -15,6 +16,16 @@ rowText k ns = word k ++ (numbersText ns ++ (lineFeed ∷ []))
 -- the name as a sheet spells it
 unfoldable pub namedText : ℕ → Bytes → List ℕ → Bytes
 namedText k name ns = word k ++ ((tab ∷ name) ++ (numbersText ns ++ (lineFeed ∷ [])))
+
+-- a signed number, and the two words that it stands in
+unfoldable pub intText : ℤ → Bytes
+intText z = word intWord ++ ((tab ∷ signed z) ++ (lineFeed ∷ []))
+
+abbrev pub intLowAt : ℕ
+intLowAt = 2
+
+abbrev pub intHighAt : ℕ
+intHighAt = 3
 
 -- a rel's types, direction, length (as a sheet spells it) and props
 unfoldable pub relText : ℕ → ℕ → Bytes → ℕ → Bytes

@@ -13,22 +13,8 @@ fn keyword_number(k: usize) -> u64
 {
     match k {
         crate::word::NULL => 0x6c6c756e,
-        crate::word::BOOL => 0x6c6f6f62,
         crate::word::INT => 0x746e69,
-        crate::word::FLOAT => 0x74616f6c66,
-        crate::word::STR => 0x727473,
-        crate::word::PARAM => 0x6d61726170,
-        crate::word::PROP => 0x706f7270,
-        crate::word::INDEX => 0x7865646e69,
-        crate::word::SLICE => 0x6563696c73,
-        crate::word::LIST => 0x7473696c,
-        crate::word::BIN => 0x6e6962,
-        crate::word::UN => 0x6e75,
-        crate::word::CASE => 0x65736163,
-        crate::word::IS_NULL => 0x6c6c756e7369,
-        crate::word::IN => 0x6e69,
         crate::word::VAR => 0x726176,
-        crate::word::MAP => 0x70616d,
         crate::word::FN => 0x6e66,
         crate::word::EXISTS => 0x737473697865,
         crate::word::LIST_PREDICATE => 0x707473696c,
@@ -53,10 +39,8 @@ fn keyword_number(k: usize) -> u64
         crate::word::TO => 0x6f74,
         crate::word::ITEM => 0x6d657469,
         crate::word::AGG_FN => 0x66676761,
-        crate::word::KEY => 0x79656b,
         crate::word::ELEMENT => 0x65,
         crate::word::VARIABLE => 0x76,
-        crate::word::NAME => 0x656d616e,
         _ => 0x646c656979, // yield
     }
 }
@@ -116,14 +100,6 @@ fn put_packed(plan: &mut [u8], out: usize, w: u64) -> usize
     }
     store_packed(plan, out, w);
     end
-}
-
-// The bytes of s from one place up to another.
-pub fn put_within(plan: &mut [u8], out: usize, s: &[u8], from: usize, to: usize) -> usize
-    requires { ⌜ (from ≤ to) × (to ≤ length (now s)) ⌝ }
-    ensures { λ r. ⌜ Puts (slice from to (now (s .entry))) (on (now (plan .entry)) out) (on (now (plan .exit)) r) ⌝ }
-{
-    output::put_part(plan, out, &s[from..to])
 }
 
 // Keyword k.

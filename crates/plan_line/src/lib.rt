@@ -1,4 +1,5 @@
-// A line of the plan sheet: its keyword, fields off the words of a record, numbers and names.
+// A line of the plan sheet: its keyword, numbers and names, or the line that the statement sheet has.
+pub mod copy;
 pub mod field;
 pub mod keyword;
 pub mod row;

@@ -17,7 +17,7 @@ use Rattle.model.specs.Tree.{Trees, node, []ᵗ, _∷ᵗ_, end}
 use Rattle.model.specs.Lower.{Recs, source, pathElements}
 use Rattle.output.specs.Page.{Page, Puts}
 use Rattle.output.specs.Writes.{_⨾_, stay}
-use Rattle.words.specs.Words.{Roomy, cell, fieldOf, fieldsOf}
+use Rattle.words.specs.Words.{Roomy, cell, fieldOf, fieldsOf, maxRecords}
 use Rattle.words.specs.Held.{Held, HeldOf, RecordAt, PlaceAt, size}
 use Rattle.words.specs.Cells.{shown}
 use Rattle.context.specs.Tables.{opAt}
@@ -28,7 +28,7 @@ use Rattle.lower.specs.Render.{Notes, Ops, render, renderOf, recsOver, Below, k
 use Rattle.lower.specs.Shows.{shift, Shows, OverExpr, ByLabels, ByPath, ByWith, ByCall, shows-all, shows-source, shows-filter, shows-expand, shows-short, shows-path, shows-optional, shows-with, shows-project, shows-aggregate, shows-order, shows-skip, shows-limit, shows-distinct, shows-unwind, shows-union, shows-call}
 use Rattle.plan_line.specs.Keywords.{word, letters, yieldWord}
 use Rattle.plan_line.specs.Row.{namedText}
-use Rattle.plan_sheet.specs.Due.{noted, Planned, Names, namesRecs, Carried, carriedRecs, carriedEnd, Many, WroteMany, WroteFirst}
+use Rattle.plan_sheet.specs.Due.{noted, Planned, Names, namesRecs, Carried, carriedRecs, carriedEnd, Many, WroteMany, WroteFirst, textAt}
 use Rattle.plan_sheet.specs.Path.{Elements, WrotePath}
 use Rattle.plan_sheet.specs.Behind.{manyBy, manyOf, firstBy, firstOf, Yields, no-yields, yield-more, yieldsRecs, WroteYields, Tail, SomeTail, WroteTail}
 use Rattle.plan_sheet.specs.Due
@@ -38,32 +38,34 @@ use Rattle.plan_sheet.proofs.HeadLaws.{texts-at}
 use Rattle.plan_sheet.proofs.DueLaws.{Made, exprs-made, keys-made, items-made, joined, spell-append}
 use Rattle.plan_sheet.proofs.NameLaws.{names-made}
 use Rattle.plan_sheet.proofs.OpLaws.{here, shown-at, planned-below, first-more}
+use Rattle.context.specs.Ops.{aggregateKind, bindPathKind, expandKind, filterKind, limitKind, optionalJoinKind, orderByKind, procedureCallKind, projectKind, shortestPathKind, skipKind, sourceKind, unwindKind, withKind}
+use Rattle.words.specs.Places.{callArgsAt, callYieldsAt, nodeLabelsAt, partElementsAt, yieldNameAt}
 
 -- ── how many, and from where ──
 
-pub none-at : (kind x y z u : ℕ) → (kind ≡ 2 → ⊥) → (kind ≡ 7 → ⊥) → (kind ≡ 8 → ⊥) → (kind ≡ 10 → ⊥) → (kind ≡ 11 → ⊥) → (kind ≡ 12 → ⊥) → (kind ≡ 14 → ⊥) → (kind ≡ 16 → ⊥) → 0 ≡ manyBy kind x y z u
+pub none-at : (kind x y z u : ℕ) → (kind ≡ filterKind → ⊥) → (kind ≡ withKind → ⊥) → (kind ≡ projectKind → ⊥) → (kind ≡ orderByKind → ⊥) → (kind ≡ skipKind → ⊥) → (kind ≡ limitKind → ⊥) → (kind ≡ unwindKind → ⊥) → (kind ≡ procedureCallKind → ⊥) → 0 ≡ manyBy kind x y z u
 unfolding manyBy
-none-at kind x y z u c d e f g h i j = rw (ne-eqb kind 2 c, ne-eqb kind 7 d, ne-eqb kind 8 e, ne-eqb kind 10 f, ne-eqb kind 11 g, ne-eqb kind 12 h, ne-eqb kind 14 i, ne-eqb kind 16 j)
+none-at kind x y z u c d e f g h i j = rw (ne-eqb kind filterKind c, ne-eqb kind withKind d, ne-eqb kind projectKind e, ne-eqb kind orderByKind f, ne-eqb kind skipKind g, ne-eqb kind limitKind h, ne-eqb kind unwindKind i, ne-eqb kind procedureCallKind j)
 
-pub next-at : (kind x : ℕ) → (kind ≡ 2 → ⊥) → (kind ≡ 10 → ⊥) → (kind ≡ 11 → ⊥) → (kind ≡ 12 → ⊥) → (kind ≡ 14 → ⊥) → x + 1 ≡ firstBy kind x
+pub next-at : (kind x : ℕ) → (kind ≡ filterKind → ⊥) → (kind ≡ orderByKind → ⊥) → (kind ≡ skipKind → ⊥) → (kind ≡ limitKind → ⊥) → (kind ≡ unwindKind → ⊥) → x + 1 ≡ firstBy kind x
 unfolding firstBy
-next-at kind x c d e f g = rw (ne-eqb kind 2 c, ne-eqb kind 10 d, ne-eqb kind 11 e, ne-eqb kind 12 f, ne-eqb kind 14 g)
+next-at kind x c d e f g = rw (ne-eqb kind filterKind c, ne-eqb kind orderByKind d, ne-eqb kind skipKind e, ne-eqb kind limitKind f, ne-eqb kind unwindKind g)
 
 -- ── yields ──
 
 -- the place of a yield's name, and its line
-yield-place : {sheet : Bytes} {a b : List ℕ} {i : ℕ} {f : Fields (forms yieldItem tt)} → Roomy a b → RecordAt sheet a b i yieldItem tt f → PlaceAt text sheet (cell a b i 2) (cell a b i 3)
+yield-place : {sheet : Bytes} {a b : List ℕ} {i : ℕ} {f : Fields (forms yieldItem tt)} → Roomy a b → RecordAt sheet a b i yieldItem tt f → PlaceAt text sheet (cell a b i yieldNameAt) (cell a b i (yieldNameAt + 1))
 yield-place room h = texts-at room h .0
 
-yield-line : {sheet : Bytes} {a b : List ℕ} {i : ℕ} (n : ℕ) {f : Fields (forms yieldItem tt)} → Roomy a b → RecordAt sheet a b i yieldItem tt f → spellRec (rec yieldItem tt (f .0, (n, tt))) ≡ namedText yieldWord (slice (cell a b i 2) (cell a b i 3) sheet) (n ∷ [])
+yield-line : {sheet : Bytes} {a b : List ℕ} {i : ℕ} (n : ℕ) {f : Fields (forms yieldItem tt)} → Roomy a b → RecordAt sheet a b i yieldItem tt f → spellRec (rec yieldItem tt (f .0, (n, tt))) ≡ namedText yieldWord (textAt sheet a b i yieldNameAt) (n ∷ [])
 unfolding keyword word letters bytes bytesFrom spellFields spell fieldsOf fieldOf
-yield-line {sheet} {a} {b} {i} n room h = named-rec _ yieldWord (slice (cell a b i 2) (cell a b i 3) sheet) (n ∷ []) refl (rw (shown room h .fields) (rw (place-escape (yield-place room h))))
+yield-line {sheet} {a} {b} {i} n room h = named-rec _ yieldWord (textAt sheet a b i yieldNameAt) (n ∷ []) refl (rw (shown room h .fields) (rw (place-escape (yield-place room h))))
 
-pub yield-in : {sheet : Bytes} {a b : List ℕ} {n i s e : ℕ} → Roomy a b → s ≡ cell a b i 2 → e ≡ cell a b i 3 → (n ≡ 0 → ⊥) → Yields sheet a b n i → (s ≤ e) × (e ≤ length sheet)
+pub yield-in : {sheet : Bytes} {a b : List ℕ} {n i s e : ℕ} → Roomy a b → s ≡ cell a b i yieldNameAt → e ≡ cell a b i (yieldNameAt + 1) → (n ≡ 0 → ⊥) → Yields sheet a b n i → (s ≤ e) × (e ≤ length sheet)
 yield-in room p q z no-yields = absurd (z refl)
 yield-in room p q z (yield-more f h c) = let y = yield-place room h in rw (p, q) (y .from, y .to)
 
-pub yield-low : {sheet : Bytes} {a b : List ℕ} {n i : ℕ} → (n ≡ 0 → ⊥) → Yields sheet a b n i → i < 2048
+pub yield-low : {sheet : Bytes} {a b : List ℕ} {n i : ℕ} → (n ≡ 0 → ⊥) → Yields sheet a b n i → i < maxRecords
 yield-low z no-yields = absurd (z refl)
 yield-low z (yield-more f h c) = h .low
 
@@ -88,7 +90,7 @@ abbrev Lists : (rest : List ℕ) (base : ℕ) {sheet : Bytes} {a b : List ℕ} {
 Lists rest base h p q = Puts (spellRecs (yieldsRecs (shift (noted rest) base) h)) p q
 
 module _ {sheet : Bytes} {a b rest : List ℕ} {base : ℕ} where
-  yields-step : {n i m at number : ℕ} {start p q : Page} (h : Yields sheet a b n i) → Roomy a b → (m ≡ 0 → ⊥) → (others : Yields sheet a b m at) → ((q : Page) → Lists rest base others p q → Lists rest base h start q) → number ≡ noteOf rest base at → Puts (namedText yieldWord (slice (cell a b at 2) (cell a b at 3) sheet) (number ∷ [])) p q → YieldsStill rest base h start (m - 1) (at + 1) q
+  yields-step : {n i m at number : ℕ} {start p q : Page} (h : Yields sheet a b n i) → Roomy a b → (m ≡ 0 → ⊥) → (others : Yields sheet a b m at) → ((q : Page) → Lists rest base others p q → Lists rest base h start q) → number ≡ noteOf rest base at → Puts (namedText yieldWord (textAt sheet a b at yieldNameAt) (number ∷ [])) p q → YieldsStill rest base h start (m - 1) (at + 1) q
   unfolding yieldsRecs spellRecs
   yields-step h room z no-yields far e w = absurd (z refl)
   yields-step {m = suc m} {at} {number} h room z (yield-more f r c) far e w =
@@ -99,9 +101,11 @@ module _ {sheet : Bytes} {a b rest : List ℕ} {base : ℕ} where
   pub yields-going : {n i : ℕ} {p : Page} → Yields sheet a b n i → YieldsGoing sheet a b rest base n i p n i p
   yields-going h = record { some = h; each = λ h. record { others = h; text = λ q r. r }; long = refl }
 
-  pub yields-again : {n i m at s e number : ℕ} {start p q : Page} → Roomy a b → (m ≡ 0 → ⊥) → YieldsGoing sheet a b rest base n i start m at p → s ≡ cell a b at 2 → e ≡ cell a b at 3 → number ≡ noteOf rest base at → Puts (namedText yieldWord (slice s e sheet) (number ∷ [])) p q → length (q .bytes) ≡ length (p .bytes) → YieldsGoing sheet a b rest base n i start (m - 1) (at + 1) q
+  pub yields-again :
+      {n i m at s e number : ℕ} {start p q : Page} → Roomy a b → (m ≡ 0 → ⊥) → YieldsGoing sheet a b rest base n i start m at p
+      → s ≡ cell a b at yieldNameAt → e ≡ cell a b at (yieldNameAt + 1) → number ≡ noteOf rest base at → Puts (namedText yieldWord (slice s e sheet) (number ∷ [])) p q → length (q .bytes) ≡ length (p .bytes) → YieldsGoing sheet a b rest base n i start (m - 1) (at + 1) q
   yields-again {at = at} {number = number} {p = p} {q = q} room z g x y e w l =
-      let line : Puts (namedText yieldWord (slice (cell a b at 2) (cell a b at 3) sheet) (number ∷ [])) p q = rw (x, y) at w in
+      let line : Puts (namedText yieldWord (textAt sheet a b at yieldNameAt) (number ∷ [])) p q = rw (x, y) at w in
       record {
         some = yields-step (g .some) room z (g .some) (λ q r. r) e line .others;
         each = λ h. let s = g .each h in yields-step h room z (s .others) (s .text) e line;
@@ -130,64 +134,64 @@ yields-made sheet a b N A d (node yieldItem line k f end ∷ᵗ ts) i h =
 -- ── the tail ──
 
 module _ {sheet : Bytes} {a b rest : List ℕ} {o : Op} {i : ℕ} where
-  tail-labels : {recs : Recs} → o .kind ≡ 1 → Tail sheet a b rest o i recs → Names sheet a b (cell a b (o .idx) 4) i
+  tail-labels : {recs : Recs} → o .kind ≡ sourceKind → Tail sheet a b rest o i recs → Names sheet a b (cell a b (o .idx) nodeLabelsAt) i
   tail-labels e (Behind.nothing x y z) = absurd (x e)
   tail-labels e (Behind.labels q h) = h
   tail-labels e (Behind.path q h) = absurd (omega arith)
   tail-labels e (Behind.yields q h) = absurd (omega arith)
 
-  tail-path : {recs : Recs} → o .kind ≡ 5 → Tail sheet a b rest o i recs → Elements sheet a b (cell a b (o .idx) 6) i
+  tail-path : {recs : Recs} → o .kind ≡ bindPathKind → Tail sheet a b rest o i recs → Elements sheet a b (cell a b (o .idx) partElementsAt) i
   tail-path e (Behind.nothing x y z) = absurd (y e)
   tail-path e (Behind.labels q h) = absurd (omega arith)
   tail-path e (Behind.path q h) = h
   tail-path e (Behind.yields q h) = absurd (omega arith)
 
-  tail-yields : {recs : Recs} → o .kind ≡ 16 → Tail sheet a b rest o i recs → Yields sheet a b (cell a b (o .idx) 6) i
+  tail-yields : {recs : Recs} → o .kind ≡ procedureCallKind → Tail sheet a b rest o i recs → Yields sheet a b (cell a b (o .idx) callYieldsAt) i
   tail-yields e (Behind.nothing x y z) = absurd (z e)
   tail-yields e (Behind.labels q h) = absurd (omega arith)
   tail-yields e (Behind.path q h) = absurd (omega arith)
   tail-yields e (Behind.yields q h) = h
 
-  pub labels-there : {n : ℕ} → o .kind ≡ 1 → n ≡ cell a b (o .idx) 4 → SomeTail sheet a b rest o i → Names sheet a b n i
+  pub labels-there : {n : ℕ} → o .kind ≡ sourceKind → n ≡ cell a b (o .idx) nodeLabelsAt → SomeTail sheet a b rest o i → Names sheet a b n i
   labels-there e q s = rw q (tail-labels e (s .tail))
 
-  pub path-there : o .kind ≡ 5 → SomeTail sheet a b rest o i → Elements sheet a b (cell a b (o .idx) 6) i
+  pub path-there : o .kind ≡ bindPathKind → SomeTail sheet a b rest o i → Elements sheet a b (cell a b (o .idx) partElementsAt) i
   path-there e s = tail-path e (s .tail)
 
-  pub yields-there : o .kind ≡ 16 → SomeTail sheet a b rest o i → Yields sheet a b (cell a b (o .idx) 6) i
+  pub yields-there : o .kind ≡ procedureCallKind → SomeTail sheet a b rest o i → Yields sheet a b (cell a b (o .idx) callYieldsAt) i
   yields-there e s = tail-yields e (s .tail)
 
   module _ {g g′ : Page} where
-    labels-put : {recs : Recs} → o .kind ≡ 1 → Tail sheet a b rest o i recs → ((h : Names sheet a b (cell a b (o .idx) 4) i) → Puts (spellRecs (namesRecs h)) g g′) → Puts (spellRecs recs) g g′
+    labels-put : {recs : Recs} → o .kind ≡ sourceKind → Tail sheet a b rest o i recs → ((h : Names sheet a b (cell a b (o .idx) nodeLabelsAt) i) → Puts (spellRecs (namesRecs h)) g g′) → Puts (spellRecs recs) g g′
     labels-put e (Behind.nothing x y z) w = absurd (x e)
     labels-put e (Behind.labels q h) w = w h
     labels-put e (Behind.path q h) w = absurd (omega arith)
     labels-put e (Behind.yields q h) w = absurd (omega arith)
 
-    path-put : {recs : Recs} → o .kind ≡ 5 → Tail sheet a b rest o i recs → WrotePath sheet a b rest (o .base) (cell a b (o .idx) 6) i g g′ → Puts (spellRecs recs) g g′
+    path-put : {recs : Recs} → o .kind ≡ bindPathKind → Tail sheet a b rest o i recs → WrotePath sheet a b rest (o .base) (cell a b (o .idx) partElementsAt) i g g′ → Puts (spellRecs recs) g g′
     path-put e (Behind.nothing x y z) w = absurd (y e)
     path-put e (Behind.labels q h) w = absurd (omega arith)
     path-put e (Behind.path q h) w = w h
     path-put e (Behind.yields q h) w = absurd (omega arith)
 
-    yields-put : {recs : Recs} → o .kind ≡ 16 → Tail sheet a b rest o i recs → WroteYields sheet a b rest (o .base) (cell a b (o .idx) 6) i g g′ → Puts (spellRecs recs) g g′
+    yields-put : {recs : Recs} → o .kind ≡ procedureCallKind → Tail sheet a b rest o i recs → WroteYields sheet a b rest (o .base) (cell a b (o .idx) callYieldsAt) i g g′ → Puts (spellRecs recs) g g′
     yields-put e (Behind.nothing x y z) w = absurd (z e)
     yields-put e (Behind.labels q h) w = absurd (omega arith)
     yields-put e (Behind.path q h) w = absurd (omega arith)
     yields-put e (Behind.yields q h) w = w h
 
-    pub labels-wrote : {n next : ℕ} → o .kind ≡ 1 → n ≡ cell a b (o .idx) 4 → ((h : Names sheet a b n i) → (next ≡ i + n) × Puts (spellRecs (namesRecs h)) g g′) → WroteTail sheet a b rest o i g g′
+    pub labels-wrote : {n next : ℕ} → o .kind ≡ sourceKind → n ≡ cell a b (o .idx) nodeLabelsAt → ((h : Names sheet a b n i) → (next ≡ i + n) × Puts (spellRecs (namesRecs h)) g g′) → WroteTail sheet a b rest o i g g′
     labels-wrote {n} {next} e q w recs t =
-        let v : (h : Names sheet a b (cell a b (o .idx) 4) i) → (next ≡ i + cell a b (o .idx) 4) × Puts (spellRecs (namesRecs h)) g g′ = rw q at w in
+        let v : (h : Names sheet a b (cell a b (o .idx) nodeLabelsAt) i) → (next ≡ i + cell a b (o .idx) nodeLabelsAt) × Puts (spellRecs (namesRecs h)) g g′ = rw q at w in
         labels-put e t (λ h. v h .1)
 
-    pub path-wrote : o .kind ≡ 5 → WrotePath sheet a b rest (o .base) (cell a b (o .idx) 6) i g g′ → WroteTail sheet a b rest o i g g′
+    pub path-wrote : o .kind ≡ bindPathKind → WrotePath sheet a b rest (o .base) (cell a b (o .idx) partElementsAt) i g g′ → WroteTail sheet a b rest o i g g′
     path-wrote e w recs t = path-put e t w
 
-    pub yields-wrote : o .kind ≡ 16 → WroteYields sheet a b rest (o .base) (cell a b (o .idx) 6) i g g′ → WroteTail sheet a b rest o i g g′
+    pub yields-wrote : o .kind ≡ procedureCallKind → WroteYields sheet a b rest (o .base) (cell a b (o .idx) callYieldsAt) i g g′ → WroteTail sheet a b rest o i g g′
     yields-wrote e w recs t = yields-put e t w
 
-  pub nothing-wrote : {g : Page} → (o .kind ≡ 1 → ⊥) → (o .kind ≡ 5 → ⊥) → (o .kind ≡ 16 → ⊥) → WroteTail sheet a b rest o i g g
+  pub nothing-wrote : {g : Page} → (o .kind ≡ sourceKind → ⊥) → (o .kind ≡ bindPathKind → ⊥) → (o .kind ≡ procedureCallKind → ⊥) → WroteTail sheet a b rest o i g g
   unfolding spellRecs
   nothing-wrote x y z recs (Behind.nothing p q r) = stay
   nothing-wrote x y z recs (Behind.labels q h) = absurd (x q)
@@ -205,16 +209,16 @@ pub record Inside (sheet : Bytes) (a b rest : List ℕ) (A : Ops) (k : ℕ) (o :
   pub recs-are : recs ≡ first ∷ (carriedRecs A list ++ tail)
 
 module _ {sheet : Bytes} {a b rest : List ℕ} {o : Op} where
-  no-tail : (n : ℕ) → o .kind ≡ n → eqb n 1 ≡ false → eqb n 5 ≡ false → eqb n 16 ≡ false → (i : ℕ) → Tail sheet a b rest o i []
+  no-tail : (n : ℕ) → o .kind ≡ n → eqb n sourceKind ≡ false → eqb n bindPathKind ≡ false → eqb n procedureCallKind ≡ false → (i : ℕ) → Tail sheet a b rest o i []
   no-tail n q x y z i = Behind.nothing (λ e. eqb-false n 1 x (sym q ∙ e)) (λ e. eqb-false n 5 y (sym q ∙ e)) (λ e. eqb-false n 16 z (sym q ∙ e))
 
-  labels-tail : {n i : ℕ} → o .kind ≡ 1 → n ≡ cell a b (o .idx) 4 → (y : Names sheet a b n i) → Tail sheet a b rest o i (namesRecs y)
+  labels-tail : {n i : ℕ} → o .kind ≡ sourceKind → n ≡ cell a b (o .idx) nodeLabelsAt → (y : Names sheet a b n i) → Tail sheet a b rest o i (namesRecs y)
   labels-tail {n} {i} e c = subst (λ (n : ℕ). (y : Names sheet a b n i) → Tail sheet a b rest o i (namesRecs y)) (sym c) (λ y. Behind.labels e y)
 
-  path-tail : {n i : ℕ} → o .kind ≡ 5 → n ≡ cell a b (o .idx) 6 → (y : Elements sheet a b n i) → Tail sheet a b rest o i (pathElements (keptFrom (shift (noted rest) (o .base)) false none (y .trees)))
+  path-tail : {n i : ℕ} → o .kind ≡ bindPathKind → n ≡ cell a b (o .idx) partElementsAt → (y : Elements sheet a b n i) → Tail sheet a b rest o i (pathElements (keptFrom (shift (noted rest) (o .base)) false none (y .trees)))
   path-tail {n} {i} e c = subst (λ (n : ℕ). (y : Elements sheet a b n i) → Tail sheet a b rest o i (pathElements (keptFrom (shift (noted rest) (o .base)) false none (y .trees)))) (sym c) (λ y. Behind.path e y)
 
-  yields-tail : {n i : ℕ} → o .kind ≡ 16 → n ≡ cell a b (o .idx) 6 → (y : Yields sheet a b n i) → Tail sheet a b rest o i (yieldsRecs (shift (noted rest) (o .base)) y)
+  yields-tail : {n i : ℕ} → o .kind ≡ procedureCallKind → n ≡ cell a b (o .idx) callYieldsAt → (y : Yields sheet a b n i) → Tail sheet a b rest o i (yieldsRecs (shift (noted rest) (o .base)) y)
   yields-tail {n} {i} e c = subst (λ (n : ℕ). (y : Yields sheet a b n i) → Tail sheet a b rest o i (yieldsRecs (shift (noted rest) (o .base)) y)) (sym c) (λ y. Behind.yields e y)
 
 module _ {sheet : Bytes} {a b rest : List ℕ} {A : Ops} {k : ℕ} {o : Op} {recs : Recs} where
@@ -246,26 +250,26 @@ module _ {sheet : Bytes} {a b rest : List ℕ} {A : Ops} {k : ℕ} {o : Op} {rec
       let p : HeldOf sheet a b (h .predicate) (o .left) (carriedEnd (m .list)) = rw (m .stop-is) (h .held-predicate) in
       alone _ t (joined N k (o .left) m (exprs-made N k (o .left) (h .predicate) (carriedEnd (m .list)) p (h .below-predicate))) (h .is)
 
-  by-call : Roomy a b → o .kind ≡ 16 → (h : ByCall (side sheet a b 0) (noted rest) A k o recs) → Inside sheet a b rest A k o recs (h .fields .1 .0) (o .idx + 1)
+  by-call : Roomy a b → o .kind ≡ procedureCallKind → (h : ByCall (side sheet a b 0) (noted rest) A k o recs) → Inside sheet a b rest A k o recs (h .fields .1 .0) (o .idx + 1)
   unfolding fieldsOf fieldOf
   by-call room e h =
       let N = shift (noted rest) (o .base) in
       let m = exprs-made N k (o .left) (h .args) (o .idx + 1) (h .held-args) (h .below) in
       let p : HeldOf sheet a b (h .yields) (o .left) (carriedEnd (m .list)) = rw (m .stop-is) (h .held-yields) in
       let y = yields-made sheet a b N A (o .left) (h .yields) (carriedEnd (m .list)) p in
-      let c : h .fields .1 .1 .0 ≡ cell a b (o .idx) 6 = ap (λ (f : Fields (forms clause Clause.Call)). f .1 .1 .0) (shown room (h .at) .fields) in
+      let c : h .fields .1 .1 .0 ≡ cell a b (o .idx) callYieldsAt = ap (λ (f : Fields (forms clause Clause.Call)). f .1 .1 .0) (shown room (h .at) .fields) in
       behind-made _ (yieldsRecs N (y .yields)) m (yields-tail e c (y .yields)) (rw (← y .recs-are) at (h .is))
 
-  by-labels : o .kind ≡ 1 → ByLabels (side sheet a b 0) (noted rest) A k o recs → Inside sheet a b rest A k o recs 0 (o .idx + 1)
+  by-labels : o .kind ≡ sourceKind → ByLabels (side sheet a b 0) (noted rest) A k o recs → Inside sheet a b rest A k o recs 0 (o .idx + 1)
   unfolding source
   by-labels e h =
       let m = names-made (shift (noted rest) (o .base)) A (o .left) (h .labels) (o .idx + 1) (h .held) in
       bare (o .idx + 1) _ (namesRecs (m .names)) (labels-tail e (h .counted) (m .names)) (rw (← m .recs-are) at (h .is))
 
-  by-path : o .kind ≡ 5 → (h : ByPath (side sheet a b 0) (noted rest) A k o recs) → Inside sheet a b rest A k o recs 0 (o .idx + 1)
+  by-path : o .kind ≡ bindPathKind → (h : ByPath (side sheet a b 0) (noted rest) A k o recs) → Inside sheet a b rest A k o recs 0 (o .idx + 1)
   by-path e h = bare (o .idx + 1) _ _ (path-tail e (h .counted) (record { depth = o .left; trees = h .elements; held = h .held })) (h .is)
 
-  pub inside : Roomy a b → (o .kind ≡ 3 → ⊥) → (o .kind ≡ 4 → ⊥) → (o .kind ≡ 6 → ⊥) → (o .kind ≡ 9 → ⊥) → Shows (side sheet a b 0) (noted rest) A k o recs → Inside sheet a b rest A k o recs (manyOf a b o) (firstOf o)
+  pub inside : Roomy a b → (o .kind ≡ expandKind → ⊥) → (o .kind ≡ shortestPathKind → ⊥) → (o .kind ≡ optionalJoinKind → ⊥) → (o .kind ≡ aggregateKind → ⊥) → Shows (side sheet a b 0) (noted rest) A k o recs → Inside sheet a b rest A k o recs (manyOf a b o) (firstOf o)
   unfolding manyBy firstBy source fieldsOf fieldOf
   inside room x y z w (shows-all q r) = by-words (rw q) (rw q) (bare (o .idx + 1) _ [] (no-tail 0 q refl refl refl (o .idx + 1)) r)
   inside room x y z w (shows-source q r) = by-words (rw q) (rw q) (by-labels q r)
@@ -284,12 +288,12 @@ module _ {sheet : Bytes} {a b rest : List ℕ} {A : Ops} {k : ℕ} {o : Op} {rec
   inside room x y z w (shows-unwind q r) = by-words (rw q) (rw q) (over-expr (no-tail 14 q refl refl refl) r)
   inside room x y z w (shows-union q r) = by-words (rw q) (rw q) (bare (o .idx + 1) _ [] (no-tail 15 q refl refl refl (o .idx + 1)) r)
   inside room x y z w (shows-call q r) =
-      let c : r .fields .1 .0 ≡ cell a b (o .idx) 4 = ap (λ (f : Fields (forms clause Clause.Call)). f .1 .0) (shown room (r .at) .fields) in
+      let c : r .fields .1 .0 ≡ cell a b (o .idx) callArgsAt = ap (λ (f : Fields (forms clause Clause.Call)). f .1 .0) (shown room (r .at) .fields) in
       by-words (rw (q, c)) (rw q) (by-call room q r)
 
 -- ── a whole operator ──
 
-module _ (k : ℕ) {sheet : Bytes} {a b os rest : List ℕ} {A : Ops} {o : Op} (p : Planned sheet a b os rest (k + 1) A) (e : o ≡ opAt os k) (room : Roomy a b) (x : o .kind ≡ 3 → ⊥) (y : o .kind ≡ 4 → ⊥) (z : o .kind ≡ 6 → ⊥) (w : o .kind ≡ 9 → ⊥) {n i : ℕ} (count : n ≡ manyOf a b o) (place : i ≡ firstOf o) where
+module _ (k : ℕ) {sheet : Bytes} {a b os rest : List ℕ} {A : Ops} {o : Op} (p : Planned sheet a b os rest (k + 1) A) (e : o ≡ opAt os k) (room : Roomy a b) (x : o .kind ≡ expandKind → ⊥) (y : o .kind ≡ shortestPathKind → ⊥) (z : o .kind ≡ optionalJoinKind → ⊥) (w : o .kind ≡ aggregateKind → ⊥) {n i : ℕ} (count : n ≡ manyOf a b o) (place : i ≡ firstOf o) where
   inside-at : Inside sheet a b rest A k o (A k) n i
   inside-at = rw (count, place) (inside room x y z w (here k p e))
 

@@ -1,24 +1,28 @@
 -- How the writers of expressions and elements call each other. Assumes nothing: every law is proved.
-use mathlib.Core.Path.{_≡_, _∙_}
-use Prim.Native.Nat.{ℕ, suc, _+_, _-_, _<_}
+use mathlib.Core.Path.{_≡_, refl, sym, ap, _∙_}
+use Prim.Native.Nat.{ℕ, _+_, _-_, _<_}
 use native.Mathlib.Omega.{arith}
-use mathlib.Core.Bool.{cond}
-use mathlib.Core.List.{List, _∷_}
+use mathlib.Core.Bool.{Bool, true, false, cond, false≢true}
+use mathlib.Core.List.{List, [], _∷_, append-nil}
 use lib.Dec.{eqb}
 use Rattle.model.specs.Text.{Bytes}
 use Rattle.model.specs.Kind.{expr}
 use Rattle.model.specs.Record.{spellRec, spellRecs}
 use Rattle.output.specs.Page.{Page, Puts}
 use Rattle.output.specs.Writes.{_⨾_}
-use Rattle.words.specs.Words.{Roomy, cell}
+use Rattle.words.specs.Words.{Roomy, cell, maxRecords}
 use Rattle.words.specs.Held.{size}
+use Rattle.words.specs.Numbers.{Others, other-than}
+use Rattle.words.specs.Places.{kindAt, partKind, nodeKind, relKind, entryKind, propKind, indexKind, sliceKind, listKind, binKind, unKind, caseKind, isNullKind, inKind, mapKind, fnKind, patKind, listPredicateKind, nodeLabelsAt, nodePropsAt, relPropsAt}
+use Rattle.words.proofs.Counting.{none-left}
 use Rattle.context.specs.Read.{noteOf}
 use Rattle.lower.specs.Render.{render, specRec}
 use Rattle.lower.specs.Shows.{shift}
 use Rattle.words.specs.Count.{countAt, Starts, Ends}
 use Rattle.model.specs.Lower.{exprHead}
-use Rattle.plan_sheet.specs.Due.{noted, Near, Planned, SomePlan, ExprAt, ElementAt, One, oneText, Many, Element, elementText, Names, namesRecs, carriedRecs, WroteMany, WroteOp}
-use Rattle.plan_sheet.proofs.DueLaws.{expr-of, planned-less, spell-append}
+use Rattle.plan_sheet.specs.Due.{noted, Near, Planned, SomePlan, ExprAt, isLeaf, ElementAt, One, oneText, Many, Element, elementText, Names, namesRecs, Line, carriedRecs, carriedEnd, WroteOne, WroteMany, WroteOp}
+use Rattle.plan_sheet.specs.Due
+use Rattle.plan_sheet.proofs.DueLaws.{expr-of, planned-less, spell-append, none-wrote}
 use Rattle.plan_sheet.proofs.PartLaws.{Parts, parts, Copy, copied, deep, propsAt, ElementParts, element-parts}
 
 -- one level down
@@ -31,7 +35,7 @@ module _ {sheet : Bytes} {a b os rest : List ℕ} {below base left i : ℕ} wher
   pub one-at : One sheet a b os rest below base left i → ExprAt sheet a b i
   one-at h = expr-of left (h .tree) i (h .held)
 
-  pub one-low : One sheet a b os rest below base left i → i < 2048
+  pub one-low : One sheet a b os rest below base left i → i < maxRecords
   one-low h = one-at h .at .low
 
   pub one-deep : One sheet a b os rest below base left i → 0 < left
@@ -40,8 +44,16 @@ module _ {sheet : Bytes} {a b os rest : List ℕ} {below base left i : ℕ} wher
   pub starts : One sheet a b os rest below base left i → Starts a b i
   starts h = record { sheet = sheet; sort = expr; depth = left; tree = h .tree; inner = tt; held = h .held }
 
+  -- one that has no line before it, as the first of one
+  pub alone : One sheet a b os rest below base left i → Many sheet a b os rest below base left 1 i
+  alone h = record { ops = h .ops; planned = h .planned; list = Due.more [] i (Line.bare (one-at h)) (h .tree) (h .held) (h .under) Due.none }
+
+  pub alone-wrote : {next : ℕ} {p q : Page} → WroteMany sheet a b os rest below base left 1 i p next q → WroteOne sheet a b os rest below base left i p next q
+  unfolding alone carriedRecs carriedEnd
+  alone-wrote w h = let o = w (alone h) in (o .0, rw (append-nil (render (shift (noted rest) base) (h .ops) (h .tree))) at (o .1))
+
   -- a pattern: the operator that it copies
-  module _ (room : Roomy a b) {n : ℕ} (e : cell a b i 0 ≡ 35) (noted-is : n ≡ noteOf rest base i) (h : One sheet a b os rest below base left i) where
+  module _ (room : Roomy a b) {n : ℕ} (e : cell a b i kindAt ≡ patKind) (noted-is : n ≡ noteOf rest base i) (h : One sheet a b os rest below base left i) where
     copy-of : Copy (shift (noted rest) base) below i (h .tree) (one-at h)
     unfolding one-at
     copy-of = copied (shift (noted rest) base) below left i room (h .tree) (h .held) (h .under) e
@@ -62,7 +74,7 @@ module _ {sheet : Bytes} {a b os rest : List ℕ} {below base left i : ℕ} wher
         (ends .each sheet expr left (h .tree) tt (h .held), rw recs (head (one-at h) ⨾ op (h .ops) copy-planned))
 
   -- any other: what is below it
-  module _ (room : Roomy a b) {m : ℕ} (count : m ≡ countAt a b i) (z : cell a b i 0 ≡ 35 → ⊥) (h : One sheet a b os rest below base left i) where
+  module _ (room : Roomy a b) {m : ℕ} (count : m ≡ countAt a b i) (z : cell a b i kindAt ≡ patKind → ⊥) (h : One sheet a b os rest below base left i) where
     kid-parts : Parts sheet a b (shift (noted rest) base) below left i m (h .tree) (one-at h)
     unfolding one-at
     kid-parts = parts (shift (noted rest) base) below left i m room count (h .tree) (h .held) (h .under) z
@@ -78,19 +90,47 @@ module _ {sheet : Bytes} {a b os rest : List ℕ} {below base left i : ℕ} wher
         let w = many kids in
         (w .0 ∙ k .stop, rw recs (head (one-at h) ⨾ w .1))
 
+-- ── expressions of one line ──
+
+abbrev noLeaf : List ℕ → Bool
+noLeaf [] = true
+noLeaf (k ∷ ks) = cond (isLeaf k) false (noLeaf ks)
+
+leaf-other : (c : ℕ) → isLeaf c ≡ true → (ks : List ℕ) → noLeaf ks ≡ true → Others c ks
+leaf-other c e [] h = tt
+leaf-other c e (k ∷ ks) h = go (λ q. leaf-other c e ks q) (isLeaf k) refl h
+  where
+    go : (noLeaf ks ≡ true → Others c ks) → (t : Bool) → isLeaf k ≡ t → cond t false (noLeaf ks) ≡ true → Others c ks × (c ≡ k → ⊥)
+    go later true p q = absurd (false≢true q)
+    go later false p q = (later q, λ x. false≢true (sym p ∙ ap isLeaf (sym x) ∙ e))
+
+-- the kinds that have something below them, as `words` lists them
+abbrev parents : List ℕ
+parents =
+    listPredicateKind ∷ patKind ∷ fnKind ∷ mapKind ∷ inKind ∷ isNullKind ∷ caseKind ∷ unKind ∷ binKind ∷ listKind
+    ∷ sliceKind ∷ indexKind ∷ propKind ∷ entryKind ∷ relKind ∷ nodeKind ∷ partKind ∷ []
+
+module _ {sheet : Bytes} {a b : List ℕ} {i : ℕ} (room : Roomy a b) {kind : ℕ} (k : kind ≡ cell a b i kindAt) (leaf : isLeaf kind ≡ true) where
+  pub leaf-wrote : {os rest : List ℕ} {below base left n : ℕ} {p q : Page} → n ≡ noteOf rest base i → ((x : ExprAt sheet a b i) → Puts (spellRec (exprHead n (x .kind) (x .fields))) p q) → WroteOne sheet a b os rest below base left i p (i + 1) q
+  unfolding isLeaf
+  leaf-wrote noted-is head h =
+      let z : Others (cell a b i kindAt) parents = rw k at (leaf-other kind leaf parents refl) in
+      let count : 0 ≡ countAt a b i = none-left (cell a b i kindAt) _ _ _ _ z in
+      kids-wrote room count (other-than (cell a b i kindAt) patKind parents z refl) h noted-is head (none-wrote refl)
+
 -- ── elements ──
 
 module _ {sheet : Bytes} {a b os rest : List ℕ} {below base left i : ℕ} (room : Roomy a b) (h : Element sheet a b os rest below base left i) where
   pub element-is : ElementParts sheet a b (shift (noted rest) base) below left i (h .tree)
   element-is = element-parts (shift (noted rest) base) below left i room (h .tree) (h .held) (h .under)
 
-  pub element-names : {n : ℕ} → n ≡ cell a b i 4 → Names sheet a b n (i + 1)
+  pub element-names : {n : ℕ} → n ≡ cell a b i nodeLabelsAt → Names sheet a b n (i + 1)
   element-names c = rw c (element-is .names)
 
-  module _ {kind n props : ℕ} (k : kind ≡ cell a b i 0) (c : n ≡ cell a b i 4) (e : props ≡ cond (eqb kind 12) (cell a b i 6) (cell a b i 10)) where
+  module _ {kind n props : ℕ} (k : kind ≡ cell a b i kindAt) (c : n ≡ cell a b i nodeLabelsAt) (e : props ≡ cond (eqb kind nodeKind) (cell a b i nodePropsAt) (cell a b i relPropsAt)) where
     module _ {next : ℕ} {p q : Page} (names : (x : Names sheet a b n (i + 1)) → (next ≡ i + 1 + n) × Puts (spellRecs (namesRecs x)) p q) where
-      names-put : (next ≡ i + 1 + cell a b i 4) × Puts (spellRecs (namesRecs (element-is .names))) p q
-      names-put = let f : (x : Names sheet a b (cell a b i 4) (i + 1)) → (next ≡ i + 1 + cell a b i 4) × Puts (spellRecs (namesRecs x)) p q = rw c at names in f (element-is .names)
+      names-put : (next ≡ i + 1 + cell a b i nodeLabelsAt) × Puts (spellRecs (namesRecs (element-is .names))) p q
+      names-put = let f : (x : Names sheet a b (cell a b i nodeLabelsAt) (i + 1)) → (next ≡ i + 1 + cell a b i nodeLabelsAt) × Puts (spellRecs (namesRecs x)) p q = rw c at names in f (element-is .names)
 
       pub element-props : Many sheet a b os rest below base (left - 1) props next
       element-props = rw (names-put .0, e, k) (record { ops = h .ops; planned = h .planned; list = element-is .list })
@@ -98,6 +138,6 @@ module _ {sheet : Bytes} {a b os rest : List ℕ} {below base left i : ℕ} (roo
       pub element-wrote : {start r : Page} {last : ℕ} → ((x : ElementAt sheet a b i) → Puts (spellRec (specRec (x .kind) (x .fields))) start p) → WroteMany sheet a b os rest below base (left - 1) props next q last r → Puts (elementText h) start r
       unfolding spellRecs
       element-wrote {start} {r} {last} head many =
-          let m : WroteMany sheet a b os rest below base (left - 1) (propsAt a b i) (i + 1 + cell a b i 4) q last r = rw (e, k, names-put .0) at many in
+          let m : WroteMany sheet a b os rest below base (left - 1) (propsAt a b i) (i + 1 + cell a b i nodeLabelsAt) q last r = rw (e, k, names-put .0) at many in
           let w = m (record { ops = h .ops; planned = h .planned; list = element-is .list }) in
           rw (element-is .recs (h .ops)) (head (element-is .at) ⨾ rw (spell-append (namesRecs (element-is .names)) (carriedRecs (h .ops) (element-is .list))) (names-put .1 ⨾ w .1))

@@ -1,6 +1,6 @@
 -- Expressions one after another: taken apart as the loop over them does, and made of the groups of a record. Assumes nothing: every law is proved.
 use mathlib.Core.Path.{_≡_, refl, sym, ap, _∙_}
-use Prim.Native.Nat.{ℕ, zero, suc, _+_, _-_, _≤_}
+use Prim.Native.Nat.{ℕ, zero, suc, _+_, _-_, _≤_, _<_}
 use native.Mathlib.Nat.{add-zero, add-assoc}
 use native.Mathlib.Omega.{arith}
 use mathlib.Core.Bool.{Bool, true, false, cond}
@@ -13,11 +13,13 @@ use Rattle.model.specs.Tree.{Tree, Trees, Forest, node, []ᵗ, _∷ᵗ_, end, _
 use Rattle.model.specs.Lower.{Recs, item, synthesiseAlias, exprAlias}
 use Rattle.output.specs.Page.{Page, Puts}
 use Rattle.output.specs.Writes.{_⨾_, stay}
+use Rattle.words.specs.Words.{maxRecords}
 use Rattle.words.specs.Held.{Held, HeldOf, HeldIn, size, sizeOf, roomIn}
 use Rattle.lower.specs.Render.{Notes, Ops, recsOver, render, renderOf, nameOf, Below, BelowOf, belowIn}
 use Rattle.lower.specs.Shows.{shift}
 use Rattle.plan_sheet.specs.Due.{Planned, noted, ExprAt, ItemAt, namedRec, itemName, Line, SomeLine, One, Carried, carriedRecs, carriedEnd, Many, manyText, WroteOne, WroteMany, WroteLine}
 use Rattle.plan_sheet.specs.Due
+use Rattle.plan_sheet.proofs.HeadLaws.{line-low}
 
 pub spell-append : (rs ss : Recs) → spellRecs (rs ++ ss) ≡ spellRecs rs ++ spellRecs ss
 unfolding spellRecs
@@ -51,6 +53,9 @@ pub record Made (sheet : Bytes) (a b : List ℕ) (N : Notes) (below left n i : �
   pub stop-is : carriedEnd list ≡ stop
 
 -- ── one of them ──
+
+one-of : _≡_ {A = ℕ} 1 0 → ⊥
+one-of e = omega arith
 
 module _ {sheet : Bytes} {a b os rest : List ℕ} {below base left : ℕ} where
   -- the first of some, and the others
@@ -100,26 +105,60 @@ module _ {sheet : Bytes} {a b os rest : List ℕ} {below base left : ℕ} where
       let e : next ≡ s .j = w (s .recs) (s .j) (s .line) .0 in
       record { ops = h .ops; planned = h .planned; tree = s .tree; held = rw e (s .held); under = s .under }
 
-  step : {n i m at next last : ℕ} {start p q r : Page} → (m ≡ 0 → ⊥) → (h : Many sheet a b os rest below base left n i) → Still h start m at p → WroteLine sheet a b at p next q → WroteOne sheet a b os rest below base left next q last r → Still h start (m - 1) last r
-  unfolding one-there
-  step {n} {i} {m} {at} {next} {last} z h g w v =
-      let s = split z (g .others) in
+  pub first-line : {i : ℕ} → Many sheet a b os rest below base left 1 i → SomeLine sheet a b i
+  first-line h = some-line one-of h
+
+  pub first-low : {i : ℕ} → Many sheet a b os rest below base left 1 i → i < maxRecords
+  first-low h = line-low (first-line h .line)
+
+  pub first-there : {i next : ℕ} {p q : Page} → Many sheet a b os rest below base left 1 i → WroteLine sheet a b i p next q → One sheet a b os rest below base left next
+  first-there h w = one-there one-of h w
+
+  -- a line and the expression behind it
+  pub lined : {i next last : ℕ} {p q r : Page} → WroteLine sheet a b i p next q → WroteOne sheet a b os rest below base left next q last r → WroteMany sheet a b os rest below base left 1 i p last r
+  unfolding one-there spellRecs
+  lined {i} {next} {last} {p} {q} {r} w v h =
+      let s = split one-of h in
       let e = w (s .recs) (s .j) (s .line) in
-      let o = v (one-there z (g .others) w) in
+      let o = v (one-there one-of h w) in
       let f : last ≡ s .j + size (s .tree) = o .0 ∙ ap (λ (x : ℕ). x + size (s .tree)) (e .0) in
-      rw f (record {
-        others = record { ops = g .others .ops; planned = g .others .planned; list = s .others };
+      let n = none-list (h .ops) 0 (s .j + size (s .tree)) refl (s .others) in
+      (f ∙ n .0 ∙ s .stop, rw (s .text, n .1) (e .1 ⨾ o .1 ⨾ stay))
+
+  -- the first of some, alone
+  first-list : {n i : ℕ} (h : Many sheet a b os rest below base left n i) {m : ℕ} → Split h m → Many sheet a b os rest below base left 1 i
+  first-list h s = record { ops = h .ops; planned = h .planned; list = Due.more (s .recs) (s .j) (s .line) (s .tree) (s .held) (s .under) Due.none }
+
+  pub first-one : {n i : ℕ} → (n ≡ 0 → ⊥) → Many sheet a b os rest below base left n i → Many sheet a b os rest below base left 1 i
+  first-one z h = first-list h (split z h)
+
+  step : {n i m at last : ℕ} {start p q : Page} → (m ≡ 0 → ⊥) → (h : Many sheet a b os rest below base left n i) → Still h start m at p → WroteMany sheet a b os rest below base left 1 at p last q → Still h start (m - 1) last q
+  unfolding first-list carriedRecs carriedEnd
+  step {n} {i} {m} {at} {last} {start} {p} {q} z h g w =
+      let s = split z (g .others) in
+      let N = shift (noted rest) base in
+      let A = g .others .ops in
+      let o = w (first-list (g .others) s) in
+      let put : Puts (spellRecs (s .recs) ++ spellRecs (render N A (s .tree))) p q = rw (append-nil (render N A (s .tree)), spell-append (s .recs) (render N A (s .tree))) at (o .1) in
+      let all = s .text ∙ sym (append-assoc (spellRecs (s .recs)) (spellRecs (render N A (s .tree))) (spellRecs (carriedRecs A (s .others)))) in
+      rw (o .0) (record {
+        others = record { ops = A; planned = g .others .planned; list = s .others };
         stop = s .stop ∙ g .stop;
-        text = λ q r. g .text q (rw (s .text) (e .1 ⨾ o .1 ⨾ r));
+        text = λ q r. g .text q (rw all (put ⨾ r));
       })
 
-  pub again : {n i m at next last : ℕ} {start p q r : Page} → (m ≡ 0 → ⊥) → Going sheet a b os rest below base left n i start m at p → WroteLine sheet a b at p next q → WroteOne sheet a b os rest below base left next q last r → length (r .bytes) ≡ length (p .bytes) → Going sheet a b os rest below base left n i start (m - 1) last r
-  again z g w v l =
+  pub again : {n i m at last : ℕ} {start p q : Page} → (m ≡ 0 → ⊥) → Going sheet a b os rest below base left n i start m at p → WroteMany sheet a b os rest below base left 1 at p last q → length (q .bytes) ≡ length (p .bytes) → Going sheet a b os rest below base left n i start (m - 1) last q
+  again z g w l =
       record {
-        some = step z (g .some) (record { others = g .some; stop = refl; text = λ q r. r }) w v .others;
-        each = λ h. step z h (g .each h) w v;
+        some = step z (g .some) (record { others = g .some; stop = refl; text = λ q r. r }) w .others;
+        each = λ h. step z h (g .each h) w;
         long = l ∙ g .long;
       }
+
+  -- nothing is due
+  pub none-wrote : {n i : ℕ} {p : Page} → n ≡ 0 → WroteMany sheet a b os rest below base left n i p i p
+  unfolding spellRecs
+  none-wrote {n} {i} z h = let e = none-list (h .ops) n i z (h .list) in (e .0, rw (e .1) stay)
 
   pub done : {n i m at : ℕ} {start p : Page} → m ≡ 0 → Going sheet a b os rest below base left n i start m at p → WroteMany sheet a b os rest below base left n i start at p
   unfolding spellRecs

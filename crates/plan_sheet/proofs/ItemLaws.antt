@@ -1,13 +1,12 @@
 -- The name of an item, off its record and its expression's. Assumes nothing: every law is proved.
 use mathlib.Core.Path.{_≡_, refl, sym, ap, _∙_}
-use Prim.Native.Nat.{ℕ, zero, suc, _+_, _/_, _%_, _≤_, _<_}
+use Prim.Native.Nat.{ℕ, zero, suc, _+_, _/_, _%_, _<_}
 use native.Mathlib.Omega.{arith}
 use mathlib.Core.Bool.{Bool, true, false, cond}
 use mathlib.Core.List.{List, [], _∷_, _++_, append-assoc}
 use mathlib.Core.Option.{none, some}
 use borrow.Author.Tests.{ne-eqb, ltb-true}
 use lib.Dec.{ltb}
-use lib.ListN.{length}
 use lib.Seq.{slice}
 use Rattle.model.specs.Text.{Bytes, behind, decimal, digits, bytes, bytesFrom, escapeByte, escape, unescape, tab, lineFeed}
 use Rattle.model.specs.Field.{Fields, text, spell, spellFields}
@@ -22,9 +21,10 @@ use Rattle.words.specs.Cells.{shown}
 use Rattle.words.specs.Numbers.{sameNumber, exprNumber}
 use Rattle.plan_line.specs.Keywords.{word, letters, itemWord}
 use Rattle.plan_line.specs.Row.{numbersText, namedText}
-use Rattle.plan_sheet.specs.Due.{ExprAt, ItemAt, namedRec, itemName}
+use Rattle.plan_sheet.specs.Due.{ExprAt, ItemAt, namedRec, itemName, TextIn, textAt}
 use Rattle.plan_line.proofs.RowLaws.{named-rec, place-escape}
 use Rattle.plan_sheet.proofs.HeadLaws.{at-kind, texts-at, number-is, kind-is, call-place}
+use Rattle.words.specs.Places.{fnKind, itemAliasAt, kindAt, nameAt, propKind, varIdAt, varKind}
 
 -- ── digits are not escaped ──
 
@@ -72,7 +72,7 @@ pub no-put : {p q r s t : Page} → Puts (word itemWord) p q → Puts (tab ∷ [
 unfolding namedText numbersText behind bytes bytesFrom
 no-put a b c d = a ⨾ b ⨾ c ⨾ d
 
-same-none : (h : Same) → (sameNumber h ≡ 23 → ⊥) → (f : Fields (sameForms h)) → sameAlias h f ≡ bytes "_"
+same-none : (h : Same) → (sameNumber h ≡ propKind → ⊥) → (f : Fields (sameForms h)) → sameAlias h f ≡ bytes "_"
 unfolding sameAlias sameNumber
 same-none Same.Null z f = refl
 same-none Same.Bool z f = refl
@@ -90,7 +90,7 @@ same-none Same.Case z f = refl
 same-none Same.IsNull z f = refl
 same-none Same.InList z f = refl
 
-kind-none : (k : Expr) → (exprNumber k ≡ 23 → ⊥) → (exprNumber k ≡ 32 → ⊥) → (exprNumber k ≡ 34 → ⊥) → (f : Fields (exprForms k)) → exprAlias k f ≡ bytes "_"
+kind-none : (k : Expr) → (exprNumber k ≡ propKind → ⊥) → (exprNumber k ≡ varKind → ⊥) → (exprNumber k ≡ fnKind → ⊥) → (f : Fields (exprForms k)) → exprAlias k f ≡ bytes "_"
 unfolding exprNumber
 kind-none (Expr.Over h) x y z f = same-none h x f
 kind-none Expr.Var x y z f = absurd (y refl)
@@ -104,26 +104,26 @@ kind-none Expr.Undesugared x y z f = refl
 -- ── an item without an alias ──
 
 module _ {sheet : Bytes} {a b : List ℕ} {i : ℕ} (room : Roomy a b) (h : ExprAt sheet a b i) where
-  prop-place : cell a b i 0 ≡ 23 → PlaceAt text sheet (cell a b i 2) (cell a b i 3)
+  prop-place : cell a b i kindAt ≡ propKind → PlaceAt text sheet (cell a b i nameAt) (cell a b i (nameAt + 1))
   unfolding kindOf firstKind nth kinds sames
-  prop-place e = at-kind (Expr.Over Same.Prop) (h .kind) (λ k f. RecordAt sheet a b i expr k f → PlaceAt text sheet (cell a b i 2) (cell a b i 3)) (kind-is room h 23 (Expr.Over Same.Prop) e refl) (λ f at. texts-at room at .0) (h .fields) (h .at)
+  prop-place e = at-kind (Expr.Over Same.Prop) (h .kind) (λ k f. RecordAt sheet a b i expr k f → PlaceAt text sheet (cell a b i nameAt) (cell a b i (nameAt + 1))) (kind-is room h propKind (Expr.Over Same.Prop) e refl) (λ f at. texts-at room at .0) (h .fields) (h .at)
 
-  pub prop-in : cell a b i 0 ≡ 23 → (cell a b i 2 ≤ cell a b i 3) × (cell a b i 3 ≤ length sheet)
+  pub prop-in : cell a b i kindAt ≡ propKind → TextIn sheet a b i nameAt
   prop-in e = let p = prop-place e in (p .from, p .to)
 
-  pub prop-named : cell a b i 0 ≡ 23 → spellRec (namedRec (exprAlias (h .kind) (h .fields))) ≡ namedText itemWord (slice (cell a b i 2) (cell a b i 3) sheet) []
+  pub prop-named : cell a b i kindAt ≡ propKind → spellRec (namedRec (exprAlias (h .kind) (h .fields))) ≡ namedText itemWord (textAt sheet a b i nameAt) []
   unfolding kindOf firstKind nth kinds sames sameAlias fieldsOf fieldOf
-  prop-named e = named-is _ _ (at-kind (Expr.Over Same.Prop) (h .kind) (λ k f. RecordAt sheet a b i expr k f → escape (exprAlias k f) ≡ slice (cell a b i 2) (cell a b i 3) sheet) (kind-is room h 23 (Expr.Over Same.Prop) e refl) (λ f at. rw (shown room at .fields) (place-escape (prop-place e))) (h .fields) (h .at))
+  prop-named e = named-is _ _ (at-kind (Expr.Over Same.Prop) (h .kind) (λ k f. RecordAt sheet a b i expr k f → escape (exprAlias k f) ≡ textAt sheet a b i nameAt) (kind-is room h propKind (Expr.Over Same.Prop) e refl) (λ f at. rw (shown room at .fields) (place-escape (prop-place e))) (h .fields) (h .at))
 
-  pub call-named : cell a b i 0 ≡ 34 → spellRec (namedRec (exprAlias (h .kind) (h .fields))) ≡ namedText itemWord (slice (cell a b i 2) (cell a b i 3) sheet) []
+  pub call-named : cell a b i kindAt ≡ fnKind → spellRec (namedRec (exprAlias (h .kind) (h .fields))) ≡ namedText itemWord (textAt sheet a b i nameAt) []
   unfolding kindOf firstKind nth kinds sames fieldsOf fieldOf
-  call-named e = named-is _ _ (at-kind Expr.Call (h .kind) (λ k f. RecordAt sheet a b i expr k f → escape (exprAlias k f) ≡ slice (cell a b i 2) (cell a b i 3) sheet) (kind-is room h 34 Expr.Call e refl) (λ f at. rw (shown room at .fields) (place-escape (call-place room 0 h e))) (h .fields) (h .at))
+  call-named e = named-is _ _ (at-kind Expr.Call (h .kind) (λ k f. RecordAt sheet a b i expr k f → escape (exprAlias k f) ≡ textAt sheet a b i nameAt) (kind-is room h fnKind Expr.Call e refl) (λ f at. rw (shown room at .fields) (place-escape (call-place room 0 h e))) (h .fields) (h .at))
 
-  pub id-named : cell a b i 0 ≡ 32 → spellRec (namedRec (exprAlias (h .kind) (h .fields))) ≡ namedText itemWord (bytes "_v" ++ decimal (cell a b i 2)) []
+  pub id-named : cell a b i kindAt ≡ varKind → spellRec (namedRec (exprAlias (h .kind) (h .fields))) ≡ namedText itemWord (bytes "_v" ++ decimal (cell a b i varIdAt)) []
   unfolding kindOf firstKind nth kinds sames fieldsOf fieldOf
-  id-named e = named-is _ _ (at-kind Expr.Var (h .kind) (λ k f. RecordAt sheet a b i expr k f → escape (exprAlias k f) ≡ bytes "_v" ++ decimal (cell a b i 2)) (kind-is room h 32 Expr.Var e refl) (λ f at. rw (shown room at .fields) (id-escape (cell a b i 2))) (h .fields) (h .at))
+  id-named e = named-is _ _ (at-kind Expr.Var (h .kind) (λ k f. RecordAt sheet a b i expr k f → escape (exprAlias k f) ≡ bytes "_v" ++ decimal (cell a b i varIdAt)) (kind-is room h varKind Expr.Var e refl) (λ f at. rw (shown room at .fields) (id-escape (cell a b i varIdAt))) (h .fields) (h .at))
 
-  pub none-named : (cell a b i 0 ≡ 23 → ⊥) → (cell a b i 0 ≡ 32 → ⊥) → (cell a b i 0 ≡ 34 → ⊥) → spellRec (namedRec (exprAlias (h .kind) (h .fields))) ≡ namedText itemWord (bytes "_") []
+  pub none-named : (cell a b i kindAt ≡ propKind → ⊥) → (cell a b i kindAt ≡ varKind → ⊥) → (cell a b i kindAt ≡ fnKind → ⊥) → spellRec (namedRec (exprAlias (h .kind) (h .fields))) ≡ namedText itemWord (bytes "_") []
   none-named x y z = let n = number-is room h in named-is _ _ (rw (kind-none (h .kind) (λ e. x (n ∙ e)) (λ e. y (n ∙ e)) (λ e. z (n ∙ e)) (h .fields)) no-escape)
 
 -- ── an item ──
@@ -138,20 +138,20 @@ unfolding aliasOf
 alias-none sheet x y e = rw e
 
 module _ {sheet : Bytes} {a b : List ℕ} {i : ℕ} (room : Roomy a b) (h : ItemAt sheet a b i) where
-  alias-is : h .fields .0 ≡ aliasOf sheet (cell a b i 2) (cell a b i 3)
+  alias-is : h .fields .0 ≡ aliasOf sheet (cell a b i itemAliasAt) (cell a b i (itemAliasAt + 1))
   unfolding fieldsOf fieldOf
   alias-is = ap (λ (f : Fields (forms projection tt)). f .0) (shown room (h .at) .fields)
 
-  alias-place : (cell a b i 2 ≡ 0 → ⊥) → PlaceAt text sheet (cell a b i 2) (cell a b i 3)
+  alias-place : (cell a b i itemAliasAt ≡ 0 → ⊥) → PlaceAt text sheet (cell a b i itemAliasAt) (cell a b i (itemAliasAt + 1))
   alias-place z = texts-at room (h .at) .0 (omega arith)
 
-  pub alias-in : (cell a b i 2 ≡ 0 → ⊥) → (cell a b i 2 ≤ cell a b i 3) × (cell a b i 3 ≤ length sheet)
+  pub alias-in : (cell a b i itemAliasAt ≡ 0 → ⊥) → TextIn sheet a b i itemAliasAt
   alias-in z = let p = alias-place z in (p .from, p .to)
 
-  pub alias-named : (cell a b i 2 ≡ 0 → ⊥) → spellRec (namedRec (itemName h)) ≡ namedText itemWord (slice (cell a b i 2) (cell a b i 3) sheet) []
+  pub alias-named : (cell a b i itemAliasAt ≡ 0 → ⊥) → spellRec (namedRec (itemName h)) ≡ namedText itemWord (textAt sheet a b i itemAliasAt) []
   unfolding aliasOr
-  alias-named z = named-is _ _ (rw (alias-is, alias-some sheet (cell a b i 2) (cell a b i 3) z) (place-escape (alias-place z)))
+  alias-named z = named-is _ _ (rw (alias-is, alias-some sheet (cell a b i itemAliasAt) (cell a b i (itemAliasAt + 1)) z) (place-escape (alias-place z)))
 
-  pub plain-named : cell a b i 2 ≡ 0 → itemName h ≡ exprAlias (h .expr .kind) (h .expr .fields)
+  pub plain-named : cell a b i itemAliasAt ≡ 0 → itemName h ≡ exprAlias (h .expr .kind) (h .expr .fields)
   unfolding aliasOr
-  plain-named z = rw (alias-is, alias-none sheet (cell a b i 2) (cell a b i 3) z)
+  plain-named z = rw (alias-is, alias-none sheet (cell a b i itemAliasAt) (cell a b i (itemAliasAt + 1)) z)

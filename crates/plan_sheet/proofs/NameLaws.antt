@@ -1,6 +1,6 @@
 -- Names one after another, and the line of a pattern's element. Assumes nothing: every law is proved.
 use mathlib.Core.Path.{_≡_, refl, sym, ap, _∙_}
-use Prim.Native.Nat.{ℕ, suc, _+_, _-_, _≤_, _<_}
+use Prim.Native.Nat.{ℕ, suc, _+_, _-_, _≤_}
 use native.Mathlib.Omega.{arith}
 use mathlib.Core.List.{List, [], _∷_, _++_, append-nil, append-assoc}
 use lib.ListN.{length}
@@ -9,62 +9,43 @@ use Rattle.model.specs.Text.{Bytes, tab, lineFeed, behind, decimal, bytes, byte
 use Rattle.model.specs.Field.{Fields, spell, spellFlag, spellFields}
 use Rattle.model.specs.Field
 use Rattle.model.specs.Kind.{PatternElement, patternElement, name}
-use Rattle.model.specs.Record.{rec, forms, elementForms, keyword, planKeyword, spellRec, spellRecs}
+use Rattle.model.specs.Record.{rec, elementForms, keyword, planKeyword, spellRec, spellRecs}
 use Rattle.model.specs.Tree.{Trees, node, []ᵗ, _∷ᵗ_, end}
 use Rattle.model.specs.Lower.{Recs}
 use Rattle.output.specs.Page.{Page, Puts}
 use Rattle.output.specs.Writes.{_⨾_, stay}
 use Rattle.words.specs.Words.{Roomy, cell, fieldOf, fieldsOf}
 use Rattle.words.specs.Held.{Held, HeldOf, RecordAt, PlaceAt, size, sizeOf}
-use Rattle.words.specs.Table.{sorts, sortOf}
 use Rattle.words.specs.Cells.{shown}
 use Rattle.lower.specs.Render.{Notes, Ops, recsOver, render, renderOf, specRec}
 use Rattle.words.proofs.Counting.{innerNumber, inner-number}
 use Rattle.words.specs.Numbers.{elementNumber}
-use Rattle.plan_line.specs.Keywords.{word, letters, toWord, nameWord, relWord}
-use Rattle.plan_line.specs.Field.{plain, allPlain, fieldText, lineText}
+use Rattle.plan_line.specs.Keywords.{word, letters, toWord, relWord}
+use Rattle.plan_line.specs.Copy.{SomeRecord, Copied}
 use Rattle.plan_line.specs.Row.{rowText, relText}
-use Rattle.plan_sheet.specs.Due.{Names, no-names, name-more, namesRecs, ElementAt}
-use Rattle.plan_line.proofs.FieldLaws.{flag-decimal, behind-append, place-text}
-use Rattle.plan_line.proofs.RowLaws.{record-line, row-rec}
-use Rattle.plan_sheet.proofs.HeadLaws.{Lined, fielded, line-is, texts-at}
+use Rattle.plan_sheet.specs.Due.{Names, no-names, name-more, namesRecs, ElementAt, TextIn, textAt}
+use Rattle.plan_line.proofs.RowLaws.{flag-decimal, behind-append, place-text, record-line, row-rec}
+use Rattle.plan_sheet.proofs.HeadLaws.{some-record, texts-at}
+use Rattle.words.specs.Places.{kindAt, nodeKind, nodeLabelsAt, nodePropsAt, relDirectionAt, relKind, relLengthAt, relPropsAt, relTypesAt}
 
 -- ── names ──
 
 module _ {sheet : Bytes} {a b : List ℕ} (room : Roomy a b) where
-  name-number : {i : ℕ} {f : Fields (forms name tt)} → RecordAt sheet a b i name tt f → cell a b i 0 ≡ 14
-  unfolding innerNumber
-  name-number {i} h = inner-number name tt (cell a b i 0) tt (shown room h .kind)
-
-  name-lined : {i : ℕ} {f : Fields (forms name tt)} → RecordAt sheet a b i name tt f → Lined sheet a b i 14 nameWord (rec name tt f)
-  unfolding sorts sortOf allPlain plain spellRec keyword word letters bytes bytesFrom
-  name-lined {i} {f} h =
-      record {
-        fields = rw (name-number h) at (fielded 7 (omega arith) room h refl);
-        low = omega arith;
-        is = rw (name-number h) at (line-is 7 (omega arith) room h (word nameWord)) ∙ sym (record-line (word nameWord) (spellFields (forms name tt) f));
-      }
-
-  pub first-lined : {n i : ℕ} → (n ≡ 0 → ⊥) → Names sheet a b n i → (f : Fields (forms name tt)) × Lined sheet a b i 14 nameWord (rec name tt f)
-  first-lined z no-names = absurd (z refl)
-  first-lined z (name-more f h c) = (f, name-lined h)
-
-  pub first-low : {n i : ℕ} → (n ≡ 0 → ⊥) → Names sheet a b n i → i < 2048
-  first-low z no-names = absurd (z refl)
-  first-low z (name-more f h c) = h .low
+  pub first-record : {n i : ℕ} → (n ≡ 0 → ⊥) → Names sheet a b n i → SomeRecord sheet a b i
+  first-record z no-names = absurd (z refl)
+  first-record z (name-more f h c) = some-record h
 
   -- what is left of the names h
   pub record NamesStill {n i : ℕ} (h : Names sheet a b n i) (start : Page) (m at : ℕ) (p : Page) : Type 0 where
     pub others : Names sheet a b m at
     pub text : (q : Page) → Puts (spellRecs (namesRecs others)) p q → Puts (spellRecs (namesRecs h)) start q
 
-  names-step : {n i m at : ℕ} {start p q : Page} (h : Names sheet a b n i) → (m ≡ 0 → ⊥) → (others : Names sheet a b m at) → ((q : Page) → Puts (spellRecs (namesRecs others)) p q → Puts (spellRecs (namesRecs h)) start q) → Puts (lineText (word nameWord) sheet a b at 14) p q → NamesStill h start (m - 1) (at + 1) q
+  names-step : {n i m at : ℕ} {start p q : Page} (h : Names sheet a b n i) → (m ≡ 0 → ⊥) → (others : Names sheet a b m at) → ((q : Page) → Puts (spellRecs (namesRecs others)) p q → Puts (spellRecs (namesRecs h)) start q) → Copied sheet a b at p q → NamesStill h start (m - 1) (at + 1) q
   unfolding namesRecs spellRecs
   names-step h z no-names text w = absurd (z refl)
   names-step {m = suc m} h z (name-more f r c) text w =
       let e : suc m - 1 ≡ m = omega arith in
-      let put = rw (name-lined r .is) at w in
-      rw e (record { others = c; text = λ q v. text q (put ⨾ v) })
+      rw e (record { others = c; text = λ q v. text q (w .line name tt f r ⨾ v) })
 
 -- the loop over n names
 pub record NamesGoing (sheet : Bytes) (a b : List ℕ) (n i : ℕ) (start : Page) (m at : ℕ) (p : Page) : Type 0 where
@@ -76,7 +57,7 @@ pub record NamesGoing (sheet : Bytes) (a b : List ℕ) (n i : ℕ) (start : Page
 pub names-going : {sheet : Bytes} {a b : List ℕ} {n i : ℕ} {p : Page} → Names sheet a b n i → NamesGoing sheet a b n i p n i p
 names-going h = record { some = h; each = λ h. (h, λ q r. r); sum = refl; long = refl }
 
-pub names-again : {sheet : Bytes} {a b : List ℕ} {n i m at : ℕ} {start p q : Page} → Roomy a b → (m ≡ 0 → ⊥) → NamesGoing sheet a b n i start m at p → Puts (lineText (word nameWord) sheet a b at 14) p q → length (q .bytes) ≡ length (p .bytes) → NamesGoing sheet a b n i start (m - 1) (at + 1) q
+pub names-again : {sheet : Bytes} {a b : List ℕ} {n i m at : ℕ} {start p q : Page} → Roomy a b → (m ≡ 0 → ⊥) → NamesGoing sheet a b n i start m at p → Copied sheet a b at p q → length (q .bytes) ≡ length (p .bytes) → NamesGoing sheet a b n i start (m - 1) (at + 1) q
 names-again room z g w l =
     record {
       some = names-step room (g .some) z (g .some) (λ q r. r) w .others;
@@ -125,48 +106,48 @@ four : (p q r s t : Bytes) → (p ++ (q ++ (r ++ s))) ++ t ≡ p ++ (q ++ (r ++ 
 four p q r s t = append-assoc p (q ++ (r ++ s)) t ∙ ap (λ (x : Bytes). p ++ x) (append-assoc q (r ++ s) t ∙ ap (λ (x : Bytes). q ++ x) (append-assoc r s t))
 
 module _ {sheet : Bytes} {a b : List ℕ} {i : ℕ} (room : Roomy a b) where
-  pub element-number : (h : ElementAt sheet a b i) → cell a b i 0 ≡ elementNumber (h .kind)
+  pub element-number : (h : ElementAt sheet a b i) → cell a b i kindAt ≡ elementNumber (h .kind)
   unfolding innerNumber
-  element-number h = inner-number patternElement tt (cell a b i 0) (h .kind) (shown room (h .at) .kind)
+  element-number h = inner-number patternElement tt (cell a b i kindAt) (h .kind) (shown room (h .at) .kind)
 
-  node-fields : (k : PatternElement) (f : Fields (elementForms k)) → RecordAt sheet a b i patternElement k f → elementNumber k ≡ 12 → spellRec (specRec k f) ≡ rowText toWord (cell a b i 4 ∷ cell a b i 6 ∷ [])
+  node-fields : (k : PatternElement) (f : Fields (elementForms k)) → RecordAt sheet a b i patternElement k f → elementNumber k ≡ nodeKind → spellRec (specRec k f) ≡ rowText toWord (cell a b i nodeLabelsAt ∷ cell a b i nodePropsAt ∷ [])
   unfolding elementNumber specRec keyword planKeyword word letters bytes bytesFrom spellFields spell fieldsOf fieldOf
   node-fields PatternElement.Node f at e =
       let s = shown room at in
-      row-rec _ toWord (cell a b i 4 ∷ cell a b i 6 ∷ []) refl (rw (s .fields) (rw (flag-decimal (cell a b i 6) (s .flags .1 .1 .0))))
-  node-fields PatternElement.Rel f at e = let z : _≡_ {A = ℕ} 13 12 = e in absurd (omega arith)
+      row-rec _ toWord (cell a b i nodeLabelsAt ∷ cell a b i nodePropsAt ∷ []) refl (rw (s .fields) (rw (flag-decimal (cell a b i nodePropsAt) (s .flags .1 .1 .0))))
+  node-fields PatternElement.Rel f at e = let z : _≡_ {A = ℕ} relKind nodeKind = e in absurd (omega arith)
 
-  rel-place : (k : PatternElement) (f : Fields (elementForms k)) → RecordAt sheet a b i patternElement k f → (elementNumber k ≡ 12 → ⊥) → PlaceAt Field.length sheet (cell a b i 8) (cell a b i 9)
+  rel-place : (k : PatternElement) (f : Fields (elementForms k)) → RecordAt sheet a b i patternElement k f → (elementNumber k ≡ nodeKind → ⊥) → PlaceAt Field.length sheet (cell a b i relLengthAt) (cell a b i (relLengthAt + 1))
   unfolding elementNumber
   rel-place PatternElement.Node f at e = absurd (e refl)
   rel-place PatternElement.Rel f at e = texts-at room at .1 .1 .1 .0
 
-  rel-fields : PlaceAt Field.length sheet (cell a b i 8) (cell a b i 9) → (k : PatternElement) (f : Fields (elementForms k)) → RecordAt sheet a b i patternElement k f → (elementNumber k ≡ 12 → ⊥) → spellRec (specRec k f) ≡ relText (cell a b i 4) (cell a b i 6) (slice (cell a b i 8) (cell a b i 9) sheet) (cell a b i 10)
-  unfolding elementNumber specRec spellRec keyword planKeyword word letters bytes bytesFrom spellFields spell fieldsOf fieldOf relText behind fieldText
+  rel-fields : PlaceAt Field.length sheet (cell a b i relLengthAt) (cell a b i (relLengthAt + 1)) → (k : PatternElement) (f : Fields (elementForms k)) → RecordAt sheet a b i patternElement k f → (elementNumber k ≡ nodeKind → ⊥) → spellRec (specRec k f) ≡ relText (cell a b i relTypesAt) (cell a b i relDirectionAt) (textAt sheet a b i relLengthAt) (cell a b i relPropsAt)
+  unfolding elementNumber specRec spellRec keyword planKeyword word letters bytes bytesFrom spellFields spell fieldsOf fieldOf relText behind
   rel-fields p PatternElement.Node f at e = absurd (e refl)
   rel-fields p PatternElement.Rel f at e =
       let s = shown room at in
-      let len : Bytes = slice (cell a b i 8) (cell a b i 9) sheet in
-      let props : spellFlag (f .1 .1 .1 .1 .0) ≡ decimal (cell a b i 10) = rw (s .fields) (flag-decimal (cell a b i 10) (s .flags .1 .1 .1 .1 .0)) in
+      let len : Bytes = textAt sheet a b i relLengthAt in
+      let props : spellFlag (f .1 .1 .1 .1 .0) ≡ decimal (cell a b i relPropsAt) = rw (s .fields) (flag-decimal (cell a b i relPropsAt) (s .flags .1 .1 .1 .1 .0)) in
       let body : behind tab (spell Field.length (f .1 .1 .1 .0)) ≡ tab ∷ len = rw (s .fields) (place-text p) in
-      let tail : behind tab (spell Field.length (f .1 .1 .1 .0) ++ (spellFlag (f .1 .1 .1 .1 .0) ∷ [])) ≡ (tab ∷ len) ++ (tab ∷ decimal (cell a b i 10)) =
+      let tail : behind tab (spell Field.length (f .1 .1 .1 .0) ++ (spellFlag (f .1 .1 .1 .1 .0) ∷ [])) ≡ (tab ∷ len) ++ (tab ∷ decimal (cell a b i relPropsAt)) =
       behind-append tab (spell Field.length (f .1 .1 .1 .0)) (spellFlag (f .1 .1 .1 .1 .0) ∷ [])
-      ∙ rw (props, append-nil (decimal (cell a b i 10))) (ap (λ (x : Bytes). x ++ (tab ∷ decimal (cell a b i 10))) body) in
-      let types : f .1 .0 ≡ cell a b i 4 = ap (λ (x : Fields (elementForms PatternElement.Rel)). x .1 .0) (s .fields) in
-      let direction : f .1 .1 .0 ≡ cell a b i 6 = ap (λ (x : Fields (elementForms PatternElement.Rel)). x .1 .1 .0) (s .fields) in
+      ∙ rw (props, append-nil (decimal (cell a b i relPropsAt))) (ap (λ (x : Bytes). x ++ (tab ∷ decimal (cell a b i relPropsAt))) body) in
+      let types : f .1 .0 ≡ cell a b i relTypesAt = ap (λ (x : Fields (elementForms PatternElement.Rel)). x .1 .0) (s .fields) in
+      let direction : f .1 .1 .0 ≡ cell a b i relDirectionAt = ap (λ (x : Fields (elementForms PatternElement.Rel)). x .1 .1 .0) (s .fields) in
       record-line (word relWord) _
-      ∙ ap (λ (x : Bytes). word relWord ++ x) (rw (tail, types, direction) (four (tab ∷ decimal (cell a b i 4)) (tab ∷ decimal (cell a b i 6)) (tab ∷ len) (tab ∷ decimal (cell a b i 10)) (lineFeed ∷ [])))
+      ∙ ap (λ (x : Bytes). word relWord ++ x) (rw (tail, types, direction) (four (tab ∷ decimal (cell a b i relTypesAt)) (tab ∷ decimal (cell a b i relDirectionAt)) (tab ∷ len) (tab ∷ decimal (cell a b i relPropsAt)) (lineFeed ∷ [])))
 
   module _ (h : ElementAt sheet a b i) where
-    pub node-line : cell a b i 0 ≡ 12 → spellRec (specRec (h .kind) (h .fields)) ≡ rowText toWord (cell a b i 4 ∷ cell a b i 6 ∷ [])
+    pub node-line : cell a b i kindAt ≡ nodeKind → spellRec (specRec (h .kind) (h .fields)) ≡ rowText toWord (cell a b i nodeLabelsAt ∷ cell a b i nodePropsAt ∷ [])
     node-line e = node-fields (h .kind) (h .fields) (h .at) (sym (element-number h) ∙ e)
 
-    pub rel-in : (cell a b i 0 ≡ 12 → ⊥) → (cell a b i 8 ≤ cell a b i 9) × (cell a b i 9 ≤ length sheet)
+    pub rel-in : (cell a b i kindAt ≡ nodeKind → ⊥) → TextIn sheet a b i relLengthAt
     rel-in e = let p = rel-place (h .kind) (h .fields) (h .at) (λ x. e (element-number h ∙ x)) in (p .from, p .to)
 
-    pub rel-line : (cell a b i 0 ≡ 12 → ⊥) → spellRec (specRec (h .kind) (h .fields)) ≡ relText (cell a b i 4) (cell a b i 6) (slice (cell a b i 8) (cell a b i 9) sheet) (cell a b i 10)
+    pub rel-line : (cell a b i kindAt ≡ nodeKind → ⊥) → spellRec (specRec (h .kind) (h .fields)) ≡ relText (cell a b i relTypesAt) (cell a b i relDirectionAt) (textAt sheet a b i relLengthAt) (cell a b i relPropsAt)
     rel-line e =
-        let n : elementNumber (h .kind) ≡ 12 → ⊥ = λ x. e (element-number h ∙ x) in
+        let n : elementNumber (h .kind) ≡ nodeKind → ⊥ = λ x. e (element-number h ∙ x) in
         rel-fields (rel-place (h .kind) (h .fields) (h .at) n) (h .kind) (h .fields) (h .at) n
 
 -- ── pieces of a line, by the words that were read ──

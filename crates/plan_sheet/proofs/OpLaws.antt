@@ -3,10 +3,9 @@ use mathlib.Core.Path.{_≡_, refl, sym, ap, subst, _∙_}
 use Prim.Native.Nat.{ℕ, zero, suc, _+_, _≤_, _<_}
 use native.Mathlib.Omega.{arith}
 use mathlib.Core.List.{List, [], _∷_, _++_, append-nil, append-assoc}
-use lib.ListN.{length, take}
+use lib.ListN.{take}
 use mathlib.Core.Bool.{Bool, true, false}
 use lib.Dec.{eqb}
-use lib.Seq.{slice}
 use Rattle.model.specs.Text.{Bytes, tab, lineFeed, behind, bytes, bytesFrom, decimal, digits, escape}
 use Rattle.model.specs.Field.{Fields, text, spell, spellFlag, spellOption, spellFields}
 use Rattle.model.specs.Kind.{ReadOp, Clause, clause, patternElement}
@@ -15,7 +14,7 @@ use Rattle.model.specs.Tree.{Tree, node}
 use Rattle.model.specs.Lower.{Recs, op, source}
 use Rattle.output.specs.Page.{Page, Puts}
 use Rattle.output.specs.Writes.{_⨾_}
-use Rattle.words.specs.Words.{Roomy, cell, optionOf, fieldOf, fieldsOf}
+use Rattle.words.specs.Words.{Roomy, cell, optionOf, fieldOf, fieldsOf, maxRecords}
 use Rattle.words.specs.Held.{Held, PlaceAt}
 use Rattle.words.specs.Cells.{shown}
 use Rattle.context.specs.Tables.{opAt}
@@ -26,12 +25,13 @@ use Rattle.lower.specs.Render.{Notes, Ops, specRecs}
 use Rattle.lower.specs.Shows.{shift, InBounds, Shows, OverExpr, ByLabels, ByRel, ByShortest, ByPath, ByWith, ByItems, ByParted, ByKeys, ByCall, shows-all, shows-source, shows-filter, shows-expand, shows-short, shows-path, shows-optional, shows-with, shows-project, shows-aggregate, shows-order, shows-skip, shows-limit, shows-distinct, shows-unwind, shows-union, shows-call}
 use Rattle.plan_line.specs.Keywords.{word, letters, sourceWord, filterWord, expandWord, shortWord, pathWord, optionalWord, withWord, projectWord, aggWord, orderWord, skipWord, limitWord, distinctWord, unwindWord, unionWord, callWord}
 use Rattle.plan_line.specs.Row.{numbersText, rowText, callText}
-use Rattle.plan_sheet.specs.Due.{noted, Planned, SomePlan, OpShown, WroteFirst, Element, WroteElement, WroteOp}
-use Rattle.plan_line.proofs.FieldLaws.{flag-decimal}
-use Rattle.plan_line.proofs.RowLaws.{record-line, row-rec, place-escape}
+use Rattle.plan_sheet.specs.Due.{noted, Planned, SomePlan, OpShown, WroteFirst, Element, WroteElement, WroteOp, TextIn, allShortest, textAt}
+use Rattle.plan_line.proofs.RowLaws.{flag-decimal, record-line, row-rec, place-escape}
 use Rattle.plan_sheet.proofs.HeadLaws.{texts-at}
 use Rattle.plan_sheet.proofs.DueLaws.{planned-less, spell-append}
 use Rattle.plan_sheet.proofs.NameLaws.{names-made}
+use Rattle.context.specs.Ops.{aggregateKind, bindPathKind, distinctKind, expandKind, filterKind, limitKind, optionalJoinKind, orderByKind, procedureCallKind, projectKind, shortestPathKind, skipKind, sourceAllKind, sourceKind, unionKind, unwindKind, withKind}
+use Rattle.words.specs.Places.{callArgsAt, callNameAt, callOptionalAt, callYieldsAt, itemsAt, nodeLabelsAt, partShortestAt, withFilterAt}
 
 -- ── by kind ──
 
@@ -91,7 +91,7 @@ module _ {sheet : Bytes} {a b : List ℕ} {N : Notes} {A : Ops} {k : ℕ} {o : O
   pub of-kind : (n : ℕ) → o .kind ≡ n → Shows (side sheet a b 0) N A k o recs → typeAt (byKind sheet a b N A k o recs) n
   of-kind n e h = subst (λ (x : ℕ). typeAt (byKind sheet a b N A k o recs) x) e (told h)
 
-  last-kind : Shows (side sheet a b 0) N A k o recs → 15 < o .kind → o .kind ≡ 16
+  last-kind : Shows (side sheet a b 0) N A k o recs → unionKind < o .kind → o .kind ≡ procedureCallKind
   last-kind (shows-all q r) l = absurd (omega arith)
   last-kind (shows-source q r) l = absurd (omega arith)
   last-kind (shows-filter q r) l = absurd (omega arith)
@@ -114,10 +114,10 @@ module _ {sheet : Bytes} {a b : List ℕ} {N : Notes} {A : Ops} {k : ℕ} {o : O
 past : (m n : ℕ) → m ≤ n → (n ≡ m → ⊥) → suc m ≤ n
 past m n l z = omega arith
 
-pub above-five : (n : ℕ) → (n ≡ 0 → ⊥) → (n ≡ 1 → ⊥) → (n ≡ 2 → ⊥) → (n ≡ 3 → ⊥) → (n ≡ 4 → ⊥) → (n ≡ 5 → ⊥) → 5 < n
+pub above-five : (n : ℕ) → (n ≡ sourceAllKind → ⊥) → (n ≡ sourceKind → ⊥) → (n ≡ filterKind → ⊥) → (n ≡ expandKind → ⊥) → (n ≡ shortestPathKind → ⊥) → (n ≡ bindPathKind → ⊥) → bindPathKind < n
 above-five n a b c d e f = past 5 n (past 4 n (past 3 n (past 2 n (past 1 n (past 0 n (omega arith) a) b) c) d) e) f
 
-pub above-fifteen : (n : ℕ) → 5 < n → (n ≡ 6 → ⊥) → (n ≡ 7 → ⊥) → (n ≡ 8 → ⊥) → (n ≡ 9 → ⊥) → (n ≡ 10 → ⊥) → (n ≡ 11 → ⊥) → (n ≡ 12 → ⊥) → (n ≡ 13 → ⊥) → (n ≡ 14 → ⊥) → (n ≡ 15 → ⊥) → 15 < n
+pub above-fifteen : (n : ℕ) → bindPathKind < n → (n ≡ optionalJoinKind → ⊥) → (n ≡ withKind → ⊥) → (n ≡ projectKind → ⊥) → (n ≡ aggregateKind → ⊥) → (n ≡ orderByKind → ⊥) → (n ≡ skipKind → ⊥) → (n ≡ limitKind → ⊥) → (n ≡ distinctKind → ⊥) → (n ≡ unwindKind → ⊥) → (n ≡ unionKind → ⊥) → unionKind < n
 above-fifteen n l a b c d e f g h i j = past 15 n (past 14 n (past 13 n (past 12 n (past 11 n (past 10 n (past 9 n (past 8 n (past 7 n (past 6 n l a) b) c) d) e) f) g) h) i) j
 
 -- ── the first line ──
@@ -130,7 +130,7 @@ first-rec {r} e = rw e (append-nil (spellRec r))
 pub first-more : {r : Rec} {rs recs : Recs} → recs ≡ r ∷ rs → spellRecs recs ≡ spellRecs (take 1 recs) ++ spellRecs rs
 first-more {r} {rs} e = rw e (spell-append (r ∷ []) rs)
 
-element-low : (sheet : Bytes) (a b : List ℕ) (d i : ℕ) (t : Tree patternElement) → Held sheet a b t d i → i < 2048
+element-low : (sheet : Bytes) (a b : List ℕ) (d i : ℕ) (t : Tree patternElement) → Held sheet a b t d i → i < maxRecords
 unfolding Held
 element-low sheet a b d i (node patternElement line k f kids) h = h .1 .low
 
@@ -140,89 +140,89 @@ bool-decimal false = refl
 bool-decimal true = refl
 
 module _ {sheet : Bytes} {a b rest : List ℕ} {o : Op} (h : OpShown sheet a b rest o) where
-  pub all-line : o .kind ≡ 0 → spellRecs (take 1 (h .recs)) ≡ rowText sourceWord (o .x ∷ 0 ∷ [])
+  pub all-line : o .kind ≡ sourceAllKind → spellRecs (take 1 (h .recs)) ≡ rowText sourceWord (o .x ∷ 0 ∷ [])
   unfolding source keyword planKeyword opKeyword word letters bytes bytesFrom spellFields spell
-  all-line e = first-rec (of-kind 0 e (h .stored .shows)) ∙ row-rec _ sourceWord (o .x ∷ 0 ∷ []) refl refl
+  all-line e = first-rec (of-kind sourceAllKind e (h .stored .shows)) ∙ row-rec _ sourceWord (o .x ∷ 0 ∷ []) refl refl
 
-  pub source-line : o .kind ≡ 1 → spellRecs (take 1 (h .recs)) ≡ rowText sourceWord (o .x ∷ cell a b (o .idx) 4 ∷ [])
+  pub source-line : o .kind ≡ sourceKind → spellRecs (take 1 (h .recs)) ≡ rowText sourceWord (o .x ∷ cell a b (o .idx) nodeLabelsAt ∷ [])
   unfolding source keyword planKeyword opKeyword word letters bytes bytesFrom spellFields spell
   source-line e =
-      let s = of-kind 1 e (h .stored .shows) in
+      let s = of-kind sourceKind e (h .stored .shows) in
       let m = names-made (shift (noted rest) (o .base)) (h .ops) (o .left) (s .labels) (o .idx + 1) (s .held) in
-      first-rec (s .is) ∙ row-rec _ sourceWord (o .x ∷ cell a b (o .idx) 4 ∷ []) refl (rw (m .count, s .counted))
+      first-rec (s .is) ∙ row-rec _ sourceWord (o .x ∷ cell a b (o .idx) nodeLabelsAt ∷ []) refl (rw (m .count, s .counted))
 
-  pub filter-line : o .kind ≡ 2 → spellRecs (take 1 (h .recs)) ≡ rowText filterWord (o .input ∷ [])
+  pub filter-line : o .kind ≡ filterKind → spellRecs (take 1 (h .recs)) ≡ rowText filterWord (o .input ∷ [])
   unfolding keyword planKeyword opKeyword word letters bytes bytesFrom spellFields spell
-  filter-line e = first-rec (of-kind 2 e (h .stored .shows) .is) ∙ row-rec _ filterWord (o .input ∷ []) refl refl
+  filter-line e = first-rec (of-kind filterKind e (h .stored .shows) .is) ∙ row-rec _ filterWord (o .input ∷ []) refl refl
 
-  module _ (c : o .kind ≡ 3) where
-    pub expand-low : (o .idx < 2048) × (o .y < 2048)
-    expand-low = let s = of-kind 3 c (h .stored .shows) in (element-low sheet a b (o .left) (o .idx) (s .rel) (s .held-rel), element-low sheet a b (o .left) (o .y) (s .far) (s .held-far))
+  module _ (c : o .kind ≡ expandKind) where
+    pub expand-low : (o .idx < maxRecords) × (o .y < maxRecords)
+    expand-low = let s = of-kind expandKind c (h .stored .shows) in (element-low sheet a b (o .left) (o .idx) (s .rel) (s .held-rel), element-low sheet a b (o .left) (o .y) (s .far) (s .held-far))
 
     pub expand-line : spellRecs (take 1 (h .recs)) ≡ rowText expandWord (o .input ∷ o .x ∷ noteOf rest (o .base) (o .idx) ∷ noteOf rest (o .base) (o .y) ∷ [])
     unfolding keyword planKeyword opKeyword word letters bytes bytesFrom spellFields spell
     expand-line =
-        let s = of-kind 3 c (h .stored .shows) in
+        let s = of-kind expandKind c (h .stored .shows) in
         first-rec (s .is) ∙ row-rec _ expandWord (o .input ∷ o .x ∷ noteOf rest (o .base) (o .idx) ∷ noteOf rest (o .base) (o .y) ∷ []) refl refl
 
-  pub short-line : o .kind ≡ 4 → spellRecs (take 1 (h .recs)) ≡ rowText shortWord (o .input ∷ noteOf rest (o .base) (o .idx + 1) ∷ noteOf rest (o .base) (o .y) ∷ noteOf rest (o .base) (o .idx) ∷ one (eqb (cell a b (o .idx) 4) 2) ∷ [])
+  pub short-line : o .kind ≡ shortestPathKind → spellRecs (take 1 (h .recs)) ≡ rowText shortWord (o .input ∷ noteOf rest (o .base) (o .idx + 1) ∷ noteOf rest (o .base) (o .y) ∷ noteOf rest (o .base) (o .idx) ∷ one (eqb (cell a b (o .idx) partShortestAt) allShortest) ∷ [])
   unfolding keyword planKeyword opKeyword word letters bytes bytesFrom spellFields spell
   short-line c =
-      let s = of-kind 4 c (h .stored .shows) in
-      first-rec (s .is) ∙ row-rec _ shortWord (o .input ∷ noteOf rest (o .base) (o .idx + 1) ∷ noteOf rest (o .base) (o .y) ∷ noteOf rest (o .base) (o .idx) ∷ one (eqb (cell a b (o .idx) 4) 2) ∷ []) refl (rw (s .is-all) (rw (bool-decimal (eqb (cell a b (o .idx) 4) 2))))
+      let s = of-kind shortestPathKind c (h .stored .shows) in
+      first-rec (s .is) ∙ row-rec _ shortWord (o .input ∷ noteOf rest (o .base) (o .idx + 1) ∷ noteOf rest (o .base) (o .y) ∷ noteOf rest (o .base) (o .idx) ∷ one (eqb (cell a b (o .idx) partShortestAt) allShortest) ∷ []) refl (rw (s .is-all) (rw (bool-decimal (eqb (cell a b (o .idx) partShortestAt) allShortest))))
 
-  pub path-line : o .kind ≡ 5 → spellRecs (take 1 (h .recs)) ≡ rowText pathWord (o .input ∷ o .y ∷ o .x ∷ [])
+  pub path-line : o .kind ≡ bindPathKind → spellRecs (take 1 (h .recs)) ≡ rowText pathWord (o .input ∷ o .y ∷ o .x ∷ [])
   unfolding keyword planKeyword opKeyword word letters bytes bytesFrom spellFields spell
-  path-line e = first-rec (of-kind 5 e (h .stored .shows) .is) ∙ row-rec _ pathWord (o .input ∷ o .y ∷ o .x ∷ []) refl refl
+  path-line e = first-rec (of-kind bindPathKind e (h .stored .shows) .is) ∙ row-rec _ pathWord (o .input ∷ o .y ∷ o .x ∷ []) refl refl
 
   -- ── of a clause ──
 
-  pub optional-line : o .kind ≡ 6 → spellRecs (take 1 (h .recs)) ≡ rowText optionalWord (o .input ∷ [])
+  pub optional-line : o .kind ≡ optionalJoinKind → spellRecs (take 1 (h .recs)) ≡ rowText optionalWord (o .input ∷ [])
   unfolding keyword planKeyword opKeyword word letters bytes bytesFrom spellFields spell
-  optional-line e = first-rec (of-kind 6 e (h .stored .shows) .1) ∙ row-rec _ optionalWord (o .input ∷ []) refl refl
+  optional-line e = first-rec (of-kind optionalJoinKind e (h .stored .shows) .1) ∙ row-rec _ optionalWord (o .input ∷ []) refl refl
 
-  pub with-line : o .kind ≡ 7 → spellRecs (take 1 (h .recs)) ≡ rowText withWord (o .input ∷ cell a b (o .idx) 2 ∷ cell a b (o .idx) 4 ∷ [])
+  pub with-line : o .kind ≡ withKind → spellRecs (take 1 (h .recs)) ≡ rowText withWord (o .input ∷ cell a b (o .idx) itemsAt ∷ cell a b (o .idx) withFilterAt ∷ [])
   unfolding keyword planKeyword opKeyword word letters bytes bytesFrom spellFields spell
   with-line e =
-      let s = of-kind 7 e (h .stored .shows) in
-      first-rec (s .is) ∙ row-rec _ withWord (o .input ∷ cell a b (o .idx) 2 ∷ cell a b (o .idx) 4 ∷ []) refl (rw (s .counted, bool-decimal (s .filtered), s .flagged))
+      let s = of-kind withKind e (h .stored .shows) in
+      first-rec (s .is) ∙ row-rec _ withWord (o .input ∷ cell a b (o .idx) itemsAt ∷ cell a b (o .idx) withFilterAt ∷ []) refl (rw (s .counted, bool-decimal (s .filtered), s .flagged))
 
-  pub project-line : o .kind ≡ 8 → spellRecs (take 1 (h .recs)) ≡ rowText projectWord (o .input ∷ cell a b (o .idx) 2 ∷ [])
+  pub project-line : o .kind ≡ projectKind → spellRecs (take 1 (h .recs)) ≡ rowText projectWord (o .input ∷ cell a b (o .idx) itemsAt ∷ [])
   unfolding keyword planKeyword opKeyword word letters bytes bytesFrom spellFields spell
   project-line e =
-      let s = of-kind 8 e (h .stored .shows) in
-      first-rec (s .is) ∙ row-rec _ projectWord (o .input ∷ cell a b (o .idx) 2 ∷ []) refl (rw (s .counted))
+      let s = of-kind projectKind e (h .stored .shows) in
+      first-rec (s .is) ∙ row-rec _ projectWord (o .input ∷ cell a b (o .idx) itemsAt ∷ []) refl (rw (s .counted))
 
-  pub aggregate-line : o .kind ≡ 9 → spellRecs (take 1 (h .recs)) ≡ rowText aggWord (o .input ∷ o .x ∷ o .y ∷ [])
+  pub aggregate-line : o .kind ≡ aggregateKind → spellRecs (take 1 (h .recs)) ≡ rowText aggWord (o .input ∷ o .x ∷ o .y ∷ [])
   unfolding keyword planKeyword opKeyword word letters bytes bytesFrom spellFields spell
-  aggregate-line e = first-rec (of-kind 9 e (h .stored .shows) .is) ∙ row-rec _ aggWord (o .input ∷ o .x ∷ o .y ∷ []) refl refl
+  aggregate-line e = first-rec (of-kind aggregateKind e (h .stored .shows) .is) ∙ row-rec _ aggWord (o .input ∷ o .x ∷ o .y ∷ []) refl refl
 
-  pub order-line : o .kind ≡ 10 → spellRecs (take 1 (h .recs)) ≡ rowText orderWord (o .input ∷ o .x ∷ [])
+  pub order-line : o .kind ≡ orderByKind → spellRecs (take 1 (h .recs)) ≡ rowText orderWord (o .input ∷ o .x ∷ [])
   unfolding keyword planKeyword opKeyword word letters bytes bytesFrom spellFields spell
-  order-line e = first-rec (of-kind 10 e (h .stored .shows) .is) ∙ row-rec _ orderWord (o .input ∷ o .x ∷ []) refl refl
+  order-line e = first-rec (of-kind orderByKind e (h .stored .shows) .is) ∙ row-rec _ orderWord (o .input ∷ o .x ∷ []) refl refl
 
-  pub skip-line : o .kind ≡ 11 → spellRecs (take 1 (h .recs)) ≡ rowText skipWord (o .input ∷ [])
+  pub skip-line : o .kind ≡ skipKind → spellRecs (take 1 (h .recs)) ≡ rowText skipWord (o .input ∷ [])
   unfolding keyword planKeyword opKeyword word letters bytes bytesFrom spellFields spell
-  skip-line e = first-rec (of-kind 11 e (h .stored .shows) .is) ∙ row-rec _ skipWord (o .input ∷ []) refl refl
+  skip-line e = first-rec (of-kind skipKind e (h .stored .shows) .is) ∙ row-rec _ skipWord (o .input ∷ []) refl refl
 
-  pub limit-line : o .kind ≡ 12 → spellRecs (take 1 (h .recs)) ≡ rowText limitWord (o .input ∷ [])
+  pub limit-line : o .kind ≡ limitKind → spellRecs (take 1 (h .recs)) ≡ rowText limitWord (o .input ∷ [])
   unfolding keyword planKeyword opKeyword word letters bytes bytesFrom spellFields spell
-  limit-line e = first-rec (of-kind 12 e (h .stored .shows) .is) ∙ row-rec _ limitWord (o .input ∷ []) refl refl
+  limit-line e = first-rec (of-kind limitKind e (h .stored .shows) .is) ∙ row-rec _ limitWord (o .input ∷ []) refl refl
 
-  pub distinct-line : o .kind ≡ 13 → spellRecs (take 1 (h .recs)) ≡ rowText distinctWord (o .input ∷ [])
+  pub distinct-line : o .kind ≡ distinctKind → spellRecs (take 1 (h .recs)) ≡ rowText distinctWord (o .input ∷ [])
   unfolding keyword planKeyword opKeyword word letters bytes bytesFrom spellFields spell
-  distinct-line e = first-rec (of-kind 13 e (h .stored .shows)) ∙ row-rec _ distinctWord (o .input ∷ []) refl refl
+  distinct-line e = first-rec (of-kind distinctKind e (h .stored .shows)) ∙ row-rec _ distinctWord (o .input ∷ []) refl refl
 
-  pub unwind-line : o .kind ≡ 14 → spellRecs (take 1 (h .recs)) ≡ rowText unwindWord (o .input ∷ o .x ∷ [])
+  pub unwind-line : o .kind ≡ unwindKind → spellRecs (take 1 (h .recs)) ≡ rowText unwindWord (o .input ∷ o .x ∷ [])
   unfolding keyword planKeyword opKeyword word letters bytes bytesFrom spellFields spell
-  unwind-line e = first-rec (of-kind 14 e (h .stored .shows) .is) ∙ row-rec _ unwindWord (o .input ∷ o .x ∷ []) refl refl
+  unwind-line e = first-rec (of-kind unwindKind e (h .stored .shows) .is) ∙ row-rec _ unwindWord (o .input ∷ o .x ∷ []) refl refl
 
-  pub union-line : o .kind ≡ 15 → spellRecs (take 1 (h .recs)) ≡ rowText unionWord (o .input ∷ o .x ∷ o .y ∷ [])
+  pub union-line : o .kind ≡ unionKind → spellRecs (take 1 (h .recs)) ≡ rowText unionWord (o .input ∷ o .x ∷ o .y ∷ [])
   unfolding keyword planKeyword opKeyword word letters bytes bytesFrom spellFields spell
-  union-line e = first-rec (of-kind 15 e (h .stored .shows)) ∙ row-rec _ unionWord (o .input ∷ o .x ∷ o .y ∷ []) refl (rw (flag-decimal (o .y) (h .stored .bounded .flagged e)))
+  union-line e = first-rec (of-kind unionKind e (h .stored .shows)) ∙ row-rec _ unionWord (o .input ∷ o .x ∷ o .y ∷ []) refl (rw (flag-decimal (o .y) (h .stored .bounded .flagged e)))
 
   -- the last kind
-  pub is-call : 15 < o .kind → o .kind ≡ 16
+  pub is-call : unionKind < o .kind → o .kind ≡ procedureCallKind
   is-call l = last-kind (h .stored .shows) l
 
 -- ── a call ──
@@ -231,25 +231,25 @@ two-behind : (p q : Bytes) (ps : List Bytes) (t : Bytes) → behind tab (p ∷ q
 unfolding behind
 two-behind p q ps t = ap (λ (s : Bytes). tab ∷ s) (append-assoc p (tab ∷ (q ++ behind tab ps)) t ∙ ap (λ (s : Bytes). p ++ (tab ∷ s)) (append-assoc q (behind tab ps) t))
 
-module _ {sheet : Bytes} {a b rest : List ℕ} {o : Op} (room : Roomy a b) (h : OpShown sheet a b rest o) (e : o .kind ≡ 16) where
-  call-text : PlaceAt text sheet (cell a b (o .idx) 2) (cell a b (o .idx) 3)
-  call-text = texts-at room (of-kind 16 e (h .stored .shows) .at) .0
+module _ {sheet : Bytes} {a b rest : List ℕ} {o : Op} (room : Roomy a b) (h : OpShown sheet a b rest o) (e : o .kind ≡ procedureCallKind) where
+  call-text : PlaceAt text sheet (cell a b (o .idx) callNameAt) (cell a b (o .idx) (callNameAt + 1))
+  call-text = texts-at room (of-kind procedureCallKind e (h .stored .shows) .at) .0
 
-  pub procedure-in : (cell a b (o .idx) 2 ≤ cell a b (o .idx) 3) × (cell a b (o .idx) 3 ≤ length sheet)
+  pub procedure-in : TextIn sheet a b (o .idx) callNameAt
   procedure-in = (call-text .from, call-text .to)
 
-  pub call-line : spellRecs (take 1 (h .recs)) ≡ callText (optionOf (o .x) (o .input)) (slice (cell a b (o .idx) 2) (cell a b (o .idx) 3) sheet) (cell a b (o .idx) 4) (cell a b (o .idx) 6) (cell a b (o .idx) 8)
+  pub call-line : spellRecs (take 1 (h .recs)) ≡ callText (optionOf (o .x) (o .input)) (textAt sheet a b (o .idx) callNameAt) (cell a b (o .idx) callArgsAt) (cell a b (o .idx) callYieldsAt) (cell a b (o .idx) callOptionalAt)
   unfolding spellRec keyword planKeyword opKeyword word letters bytes bytesFrom spellFields spell fieldsOf fieldOf callText numbersText
   call-line =
-      let s = of-kind 16 e (h .stored .shows) in
+      let s = of-kind procedureCallKind e (h .stored .shows) in
       let r = shown room (s .at) in
-      let name : escape (s .fields .0) ≡ slice (cell a b (o .idx) 2) (cell a b (o .idx) 3) sheet = rw (r .fields) (place-escape call-text) in
-      let args : s .fields .1 .0 ≡ cell a b (o .idx) 4 = ap (λ (f : Fields (forms clause Clause.Call)). f .1 .0) (r .fields) in
-      let yields : s .fields .1 .1 .0 ≡ cell a b (o .idx) 6 = ap (λ (f : Fields (forms clause Clause.Call)). f .1 .1 .0) (r .fields) in
-      let optional : spellFlag (s .fields .1 .1 .1 .0) ≡ decimal (cell a b (o .idx) 8) = rw (r .fields) (flag-decimal (cell a b (o .idx) 8) (r .flags .1 .1 .1 .0)) in
+      let name : escape (s .fields .0) ≡ textAt sheet a b (o .idx) callNameAt = rw (r .fields) (place-escape call-text) in
+      let args : s .fields .1 .0 ≡ cell a b (o .idx) callArgsAt = ap (λ (f : Fields (forms clause Clause.Call)). f .1 .0) (r .fields) in
+      let yields : s .fields .1 .1 .0 ≡ cell a b (o .idx) callYieldsAt = ap (λ (f : Fields (forms clause Clause.Call)). f .1 .1 .0) (r .fields) in
+      let optional : spellFlag (s .fields .1 .1 .1 .0) ≡ decimal (cell a b (o .idx) callOptionalAt) = rw (r .fields) (flag-decimal (cell a b (o .idx) callOptionalAt) (r .flags .1 .1 .1 .0)) in
       first-rec (s .is)
       ∙ record-line (word callWord) _
-      ∙ ap (λ (t : Bytes). word callWord ++ t) (rw (name, args, yields, optional) (two-behind (spellOption (optionOf (o .x) (o .input))) (slice (cell a b (o .idx) 2) (cell a b (o .idx) 3) sheet) (decimal (cell a b (o .idx) 4) ∷ decimal (cell a b (o .idx) 6) ∷ decimal (cell a b (o .idx) 8) ∷ []) (lineFeed ∷ [])))
+      ∙ ap (λ (t : Bytes). word callWord ++ t) (rw (name, args, yields, optional) (two-behind (spellOption (optionOf (o .x) (o .input))) (textAt sheet a b (o .idx) callNameAt) (decimal (cell a b (o .idx) callArgsAt) ∷ decimal (cell a b (o .idx) callYieldsAt) ∷ decimal (cell a b (o .idx) callOptionalAt) ∷ []) (lineFeed ∷ [])))
 
 -- ── a whole operator ──
 
@@ -267,32 +267,32 @@ module _ (k : ℕ) {sheet : Bytes} {a b os rest : List ℕ} {A : Ops} {o : Op} (
   planned-below = planned-less (omega arith) p
 
   -- an expand
-  module _ (c : o .kind ≡ 3) where
+  module _ (c : o .kind ≡ expandKind) where
     pub rel-of : Element sheet a b os rest k (o .base) (o .left) (o .idx)
-    rel-of = let s = of-kind 3 c here in record { ops = A; planned = planned-below; tree = s .rel; held = s .held-rel; under = s .below-rel }
+    rel-of = let s = of-kind expandKind c here in record { ops = A; planned = planned-below; tree = s .rel; held = s .held-rel; under = s .below-rel }
 
     pub far-of : Element sheet a b os rest k (o .base) (o .left) (o .y)
-    far-of = let s = of-kind 3 c here in record { ops = A; planned = planned-below; tree = s .far; held = s .held-far; under = s .below-far }
+    far-of = let s = of-kind expandKind c here in record { ops = A; planned = planned-below; tree = s .far; held = s .held-far; under = s .below-far }
 
     pub expand-wrote : {g g′ g″ g‴ : Page} → WroteFirst sheet a b rest o g g′ → WroteElement sheet a b os rest k (o .base) (o .left) (o .idx) g′ g″ → WroteElement sheet a b os rest k (o .base) (o .left) (o .y) g″ g‴ → Puts (spellRecs (A k)) g g‴
     unfolding shown-at rel-of far-of
     expand-wrote w v u =
-        let s = of-kind 3 c here in
+        let s = of-kind expandKind c here in
         rw (first-more (s .is)) (w shown-at ⨾ rw (spell-append (specRecs (shift (noted rest) (o .base)) A (s .rel)) (specRecs (shift (noted rest) (o .base)) A (s .far))) (v rel-of ⨾ u far-of))
 
   -- a shortest part
-  module _ (c : o .kind ≡ 4) where
+  module _ (c : o .kind ≡ shortestPathKind) where
     pub short-rel : Element sheet a b os rest k (o .base) (o .left) (o .x)
-    short-rel = let s = of-kind 4 c here in record { ops = A; planned = planned-below; tree = s .rel; held = s .held-rel; under = s .below-rel }
+    short-rel = let s = of-kind shortestPathKind c here in record { ops = A; planned = planned-below; tree = s .rel; held = s .held-rel; under = s .below-rel }
 
     pub short-wrote : {g g′ g″ : Page} → WroteFirst sheet a b rest o g g′ → WroteElement sheet a b os rest k (o .base) (o .left) (o .x) g′ g″ → Puts (spellRecs (A k)) g g″
     unfolding shown-at short-rel
-    short-wrote w v = rw (first-more (of-kind 4 c here .is)) (w shown-at ⨾ v short-rel)
+    short-wrote w v = rw (first-more (of-kind shortestPathKind c here .is)) (w shown-at ⨾ v short-rel)
 
   -- an optional, which copies an operator below it
-  module _ (c : o .kind ≡ 6) where
+  module _ (c : o .kind ≡ optionalJoinKind) where
     pub optional-low : o .x < k
-    optional-low = of-kind 6 c here .0
+    optional-low = of-kind optionalJoinKind c here .0
 
     optional-planned : Planned sheet a b os rest (o .x + 1) A
     optional-planned = planned-less (omega (arith, optional-low)) p
@@ -302,4 +302,4 @@ module _ (k : ℕ) {sheet : Bytes} {a b os rest : List ℕ} {A : Ops} {o : Op} (
 
     pub optional-wrote : {g g′ g″ : Page} → WroteFirst sheet a b rest o g g′ → WroteOp sheet a b os rest (o .x) g′ g″ → Puts (spellRecs (A k)) g g″
     unfolding shown-at
-    optional-wrote w v = rw (first-more (of-kind 6 c here .1)) (w shown-at ⨾ v A optional-planned)
+    optional-wrote w v = rw (first-more (of-kind optionalJoinKind c here .1)) (w shown-at ⨾ v A optional-planned)

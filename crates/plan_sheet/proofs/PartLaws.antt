@@ -17,12 +17,13 @@ use Rattle.words.specs.Words.{Roomy, cell, fieldOf, fieldsOf}
 use Rattle.words.specs.Held.{Held, HeldOf, RecordAt, size, sizeOf}
 use Rattle.words.specs.Cells.{shown}
 use Rattle.lower.specs.Render.{Notes, Ops, exprRecs, exprRest, recsOver, render, renderOf, renderIn, Below, BelowOf, BelowIn, belowIn, copiesBelow, specRec, specRecs, KidsBelow}
+use Rattle.words.specs.Places.{patKind, fnKind, kindAt, listPredicateKind, mapKind, nodeKind, nodeLabelsAt, nodePropsAt, relKind, relPropsAt, undesKind, unresKind, varKind}
 use Rattle.words.specs.Count.{countAt}
 use Rattle.words.proofs.Counting.{counted, flag-one}
-use Rattle.words.specs.Numbers.{sameNumber, exprNumber, elementNumber}
+use Rattle.words.specs.Numbers.{sameNumber, same-low, exprNumber, elementNumber}
 use Rattle.plan_sheet.specs.Due.{ExprAt, ElementAt, Carried, carriedRecs, carriedEnd, Names, namesRecs}
 use Rattle.plan_sheet.specs.Due
-use Rattle.plan_sheet.proofs.HeadLaws.{number-is, same-row}
+use Rattle.plan_sheet.proofs.HeadLaws.{number-is}
 use Rattle.plan_sheet.proofs.DueLaws.{Made, expr-of, exprs-made, entries-made}
 use Rattle.plan_sheet.proofs.NameLaws.{NamesMade, names-made, names-alike, element-number}
 
@@ -43,7 +44,7 @@ unfolding carriedRecs carriedEnd
 bare N below d j e = rw e (record { list = Due.none; recs-are = λ A. refl; stop-is = refl })
 
 module _ {sheet : Bytes} {a b : List ℕ} (N : Notes) (below left i n : ℕ) where
-  pub parts : Roomy a b → n ≡ countAt a b i → (t : Tree expr) (h : Held sheet a b t left i) → Below N 0 below t → (cell a b i 0 ≡ 35 → ⊥) → Parts sheet a b N below left i n t (expr-of left t i h)
+  pub parts : Roomy a b → n ≡ countAt a b i → (t : Tree expr) (h : Held sheet a b t left i) → Below N 0 below t → (cell a b i kindAt ≡ patKind → ⊥) → Parts sheet a b N below left i n t (expr-of left t i h)
   unfolding Held Below render size belowIn copiesBelow recsOver exprRecs exprRest expr-of exprNumber
   parts room e (node expr line (Expr.Over o) f (ts ▸ end)) h u z =
       let m = grouped (e ∙ counted room tt (h .1) ∙ add-zero (arity o f)) (exprs-made N below (left - 1) ts (i + 1) (h .3 .0) (u .0)) in
@@ -73,20 +74,20 @@ pub record Copy (N : Notes) (below i : ℕ) {sheet : Bytes} {a b : List ℕ} (t 
   pub low : N (suc i) < below
   pub recs : (A : Ops) → render N A t ≡ exprHead (N (suc i)) (at .kind) (at .fields) ∷ A (N (suc i))
 
-no-copy : {X : Type 0} {sheet : Bytes} {a b : List ℕ} {i : ℕ} → Roomy a b → (k : Expr) (f : Fields (exprForms k)) → RecordAt sheet a b i expr k f → cell a b i 0 ≡ 35 → (exprNumber k ≡ 35 → ⊥) → X
+no-copy : {X : Type 0} {sheet : Bytes} {a b : List ℕ} {i : ℕ} → Roomy a b → (k : Expr) (f : Fields (exprForms k)) → RecordAt sheet a b i expr k f → cell a b i kindAt ≡ patKind → (exprNumber k ≡ patKind → ⊥) → X
 no-copy room k f h e z = absurd (z (sym (number-is room (record { kind = k; fields = f; at = h })) ∙ e))
 
 module _ {sheet : Bytes} {a b : List ℕ} (N : Notes) (below left i : ℕ) where
-  pub copied : Roomy a b → (t : Tree expr) (h : Held sheet a b t left i) → Below N 0 below t → cell a b i 0 ≡ 35 → Copy N below i t (expr-of left t i h)
+  pub copied : Roomy a b → (t : Tree expr) (h : Held sheet a b t left i) → Below N 0 below t → cell a b i kindAt ≡ patKind → Copy N below i t (expr-of left t i h)
   unfolding Held Below render belowIn copiesBelow recsOver exprRecs exprRest expr-of exprNumber
-  copied room (node expr line (Expr.Over o) f kids) h u e = no-copy room (Expr.Over o) f (h .1) e (λ x. let s = same-row o in let y : sameNumber o ≡ 35 = x in omega (arith, s .to))
-  copied room (node expr line Expr.Var f kids) h u e = no-copy room Expr.Var f (h .1) e (λ x. let y : _≡_ {A = ℕ} 32 35 = x in omega arith)
-  copied room (node expr line Expr.Map f kids) h u e = no-copy room Expr.Map f (h .1) e (λ x. let y : _≡_ {A = ℕ} 33 35 = x in omega arith)
-  copied room (node expr line Expr.Call f kids) h u e = no-copy room Expr.Call f (h .1) e (λ x. let y : _≡_ {A = ℕ} 34 35 = x in omega arith)
+  copied room (node expr line (Expr.Over o) f kids) h u e = no-copy room (Expr.Over o) f (h .1) e (λ x. let s = same-row o in let y : sameNumber o ≡ patKind = x in omega (arith, s .to))
+  copied room (node expr line Expr.Var f kids) h u e = no-copy room Expr.Var f (h .1) e (λ x. let y : _≡_ {A = ℕ} varKind patKind = x in omega arith)
+  copied room (node expr line Expr.Map f kids) h u e = no-copy room Expr.Map f (h .1) e (λ x. let y : _≡_ {A = ℕ} mapKind patKind = x in omega arith)
+  copied room (node expr line Expr.Call f kids) h u e = no-copy room Expr.Call f (h .1) e (λ x. let y : _≡_ {A = ℕ} fnKind patKind = x in omega arith)
   copied room (node expr line Expr.PatternPredicate f kids) h u e = record { low = rw (h .0) at (u .1); recs = λ A. rw (h .0) }
-  copied room (node expr line Expr.ListPredicate f kids) h u e = no-copy room Expr.ListPredicate f (h .1) e (λ x. let y : _≡_ {A = ℕ} 36 35 = x in omega arith)
-  copied room (node expr line Expr.Unresolved f kids) h u e = no-copy room Expr.Unresolved f (h .1) e (λ x. let y : _≡_ {A = ℕ} 37 35 = x in omega arith)
-  copied room (node expr line Expr.Undesugared f kids) h u e = no-copy room Expr.Undesugared f (h .1) e (λ x. let y : _≡_ {A = ℕ} 38 35 = x in omega arith)
+  copied room (node expr line Expr.ListPredicate f kids) h u e = no-copy room Expr.ListPredicate f (h .1) e (λ x. let y : _≡_ {A = ℕ} listPredicateKind patKind = x in omega arith)
+  copied room (node expr line Expr.Unresolved f kids) h u e = no-copy room Expr.Unresolved f (h .1) e (λ x. let y : _≡_ {A = ℕ} unresKind patKind = x in omega arith)
+  copied room (node expr line Expr.Undesugared f kids) h u e = no-copy room Expr.Undesugared f (h .1) e (λ x. let y : _≡_ {A = ℕ} undesKind patKind = x in omega arith)
 
 pub deep : (sheet : Bytes) (a b : List ℕ) (left i : ℕ) (t : Tree expr) → Held sheet a b t left i → 0 < left
 unfolding Held
@@ -95,22 +96,22 @@ deep sheet a b left i (node expr line k f kids) h = h .2
 -- ── elements of patterns ──
 
 abbrev pub propsAt : List ℕ → List ℕ → ℕ → ℕ
-propsAt a b i = cond (eqb (cell a b i 0) 12) (cell a b i 6) (cell a b i 10)
+propsAt a b i = cond (eqb (cell a b i kindAt) nodeKind) (cell a b i nodePropsAt) (cell a b i relPropsAt)
 
 pub record ElementParts (sheet : Bytes) (a b : List ℕ) (N : Notes) (below left i : ℕ) (t : Tree patternElement) : Type 0 where
   pub at : ElementAt sheet a b i
   pub deep : 0 < left
-  pub names : Names sheet a b (cell a b i 4) (i + 1)
-  pub list : Carried sheet a b N below (left - 1) (propsAt a b i) (i + 1 + cell a b i 4)
+  pub names : Names sheet a b (cell a b i nodeLabelsAt) (i + 1)
+  pub list : Carried sheet a b N below (left - 1) (propsAt a b i) (i + 1 + cell a b i nodeLabelsAt)
   pub recs : (A : Ops) → specRecs N A t ≡ specRec (at .kind) (at .fields) ∷ (namesRecs names ++ carriedRecs A list)
 
 -- names and so many props, and the records that they come to
 abbrev ElementMade : (sheet : Bytes) (a b : List ℕ) (N : Notes) (below left i props : ℕ) → (Ops → Recs) → Type 0
-ElementMade sheet a b N below left i props R = (names : Names sheet a b (cell a b i 4) (i + 1)) × (list : Carried sheet a b N below (left - 1) props (i + 1 + cell a b i 4)) × ((A : Ops) → R A ≡ namesRecs names ++ carriedRecs A list)
+ElementMade sheet a b N below left i props R = (names : Names sheet a b (cell a b i nodeLabelsAt) (i + 1)) × (list : Carried sheet a b N below (left - 1) props (i + 1 + cell a b i nodeLabelsAt)) × ((A : Ops) → R A ≡ namesRecs names ++ carriedRecs A list)
 
 module _ {sheet : Bytes} {a b : List ℕ} (N : Notes) (below left i : ℕ) where
   -- counted by the words
-  element-made : {n p props : ℕ} (labels : Trees name n) (ps : Trees expr p) → n ≡ cell a b i 4 → p ≡ props → HeldOf sheet a b labels (left - 1) (i + 1) → HeldOf sheet a b ps (left - 1) (i + 1 + sizeOf labels) → BelowOf N 0 below ps → ElementMade sheet a b N below left i props (λ A. renderOf N A labels ++ (renderOf N A ps ++ []))
+  element-made : {n p props : ℕ} (labels : Trees name n) (ps : Trees expr p) → n ≡ cell a b i nodeLabelsAt → p ≡ props → HeldOf sheet a b labels (left - 1) (i + 1) → HeldOf sheet a b ps (left - 1) (i + 1 + sizeOf labels) → BelowOf N 0 below ps → ElementMade sheet a b N below left i props (λ A. renderOf N A labels ++ (renderOf N A ps ++ []))
   element-made {n} {p} {props} labels ps e q hl hp u =
       let m : NamesMade sheet a b n (i + 1) (renderOf N (λ k. []) labels) (i + 1 + sizeOf labels) = names-made N (λ k. []) (left - 1) labels (i + 1) hl in
       let hp′ : HeldOf sheet a b ps (left - 1) (i + 1 + n) = rw (m .stop-is) hp in
@@ -125,16 +126,16 @@ module _ {sheet : Bytes} {a b : List ℕ} (N : Notes) (below left i : ℕ) where
   element-parts room (node patternElement line PatternElement.Node f (labels ▸ ps ▸ end)) h u =
       let at : ElementAt sheet a b i = record { kind = PatternElement.Node; fields = f; at = h .1 } in
       let s = shown room (h .1) in
-      let n : f .1 .0 ≡ cell a b i 4 = ap (λ (x : Fields (elementForms PatternElement.Node)). x .1 .0) (s .fields) in
-      let q : one (f .1 .1 .0) ≡ cell a b i 6 = ap (λ (x : Fields (elementForms PatternElement.Node)). one (x .1 .1 .0)) (s .fields) ∙ flag-one (cell a b i 6) (s .flags .1 .1 .0) in
-      let k : propsAt a b i ≡ cell a b i 6 = rw (eq-eqb (cell a b i 0) 12 (element-number room at)) in
+      let n : f .1 .0 ≡ cell a b i nodeLabelsAt = ap (λ (x : Fields (elementForms PatternElement.Node)). x .1 .0) (s .fields) in
+      let q : one (f .1 .1 .0) ≡ cell a b i nodePropsAt = ap (λ (x : Fields (elementForms PatternElement.Node)). one (x .1 .1 .0)) (s .fields) ∙ flag-one (cell a b i nodePropsAt) (s .flags .1 .1 .0) in
+      let k : propsAt a b i ≡ cell a b i nodePropsAt = rw (eq-eqb (cell a b i kindAt) nodeKind (element-number room at)) in
       let m = element-made labels ps n (q ∙ sym k) (h .3 .0) (h .3 .1 .0) (u .1 .0) in
       record { at = at; deep = h .2; names = m .0; list = m .1; recs = λ A. ap (λ (r : Recs). specRec PatternElement.Node f ∷ r) (m .2 A) }
   element-parts room (node patternElement line PatternElement.Rel f (labels ▸ ps ▸ end)) h u =
       let at : ElementAt sheet a b i = record { kind = PatternElement.Rel; fields = f; at = h .1 } in
       let s = shown room (h .1) in
-      let n : f .1 .0 ≡ cell a b i 4 = ap (λ (x : Fields (elementForms PatternElement.Rel)). x .1 .0) (s .fields) in
-      let q : one (f .1 .1 .1 .1 .0) ≡ cell a b i 10 = ap (λ (x : Fields (elementForms PatternElement.Rel)). one (x .1 .1 .1 .1 .0)) (s .fields) ∙ flag-one (cell a b i 10) (s .flags .1 .1 .1 .1 .0) in
-      let k : propsAt a b i ≡ cell a b i 10 = rw (ne-eqb (cell a b i 0) 12 (λ x. let y : _≡_ {A = ℕ} 13 12 = sym (element-number room at) ∙ x in omega arith)) in
+      let n : f .1 .0 ≡ cell a b i nodeLabelsAt = ap (λ (x : Fields (elementForms PatternElement.Rel)). x .1 .0) (s .fields) in
+      let q : one (f .1 .1 .1 .1 .0) ≡ cell a b i relPropsAt = ap (λ (x : Fields (elementForms PatternElement.Rel)). one (x .1 .1 .1 .1 .0)) (s .fields) ∙ flag-one (cell a b i relPropsAt) (s .flags .1 .1 .1 .1 .0) in
+      let k : propsAt a b i ≡ cell a b i relPropsAt = rw (ne-eqb (cell a b i kindAt) nodeKind (λ x. let y : _≡_ {A = ℕ} relKind nodeKind = sym (element-number room at) ∙ x in omega arith)) in
       let m = element-made labels ps n (q ∙ sym k) (h .3 .0) (h .3 .1 .0) (u .1 .0) in
       record { at = at; deep = h .2; names = m .0; list = m .1; recs = λ A. ap (λ (r : Recs). specRec PatternElement.Rel f ∷ r) (m .2 A) }

@@ -1,11 +1,10 @@
 -- The keys and the aggregates among the items of a `return`. Assumes nothing: every law is proved.
 use mathlib.Core.Path.{_≡_, refl, sym, ap, _∙_}
-use Prim.Native.Nat.{ℕ, zero, suc, _+_, _-_, _≤_, _<_}
+use Prim.Native.Nat.{ℕ, zero, suc, _+_, _-_, _<_}
 use native.Mathlib.Omega.{arith}
-use mathlib.Core.Bool.{Bool, true, false, not, Bool·beq}
+use mathlib.Core.Bool.{Bool, true, false, not, Bool·beq, false≢true}
 use mathlib.Core.List.{List, [], _∷_, _++_}
 use lib.ListN.{length}
-use lib.Seq.{slice}
 use Rattle.model.specs.Text.{Bytes, bytes, bytesFrom}
 use Rattle.model.specs.Field.{Fields, text, spell, spellFields}
 use Rattle.model.specs.Kind.{Expr, projection, expr, inPlan, aggExpr}
@@ -14,7 +13,7 @@ use Rattle.model.specs.Tree.{Tree, Trees, node, []ᵗ, _∷ᵗ_, end, _▸_}
 use Rattle.model.specs.Lower.{Recs}
 use Rattle.output.specs.Page.{Page, Puts}
 use Rattle.output.specs.Writes.{_⨾_, stay}
-use Rattle.words.specs.Words.{Roomy, cell, fieldOf, fieldsOf}
+use Rattle.words.specs.Words.{Roomy, cell, fieldOf, fieldsOf, maxRecords}
 use Rattle.words.specs.Held.{Held, HeldOf, RecordAt, PlaceAt, size}
 use Rattle.words.specs.Cells.{shown}
 use Rattle.context.specs.Tables.{opAt}
@@ -24,37 +23,37 @@ use Rattle.lower.specs.Shows.{shift}
 use Rattle.words.specs.Count.{Ends}
 use Rattle.aggregate.specs.Names.{SomeExpr}
 use Rattle.plan_line.specs.Keywords.{word, letters, aggFnWord}
-use Rattle.plan_line.specs.Row.{namedText}
-use Rattle.plan_sheet.specs.Due.{noted, Planned, One, Carried, carriedRecs, carriedEnd, Many, WroteOne, WroteMany, WroteFirst}
-use Rattle.plan_sheet.specs.Parted.{keys, aggregates, partRecs, partsRecs, Items, WrotePart, WroteParts}
-use Rattle.plan_line.proofs.FieldLaws.{flag-decimal}
-use Rattle.plan_line.proofs.RowLaws.{named-rec, place-escape}
+use Rattle.plan_sheet.specs.Due.{noted, Planned, One, Carried, carriedRecs, carriedEnd, Many, WroteOne, WroteMany, WroteFirst, TextIn, textAt}
+use Rattle.plan_sheet.specs.Parted.{aggText, partRecs, partsRecs, Items, WrotePart, WroteParts, WroteItems}
+use Rattle.plan_line.proofs.RowLaws.{flag-decimal, named-rec, place-escape}
 use Rattle.plan_sheet.proofs.HeadLaws.{texts-at}
 use Rattle.plan_sheet.proofs.DueLaws.{Made, exprs-made, deeper, spell-append}
 use Rattle.plan_sheet.proofs.OpLaws.{of-kind, here, shown-at, planned-below, first-more}
+use Rattle.context.specs.Ops.{aggregateKind}
+use Rattle.words.specs.Places.{fnArgsAt, fnDistinctAt, itemsAt, nameAt}
 
 -- ── an aggregate ──
 
 -- its line, and its arguments as expressions
 pub record Agg (sheet : Bytes) (a b : List ℕ) (N : Notes) (below left i : ℕ) (t : Tree expr) : Type 0 where
-  pub low : i < 2048
+  pub low : i < maxRecords
   pub deep : 0 < left
-  pub place : PlaceAt text sheet (cell a b i 2) (cell a b i 3)
-  pub list : Carried sheet a b N below (left - 1) (cell a b i 4) (i + 1)
+  pub place : PlaceAt text sheet (cell a b i nameAt) (cell a b i (nameAt + 1))
+  pub list : Carried sheet a b N below (left - 1) (cell a b i fnArgsAt) (i + 1)
   pub stop : carriedEnd list ≡ i + size t
-  pub text : (A : Ops) → spellRecs (aggOf N A t) ≡ namedText aggFnWord (slice (cell a b i 2) (cell a b i 3) sheet) (cell a b i 4 ∷ cell a b i 6 ∷ []) ++ spellRecs (carriedRecs A list)
+  pub text : (A : Ops) → spellRecs (aggOf N A t) ≡ aggText sheet a b i ++ spellRecs (carriedRecs A list)
 
-call-agg : (sheet : Bytes) (a b : List ℕ) (i : ℕ) → Roomy a b → (f : Fields (exprForms Expr.Call)) → RecordAt sheet a b i expr Expr.Call f → spellRec (rec (inPlan aggExpr) tt (f .0, (f .1 .0, (f .1 .1 .0, tt)))) ≡ namedText aggFnWord (slice (cell a b i 2) (cell a b i 3) sheet) (cell a b i 4 ∷ cell a b i 6 ∷ [])
+call-agg : (sheet : Bytes) (a b : List ℕ) (i : ℕ) → Roomy a b → (f : Fields (exprForms Expr.Call)) → RecordAt sheet a b i expr Expr.Call f → spellRec (rec (inPlan aggExpr) tt (f .0, (f .1 .0, (f .1 .1 .0, tt)))) ≡ aggText sheet a b i
 unfolding keyword planKeyword word letters bytes bytesFrom spellFields spell fieldsOf fieldOf
 call-agg sheet a b i room f at =
     let s = shown room at in
-    named-rec _ aggFnWord (slice (cell a b i 2) (cell a b i 3) sheet) (cell a b i 4 ∷ cell a b i 6 ∷ []) refl (rw (s .fields) (rw (place-escape (texts-at room at .0), flag-decimal (cell a b i 6) (s .flags .1 .1 .0))))
+    named-rec _ aggFnWord (textAt sheet a b i nameAt) (cell a b i fnArgsAt ∷ cell a b i fnDistinctAt ∷ []) refl (rw (s .fields) (rw (place-escape (texts-at room at .0), flag-decimal (cell a b i fnDistinctAt) (s .flags .1 .1 .0))))
 
 not-true : {X : Type 0} → false ≡ true → X
 not-true e = let z : _≡_ {A = ℕ} 0 1 = cc in absurd (omega arith)
 
 module _ (sheet : Bytes) (a b : List ℕ) (N : Notes) (below left i : ℕ) (room : Roomy a b) where
-  counted-as : {n : ℕ} {stop : ℕ} {R : Ops → Recs} → n ≡ cell a b i 4 → Made sheet a b N below (left - 1) n (i + 1) R stop → Made sheet a b N below (left - 1) (cell a b i 4) (i + 1) R stop
+  counted-as : {n : ℕ} {stop : ℕ} {R : Ops → Recs} → n ≡ cell a b i fnArgsAt → Made sheet a b N below (left - 1) n (i + 1) R stop → Made sheet a b N below (left - 1) (cell a b i fnArgsAt) (i + 1) R stop
   counted-as e m = rw (← e) m
 
   pub agg : (t : Tree expr) → Held sheet a b t left i → Below N 0 below t → isAggregate t ≡ true → Agg sheet a b N below left i t
@@ -63,7 +62,7 @@ module _ (sheet : Bytes) (a b : List ℕ) (N : Notes) (below left i : ℕ) (room
   agg (node expr line Expr.Var f kids) d u e = not-true e
   agg (node expr line Expr.Map f kids) d u e = not-true e
   agg (node expr line Expr.Call f (args ▸ end)) d u e =
-      let n : f .1 .0 ≡ cell a b i 4 = ap (λ (x : Fields (exprForms Expr.Call)). x .1 .0) (shown room (d .1) .fields) in
+      let n : f .1 .0 ≡ cell a b i fnArgsAt = ap (λ (x : Fields (exprForms Expr.Call)). x .1 .0) (shown room (d .1) .fields) in
       let m = counted-as n (exprs-made N below (left - 1) args (i + 1) (d .3 .0) (u .0)) in
       record {
         low = d .1 .low;
@@ -84,7 +83,19 @@ module _ (sheet : Bytes) (a b : List ℕ) (N : Notes) (below left i : ℕ) (room
 abbrev pub Told : (sheet : Bytes) (a b : List ℕ) (i : ℕ) → Bool → Type 0
 Told sheet a b i is = (d : ℕ) (t : Tree expr) → Held sheet a b t d i → is ≡ isAggregate t
 
--- it is of the other part
+-- two flags compared
+differ : (x y : Bool) → not (Bool·beq x y) ≡ true → x ≡ y → ⊥
+differ true true h e = false≢true h
+differ true false h e = false≢true (sym e)
+differ false true h e = false≢true e
+differ false false h e = false≢true h
+
+alike : (x y : Bool) → not (Bool·beq x y) ≡ false → x ≡ y
+alike true true h = refl
+alike true false h = absurd (false≢true (sym h))
+alike false true h = absurd (false≢true (sym h))
+alike false false h = refl
+
 other-recs : (N : Notes) (A : Ops) (is aggs : Bool) (t : Tree expr) → is ≡ isAggregate t → (is ≡ aggs → ⊥) → partRecs N A aggs t ≡ []
 unfolding partRecs
 other-recs N A true true t e z = absurd (z refl)
@@ -96,42 +107,37 @@ module _ {sheet : Bytes} {a b os rest : List ℕ} {below base left i : ℕ} wher
   pub some-expr : One sheet a b os rest below base left i → SomeExpr sheet a b i
   some-expr h = record { depth = left; held = record { tree = h .tree; is = h .held } }
 
-  other-wrote : {is aggs : Bool} {next : ℕ} {p : Page} → Told sheet a b i is → (is ≡ aggs → ⊥) → Ends a b i next → WrotePart sheet a b os rest below base left i aggs p next p
+  -- it is of the other part
+  pub other-wrote : {is : Bool} (aggs : Bool) {next : ℕ} {p : Page} → Told sheet a b i is → not (Bool·beq is aggs) ≡ true → Ends a b i next → WrotePart sheet a b os rest below base left i aggs p next p
   unfolding spellRecs
-  other-wrote {is} {aggs} told z ends h = (ends .each sheet expr left (h .tree) tt (h .held), rw (other-recs (shift (noted rest) base) (h .ops) is aggs (h .tree) (told left (h .tree) (h .held)) z) stay)
-
-  pub no-key : {is : Bool} {next : ℕ} {p : Page} → Told sheet a b i is → is ≡ true → Ends a b i next → WrotePart sheet a b os rest below base left i keys p next p
-  no-key told e ends = other-wrote told (λ f. not-true (sym f ∙ e)) ends
-
-  pub no-aggregate : {is : Bool} {next : ℕ} {p : Page} → Told sheet a b i is → is ≡ false → Ends a b i next → WrotePart sheet a b os rest below base left i aggregates p next p
-  no-aggregate told e ends = other-wrote told (λ f. not-true (sym e ∙ f)) ends
+  other-wrote {is} aggs told z ends h = (ends .each sheet expr left (h .tree) tt (h .held), rw (other-recs (shift (noted rest) base) (h .ops) is aggs (h .tree) (told left (h .tree) (h .held)) (differ is aggs z)) stay)
 
   -- it is a key
-  pub key-wrote : {is : Bool} {next : ℕ} {p q : Page} → Told sheet a b i is → is ≡ false → WroteOne sheet a b os rest below base left i p next q → WrotePart sheet a b os rest below base left i keys p next q
+  pub key-wrote : {is : Bool} (aggs : Bool) {next : ℕ} {p q : Page} → Told sheet a b i is → not (Bool·beq is aggs) ≡ false → is ≡ false → WroteOne sheet a b os rest below base left i p next q → WrotePart sheet a b os rest below base left i aggs p next q
   unfolding partRecs
-  key-wrote told e w h =
+  key-wrote {is} aggs told s e w h =
       let v = w h in
       let n : isAggregate (h .tree) ≡ false = sym (told left (h .tree) (h .held)) ∙ e in
-      (v .0, rw n (v .1))
+      (v .0, rw (← alike is aggs s, e, n) (v .1))
 
   -- it is an aggregate
   module _ (room : Roomy a b) {is : Bool} (told : Told sheet a b i is) (e : is ≡ true) (h : One sheet a b os rest below base left i) where
     pub agg-is : Agg sheet a b (shift (noted rest) base) below left i (h .tree)
     agg-is = agg sheet a b (shift (noted rest) base) below left i room (h .tree) (h .held) (h .under) (sym (told left (h .tree) (h .held)) ∙ e)
 
-    pub agg-in : (cell a b i 2 ≤ cell a b i 3) × (cell a b i 3 ≤ length sheet)
+    pub agg-in : TextIn sheet a b i nameAt
     agg-in = (agg-is .place .from, agg-is .place .to)
 
-    pub args : {n : ℕ} → n ≡ cell a b i 4 → Many sheet a b os rest below base (left - 1) n (i + 1)
+    pub args : {n : ℕ} → n ≡ cell a b i fnArgsAt → Many sheet a b os rest below base (left - 1) n (i + 1)
     args q = rw q (record { ops = h .ops; planned = h .planned; list = agg-is .list })
 
-    pub agg-wrote : {n next : ℕ} {p q r : Page} → n ≡ cell a b i 4 → Puts (namedText aggFnWord (slice (cell a b i 2) (cell a b i 3) sheet) (cell a b i 4 ∷ cell a b i 6 ∷ [])) p q → WroteMany sheet a b os rest below base (left - 1) n (i + 1) q next r → (next ≡ i + size (h .tree)) × Puts (spellRecs (partRecs (shift (noted rest) base) (h .ops) aggregates (h .tree))) p r
+    pub agg-wrote : (aggs : Bool) {n next : ℕ} {p q r : Page} → not (Bool·beq is aggs) ≡ false → n ≡ cell a b i fnArgsAt → Puts (aggText sheet a b i) p q → WroteMany sheet a b os rest below base (left - 1) n (i + 1) q next r → (next ≡ i + size (h .tree)) × Puts (spellRecs (partRecs (shift (noted rest) base) (h .ops) aggs (h .tree))) p r
     unfolding partRecs
-    agg-wrote {n} {next} {p} {q} {r} c line many =
-        let m : WroteMany sheet a b os rest below base (left - 1) (cell a b i 4) (i + 1) q next r = rw c at many in
+    agg-wrote aggs {n} {next} {p} {q} {r} same c line many =
+        let m : WroteMany sheet a b os rest below base (left - 1) (cell a b i fnArgsAt) (i + 1) q next r = rw c at many in
         let w = m (record { ops = h .ops; planned = h .planned; list = agg-is .list }) in
         let y : isAggregate (h .tree) ≡ true = sym (told left (h .tree) (h .held)) ∙ e in
-        (w .0 ∙ agg-is .stop, rw (y, agg-is .text (h .ops)) (line ⨾ w .1))
+        (w .0 ∙ agg-is .stop, rw (← alike is aggs same, e, y, agg-is .text (h .ops)) (line ⨾ w .1))
 
 -- ── the loop ──
 
@@ -216,17 +222,21 @@ module _ {sheet : Bytes} {a b os rest : List ℕ} {below base left : ℕ} where
       let s = g .each h in
       s .text p (rw (parts-none (shift (noted rest) base) (s .others .ops) aggs z (s .others .items)) stay)
 
+-- keys, and behind them aggregates
+pub items-wrote : {sheet : Bytes} {a b os rest : List ℕ} {below base left n i : ℕ} {p q r : Page} → WroteParts sheet a b os rest below base left n i false p q → WroteParts sheet a b os rest below base left n i true q r → WroteItems sheet a b os rest below base left n i p r
+unfolding partsRecs
+items-wrote {rest = rest} {base = base} ks gs h = rw (spell-append (keyRecs (shift (noted rest) base) (h .ops) (h .items)) (aggRecs (shift (noted rest) base) (h .ops) (h .items))) (ks h ⨾ gs h)
+
 -- ── a whole operator ──
 
-module _ (k : ℕ) {sheet : Bytes} {a b os rest : List ℕ} {A : Ops} {o : Op} (p : Planned sheet a b os rest (k + 1) A) (e : o ≡ opAt os k) (c : o .kind ≡ 9) {n : ℕ} (count : n ≡ cell a b (o .idx) 2) where
+module _ (k : ℕ) {sheet : Bytes} {a b os rest : List ℕ} {A : Ops} {o : Op} (p : Planned sheet a b os rest (k + 1) A) (e : o ≡ opAt os k) (c : o .kind ≡ aggregateKind) {n : ℕ} (count : n ≡ cell a b (o .idx) itemsAt) where
   pub items-of : Items sheet a b os rest k (o .base) (o .left) n (o .idx + 1)
-  items-of = let s = of-kind 9 c (here k p e) in rw (count ∙ sym (s .counted)) (record { ops = A; planned = planned-below k p e; items = s .items; held = s .held; under = s .below })
+  items-of = let s = of-kind aggregateKind c (here k p e) in rw (count ∙ sym (s .counted)) (record { ops = A; planned = planned-below k p e; items = s .items; held = s .held; under = s .below })
 
-  pub parted-wrote : {g g′ g″ g‴ : Page} → WroteFirst sheet a b rest o g g′ → WroteParts sheet a b os rest k (o .base) (o .left) n (o .idx + 1) keys g′ g″ → WroteParts sheet a b os rest k (o .base) (o .left) n (o .idx + 1) aggregates g″ g‴ → Puts (spellRecs (A k)) g g‴
-  unfolding shown-at partsRecs
-  parted-wrote {g} {g′} {g″} {g‴} first ks gs =
-      let s = of-kind 9 c (here k p e) in
+  pub parted-wrote : {g g′ g″ : Page} → WroteFirst sheet a b rest o g g′ → WroteItems sheet a b os rest k (o .base) (o .left) n (o .idx + 1) g′ g″ → Puts (spellRecs (A k)) g g″
+  unfolding shown-at
+  parted-wrote {g} {g′} {g″} first items =
+      let s = of-kind aggregateKind c (here k p e) in
       let h : Items sheet a b os rest k (o .base) (o .left) (s .count) (o .idx + 1) = record { ops = A; planned = planned-below k p e; items = s .items; held = s .held; under = s .below } in
-      let v : WroteParts sheet a b os rest k (o .base) (o .left) (s .count) (o .idx + 1) keys g′ g″ = rw (count ∙ sym (s .counted)) at ks in
-      let u : WroteParts sheet a b os rest k (o .base) (o .left) (s .count) (o .idx + 1) aggregates g″ g‴ = rw (count ∙ sym (s .counted)) at gs in
-      rw (first-more (s .is)) (first (shown-at k p e) ⨾ rw (spell-append (keyRecs (shift (noted rest) (o .base)) A (s .items)) (aggRecs (shift (noted rest) (o .base)) A (s .items))) (v h ⨾ u h))
+      let v : WroteItems sheet a b os rest k (o .base) (o .left) (s .count) (o .idx + 1) g′ g″ = rw (count ∙ sym (s .counted)) at items in
+      rw (first-more (s .is)) (first (shown-at k p e) ⨾ v h)

@@ -15,7 +15,7 @@ use Rattle.model.specs.Tree.{Trees, node, []ᵗ, _∷ᵗ_}
 use Rattle.model.specs.Lower.{pathElements}
 use Rattle.output.specs.Page.{Page, Puts}
 use Rattle.output.specs.Writes.{_⨾_, stay}
-use Rattle.words.specs.Words.{Roomy, cell}
+use Rattle.words.specs.Words.{Roomy, cell, maxRecords}
 use Rattle.words.specs.Held.{Held, HeldOf, size}
 use Rattle.context.specs.Read.{noteOf}
 use Rattle.lower.specs.Render.{Notes, keptRel, keptFrom}
@@ -28,12 +28,13 @@ use Rattle.plan_sheet.specs.Due.{noted, ElementAt}
 use Rattle.plan_sheet.specs.Path.{waitsOf, Stepped, Elements, WrotePath}
 use Rattle.plan_line.proofs.RowLaws.{row-rec}
 use Rattle.plan_sheet.proofs.NameLaws.{element-number}
+use Rattle.words.specs.Places.{kindAt, nodeKind}
 
 -- ── a number ──
 
 number-line : (n : ℕ) → spellRecs (pathElements (n ∷ [])) ≡ rowText elementWord (n ∷ [])
 unfolding pathElements spellRecs keyword planKeyword word letters bytes bytesFrom spellFields spell
-number-line n = append-nil (spellRec (rec (inPlan pathElement) tt (n, tt))) ∙ row-rec (rec (inPlan pathElement) tt (n, tt)) 42 (n ∷ []) refl refl
+number-line n = append-nil (spellRec (rec (inPlan pathElement) tt (n, tt))) ∙ row-rec (rec (inPlan pathElement) tt (n, tt)) elementWord (n ∷ []) refl refl
 
 path-append : (xs ys : List ℕ) → spellRecs (pathElements (xs ++ ys)) ≡ spellRecs (pathElements xs) ++ spellRecs (pathElements ys)
 unfolding pathElements spellRecs
@@ -64,7 +65,7 @@ module _ (rest : List ℕ) (base : ℕ) (seen : Bool) (waits : ℕ) where
   unfolding pathElements spellRecs
   not-kept e = rw (kept-none waits e) stay
 
-  pub node-step : {i kind n : ℕ} {g g′ g″ : Page} → kind ≡ 12 → i < 2048 → Puts (spellRecs (pathElements (keptRel (shift (noted rest) base) seen (waitsOf waits)))) g g′ → n ≡ noteOf rest base i → Puts (rowText elementWord (n ∷ [])) g′ g″ → Stepped rest base i kind seen waits g g″ true 0
+  pub node-step : {i kind n : ℕ} {g g′ g″ : Page} → kind ≡ nodeKind → i < maxRecords → Puts (spellRecs (pathElements (keptRel (shift (noted rest) base) seen (waitsOf waits)))) g g′ → n ≡ noteOf rest base i → Puts (rowText elementWord (n ∷ [])) g′ g″ → Stepped rest base i kind seen waits g g″ true 0
   node-step {i} {kind} {n} {g} {g′} {g″} e l w q v =
       record {
         low = omega arith;
@@ -72,7 +73,7 @@ module _ (rest : List ℕ) (base : ℕ) (seen : Bool) (waits : ℕ) where
         of-rel = λ x. absurd (x e);
       }
 
-  pub rel-step : {i kind : ℕ} {g : Page} → (kind ≡ 12 → ⊥) → i < 2048 → Stepped rest base i kind seen waits g g seen (i + 1)
+  pub rel-step : {i kind : ℕ} {g : Page} → (kind ≡ nodeKind → ⊥) → i < maxRecords → Stepped rest base i kind seen waits g g seen (i + 1)
   rel-step z l = record { low = omega arith; of-node = λ x. absurd (z x); of-rel = λ x. (refl, refl, refl) }
 
 -- ── the loop ──
@@ -82,7 +83,7 @@ pub record Walked (sheet : Bytes) (a b rest : List ℕ) (base m at : ℕ) (seen 
   pub others : Elements sheet a b m at
   pub text : (r : Page) → Puts (spellRecs (pathElements (keptFrom (shift (noted rest) base) seen (waitsOf waits) (others .trees)))) q r → Puts (spellRecs (pathElements before)) p r
 
-module _ {sheet : Bytes} {a b rest : List ℕ} {base at kind next waits waits′ : ℕ} {seen seen′ : Bool} {p q : Page} (room : Roomy a b) (k : kind ≡ cell a b at 0) (s : Stepped rest base at kind seen waits p q seen′ waits′) (ends : Ends a b at next) where
+module _ {sheet : Bytes} {a b rest : List ℕ} {base at kind next waits waits′ : ℕ} {seen seen′ : Bool} {p q : Page} (room : Roomy a b) (k : kind ≡ cell a b at kindAt) (s : Stepped rest base at kind seen waits p q seen′ waits′) (ends : Ends a b at next) where
   walk : {m : ℕ} (z : m ≡ 0 → ⊥) (d : ℕ) (ts : Trees patternElement m) → HeldOf sheet a b ts d at → Walked sheet a b rest base (m - 1) next seen′ waits′ (keptFrom (shift (noted rest) base) seen (waitsOf waits) ts) p q
   unfolding Held keptFrom waitsOf elementNumber
   walk z d []ᵗ h = absurd (z refl)
@@ -112,23 +113,23 @@ module _ {sheet : Bytes} {a b rest : List ℕ} {base at kind next waits waits′
 pub record Walking (sheet : Bytes) (a b rest : List ℕ) (base n i : ℕ) (start : Page) (m at : ℕ) (seen : Bool) (waits : ℕ) (p : Page) : Type 0 where
   pub some : Elements sheet a b m at
   pub each : (h : Elements sheet a b n i) → Walked sheet a b rest base m at seen waits (keptFrom (shift (noted rest) base) false none (h .trees)) start p
-  pub low : waits ≤ 2048
+  pub low : waits ≤ maxRecords
   pub long : length (p .bytes) ≡ length (start .bytes)
 
 pub walking : {sheet : Bytes} {a b rest : List ℕ} {base n i : ℕ} {p : Page} → Elements sheet a b n i → Walking sheet a b rest base n i p n i false 0 p
 unfolding waitsOf
 walking h = record { some = h; each = λ h. record { others = h; text = λ r v. v }; low = omega arith; long = refl }
 
-first-element : (sheet : Bytes) (a b : List ℕ) (d i : ℕ) {n : ℕ} → (n ≡ 0 → ⊥) → (ts : Trees patternElement n) → HeldOf sheet a b ts d i → Starts a b i × (i < 2048)
+first-element : (sheet : Bytes) (a b : List ℕ) (d i : ℕ) {n : ℕ} → (n ≡ 0 → ⊥) → (ts : Trees patternElement n) → HeldOf sheet a b ts d i → Starts a b i × (i < maxRecords)
 unfolding Held
 first-element sheet a b d i z []ᵗ h = absurd (z refl)
 first-element sheet a b d i z (node patternElement line k f kids ∷ᵗ ts) h = (record { sheet = sheet; sort = patternElement; depth = d; tree = node patternElement line k f kids; inner = tt; held = h .0 }, h .0 .1 .low)
 
-pub element-starts : {sheet : Bytes} {a b : List ℕ} {n i : ℕ} → (n ≡ 0 → ⊥) → Elements sheet a b n i → Starts a b i × (i < 2048)
+pub element-starts : {sheet : Bytes} {a b : List ℕ} {n i : ℕ} → (n ≡ 0 → ⊥) → Elements sheet a b n i → Starts a b i × (i < maxRecords)
 element-starts {sheet = sheet} {a = a} {b = b} {i = i} z h = first-element sheet a b (h .depth) i z (h .trees) (h .held)
 
 module _ {sheet : Bytes} {a b rest : List ℕ} {base n i : ℕ} {start : Page} where
-  pub walk-on : {m at kind next waits waits′ : ℕ} {seen seen′ : Bool} {p q : Page} → Roomy a b → (m ≡ 0 → ⊥) → Walking sheet a b rest base n i start m at seen waits p → kind ≡ cell a b at 0 → Stepped rest base at kind seen waits p q seen′ waits′ → Ends a b at next → length (q .bytes) ≡ length (p .bytes) → Walking sheet a b rest base n i start (m - 1) next seen′ waits′ q
+  pub walk-on : {m at kind next waits waits′ : ℕ} {seen seen′ : Bool} {p q : Page} → Roomy a b → (m ≡ 0 → ⊥) → Walking sheet a b rest base n i start m at seen waits p → kind ≡ cell a b at kindAt → Stepped rest base at kind seen waits p q seen′ waits′ → Ends a b at next → length (q .bytes) ≡ length (p .bytes) → Walking sheet a b rest base n i start (m - 1) next seen′ waits′ q
   walk-on room z g k s ends l =
       record {
         some = walk room k s ends z (g .some .depth) (g .some .trees) (g .some .held) .others;

@@ -2,21 +2,26 @@
 use mathlib.Core.Path.{_≡_}
 use Prim.Native.Nat.{ℕ, zero, suc, _+_, _≤_, _<_}
 use mathlib.Core.List.{List, [], _∷_, _++_}
+use mathlib.Core.Bool.{Bool, true, false, cond}
+use lib.Dec.{eqb, ltb}
 use lib.ListN.{length, getD, take}
-use Rattle.model.specs.Text.{Bytes, bytes, decimal}
+use lib.Seq.{slice}
+use Rattle.model.specs.Text.{Bytes}
 use Rattle.model.specs.Field.{Fields}
-use Rattle.model.specs.Kind.{Same, Expr, PatternElement, PlanExpr, projection, orderItem, patternElement, name, entry, expr, inPlan, planProjection, orderKey, planEntry}
+use Rattle.model.specs.Kind.{Expr, PatternElement, projection, orderItem, patternElement, name, entry, expr, inPlan, planProjection, orderKey, planEntry}
 use Rattle.model.specs.Record.{Rec, rec, forms, exprForms, elementForms, spellRecs}
 use Rattle.model.specs.Tree.{Tree}
 use Rattle.model.specs.Lower.{Recs, exprAlias, aliasOr}
 use Rattle.output.specs.Page.{Page, Puts}
-use Rattle.words.specs.Words.{Roomy}
+use Rattle.words.specs.Words.{Roomy, cell}
+use Rattle.words.specs.Places.{nullKind, propKind, varKind}
 use Rattle.words.specs.Held.{Held, RecordAt, size}
-use Rattle.context.specs.Tables.{opAt}
+use Rattle.context.specs.Tables.{opAt, maxStored, secondPass}
 use Rattle.context.specs.declared.op.Op.{Op}
 use Rattle.lower.specs.Side.{side}
 use Rattle.lower.specs.Render.{Notes, Ops, render, Below, specRecs, KidsBelow}
 use Rattle.lower.specs.Shows.{Stored, shift}
+use Rattle.model.specs.Call.{maxDepth, workWords}
 
 -- what is noted
 abbrev pub noted : List ℕ → Notes
@@ -25,24 +30,39 @@ noted rest q = getD rest q 0
 -- the slices are long enough
 pub record Room (a b os rest : List ℕ) : Type 0 where
   pub records : Roomy a b
-  pub in-ops : 16384 ≤ length os
-  pub in-rest : 16384 ≤ length rest
+  pub in-ops : workWords ≤ length os
+  pub in-rest : workWords ≤ length rest
 
 -- where the notes of a pass begin, and how deep trees may be
 pub record Near (base left : ℕ) : Type 0 where
-  pub near : base ≤ 2048
-  pub shallow : left ≤ 64
+  pub near : base ≤ secondPass
+  pub shallow : left ≤ maxDepth
 
 -- A has the operators below n, as the tables show them
 pub record Planned (sheet : Bytes) (a b os rest : List ℕ) (n : ℕ) (A : Ops) : Type 0 where
-  pub few : n ≤ 2048
+  pub few : n ≤ maxStored
   pub stored : (k : ℕ) → k < n → Stored (side sheet a b 0) (noted rest) A k (opAt os k) (A k)
+
+-- the text whose place stands in word c of record i and in the next one, and that it is inside the sheet
+abbrev pub textAt : Bytes → List ℕ → List ℕ → (i c : ℕ) → Bytes
+textAt sheet a b i c = slice (cell a b i c) (cell a b i (c + 1)) sheet
+
+abbrev pub TextIn : Bytes → List ℕ → List ℕ → (i c : ℕ) → Type 0
+TextIn sheet a b i c = (cell a b i c ≤ cell a b i (c + 1)) × (cell a b i (c + 1) ≤ length sheet)
+
+-- a part that asks for all shortest paths, and not for one
+abbrev pub allShortest : ℕ
+allShortest = 2
 
 -- some expression begins at record i
 pub record ExprAt (sheet : Bytes) (a b : List ℕ) (i : ℕ) : Type 0 where
   pub kind : Expr
   pub fields : Fields (exprForms kind)
   pub at : RecordAt sheet a b i expr kind fields
+
+-- the kinds of expressions that have none below them, whatever their fields
+unfoldable pub isLeaf : ℕ → Bool
+isLeaf kind = cond (eqb kind varKind) true (cond (ltb kind nullKind) false (ltb kind propKind))
 
 -- an item begins at record i, with its expression behind it
 pub record ItemAt (sheet : Bytes) (a b : List ℕ) (i : ℕ) : Type 0 where

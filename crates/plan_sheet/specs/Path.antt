@@ -16,6 +16,7 @@ use Rattle.context.specs.Read.{noteOf}
 use Rattle.lower.specs.Render.{keptRel, keptFrom}
 use Rattle.lower.specs.Shows.{shift}
 use Rattle.plan_sheet.specs.Due.{noted}
+use Rattle.words.specs.Words.{maxRecords}
 
 -- the line of a rel that waits; no record has the line 0
 unfoldable pub waitsOf : ℕ → Option ℕ
@@ -24,7 +25,7 @@ waitsOf (suc n) = some (suc n)
 
 -- what an element does: a node is listed behind the rel that waited, a rel waits
 pub record Stepped (rest : List ℕ) (base i kind : ℕ) (seen : Bool) (waits : ℕ) (p q : Page) (seen′ : Bool) (waits′ : ℕ) : Type 0 where
-  pub low : waits′ ≤ 2048
+  pub low : waits′ ≤ maxRecords
   pub of-node : kind ≡ nodeKind → (seen′ ≡ true) × (waits′ ≡ 0) × Puts (spellRecs (pathElements (keptRel (shift (noted rest) base) seen (waitsOf waits) ++ (noteOf rest base i ∷ [])))) p q
   pub of-rel : (kind ≡ nodeKind → ⊥) → (seen′ ≡ seen) × (waits′ ≡ i + 1) × (q ≡ p)
 

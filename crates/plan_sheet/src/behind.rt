@@ -3,9 +3,11 @@ ghost use mathlib.Core.Path.{_≡_};
 ghost use Prim.Native.Nat.{_+_, _<_, _≤_};
 ghost use lib.ListN.{length};
 ghost use Rattle.output.specs.Page.{on};
-ghost use Rattle.words.specs.Words.{Roomy, cell};
+ghost use Rattle.words.specs.Words.{Roomy, cell, maxRecords};
 ghost use Rattle.words.specs.Places.{callYieldsAt};
 ghost use Rattle.plan_sheet.specs.Behind.{manyOf, firstOf, Yields, WroteYields, SomeTail, WroteTail};
+ghost use Rattle.context.specs.Tables.{secondPass};
+ghost use Rattle.model.specs.Call.{workWords};
 use context::op;
 use context::op::Op;
 use context::read::note_of;
@@ -15,7 +17,7 @@ use words::records::count;
 // How many expressions an operator has.
 pub fn many_of(a: &[u32], b: &[u32], w: Op) -> usize
     requires { ⌜ Roomy (now a) (now b) ⌝ }
-    requires { ⌜ w .idx < 2048 ⌝ }
+    requires { ⌜ w .idx < maxRecords ⌝ }
     ensures { λ r. ⌜ r ≡ manyOf (now (a .entry)) (now (b .entry)) w ⌝ }
 {
     let kind = w.kind;
@@ -39,7 +41,7 @@ pub fn many_of(a: &[u32], b: &[u32], w: Op) -> usize
 
 // The record that they begin at.
 pub fn first_of(w: Op) -> usize
-    requires { ⌜ w .idx < 2048 ⌝ }
+    requires { ⌜ w .idx < maxRecords ⌝ }
     ensures { λ r. ⌜ r ≡ firstOf w ⌝ }
 {
     let kind = w.kind;
@@ -66,7 +68,7 @@ fn put_yields(
     i: usize,
 ) -> usize
     requires { ⌜ Roomy (now a) (now b) ⌝ }
-    requires { ⌜ (16384 ≤ length (now rest)) × (w .base ≤ 2048) × (w .idx < 2048) ⌝ }
+    requires { ⌜ (workWords ≤ length (now rest)) × (w .base ≤ secondPass) × (w .idx < maxRecords) ⌝ }
     requires { ⌜ Yields (now sheet) (now a) (now b) (cell (now a) (now b) (w .idx) callYieldsAt) i ⌝ }
     ensures { λ r. ⌜ WroteYields (now (sheet .entry)) (now (a .entry)) (now (b .entry)) (now (rest .entry)) (w .base) (cell (now (a .entry)) (now (b .entry)) (w .idx) callYieldsAt) i (on (now (plan .entry)) out) (on (now (plan .exit)) r) ⌝ }
 {
@@ -97,7 +99,7 @@ pub fn put_tail(
     i: usize,
 ) -> usize
     requires { ⌜ Roomy (now a) (now b) ⌝ }
-    requires { ⌜ (16384 ≤ length (now rest)) × (w .base ≤ 2048) × (w .idx < 2048) ⌝ }
+    requires { ⌜ (workWords ≤ length (now rest)) × (w .base ≤ secondPass) × (w .idx < maxRecords) ⌝ }
     requires { ⌜ SomeTail (now sheet) (now a) (now b) (now rest) w i ⌝ }
     ensures { λ r. ⌜ WroteTail (now (sheet .entry)) (now (a .entry)) (now (b .entry)) (now (rest .entry)) w i (on (now (plan .entry)) out) (on (now (plan .exit)) r) ⌝ }
 {

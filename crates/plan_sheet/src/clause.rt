@@ -1,17 +1,15 @@
 // The first line of an operator that a clause makes.
 ghost use mathlib.Core.List.{[], _∷_, _++_};
-ghost use Prim.Native.Nat.{_<_, _≤_};
-ghost use lib.ListN.{length};
-ghost use lib.Seq.{slice};
+ghost use Prim.Native.Nat.{_<_};
 ghost use Rattle.model.specs.Text.{tab, lineFeed};
 ghost use Rattle.model.specs.Field.{spellOption};
 ghost use Rattle.output.specs.Page.{on, Puts};
-ghost use Rattle.words.specs.Words.{Roomy, cell, optionOf};
-ghost use Rattle.words.specs.Places.{itemsAt, withFilterAt, callArgsAt, callYieldsAt, callOptionalAt};
+ghost use Rattle.words.specs.Words.{Roomy, cell, optionOf, maxRecords};
+ghost use Rattle.words.specs.Places.{itemsAt, withFilterAt, callArgsAt, callYieldsAt, callOptionalAt, callNameAt};
 ghost use Rattle.context.specs.Ops.{bindPathKind};
 ghost use Rattle.plan_line.specs.Keywords.{withWord, projectWord};
 ghost use Rattle.plan_line.specs.Row.{numbersText, rowText, callText};
-ghost use Rattle.plan_sheet.specs.Due.{OpShown, WroteFirst};
+ghost use Rattle.plan_sheet.specs.Due.{OpShown, WroteFirst, TextIn, textAt};
 use context::op;
 use context::op::Op;
 use plan_line::field::put_number;
@@ -23,7 +21,7 @@ use words::field;
 // A `with`: how many items it has, and whether it filters.
 fn put_with(plan: &mut [u8], out: usize, a: &[u32], b: &[u32], i: usize, input: u32) -> usize
     requires { ⌜ Roomy (now a) (now b) ⌝ }
-    requires { ⌜ i < 2048 ⌝ }
+    requires { ⌜ i < maxRecords ⌝ }
     ensures { λ r. ⌜ Puts (rowText withWord (input ∷ cell (now (a .entry)) (now (b .entry)) i itemsAt ∷ cell (now (a .entry)) (now (b .entry)) i withFilterAt ∷ [])) (on (now (plan .entry)) out) (on (now (plan .exit)) r) ⌝ }
 {
     let items = words::word(a, b, i, field::ITEMS);
@@ -34,7 +32,7 @@ fn put_with(plan: &mut [u8], out: usize, a: &[u32], b: &[u32], i: usize, input: 
 // A `return`: how many items it has.
 fn put_project(plan: &mut [u8], out: usize, a: &[u32], b: &[u32], i: usize, input: u32) -> usize
     requires { ⌜ Roomy (now a) (now b) ⌝ }
-    requires { ⌜ i < 2048 ⌝ }
+    requires { ⌜ i < maxRecords ⌝ }
     ensures { λ r. ⌜ Puts (rowText projectWord (input ∷ cell (now (a .entry)) (now (b .entry)) i itemsAt ∷ [])) (on (now (plan .entry)) out) (on (now (plan .exit)) r) ⌝ }
 {
     let items = words::word(a, b, i, field::ITEMS);
@@ -55,7 +53,7 @@ fn put_input(plan: &mut [u8], out: usize, there: u32, input: u32) -> usize
 // How many arguments and yields a `call` has and whether it is optional, up to the end of its line.
 fn put_counts(plan: &mut [u8], out: usize, a: &[u32], b: &[u32], i: usize) -> usize
     requires { ⌜ Roomy (now a) (now b) ⌝ }
-    requires { ⌜ i < 2048 ⌝ }
+    requires { ⌜ i < maxRecords ⌝ }
     ensures { λ r. ⌜ Puts (numbersText (cell (now (a .entry)) (now (b .entry)) i callArgsAt ∷ cell (now (a .entry)) (now (b .entry)) i callYieldsAt ∷ cell (now (a .entry)) (now (b .entry)) i callOptionalAt ∷ []) ++ (lineFeed ∷ [])) (on (now (plan .entry)) out) (on (now (plan .exit)) r) ⌝ }
 {
     let args = words::word(a, b, i, field::CALL_ARGS);
@@ -76,9 +74,9 @@ fn put_procedure(
     input: u32,
 ) -> usize
     requires { ⌜ Roomy (now a) (now b) ⌝ }
-    requires { ⌜ i < 2048 ⌝ }
-    requires { ⌜ (cell (now a) (now b) i 2 ≤ cell (now a) (now b) i 3) × (cell (now a) (now b) i 3 ≤ length (now sheet)) ⌝ }
-    ensures { λ r. ⌜ Puts (callText (optionOf there input) (slice (cell (now (a .entry)) (now (b .entry)) i 2) (cell (now (a .entry)) (now (b .entry)) i 3) (now (sheet .entry))) (cell (now (a .entry)) (now (b .entry)) i callArgsAt) (cell (now (a .entry)) (now (b .entry)) i callYieldsAt) (cell (now (a .entry)) (now (b .entry)) i callOptionalAt)) (on (now (plan .entry)) out) (on (now (plan .exit)) r) ⌝ }
+    requires { ⌜ i < maxRecords ⌝ }
+    requires { ⌜ TextIn (now sheet) (now a) (now b) i callNameAt ⌝ }
+    ensures { λ r. ⌜ Puts (callText (optionOf there input) (textAt (now (sheet .entry)) (now (a .entry)) (now (b .entry)) i callNameAt) (cell (now (a .entry)) (now (b .entry)) i callArgsAt) (cell (now (a .entry)) (now (b .entry)) i callYieldsAt) (cell (now (a .entry)) (now (b .entry)) i callOptionalAt)) (on (now (plan .entry)) out) (on (now (plan .exit)) r) ⌝ }
 {
     let s = words::word(a, b, i, field::CALL_NAME);
     let e = words::word(a, b, i, field::CALL_NAME + 1);

@@ -1,18 +1,17 @@
 // The first line of an expression, and the line that stands before one.
 ghost use mathlib.Core.Path.{_≡_};
 ghost use mathlib.Core.List.{[], _∷_};
-ghost use Prim.Native.Nat.{_<_, _≤_};
-ghost use lib.ListN.{length};
-ghost use lib.Seq.{slice};
+ghost use Prim.Native.Nat.{_<_};
 ghost use Rattle.model.specs.Record.{spellRec};
 ghost use Rattle.output.specs.Page.{on, Puts};
-ghost use Rattle.words.specs.Words.{Roomy, cell};
-ghost use Rattle.words.specs.Places.{kindAt, fnArgsAt, listPredicateKindAt, listPredicatePredAt};
+ghost use Rattle.words.specs.Words.{Roomy, cell, maxRecords};
+ghost use Rattle.words.specs.Places.{kindAt, fnArgsAt, listPredicateKindAt, listPredicatePredAt, nameAt};
 ghost use Rattle.plan_line.specs.Keywords.{fnWord, listPredicateWord};
 ghost use Rattle.plan_line.specs.Row.{rowText, namedText};
 ghost use Rattle.model.specs.Lower.{exprHead};
-ghost use Rattle.plan_sheet.specs.Due.{ExprAt, SomeLine, WroteLine};
-use plan_line::field::put_line;
+ghost use Rattle.plan_sheet.specs.Due.{ExprAt, isLeaf, SomeLine, WroteLine, TextIn, textAt};
+use plan_line::copy::put_copied;
+use plan_line::field::put_int;
 use plan_line::row;
 use plan_line::word;
 use words::field;
@@ -27,9 +26,9 @@ pub struct Wrote {
 // A function's name and how many arguments it has.
 fn put_call(plan: &mut [u8], out: usize, sheet: &[u8], a: &[u32], b: &[u32], i: usize) -> usize
     requires { ⌜ Roomy (now a) (now b) ⌝ }
-    requires { ⌜ i < 2048 ⌝ }
-    requires { ⌜ (cell (now a) (now b) i 2 ≤ cell (now a) (now b) i 3) × (cell (now a) (now b) i 3 ≤ length (now sheet)) ⌝ }
-    ensures { λ r. ⌜ Puts (namedText fnWord (slice (cell (now (a .entry)) (now (b .entry)) i 2) (cell (now (a .entry)) (now (b .entry)) i 3) (now (sheet .entry))) (cell (now (a .entry)) (now (b .entry)) i fnArgsAt ∷ [])) (on (now (plan .entry)) out) (on (now (plan .exit)) r) ⌝ }
+    requires { ⌜ i < maxRecords ⌝ }
+    requires { ⌜ TextIn (now sheet) (now a) (now b) i nameAt ⌝ }
+    ensures { λ r. ⌜ Puts (namedText fnWord (textAt (now (sheet .entry)) (now (a .entry)) (now (b .entry)) i nameAt) (cell (now (a .entry)) (now (b .entry)) i fnArgsAt ∷ [])) (on (now (plan .entry)) out) (on (now (plan .exit)) r) ⌝ }
 {
     let s = words::word(a, b, i, field::NAME);
     let e = words::word(a, b, i, field::NAME + 1);
@@ -40,12 +39,25 @@ fn put_call(plan: &mut [u8], out: usize, sheet: &[u8], a: &[u32], b: &[u32], i: 
 // A list predicate, whose variable has the number n.
 fn put_any(plan: &mut [u8], out: usize, a: &[u32], b: &[u32], i: usize, n: u32) -> usize
     requires { ⌜ Roomy (now a) (now b) ⌝ }
-    requires { ⌜ i < 2048 ⌝ }
+    requires { ⌜ i < maxRecords ⌝ }
     ensures { λ r. ⌜ Puts (rowText listPredicateWord (cell (now (a .entry)) (now (b .entry)) i listPredicateKindAt ∷ n ∷ cell (now (a .entry)) (now (b .entry)) i listPredicatePredAt ∷ [])) (on (now (plan .entry)) out) (on (now (plan .exit)) r) ⌝ }
 {
     let x = words::word(a, b, i, field::LIST_PREDICATE_KIND);
     let z = words::word(a, b, i, field::LIST_PREDICATE_PRED);
     row::put_row3(plan, out, word::LIST_PREDICATE, x, n, z)
+}
+
+// Whether an expression of this kind has none below it, whatever its fields.
+pub fn is_leaf(kind: u32) -> bool
+    ensures { λ r. ⌜ r ≡ isLeaf kind ⌝ }
+{
+    if kind == kind::VAR {
+        return true;
+    }
+    if kind < kind::NULL {
+        return false;
+    }
+    kind < kind::PROP
 }
 
 // The first line of the expression at record i, at which the number n is noted.
@@ -66,16 +78,13 @@ pub fn put_expr(
 {
     match kind {
         kind::VAR => row::put_row1(plan, out, word::VAR, n),
-        kind::MAP => put_line(plan, out, sheet, a, b, i, kind::MAP as usize, word::MAP),
+        kind::INT => put_int(plan, out, a, b, i),
         kind::FN => put_call(plan, out, sheet, a, b, i),
         kind::PAT => row::put_row0(plan, out, word::EXISTS),
         kind::LIST_PREDICATE => put_any(plan, out, a, b, i, n),
         kind::UNRES => row::put_row0(plan, out, word::NULL),
         kind::UNDES => row::put_row0(plan, out, word::NULL),
-        _ => {
-            let k = kind as usize;
-            put_line(plan, out, sheet, a, b, i, k, k - word::SAME_FROM)
-        }
+        _ => put_copied(plan, out, sheet, a, b, i),
     }
 }
 
@@ -96,12 +105,12 @@ pub fn put_before(
     match kind {
         kind::ENTRY => {
             let next = i + 1;
-            let o = put_line(plan, out, sheet, a, b, i, kind::ENTRY as usize, word::NAME);
+            let o = put_copied(plan, out, sheet, a, b, i);
             Wrote { next, out: o }
         }
         kind::KEY => {
             let next = i + 1;
-            let o = put_line(plan, out, sheet, a, b, i, kind::KEY as usize, word::KEY);
+            let o = put_copied(plan, out, sheet, a, b, i);
             Wrote { next, out: o }
         }
         kind::ITEM => {

@@ -1,17 +1,16 @@
 // The line of an item: its alias, or a name by its expression; and that of an aggregate.
-ghost use mathlib.Core.List.{[], _∷_, _++_};
-ghost use Prim.Native.Nat.{_+_, _<_, _≤_};
-ghost use lib.ListN.{length};
-ghost use lib.Seq.{slice};
+ghost use mathlib.Core.List.{[], _++_};
+ghost use Prim.Native.Nat.{_+_, _<_};
 ghost use Rattle.model.specs.Text.{bytes, decimal};
 ghost use Rattle.model.specs.Record.{spellRec};
 ghost use Rattle.output.specs.Page.{on, Puts};
-ghost use Rattle.words.specs.Words.{Roomy, cell};
-ghost use Rattle.words.specs.Places.{fnArgsAt, fnDistinctAt};
-ghost use Rattle.plan_line.specs.Keywords.{itemWord, aggFnWord};
+ghost use Rattle.words.specs.Words.{Roomy, maxRecords};
+ghost use Rattle.words.specs.Places.{nameAt};
+ghost use Rattle.plan_line.specs.Keywords.{itemWord};
 ghost use Rattle.plan_line.specs.Row.{namedText};
 ghost use Rattle.model.specs.Lower.{exprAlias};
-ghost use Rattle.plan_sheet.specs.Due.{ExprAt, ItemAt, namedRec, itemName};
+ghost use Rattle.plan_sheet.specs.Parted.{aggText};
+ghost use Rattle.plan_sheet.specs.Due.{ExprAt, ItemAt, namedRec, itemName, TextIn, textAt};
 use output::put_byte;
 use plan_line::keyword::put_keyword;
 use plan_line::row;
@@ -22,9 +21,9 @@ use words::kind;
 // The name that record i has: an item's alias, a property, a function.
 fn put_own_name(plan: &mut [u8], out: usize, sheet: &[u8], a: &[u32], b: &[u32], i: usize) -> usize
     requires { ⌜ Roomy (now a) (now b) ⌝ }
-    requires { ⌜ i < 2048 ⌝ }
-    requires { ⌜ (cell (now a) (now b) i 2 ≤ cell (now a) (now b) i 3) × (cell (now a) (now b) i 3 ≤ length (now sheet)) ⌝ }
-    ensures { λ r. ⌜ Puts (namedText itemWord (slice (cell (now (a .entry)) (now (b .entry)) i 2) (cell (now (a .entry)) (now (b .entry)) i 3) (now (sheet .entry))) []) (on (now (plan .entry)) out) (on (now (plan .exit)) r) ⌝ }
+    requires { ⌜ i < maxRecords ⌝ }
+    requires { ⌜ TextIn (now sheet) (now a) (now b) i nameAt ⌝ }
+    ensures { λ r. ⌜ Puts (namedText itemWord (textAt (now (sheet .entry)) (now (a .entry)) (now (b .entry)) i nameAt) []) (on (now (plan .entry)) out) (on (now (plan .exit)) r) ⌝ }
 {
     let s = words::word(a, b, i, field::NAME);
     let e = words::word(a, b, i, field::NAME + 1);
@@ -92,9 +91,9 @@ pub fn put_item(plan: &mut [u8], out: usize, sheet: &[u8], a: &[u32], b: &[u32],
 // An aggregate: its function's name, how many arguments it has, and whether they are distinct.
 pub fn put_agg(plan: &mut [u8], out: usize, sheet: &[u8], a: &[u32], b: &[u32], i: usize) -> usize
     requires { ⌜ Roomy (now a) (now b) ⌝ }
-    requires { ⌜ i < 2048 ⌝ }
-    requires { ⌜ (cell (now a) (now b) i 2 ≤ cell (now a) (now b) i 3) × (cell (now a) (now b) i 3 ≤ length (now sheet)) ⌝ }
-    ensures { λ r. ⌜ Puts (namedText aggFnWord (slice (cell (now (a .entry)) (now (b .entry)) i 2) (cell (now (a .entry)) (now (b .entry)) i 3) (now (sheet .entry))) (cell (now (a .entry)) (now (b .entry)) i fnArgsAt ∷ cell (now (a .entry)) (now (b .entry)) i fnDistinctAt ∷ [])) (on (now (plan .entry)) out) (on (now (plan .exit)) r) ⌝ }
+    requires { ⌜ i < maxRecords ⌝ }
+    requires { ⌜ TextIn (now sheet) (now a) (now b) i nameAt ⌝ }
+    ensures { λ r. ⌜ Puts (aggText (now (sheet .entry)) (now (a .entry)) (now (b .entry)) i) (on (now (plan .entry)) out) (on (now (plan .exit)) r) ⌝ }
 {
     let s = words::word(a, b, i, field::NAME);
     let e = words::word(a, b, i, field::NAME + 1);

@@ -1,19 +1,17 @@
 // Names one after another, and the line of a pattern's element.
 ghost use mathlib.Core.Path.{_≡_};
 ghost use mathlib.Core.List.{[], _∷_};
-ghost use Prim.Native.Nat.{_+_, _<_, _≤_};
-ghost use lib.ListN.{length};
-ghost use lib.Seq.{slice};
+ghost use Prim.Native.Nat.{_+_, _<_};
 ghost use Rattle.model.specs.Record.{spellRec, spellRecs};
 ghost use Rattle.output.specs.Page.{on, Puts};
-ghost use Rattle.words.specs.Words.{Roomy, cell};
+ghost use Rattle.words.specs.Words.{Roomy, cell, maxRecords};
 ghost use Rattle.lower.specs.Render.{specRec};
-ghost use Rattle.plan_sheet.specs.Due.{Names, namesRecs, ElementAt};
+ghost use Rattle.plan_sheet.specs.Due.{Names, namesRecs, ElementAt, TextIn, textAt};
 ghost use Rattle.words.specs.Places.{kindAt, nodeLabelsAt, nodePropsAt, relTypesAt, relDirectionAt, relLengthAt, relPropsAt};
 ghost use Rattle.plan_line.specs.Keywords.{toWord};
 ghost use Rattle.plan_line.specs.Row.{rowText, relText};
 use crate::head::Wrote;
-use plan_line::field::put_line;
+use plan_line::copy::put_copied;
 use plan_line::field::put_number;
 use plan_line::field::put_text;
 use plan_line::keyword::put_keyword;
@@ -36,12 +34,12 @@ pub fn put_names(
     ensures { λ r. ⌜ ((h : Names (now (sheet .entry)) (now (a .entry)) (now (b .entry)) n i) → (r .next ≡ i + n) × Puts (spellRecs (namesRecs h)) (on (now (plan .entry)) out) (on (now (plan .exit)) (r .out))) ⌝ }
 {
     let mut at = i;
-    let mut left = n;
+    let mut due = n;
     let mut o = out;
-    while left != 0 {
-        o = put_line(plan, o, sheet, a, b, at, kind::NAME as usize, word::NAME);
+    while due != 0 {
+        o = put_copied(plan, o, sheet, a, b, at);
         at += 1;
-        left -= 1;
+        due -= 1;
     }
     Wrote { next: at, out: o }
 }
@@ -49,9 +47,9 @@ pub fn put_names(
 // A rel without its variable and its span.
 fn put_rel(plan: &mut [u8], out: usize, sheet: &[u8], a: &[u32], b: &[u32], i: usize) -> usize
     requires { ⌜ Roomy (now a) (now b) ⌝ }
-    requires { ⌜ i < 2048 ⌝ }
-    requires { ⌜ (cell (now a) (now b) i relLengthAt ≤ cell (now a) (now b) i 9) × (cell (now a) (now b) i 9 ≤ length (now sheet)) ⌝ }
-    ensures { λ r. ⌜ Puts (relText (cell (now (a .entry)) (now (b .entry)) i relTypesAt) (cell (now (a .entry)) (now (b .entry)) i relDirectionAt) (slice (cell (now (a .entry)) (now (b .entry)) i relLengthAt) (cell (now (a .entry)) (now (b .entry)) i 9) (now (sheet .entry))) (cell (now (a .entry)) (now (b .entry)) i relPropsAt)) (on (now (plan .entry)) out) (on (now (plan .exit)) r) ⌝ }
+    requires { ⌜ i < maxRecords ⌝ }
+    requires { ⌜ TextIn (now sheet) (now a) (now b) i relLengthAt ⌝ }
+    ensures { λ r. ⌜ Puts (relText (cell (now (a .entry)) (now (b .entry)) i relTypesAt) (cell (now (a .entry)) (now (b .entry)) i relDirectionAt) (textAt (now (sheet .entry)) (now (a .entry)) (now (b .entry)) i relLengthAt) (cell (now (a .entry)) (now (b .entry)) i relPropsAt)) (on (now (plan .entry)) out) (on (now (plan .exit)) r) ⌝ }
 {
     let types = words::word(a, b, i, field::REL_TYPES);
     let direction = words::word(a, b, i, field::REL_DIRECTION);
@@ -69,7 +67,7 @@ fn put_rel(plan: &mut [u8], out: usize, sheet: &[u8], a: &[u32], b: &[u32], i: u
 // A node without its variable and its span.
 fn put_node(plan: &mut [u8], out: usize, a: &[u32], b: &[u32], i: usize) -> usize
     requires { ⌜ Roomy (now a) (now b) ⌝ }
-    requires { ⌜ i < 2048 ⌝ }
+    requires { ⌜ i < maxRecords ⌝ }
     ensures { λ r. ⌜ Puts (rowText toWord (cell (now (a .entry)) (now (b .entry)) i nodeLabelsAt ∷ cell (now (a .entry)) (now (b .entry)) i nodePropsAt ∷ [])) (on (now (plan .entry)) out) (on (now (plan .exit)) r) ⌝ }
 {
     let labels = words::word(a, b, i, field::NODE_LABELS);

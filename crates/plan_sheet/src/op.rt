@@ -7,12 +7,14 @@ ghost use lib.Dec.{eqb};
 ghost use lib.ListN.{length};
 ghost use Rattle.model.specs.Record.{one};
 ghost use Rattle.output.specs.Page.{on, Puts};
-ghost use Rattle.words.specs.Words.{Roomy, cell};
+ghost use Rattle.words.specs.Words.{Roomy, cell, maxRecords};
 ghost use Rattle.words.specs.Places.{nodeKind, nodePropsAt, relPropsAt, nodeLabelsAt, partShortestAt};
 ghost use Rattle.context.specs.Read.{noteOf};
 ghost use Rattle.plan_line.specs.Keywords.{sourceWord, expandWord, shortWord};
 ghost use Rattle.plan_line.specs.Row.{rowText};
-ghost use Rattle.plan_sheet.specs.Due.{OpShown, WroteFirst};
+ghost use Rattle.plan_sheet.specs.Due.{OpShown, WroteFirst, allShortest};
+ghost use Rattle.context.specs.Tables.{secondPass};
+ghost use Rattle.model.specs.Call.{workWords};
 use context::op;
 use context::op::Op;
 use context::read::note_of;
@@ -27,7 +29,7 @@ const ALL_SHORTEST: u32 = 2;
 // Whether the element at record i has props: 0 or 1.
 pub fn props_of(a: &[u32], b: &[u32], i: usize, kind: u32) -> usize
     requires { ⌜ Roomy (now a) (now b) ⌝ }
-    requires { ⌜ i < 2048 ⌝ }
+    requires { ⌜ i < maxRecords ⌝ }
     ensures { λ r. ⌜ r ≡ cond (eqb kind nodeKind) (cell (now (a .entry)) (now (b .entry)) i nodePropsAt) (cell (now (a .entry)) (now (b .entry)) i relPropsAt) ⌝ }
 {
     if kind == kind::NODE {
@@ -38,8 +40,8 @@ pub fn props_of(a: &[u32], b: &[u32], i: usize, kind: u32) -> usize
 
 // The first line of an expand, whose numbers are noted at the rel and its far node.
 fn put_expand(plan: &mut [u8], out: usize, rest: &[u32], w: Op) -> usize
-    requires { ⌜ (w .idx < 2048) × (w .y < 2048) × (w .base ≤ 2048) ⌝ }
-    requires { ⌜ 16384 ≤ length (now rest) ⌝ }
+    requires { ⌜ (w .idx < maxRecords) × (w .y < maxRecords) × (w .base ≤ secondPass) ⌝ }
+    requires { ⌜ workWords ≤ length (now rest) ⌝ }
     ensures { λ r. ⌜ Puts (rowText expandWord (w .input ∷ w .x ∷ noteOf (now (rest .entry)) (w .base) (w .idx) ∷ noteOf (now (rest .entry)) (w .base) (w .y) ∷ [])) (on (now (plan .entry)) out) (on (now (plan .exit)) r) ⌝ }
 {
     let base = w.base as usize;
@@ -50,7 +52,7 @@ fn put_expand(plan: &mut [u8], out: usize, rest: &[u32], w: Op) -> usize
 
 // Whether a part asks for all shortest paths: 0 or 1.
 fn is_all(x: u32) -> u32
-    ensures { λ r. ⌜ r ≡ one (eqb x 2) ⌝ }
+    ensures { λ r. ⌜ r ≡ one (eqb x allShortest) ⌝ }
 {
     if x == ALL_SHORTEST {
         return 1;
@@ -61,9 +63,9 @@ fn is_all(x: u32) -> u32
 // The first line of a shortest part, which notes the path's number; its first node is the record behind it.
 fn put_short(plan: &mut [u8], out: usize, a: &[u32], b: &[u32], rest: &[u32], w: Op) -> usize
     requires { ⌜ Roomy (now a) (now b) ⌝ }
-    requires { ⌜ (w .idx < 2048) × (w .y < 2048) × (w .base ≤ 2048) ⌝ }
-    requires { ⌜ 16384 ≤ length (now rest) ⌝ }
-    ensures { λ r. ⌜ Puts (rowText shortWord (w .input ∷ noteOf (now (rest .entry)) (w .base) (w .idx + 1) ∷ noteOf (now (rest .entry)) (w .base) (w .y) ∷ noteOf (now (rest .entry)) (w .base) (w .idx) ∷ one (eqb (cell (now (a .entry)) (now (b .entry)) (w .idx) partShortestAt) 2) ∷ [])) (on (now (plan .entry)) out) (on (now (plan .exit)) r) ⌝ }
+    requires { ⌜ (w .idx < maxRecords) × (w .y < maxRecords) × (w .base ≤ secondPass) ⌝ }
+    requires { ⌜ workWords ≤ length (now rest) ⌝ }
+    ensures { λ r. ⌜ Puts (rowText shortWord (w .input ∷ noteOf (now (rest .entry)) (w .base) (w .idx + 1) ∷ noteOf (now (rest .entry)) (w .base) (w .y) ∷ noteOf (now (rest .entry)) (w .base) (w .idx) ∷ one (eqb (cell (now (a .entry)) (now (b .entry)) (w .idx) partShortestAt) allShortest) ∷ [])) (on (now (plan .entry)) out) (on (now (plan .exit)) r) ⌝ }
 {
     let base = w.base as usize;
     let i = w.idx as usize;
@@ -77,7 +79,7 @@ fn put_short(plan: &mut [u8], out: usize, a: &[u32], b: &[u32], rest: &[u32], w:
 // The first line of a source by labels.
 fn put_source(plan: &mut [u8], out: usize, a: &[u32], b: &[u32], i: usize, x: u32) -> usize
     requires { ⌜ Roomy (now a) (now b) ⌝ }
-    requires { ⌜ i < 2048 ⌝ }
+    requires { ⌜ i < maxRecords ⌝ }
     ensures { λ r. ⌜ Puts (rowText sourceWord (x ∷ cell (now (a .entry)) (now (b .entry)) i nodeLabelsAt ∷ [])) (on (now (plan .entry)) out) (on (now (plan .exit)) r) ⌝ }
 {
     let labels = words::word(a, b, i, field::NODE_LABELS);
@@ -95,7 +97,7 @@ pub fn put_op(
     w: Op,
 ) -> usize
     requires { ⌜ Roomy (now a) (now b) ⌝ }
-    requires { ⌜ 16384 ≤ length (now rest) ⌝ }
+    requires { ⌜ workWords ≤ length (now rest) ⌝ }
     requires { ⌜ OpShown (now sheet) (now a) (now b) (now rest) w ⌝ }
     ensures { λ r. ⌜ WroteFirst (now (sheet .entry)) (now (a .entry)) (now (b .entry)) (now (rest .entry)) w (on (now (plan .entry)) out) (on (now (plan .exit)) r) ⌝ }
 {

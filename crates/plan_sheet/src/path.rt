@@ -4,12 +4,14 @@ ghost use lib.ListN.{length};
 ghost use Rattle.model.specs.Record.{spellRecs};
 ghost use Rattle.model.specs.Lower.{pathElements};
 ghost use Rattle.output.specs.Page.{on, Puts};
-ghost use Rattle.words.specs.Words.{Roomy, cell};
+ghost use Rattle.words.specs.Words.{Roomy, cell, maxRecords};
 ghost use Rattle.words.specs.Places.{partElementsAt};
 ghost use Rattle.lower.specs.Render.{keptRel};
 ghost use Rattle.lower.specs.Shows.{shift};
 ghost use Rattle.plan_sheet.specs.Due.{noted};
 ghost use Rattle.plan_sheet.specs.Path.{waitsOf, Stepped, Elements, WrotePath};
+ghost use Rattle.context.specs.Tables.{secondPass};
+ghost use Rattle.model.specs.Call.{workWords};
 use context::op::Op;
 use context::read::note_of;
 use plan_line::row::put_row1;
@@ -33,7 +35,7 @@ fn put_kept(
     seen: bool,
     waits: usize,
 ) -> usize
-    requires { ⌜ (16384 ≤ length (now rest)) × (base ≤ 2048) × (waits ≤ 2048) ⌝ }
+    requires { ⌜ (workWords ≤ length (now rest)) × (base ≤ secondPass) × (waits ≤ maxRecords) ⌝ }
     ensures { λ r. ⌜ Puts (spellRecs (pathElements (keptRel (shift (noted (now (rest .entry))) base) seen (waitsOf waits)))) (on (now (plan .entry)) out) (on (now (plan .exit)) r) ⌝ }
 {
     if waits == 0 {
@@ -57,7 +59,7 @@ fn put_step(
     seen: bool,
     waits: usize,
 ) -> Path
-    requires { ⌜ (16384 ≤ length (now rest)) × (base ≤ 2048) × (waits ≤ 2048) × (i < 2048) ⌝ }
+    requires { ⌜ (workWords ≤ length (now rest)) × (base ≤ secondPass) × (waits ≤ maxRecords) × (i < maxRecords) ⌝ }
     ensures { λ r. ⌜ Stepped (now (rest .entry)) base i kind seen waits (on (now (plan .entry)) out) (on (now (plan .exit)) (r .out)) (r .seen) (r .waits) ⌝ }
 {
     if kind == kind::NODE {
@@ -89,7 +91,7 @@ pub fn put_path(
     i: usize,
 ) -> usize
     requires { ⌜ Roomy (now a) (now b) ⌝ }
-    requires { ⌜ (16384 ≤ length (now rest)) × (w .base ≤ 2048) × (w .idx < 2048) ⌝ }
+    requires { ⌜ (workWords ≤ length (now rest)) × (w .base ≤ secondPass) × (w .idx < maxRecords) ⌝ }
     requires { ⌜ Elements (now sheet) (now a) (now b) (cell (now a) (now b) (w .idx) partElementsAt) i ⌝ }
     ensures { λ r. ⌜ WrotePath (now (sheet .entry)) (now (a .entry)) (now (b .entry)) (now (rest .entry)) (w .base) (cell (now (a .entry)) (now (b .entry)) (w .idx) partElementsAt) i (on (now (plan .entry)) out) (on (now (plan .exit)) r) ⌝ }
 {

@@ -1,8 +1,8 @@
 // Expressions, elements of patterns and operators, with the operators that they copy.
 ghost use Prim.Native.Nat.{_+_};
 ghost use Rattle.output.specs.Page.{on};
-ghost use Rattle.plan_sheet.specs.Due.{Room, One, Many, Element, Near, SomePlan, WroteOne, WroteMany, WroteElement, WroteOp};
-ghost use Rattle.plan_sheet.specs.Parted.{Items, keys, aggregates, WrotePart, WroteParts};
+ghost use Rattle.plan_sheet.specs.Due.{Room, One, Many, Element, Near, SomePlan, WroteMany, WroteElement, WroteOp};
+ghost use Rattle.plan_sheet.specs.Parted.{Items, WrotePart, WroteParts, WroteItems};
 use crate::head::Wrote;
 use aggregate::is_aggregate;
 use context::op;
@@ -29,7 +29,26 @@ pub struct Run {
     pub n: usize,
 }
 
-// The expression at a record.
+// The same of an item's expression, with the part of the items that is asked for: the aggregates, or else the keys.
+pub struct Part {
+    pub base: usize,
+    pub i: usize,
+    pub left: usize,
+    pub below: usize,
+    pub aggregates: bool,
+}
+
+// The same of n items.
+pub struct Parts {
+    pub base: usize,
+    pub i: usize,
+    pub left: usize,
+    pub below: usize,
+    pub n: usize,
+    pub aggregates: bool,
+}
+
+// The expression at a record, behind its line if it has one.
 fn write_expr(
     plan: &mut [u8],
     out: usize,
@@ -42,22 +61,29 @@ fn write_expr(
 ) -> Wrote
     requires { ⌜ Room (now a) (now b) (now ops) (now rest) ⌝ }
     requires { ⌜ Near (at .base) (at .left) ⌝ }
-    requires { ⌜ One (now sheet) (now a) (now b) (now ops) (now rest) (at .below) (at .base) (at .left) (at .i) ⌝ }
-    ensures { λ r. ⌜ WroteOne (now (sheet .entry)) (now (a .entry)) (now (b .entry)) (now (ops .entry)) (now (rest .entry)) (at .below) (at .base) (at .left) (at .i) (on (now (plan .entry)) out) (r .next) (on (now (plan .exit)) (r .out)) ⌝ }
+    requires { ⌜ Many (now sheet) (now a) (now b) (now ops) (now rest) (at .below) (at .base) (at .left) 1 (at .i) ⌝ }
+    ensures { λ r. ⌜ WroteMany (now (sheet .entry)) (now (a .entry)) (now (b .entry)) (now (ops .entry)) (now (rest .entry)) (at .below) (at .base) (at .left) 1 (at .i) (on (now (plan .entry)) out) (r .next) (on (now (plan .exit)) (r .out)) ⌝ }
 {
-    let i = at.i;
+    let line = crate::head::put_before(plan, out, sheet, a, b, at.i);
+    let i = line.next;
     let kind = words::word(a, b, i, field::KIND);
     let n = note_of(rest, at.base, i);
-    let o = crate::head::put_expr(plan, out, sheet, a, b, i, kind, n);
+    let o = crate::head::put_expr(plan, line.out, sheet, a, b, i, kind, n);
+    if crate::head::is_leaf(kind) {
+        let next = i + 1;
+        return Wrote { next, out: o };
+    }
     if kind == kind::PAT {
         let p = write_op(plan, o, sheet, a, b, ops, rest, n as usize);
         let next = skip(a, b, i);
         return Wrote { next, out: p };
     }
+    let first = i + 1;
+    let left = at.left - 1;
     let run = Run {
         base: at.base,
-        i: i + 1,
-        left: at.left - 1,
+        i: first,
+        left,
         below: at.below,
         n: words::records::children(a, b, i),
     };
@@ -84,14 +110,13 @@ fn write_exprs(
     let mut due = run.n;
     let mut o = out;
     while due != 0 {
-        let h = crate::head::put_before(plan, o, sheet, a, b, i);
         let at = At {
             base: run.base,
-            i: h.next,
+            i,
             left: run.left,
             below: run.below,
         };
-        let w = write_expr(plan, h.out, sheet, a, b, ops, rest, at);
+        let w = write_expr(plan, o, sheet, a, b, ops, rest, at);
         o = w.out;
         i = w.next;
         due -= 1;
@@ -133,8 +158,8 @@ fn write_element(
     v.out
 }
 
-// An item's expression, if it is a key.
-fn write_key(
+// An item's expression, if it is of the part that is asked for. Of an aggregate the arguments alone are expressions.
+fn write_part(
     plan: &mut [u8],
     out: usize,
     sheet: &[u8],
@@ -142,55 +167,79 @@ fn write_key(
     b: &[u32],
     ops: &[u32],
     rest: &[u32],
-    at: At,
+    part: Part,
 ) -> Wrote
     requires { ⌜ Room (now a) (now b) (now ops) (now rest) ⌝ }
-    requires { ⌜ Near (at .base) (at .left) ⌝ }
-    requires { ⌜ One (now sheet) (now a) (now b) (now ops) (now rest) (at .below) (at .base) (at .left) (at .i) ⌝ }
-    ensures { λ r. ⌜ WrotePart (now (sheet .entry)) (now (a .entry)) (now (b .entry)) (now (ops .entry)) (now (rest .entry)) (at .below) (at .base) (at .left) (at .i) keys (on (now (plan .entry)) out) (r .next) (on (now (plan .exit)) (r .out)) ⌝ }
+    requires { ⌜ Near (part .base) (part .left) ⌝ }
+    requires { ⌜ One (now sheet) (now a) (now b) (now ops) (now rest) (part .below) (part .base) (part .left) (part .i) ⌝ }
+    ensures { λ r. ⌜ WrotePart (now (sheet .entry)) (now (a .entry)) (now (b .entry)) (now (ops .entry)) (now (rest .entry)) (part .below) (part .base) (part .left) (part .i) (part .aggregates) (on (now (plan .entry)) out) (r .next) (on (now (plan .exit)) (r .out)) ⌝ }
 {
-    let i = at.i;
-    if is_aggregate(sheet, a, b, i) {
+    let i = part.i;
+    let is = is_aggregate(sheet, a, b, i);
+    if is != part.aggregates {
         let next = skip(a, b, i);
         return Wrote { next, out };
     }
-    write_expr(plan, out, sheet, a, b, ops, rest, at)
-}
-
-// An item's expression, if it is an aggregate, of which the arguments alone are expressions.
-fn write_aggregate(
-    plan: &mut [u8],
-    out: usize,
-    sheet: &[u8],
-    a: &[u32],
-    b: &[u32],
-    ops: &[u32],
-    rest: &[u32],
-    at: At,
-) -> Wrote
-    requires { ⌜ Room (now a) (now b) (now ops) (now rest) ⌝ }
-    requires { ⌜ Near (at .base) (at .left) ⌝ }
-    requires { ⌜ One (now sheet) (now a) (now b) (now ops) (now rest) (at .below) (at .base) (at .left) (at .i) ⌝ }
-    ensures { λ r. ⌜ WrotePart (now (sheet .entry)) (now (a .entry)) (now (b .entry)) (now (ops .entry)) (now (rest .entry)) (at .below) (at .base) (at .left) (at .i) aggregates (on (now (plan .entry)) out) (r .next) (on (now (plan .exit)) (r .out)) ⌝ }
-{
-    let i = at.i;
-    if is_aggregate(sheet, a, b, i) {
+    if is {
         let o = crate::item::put_agg(plan, out, sheet, a, b, i);
-        let run = Run {
-            base: at.base,
-            i: i + 1,
-            left: at.left - 1,
-            below: at.below,
+        let first = i + 1;
+        let left = part.left - 1;
+        let args = Run {
+            base: part.base,
+            i: first,
+            left,
+            below: part.below,
             n: count(a, b, i, field::FN_ARGS),
         };
-        return write_exprs(plan, o, sheet, a, b, ops, rest, run);
+        return write_exprs(plan, o, sheet, a, b, ops, rest, args);
     }
-    let next = skip(a, b, i);
-    Wrote { next, out }
+    let key = At {
+        base: part.base,
+        i,
+        left: part.left,
+        below: part.below,
+    };
+    write_expr(plan, out, sheet, a, b, ops, rest, key)
 }
 
-// The keys among items.
-fn write_keys(
+// The keys or the aggregates among items.
+fn write_parts(
+    plan: &mut [u8],
+    out: usize,
+    sheet: &[u8],
+    a: &[u32],
+    b: &[u32],
+    ops: &[u32],
+    rest: &[u32],
+    parts: Parts,
+) -> usize
+    requires { ⌜ Room (now a) (now b) (now ops) (now rest) ⌝ }
+    requires { ⌜ Near (parts .base) (parts .left) ⌝ }
+    requires { ⌜ Items (now sheet) (now a) (now b) (now ops) (now rest) (parts .below) (parts .base) (parts .left) (parts .n) (parts .i) ⌝ }
+    ensures { λ r. ⌜ WroteParts (now (sheet .entry)) (now (a .entry)) (now (b .entry)) (now (ops .entry)) (now (rest .entry)) (parts .below) (parts .base) (parts .left) (parts .n) (parts .i) (parts .aggregates) (on (now (plan .entry)) out) (on (now (plan .exit)) r) ⌝ }
+{
+    let mut i = parts.i;
+    let mut due = parts.n;
+    let mut o = out;
+    while due != 0 {
+        let expr = i + 1;
+        let part = Part {
+            base: parts.base,
+            i: expr,
+            left: parts.left,
+            below: parts.below,
+            aggregates: parts.aggregates,
+        };
+        let w = write_part(plan, o, sheet, a, b, ops, rest, part);
+        o = w.out;
+        i = w.next;
+        due -= 1;
+    }
+    o
+}
+
+// The items of a `return` that aggregates: all keys, and behind them all aggregates.
+fn write_items(
     plan: &mut [u8],
     out: usize,
     sheet: &[u8],
@@ -203,58 +252,26 @@ fn write_keys(
     requires { ⌜ Room (now a) (now b) (now ops) (now rest) ⌝ }
     requires { ⌜ Near (run .base) (run .left) ⌝ }
     requires { ⌜ Items (now sheet) (now a) (now b) (now ops) (now rest) (run .below) (run .base) (run .left) (run .n) (run .i) ⌝ }
-    ensures { λ r. ⌜ WroteParts (now (sheet .entry)) (now (a .entry)) (now (b .entry)) (now (ops .entry)) (now (rest .entry)) (run .below) (run .base) (run .left) (run .n) (run .i) keys (on (now (plan .entry)) out) (on (now (plan .exit)) r) ⌝ }
+    ensures { λ r. ⌜ WroteItems (now (sheet .entry)) (now (a .entry)) (now (b .entry)) (now (ops .entry)) (now (rest .entry)) (run .below) (run .base) (run .left) (run .n) (run .i) (on (now (plan .entry)) out) (on (now (plan .exit)) r) ⌝ }
 {
-    let mut i = run.i;
-    let mut due = run.n;
-    let mut o = out;
-    while due != 0 {
-        let at = At {
-            base: run.base,
-            i: i + 1,
-            left: run.left,
-            below: run.below,
-        };
-        let w = write_key(plan, o, sheet, a, b, ops, rest, at);
-        o = w.out;
-        i = w.next;
-        due -= 1;
-    }
-    o
-}
-
-// The aggregates among items.
-fn write_aggregates(
-    plan: &mut [u8],
-    out: usize,
-    sheet: &[u8],
-    a: &[u32],
-    b: &[u32],
-    ops: &[u32],
-    rest: &[u32],
-    run: Run,
-) -> usize
-    requires { ⌜ Room (now a) (now b) (now ops) (now rest) ⌝ }
-    requires { ⌜ Near (run .base) (run .left) ⌝ }
-    requires { ⌜ Items (now sheet) (now a) (now b) (now ops) (now rest) (run .below) (run .base) (run .left) (run .n) (run .i) ⌝ }
-    ensures { λ r. ⌜ WroteParts (now (sheet .entry)) (now (a .entry)) (now (b .entry)) (now (ops .entry)) (now (rest .entry)) (run .below) (run .base) (run .left) (run .n) (run .i) aggregates (on (now (plan .entry)) out) (on (now (plan .exit)) r) ⌝ }
-{
-    let mut i = run.i;
-    let mut due = run.n;
-    let mut o = out;
-    while due != 0 {
-        let at = At {
-            base: run.base,
-            i: i + 1,
-            left: run.left,
-            below: run.below,
-        };
-        let w = write_aggregate(plan, o, sheet, a, b, ops, rest, at);
-        o = w.out;
-        i = w.next;
-        due -= 1;
-    }
-    o
+    let keys = Parts {
+        base: run.base,
+        i: run.i,
+        left: run.left,
+        below: run.below,
+        n: run.n,
+        aggregates: false,
+    };
+    let aggregates = Parts {
+        base: run.base,
+        i: run.i,
+        left: run.left,
+        below: run.below,
+        n: run.n,
+        aggregates: true,
+    };
+    let o = write_parts(plan, out, sheet, a, b, ops, rest, keys);
+    write_parts(plan, o, sheet, a, b, ops, rest, aggregates)
 }
 
 // Operator k.
@@ -306,15 +323,15 @@ pub fn write_op(
         }
         op::OPTIONAL_JOIN => write_op(plan, o, sheet, a, b, ops, rest, w.x as usize),
         op::AGGREGATE => {
+            let first = idx + 1;
             let items = Run {
                 base,
-                i: idx + 1,
+                i: first,
                 left,
                 below: k,
                 n: count(a, b, idx, field::ITEMS),
             };
-            let p = write_keys(plan, o, sheet, a, b, ops, rest, items);
-            write_aggregates(plan, p, sheet, a, b, ops, rest, items)
+            write_items(plan, o, sheet, a, b, ops, rest, items)
         }
         _ => {
             let run = Run {

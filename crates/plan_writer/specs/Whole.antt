@@ -10,7 +10,7 @@ use Rattle.model.specs.Plan.{mappedRecs, planSheet}
 use Rattle.model.specs.Refusal.{Refusal, Answer, accepted, valuesOf}
 use Rattle.model.specs.Call.{written}
 use Rattle.output.specs.Page.{Page, Puts}
-use Rattle.context.specs.Tables.{varsOf, varsAt}
+use Rattle.context.specs.Tables.{varsOf, varsAt, maxVars}
 use Rattle.lower.specs.Render.{Ops}
 use Rattle.plan_sheet.specs.Due.{Planned}
 use Rattle.plan_writer.specs.declared.Plan.{Plan}
@@ -20,7 +20,7 @@ pub record Tables (sheet : Bytes) (a b os rest : List ℕ) (n mapped : ℕ) (s :
   pub count : n ≡ length (s .ops)
   pub planned : Planned sheet a b os rest n (λ k. at (s .ops) k)
   pub vars : varsOf mapped (drop varsAt rest) ≡ s .scope .vars
-  pub few : mapped ≤ 4352
+  pub few : mapped ≤ maxVars
 
 pub record SomeTables (sheet : Bytes) (a b os rest : List ℕ) (n mapped : ℕ) : Type 0 where
   pub state : LowerCtx

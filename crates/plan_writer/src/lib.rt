@@ -5,6 +5,7 @@ ghost use Rattle.output.specs.Page.{on};
 ghost use Rattle.context.specs.Tables.{maxVars};
 ghost use Rattle.plan_sheet.specs.Due.{Room, SomePlan};
 ghost use Rattle.plan_writer.specs.Whole.{SomeTables, WroteOps, WroteVars, WroteSheet, WrotePlan};
+ghost use Rattle.model.specs.Call.{workWords};
 use plan_line::row::put_row2;
 use plan_line::word;
 
@@ -40,7 +41,7 @@ fn write_ops(
 
 // The first n named variables.
 fn write_vars(plan: &mut [u8], out: usize, rest: &[u32], n: usize) -> usize
-    requires { ⌜ (16384 ≤ length (now rest)) × (n ≤ maxVars) ⌝ }
+    requires { ⌜ (workWords ≤ length (now rest)) × (n ≤ maxVars) ⌝ }
     ensures { λ r. ⌜ WroteVars (now (rest .entry)) n (on (now (plan .entry)) out) (on (now (plan .exit)) r) ⌝ }
 {
     let mut k = 0;

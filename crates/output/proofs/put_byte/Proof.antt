@@ -1,7 +1,6 @@
 -- `put_byte` meets its contract: a byte inside the slice is stored, one behind it is only counted. Assumes nothing.
-use mathlib.Core.Path.{refl}
 use borrow.Author.Needs.{needs}
-use Rattle.output.specs.Writes.{counted, stored}
+use Rattle.output.specs.Writes.{counted}
 use Rattle.output.proofs.put_byte.Statement.{statement}
 use Rattle.output.proofs.put_byte.Tie as tie
 

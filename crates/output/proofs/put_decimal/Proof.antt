@@ -1,7 +1,7 @@
 -- `put_decimal` meets its contract. Assumes nothing.
 use borrow.Author.Needs.{needs}
 use Rattle.output.specs.Writes.{counted, stored}
-use Rattle.output.specs.Wide.{length-wide, spell-decimal}
+use Rattle.output.specs.Wide.{length-tens, spell-decimal}
 use Rattle.output.proofs.put_decimal.Statement.{statement}
 use Rattle.output.proofs.put_decimal.Tie as tie
 
@@ -11,7 +11,7 @@ put-decimal-spec =
     (tie.spec
     (λ c κs. search needs)
     (λ c κs. search needs)
-    (λ c. search (spell-decimal, counted, length-wide, needs))
+    (λ c. search (spell-decimal, counted, length-tens, needs))
     (λ c κs. search needs)
     (λ c. search needs)
-    (λ c. search (spell-decimal, stored, length-wide, needs)))
+    (λ c. search (spell-decimal, stored, length-tens, needs)))

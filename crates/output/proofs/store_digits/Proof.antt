@@ -3,10 +3,9 @@ use borrow.Author.Needs.{needs}
 use Rattle.output.proofs.Storing.{Filling, fill-start, fill-more, fill-all}
 use Rattle.output.proofs.store_digits.Statement.{statement}
 use Rattle.output.proofs.store_digits.Tie as tie
-use Prim.Native.Nat.{_+_}
 
 abbrev Inv-loop : tie.InvT-loop
-Inv-loop plan₀ at n d v₀ k₀ plan v k = Filling (λ d. 48 + d) 10 d n plan₀ at k v plan
+Inv-loop plan₀ at n d v₀ k₀ plan v k = Filling d n plan₀ at k v plan
 
 abbrev μ-loop : tie.MeasureT-loop
 μ-loop plan₀ at n d v₀ k₀ plan v k = k

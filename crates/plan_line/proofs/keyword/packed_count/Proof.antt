@@ -1,6 +1,5 @@
 -- `packed_count` meets its contract: each test is of a power of 256. Assumes nothing.
 use native.Mathlib.Omega.{arith}
-use borrow.Author.Needs.{needs}
 use Rattle.plan_line.proofs.KeywordLaws.{no-bytes, so-many}
 use Rattle.plan_line.proofs.keyword.packed_count.Statement.{statement}
 use Rattle.plan_line.proofs.keyword.packed_count.Tie as tie

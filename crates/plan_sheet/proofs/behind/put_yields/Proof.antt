@@ -7,6 +7,7 @@ use native.Mathlib.Omega.{arith}
 use borrow.Author.Needs.{needs}
 use Rattle.plan_sheet.proofs.behind.put_yields.Statement.{statement}
 use Rattle.plan_sheet.proofs.behind.put_yields.Tie as tie
+use Rattle.words.specs.Words.{maxRecords}
 
 abbrev Inv-loop : tie.InvT-loop
 Inv-loop plan₀ out sheet a b rest i base at₀ due₀ o₀ plan at due o = BehindLaws.YieldsGoing sheet a b rest base due₀ i (on plan₀ o₀) due at (on plan o)
@@ -43,7 +44,7 @@ back-word c = search
 ruleset ways = (back-put-named1, back-note-of, back-word3, back-word2, back-in-loop, back-at-loop, back-word)
 
 -- the yield of a turn is a record
-low : (l : here tie.In-loop) → l .before .loop .at < 2048
+low : (l : here tie.In-loop) → l .before .loop .at < maxRecords
 low l = BehindLaws.yield-low (l .loop-test .taken) (l .before .loop .inv .some)
 
 word-requires : here tie.Need-word-requires

@@ -7,11 +7,11 @@ use Rattle.plan_sheet.proofs.head.put_before.Statement.{statement}
 use Rattle.plan_sheet.proofs.head.put_before.Tie as tie
 
 -- the ways back, from place to place
-abbrev back-put-line2 : tie.After-put-line2 → tie.At-match-keys2
-back-put-line2 c = search
+abbrev back-put-copied2 : tie.After-put-copied2 → tie.At-match-keys2
+back-put-copied2 c = search
 
-abbrev back-put-line : tie.After-put-line → tie.At-match-keys1
-back-put-line c = search
+abbrev back-put-copied : tie.After-put-copied → tie.At-match-keys1
+back-put-copied c = search
 
 abbrev back-put-item : tie.After-put-item → tie.At-match-keys3
 back-put-item c = search
@@ -28,57 +28,37 @@ back-at-match-keys1 c = search
 abbrev back-word : tie.After-word → tie.Start
 back-word c = search
 
-ruleset ways = (back-put-line2, back-put-line, back-put-item, back-at-match-keys3, back-at-match-keys2, back-at-match-keys1, back-word)
+ruleset ways = (back-put-copied2, back-put-copied, back-put-item, back-at-match-keys3, back-at-match-keys2, back-at-match-keys1, back-word)
 
 word-requires : tie.Need-word-requires
 word-requires c κs =
     let start : tie.Start = search ways in
-    (HeadLaws.line-low (start .pre .0) (start .pre .1 .line), (omega arith, start .pre .0))
+    (HeadLaws.line-low (start .pre .1 .line), (omega arith, start .pre .0))
 
 add-next : tie.Need-add-next
 add-next c =
     let start : tie.Start = search ways in
-    omega (arith, HeadLaws.line-low (start .pre .0) (start .pre .1 .line))
+    omega (arith, HeadLaws.line-low (start .pre .1 .line))
 
-put-line-requires : tie.Need-put-line-requires
-put-line-requires c κs =
-    let at-match-keys1 : tie.At-match-keys1 = search ways in
-    let after-word : tie.After-word = search ways in
-    let start : tie.Start = search ways in (
-      start .pre .0,
-      (
-        (
-          HeadLaws.line-low (start .pre .0) (start .pre .1 .line),
-          HeadLaws.named-line (start .pre .0) (sym (after-word .word .ensures) ∙ (at-match-keys1 .match .keys1)) (start .pre .1 .line),
-        ),
-        omega arith,
-      ),
-    )
+put-copied-requires : tie.Need-put-copied-requires
+put-copied-requires c κs =
+    let start : tie.Start = search ways in
+    (start .pre .0, HeadLaws.line-record (start .pre .1 .line))
 
 add-next-2 : tie.Need-add-next-2
 add-next-2 c =
     let start : tie.Start = search ways in
-    omega (arith, HeadLaws.line-low (start .pre .0) (start .pre .1 .line))
+    omega (arith, HeadLaws.line-low (start .pre .1 .line))
 
-put-line-requires-2 : tie.Need-put-line-requires-2
-put-line-requires-2 c κs =
-    let at-match-keys2 : tie.At-match-keys2 = search ways in
-    let after-word : tie.After-word = search ways in
-    let start : tie.Start = search ways in (
-      start .pre .0,
-      (
-        (
-          HeadLaws.line-low (start .pre .0) (start .pre .1 .line),
-          HeadLaws.keyed-line (start .pre .0) (sym (after-word .word .ensures) ∙ (at-match-keys2 .match .keys2)) (start .pre .1 .line),
-        ),
-        omega arith,
-      ),
-    )
+put-copied-requires-2 : tie.Need-put-copied-requires-2
+put-copied-requires-2 c κs =
+    let start : tie.Start = search ways in
+    (start .pre .0, HeadLaws.line-record (start .pre .1 .line))
 
 add-next-3 : tie.Need-add-next-3
 add-next-3 c =
     let start : tie.Start = search ways in
-    omega (arith, HeadLaws.line-low (start .pre .0) (start .pre .1 .line))
+    omega (arith, HeadLaws.line-low (start .pre .1 .line))
 
 put-item-requires : tie.Need-put-item-requires
 put-item-requires c κs =
@@ -89,21 +69,21 @@ put-item-requires c κs =
 
 returns : tie.Need-returns
 returns c =
-    let after-put-line : tie.After-put-line = search ways in
+    let after-put-copied : tie.After-put-copied = search ways in
     let at-match-keys1 : tie.At-match-keys1 = search ways in
     let after-word : tie.After-word = search ways in
     let start : tie.Start = search ways in
     λ recs j l.
-    HeadLaws.named-put (start .pre .0) (sym (after-word .word .ensures) ∙ (at-match-keys1 .match .keys1)) l (after-put-line .put-line .ensures)
+    HeadLaws.named-put (start .pre .0) (sym (after-word .word .ensures) ∙ (at-match-keys1 .match .keys1)) l (after-put-copied .put-copied .ensures)
 
 returns-2 : tie.Need-returns-2
 returns-2 c =
-    let after-put-line2 : tie.After-put-line2 = search ways in
+    let after-put-copied2 : tie.After-put-copied2 = search ways in
     let at-match-keys2 : tie.At-match-keys2 = search ways in
     let after-word : tie.After-word = search ways in
     let start : tie.Start = search ways in
     λ recs j l.
-    HeadLaws.keyed-put (start .pre .0) (sym (after-word .word .ensures) ∙ (at-match-keys2 .match .keys2)) l (after-put-line2 .put-line2 .ensures)
+    HeadLaws.keyed-put (start .pre .0) (sym (after-word .word .ensures) ∙ (at-match-keys2 .match .keys2)) l (after-put-copied2 .put-copied2 .ensures)
 
 returns-3 : tie.Need-returns-3
 returns-3 c =
@@ -119,12 +99,7 @@ returns-4 c =
     let after-word : tie.After-word = search ways in
     let start : tie.Start = search ways in
     λ recs j l.
-    HeadLaws.bare-put
-    (start .pre .0)
-    (λ e. (c .match .rest .0 .0 .1) ((after-word .word .ensures) ∙ e))
-    (λ e. (c .match .rest .0 .1) ((after-word .word .ensures) ∙ e))
-    (λ e. (c .match .rest .1) ((after-word .word .ensures) ∙ e))
-    l
+    HeadLaws.bare-put (start .pre .0) _ (after-word .word .ensures) (c .match .rest) l
 
 pub put-before-spec : {M : Type 1} → statement M
 put-before-spec =
@@ -132,11 +107,9 @@ put-before-spec =
     (tie.spec
     word-requires
     add-next
-    (λ c. search needs)
-    put-line-requires
+    put-copied-requires
     add-next-2
-    (λ c. search needs)
-    put-line-requires-2
+    put-copied-requires-2
     add-next-3
     put-item-requires
     (λ c. search needs)

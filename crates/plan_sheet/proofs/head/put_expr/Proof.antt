@@ -1,6 +1,5 @@
 -- `put_expr` meets its contract. Assumes nothing.
 use Rattle.plan_sheet.proofs.HeadLaws
-use native.Mathlib.Omega.{arith}
 use mathlib.Core.Path.{sym, _∙_}
 use borrow.Author.Needs.{needs}
 use Rattle.plan_sheet.proofs.head.put_expr.Statement.{statement}
@@ -19,11 +18,11 @@ back-put-row0 c = search
 abbrev back-put-row1 : tie.After-put-row1 → tie.At-match-keys1
 back-put-row1 c = search
 
-abbrev back-put-line2 : tie.After-put-line2 → tie.At-match-rest
-back-put-line2 c = search
+abbrev back-put-copied : tie.After-put-copied → tie.At-match-rest
+back-put-copied c = search
 
-abbrev back-put-line : tie.After-put-line → tie.At-match-keys2
-back-put-line c = search
+abbrev back-put-int : tie.After-put-int → tie.At-match-keys2
+back-put-int c = search
 
 abbrev back-put-call : tie.After-put-call → tie.At-match-keys3
 back-put-call c = search
@@ -60,8 +59,8 @@ ruleset ways = (
   back-put-row02,
   back-put-row0,
   back-put-row1,
-  back-put-line2,
-  back-put-line,
+  back-put-copied,
+  back-put-int,
   back-put-call,
   back-put-any,
   back-at-match-rest,
@@ -74,12 +73,10 @@ ruleset ways = (
   back-at-match-keys1,
 )
 
-put-line-requires : tie.Need-put-line-requires
-put-line-requires c κs =
-    let at-match-keys2 : tie.At-match-keys2 = search ways in
+put-int-requires : tie.Need-put-int-requires
+put-int-requires c κs =
     let start : tie.Start = search ways in
-    let m = HeadLaws.map-head (start .pre .0) 0 (sym (start .pre .1 .1) ∙ (at-match-keys2 .match .keys2)) (start .pre .1 .0) in
-    (start .pre .0, ((start .pre .1 .0 .at .low, m .fields), m .low))
+    (start .pre .0, start .pre .1 .0 .at .low)
 
 put-call-requires : tie.Need-put-call-requires
 put-call-requires c κs =
@@ -94,29 +91,10 @@ put-any-requires c κs =
     let start : tie.Start = search ways in
     (start .pre .0, start .pre .1 .0 .at .low)
 
-sub-put-line : tie.Need-sub-put-line
-sub-put-line c =
+put-copied-requires : tie.Need-put-copied-requires
+put-copied-requires c κs =
     let start : tie.Start = search ways in
-    omega (arith, start .pre .1 .1, HeadLaws.expr-high (start .pre .0) (start .pre .1 .0))
-
-put-line-requires-2 : tie.Need-put-line-requires-2
-put-line-requires-2 c κs =
-    let at-match-rest : tie.At-match-rest = search ways in
-    let start : tie.Start = search ways in
-    let m =
-    HeadLaws.over-head
-    (start .pre .0)
-    0
-    (λ e. (at-match-rest .match .rest .0 .0 .0 .0 .0 .0 .1) ((start .pre .1 .1) ∙ e))
-    (λ e. (at-match-rest .match .rest .0 .0 .0 .0 .0 .1) ((start .pre .1 .1) ∙ e))
-    (λ e. (at-match-rest .match .rest .0 .0 .0 .0 .1) ((start .pre .1 .1) ∙ e))
-    (λ e. (at-match-rest .match .rest .0 .0 .0 .1) ((start .pre .1 .1) ∙ e))
-    (λ e. (at-match-rest .match .rest .0 .0 .1) ((start .pre .1 .1) ∙ e))
-    (λ e. (at-match-rest .match .rest .0 .1) ((start .pre .1 .1) ∙ e))
-    (λ e. (at-match-rest .match .rest .1) ((start .pre .1 .1) ∙ e))
-    (start .pre .1 .0)
-    in
-    (start .pre .0, ((start .pre .1 .0 .at .low, rw (start .pre .1 .1) (m .fields)), rw (start .pre .1 .1) (m .low)))
+    (start .pre .0, HeadLaws.some-record (start .pre .1 .0 .at))
 
 returns : tie.Need-returns
 returns c =
@@ -127,11 +105,10 @@ returns c =
 
 returns-2 : tie.Need-returns-2
 returns-2 c =
-    let after-put-line : tie.After-put-line = search ways in
+    let after-put-int : tie.After-put-int = search ways in
     let at-match-keys2 : tie.At-match-keys2 = search ways in
     let start : tie.Start = search ways in
-    λ h.
-    rw (← HeadLaws.map-head (start .pre .0) _ (sym (start .pre .1 .1) ∙ (at-match-keys2 .match .keys2)) h .is) (after-put-line .put-line .ensures)
+    λ h. rw (HeadLaws.int-head (start .pre .0) _ h (sym (start .pre .1 .1) ∙ (at-match-keys2 .match .keys2))) (after-put-int .put-int .ensures)
 
 returns-3 : tie.Need-returns-3
 returns-3 c =
@@ -172,39 +149,23 @@ returns-7 c =
 
 returns-8 : tie.Need-returns-8
 returns-8 c =
-    let start : tie.Start = search in
-    let at-match-rest : tie.At-match-rest = search in
-    let after-put-line2 : tie.After-put-line2 = search in
-    λ h.
-    rw
-    (←
-    HeadLaws.over-head
-    (start .pre .0)
-    _
-    (λ e. (at-match-rest .match .rest .0 .0 .0 .0 .0 .0 .1) ((start .pre .1 .1) ∙ e))
-    (λ e. (at-match-rest .match .rest .0 .0 .0 .0 .0 .1) ((start .pre .1 .1) ∙ e))
-    (λ e. (at-match-rest .match .rest .0 .0 .0 .0 .1) ((start .pre .1 .1) ∙ e))
-    (λ e. (at-match-rest .match .rest .0 .0 .0 .1) ((start .pre .1 .1) ∙ e))
-    (λ e. (at-match-rest .match .rest .0 .0 .1) ((start .pre .1 .1) ∙ e))
-    (λ e. (at-match-rest .match .rest .0 .1) ((start .pre .1 .1) ∙ e))
-    (λ e. (at-match-rest .match .rest .1) ((start .pre .1 .1) ∙ e))
-    h .is)
-    (rw (start .pre .1 .1) at (after-put-line2 .put-line2 .ensures))
+    let after-put-copied : tie.After-put-copied = search ways in
+    let at-match-rest : tie.At-match-rest = search ways in
+    let start : tie.Start = search ways in
+    λ h. HeadLaws.copied-head (start .pre .0) _ _ (start .pre .1 .1) (at-match-rest .match .rest) h (after-put-copied .put-copied .ensures)
 
 pub put-expr-spec : {M : Type 1} → statement M
 put-expr-spec =
     tie.close
     (tie.spec
     (λ c κs. search needs)
-    (λ c. search needs)
-    put-line-requires
+    put-int-requires
     put-call-requires
     (λ c κs. search needs)
     put-any-requires
     (λ c κs. search needs)
     (λ c κs. search needs)
-    sub-put-line
-    put-line-requires-2
+    put-copied-requires
     (λ c. search needs)
     returns
     (λ c. search needs)

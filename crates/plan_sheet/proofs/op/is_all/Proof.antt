@@ -1,6 +1,5 @@
 -- `is_all` meets its contract. Assumes nothing.
 use borrow.Author.Tests.{eq-eqb, ne-eqb}
-use borrow.Author.Needs.{needs}
 use Rattle.plan_sheet.proofs.op.is_all.Statement.{statement}
 use Rattle.plan_sheet.proofs.op.is_all.Tie as tie
 

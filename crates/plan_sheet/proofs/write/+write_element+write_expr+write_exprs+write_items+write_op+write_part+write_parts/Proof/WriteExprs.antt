@@ -1,5 +1,4 @@
 -- `write_exprs`, of the cycle.
-use mathlib.Core.Path.{sym, _∙_}
 use native.Mathlib.Omega.{arith}
 use Rattle.output.specs.Page.{on}
 use Rattle.plan_sheet.proofs.DueLaws
@@ -8,8 +7,8 @@ use Prim.Native.Nat.{ℕ}
 use borrow.Fn.Kinds.{In, Out}
 use Rattle.plan_sheet.proofs.write.write_exprs.Reads as reads
 use Rattle.plan_sheet.proofs.write.write_exprs.Kinds as kinds
-use Rattle.plan_sheet.proofs.write.+write_aggregate+write_aggregates+write_element+write_expr+write_exprs+write_key+write_keys+write_op.Lts-write_exprs as lts
-use Rattle.plan_sheet.proofs.write.+write_aggregate+write_aggregates+write_element+write_expr+write_exprs+write_key+write_keys+write_op.Proof.Claims.{write-exprs-at, write-exprs-calls}
+use Rattle.plan_sheet.proofs.write.+write_element+write_expr+write_exprs+write_items+write_op+write_part+write_parts.Lts-write_exprs as lts
+use Rattle.plan_sheet.proofs.write.+write_element+write_expr+write_exprs+write_items+write_op+write_part+write_parts.Proof.Claims.{write-exprs-at, write-exprs-calls}
 
 abbrev Inv-loop : lts.InvT-loop
 Inv-loop plan₀ out sheet a b ops rest run i₀ due₀ o₀ plan i due o = DueLaws.Going sheet a b ops rest (run .below) (run .base) (run .left) (run .n) (run .i) (on plan₀ o₀) due i (on plan o)
@@ -23,11 +22,8 @@ module _ (t : ℕ) where
   here X = X (write-exprs-calls t) (write-exprs-at t) reads.Post Inv-loop μ-loop
 
   -- the ways back, from place to place
-  abbrev back-write-expr : here lts.After-write-expr → here lts.After-put-before
+  abbrev back-write-expr : here lts.After-write-expr → here lts.In-loop
   back-write-expr c = search
-
-  abbrev back-put-before : here lts.After-put-before → here lts.In-loop
-  back-put-before c = search
 
   abbrev back-in-loop : here lts.In-loop → here lts.At-loop
   back-in-loop c = search
@@ -35,42 +31,26 @@ module _ (t : ℕ) where
   abbrev back-at-loop : here lts.At-loop → here lts.Start
   back-at-loop c = search
 
-  ruleset ways = (back-write-expr, back-put-before, back-in-loop, back-at-loop)
+  ruleset ways = (back-write-expr, back-in-loop, back-at-loop)
 
   loop-holds : here lts.Need-loop-holds
   loop-holds c =
       let s : here lts.Start = search ways depth 9 in
       DueLaws.going (s .pre .1 .1 .1)
 
-  put-before-requires : here lts.Need-put-before-requires
-  put-before-requires c κs =
+  write-expr-requires : here lts.Need-write-expr-requires
+  write-expr-requires c κs =
       let turn : here lts.In-loop = search ways depth 9 in
       let l : here lts.At-loop = search ways depth 9 in
       let s : here lts.Start = search ways depth 9 in
-      (s .pre .1 .0 .records, DueLaws.some-line (turn .loop-test .taken) (l .loop .inv .some))
-
-  write-expr-requires : here lts.Need-write-expr-requires
-  write-expr-requires c κs =
-      let line : here lts.After-put-before = search ways depth 9 in
-      let turn : here lts.In-loop = search ways depth 9 in
-      let l : here lts.At-loop = search ways depth 9 in
-      let s : here lts.Start = search ways depth 9 in (
-        omega (arith, s .pre .0),
-        (s .pre .1 .0, (s .pre .1 .1 .0, DueLaws.one-there (turn .loop-test .taken) (l .loop .inv .some) (line .put-before .ensures))),
-      )
+      (omega (arith, s .pre .0), (s .pre .1 .0, (s .pre .1 .1 .0, DueLaws.first-one (turn .loop-test .taken) (l .loop .inv .some))))
 
   loop-again : here lts.Need-loop-again
   loop-again c =
       let one : here lts.After-write-expr = search ways depth 9 in
-      let line : here lts.After-put-before = search ways depth 9 in
       let turn : here lts.In-loop = search ways depth 9 in
       let l : here lts.At-loop = search ways depth 9 in
-      DueLaws.again
-      (turn .loop-test .taken)
-      (l .loop .inv)
-      (line .put-before .ensures)
-      (one .write-expr .ensures)
-      (one .write-expr .kept .0 ∙ line .put-before .kept .0)
+      DueLaws.again (turn .loop-test .taken) (l .loop .inv) (one .write-expr .ensures) (one .write-expr .kept .0)
 
   same-length : here lts.Need-same-length
   same-length c =
@@ -91,7 +71,6 @@ module _ (t : ℕ) where
       Inv-loop
       μ-loop
       loop-holds
-      put-before-requires
       write-expr-requires
       (λ c. search needs)
       (λ c. search needs)

@@ -8,8 +8,8 @@ use Prim.Native.Nat.{ℕ}
 use borrow.Fn.Kinds.{In, Out}
 use Rattle.plan_sheet.proofs.write.write_op.Reads as reads
 use Rattle.plan_sheet.proofs.write.write_op.Kinds as kinds
-use Rattle.plan_sheet.proofs.write.+write_aggregate+write_aggregates+write_element+write_expr+write_exprs+write_key+write_keys+write_op.Lts-write_op as lts
-use Rattle.plan_sheet.proofs.write.+write_aggregate+write_aggregates+write_element+write_expr+write_exprs+write_key+write_keys+write_op.Proof.Claims.{write-op-at, write-op-calls}
+use Rattle.plan_sheet.proofs.write.+write_element+write_expr+write_exprs+write_items+write_op+write_part+write_parts.Lts-write_op as lts
+use Rattle.plan_sheet.proofs.write.+write_element+write_expr+write_exprs+write_items+write_op+write_part+write_parts.Proof.Claims.{write-op-at, write-op-calls}
 
 module _ (t : ℕ) where
   -- a place or a need of this function, at the measure t
@@ -20,17 +20,14 @@ module _ (t : ℕ) where
   abbrev back-put-tail : here lts.After-put-tail → here lts.After-write-exprs
   back-put-tail c = search
 
-  abbrev back-write-aggregates : here lts.After-write-aggregates → here lts.After-write-keys
-  back-write-aggregates c = search
-
   abbrev back-write-element2 : here lts.After-write-element2 → here lts.After-write-element
   back-write-element2 c = search
 
   abbrev back-write-exprs : here lts.After-write-exprs → here lts.After-many-of
   back-write-exprs c = search
 
-  abbrev back-write-keys : here lts.After-write-keys → here lts.After-count
-  back-write-keys c = search
+  abbrev back-write-items : here lts.After-write-items → here lts.After-count
+  back-write-items c = search
 
   abbrev back-write-op : here lts.After-write-op → here lts.At-match-keys3
   back-write-op c = search
@@ -71,7 +68,7 @@ module _ (t : ℕ) where
   abbrev back-read-op : here lts.After-read-op → here lts.Start
   back-read-op c = search
 
-  ruleset ways = (back-put-tail, back-write-aggregates, back-write-element2, back-write-exprs, back-write-keys, back-write-op, back-write-element3, back-write-element, back-many-of, back-count, back-first-of, back-at-match-rest, back-at-match-keys4, back-at-match-keys3, back-at-match-keys2, back-at-match-keys1, back-put-op, back-read-op)
+  ruleset ways = (back-put-tail, back-write-element2, back-write-exprs, back-write-items, back-write-op, back-write-element3, back-write-element, back-many-of, back-count, back-first-of, back-at-match-rest, back-at-match-keys4, back-at-match-keys3, back-at-match-keys2, back-at-match-keys1, back-put-op, back-read-op)
 
   read-op-requires : here lts.Need-read-op-requires
   read-op-requires c κs =
@@ -123,23 +120,14 @@ module _ (t : ℕ) where
       let s : here lts.Start = search ways depth 9 in
       (OpLaws.bounded-at _ (s .pre .1 .1 .planned) (w .read-op .ensures) .low, (omega arith, s .pre .1 .0 .records))
 
-  add-t37 : here lts.Need-add-t37
-  add-t37 c =
+  add-first : here lts.Need-add-first
+  add-first c =
       let w : here lts.After-read-op = search ways depth 9 in
       let s : here lts.Start = search ways depth 9 in
       omega (arith, OpLaws.bounded-at _ (s .pre .1 .1 .planned) (w .read-op .ensures) .low)
 
-  write-keys-requires : here lts.Need-write-keys-requires
-  write-keys-requires c κs =
-      let count : here lts.After-count = search ways depth 9 in
-      let arm : here lts.At-match-keys4 = search ways depth 9 in
-      let w : here lts.After-read-op = search ways depth 9 in
-      let s : here lts.Start = search ways depth 9 in
-      let v = OpLaws.bounded-at _ (s .pre .1 .1 .planned) (w .read-op .ensures) in
-      (omega (arith, s .pre .0, v .shallow), (s .pre .1 .0, (record { near = v .near; shallow = v .shallow }, PartedLaws.items-of _ (s .pre .1 .1 .planned) (w .read-op .ensures) (arm .match .keys4) (count .count .ensures .0))))
-
-  write-aggregates-requires : here lts.Need-write-aggregates-requires
-  write-aggregates-requires c κs =
+  write-items-requires : here lts.Need-write-items-requires
+  write-items-requires c κs =
       let count : here lts.After-count = search ways depth 9 in
       let arm : here lts.At-match-keys4 = search ways depth 9 in
       let w : here lts.After-read-op = search ways depth 9 in
@@ -249,8 +237,7 @@ module _ (t : ℕ) where
 
   returns-4 : here lts.Need-returns-4
   returns-4 c =
-      let aggs : here lts.After-write-aggregates = search ways depth 9 in
-      let ks : here lts.After-write-keys = search ways depth 9 in
+      let items : here lts.After-write-items = search ways depth 9 in
       let count : here lts.After-count = search ways depth 9 in
       let arm : here lts.At-match-keys4 = search ways depth 9 in
       let line : here lts.After-put-op = search ways depth 9 in
@@ -263,8 +250,7 @@ module _ (t : ℕ) where
       (arm .match .keys4)
       (count .count .ensures .0)
       (line .put-op .ensures)
-      (ks .write-keys .ensures)
-      (aggs .write-aggregates .ensures)
+      (items .write-items .ensures)
 
   returns-5 : here lts.Need-returns-5
   returns-5 c =
@@ -310,10 +296,9 @@ module _ (t : ℕ) where
       write-element-requires-3
       (λ c. search needs)
       write-op-requires
-      add-t37
+      add-first
       count-requires
-      write-keys-requires
-      write-aggregates-requires
+      write-items-requires
       first-of-requires
       many-of-requires
       write-exprs-requires

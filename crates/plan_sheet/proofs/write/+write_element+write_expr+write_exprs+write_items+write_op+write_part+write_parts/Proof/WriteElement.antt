@@ -6,8 +6,8 @@ use Prim.Native.Nat.{ℕ}
 use borrow.Fn.Kinds.{In, Out}
 use Rattle.plan_sheet.proofs.write.write_element.Reads as reads
 use Rattle.plan_sheet.proofs.write.write_element.Kinds as kinds
-use Rattle.plan_sheet.proofs.write.+write_aggregate+write_aggregates+write_element+write_expr+write_exprs+write_key+write_keys+write_op.Lts-write_element as lts
-use Rattle.plan_sheet.proofs.write.+write_aggregate+write_aggregates+write_element+write_expr+write_exprs+write_key+write_keys+write_op.Proof.Claims.{write-element-at, write-element-calls}
+use Rattle.plan_sheet.proofs.write.+write_element+write_expr+write_exprs+write_items+write_op+write_part+write_parts.Lts-write_element as lts
+use Rattle.plan_sheet.proofs.write.+write_element+write_expr+write_exprs+write_items+write_op+write_part+write_parts.Proof.Claims.{write-element-at, write-element-calls}
 
 module _ (t : ℕ) where
   -- a place or a need of this function, at the measure t

@@ -1,0 +1,20 @@
+-- A line that is the same in both sheets. Assumes nothing: these are definitions.
+use Prim.Native.Nat.{ℕ}
+use mathlib.Core.List.{List}
+use Rattle.model.specs.Text.{Bytes}
+use Rattle.model.specs.Field.{Fields}
+use Rattle.model.specs.Kind.{Sort, Kind}
+use Rattle.model.specs.Record.{rec, forms, spellRec}
+use Rattle.output.specs.Page.{Page, Puts}
+use Rattle.words.specs.Held.{RecordAt}
+
+-- some record stands at i
+pub record SomeRecord (sheet : Bytes) (a b : List ℕ) (i : ℕ) : Type 0 where
+  pub sort : Sort
+  pub kind : Kind sort
+  pub fields : Fields (forms sort kind)
+  pub at : RecordAt sheet a b i sort kind fields
+
+-- its line is put, whatever record it is
+pub record Copied (sheet : Bytes) (a b : List ℕ) (i : ℕ) (p q : Page) : Type 0 where
+  pub line : (s : Sort) (k : Kind s) (f : Fields (forms s k)) → RecordAt sheet a b i s k f → Puts (spellRec (rec s k f)) p q
