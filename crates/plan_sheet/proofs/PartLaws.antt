@@ -80,7 +80,7 @@ no-copy room k f h e z = absurd (z (sym (number-is room (record { kind = k; fiel
 module _ {sheet : Bytes} {a b : List ℕ} (N : Notes) (below left i : ℕ) where
   pub copied : Roomy a b → (t : Tree expr) (h : Held sheet a b t left i) → Below N 0 below t → cell a b i kindAt ≡ patKind → Copy N below i t (expr-of left t i h)
   unfolding Held Below render belowIn copiesBelow recsOver exprRecs exprRest expr-of exprNumber
-  copied room (node expr line (Expr.Over o) f kids) h u e = no-copy room (Expr.Over o) f (h .1) e (λ x. let s = same-row o in let y : sameNumber o ≡ patKind = x in omega (arith, s .to))
+  copied room (node expr line (Expr.Over o) f kids) h u e = no-copy room (Expr.Over o) f (h .1) e (λ x. let y : sameNumber o ≡ patKind = x in omega (arith, same-low o))
   copied room (node expr line Expr.Var f kids) h u e = no-copy room Expr.Var f (h .1) e (λ x. let y : _≡_ {A = ℕ} varKind patKind = x in omega arith)
   copied room (node expr line Expr.Map f kids) h u e = no-copy room Expr.Map f (h .1) e (λ x. let y : _≡_ {A = ℕ} mapKind patKind = x in omega arith)
   copied room (node expr line Expr.Call f kids) h u e = no-copy room Expr.Call f (h .1) e (λ x. let y : _≡_ {A = ℕ} fnKind patKind = x in omega arith)
