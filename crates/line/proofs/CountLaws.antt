@@ -4,7 +4,7 @@ use Prim.Native.Nat.{ℕ, _+_, _-_, _<_, _≤_}
 use mathlib.Core.List.{List}
 use native.Mathlib.Omega.{arith}
 use borrow.Author.Tests.{lt-ltb, le-ltb}
-use Rattle.words.specs.Words.{part, cell}
+use Rattle.words.specs.Words.{part, cell, recordWords}
 use Rattle.words.specs.Table.{countOf}
 use Rattle.words.specs.GroupLaws.{part-cell}
 
@@ -14,5 +14,5 @@ module _ (a b : List ℕ) (i c s : ℕ) (e : c ≡ s) where
 
   pub count-word : 3 ≤ c → c < 8 → (r : ℕ) → r ≡ cell a b i (c + c - 4) → r ≡ countOf (part a b i) s
   count-word h k r q =
-      let low : c + c - 4 < 16 = omega arith in
+      let low : c + c - 4 < recordWords = omega arith in
       rw (← e, le-ltb c 3 h, part-cell a b i (c + c - 4) low) q

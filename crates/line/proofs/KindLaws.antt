@@ -63,8 +63,8 @@ module _ (n : ℕ) (w : Bytes) (x end k : ℕ) where
     look-past : k < end → (getD keys k 0 ≡ x → ⊥) → Looking n w x end (k + 1)
     look-past h e =
         let other : same w (keyword (sortOf n) (at h .kind)) ≡ false = sym (test h) ∙ ne-eqb x _ (λ q. e (sym q)) in
-        let next : k + 1 - firstKind (sortOf n) ≡ suc (k - firstKind (sortOf n)) = omega (arith, l .low) in
-        record { known = l .known; tells = l .tells; low = omega (arith, l .low); high = omega arith; ends = l .ends; left = rw next (rw other at (step h)) }
+        let later : k + 1 - firstKind (sortOf n) ≡ suc (k - firstKind (sortOf n)) = omega (arith, l .low) in
+        record { known = l .known; tells = l .tells; low = omega (arith, l .low); high = omega arith; ends = l .ends; left = rw later (rw other at (step h)) }
 
     look-none : end ≤ k → Named (sortOf n) w Not
     unfolding kindNamed

@@ -92,10 +92,10 @@ module _ (sheet : Bytes) (p : ℕ) (a : AliasAt) (d : AliasReadAt sheet p a) whe
     pub alias-named : WordsAt alias sheet p (FieldRead.Is (p + 1) r r)
     unfolding fieldOf Words.aliasOf
     alias-named =
-        let rest : tail (slice p r sheet) ≡ slice (suc p) r sheet = ap tail (slice-cons p r sheet 0 alias-low (omega (arith, ends .to))) in
-        let spelled : escape (unescape (slice (suc p) r sheet)) ≡ slice (suc p) r sheet = rw rest at (ap tail whole) in
+        let behind : tail (slice p r sheet) ≡ slice (suc p) r sheet = ap tail (slice-cons p r sheet 0 alias-low (omega (arith, ends .to))) in
+        let spelled : escape (unescape (slice (suc p) r sheet)) ≡ slice (suc p) r sheet = rw behind at (ap tail whole) in
         let here : WordsOf alias sheet (slice p r sheet ∷ []) (Words.Is (p + 1) r) =
-        rw (add-one p) (record { is = is ∙ ap (λ x. some (some (unescape x))) rest; fit = (tt, λ _. name-at sheet (suc p) r alias-low (omega (arith, ends .to)) spelled) }) in
+        rw (add-one p) (record { is = is ∙ ap (λ x. some (some (unescape x))) behind; fit = (tt, λ _. name-at sheet (suc p) r alias-low (omega (arith, ends .to)) spelled) }) in
         record { is = λ q h. rw (ends-alike sheet p q r h ends) here; ends = ends }
 
   pub alias-small : length sheet ≤ maxBytes → (r : ℕ) → a ≡ AliasAt.Named r → r < two32

@@ -29,8 +29,8 @@ unfolding unpackOn
 unpack-step j v b t p h =
     let up : 256 ≤ v * 256 + b = omega arith in
     let over : (v * 256 + b) / 256 ≡ v = mul-add-div-right (omega arith) v b ∙ rw (div-eq-of-lt h) (add-zero v) in
-    let left : (v * 256 + b) % 256 ≡ b = mul-add-mod-self-right v 256 b ∙ mod-eq-of-lt h in
-    rw (le-ltb _ _ up, over, left)
+    let low : (v * 256 + b) % 256 ≡ b = mul-add-mod-self-right v 256 b ∙ mod-eq-of-lt h in
+    rw (le-ltb _ _ up, over, low)
 
 unpack-pack : (s t : Bytes) (v j : ℕ) → 0 < v → eachBelow 256 s ≡ true → unpackOn (length s + j) (packOn v s) t ≡ unpackOn j v (s ++ t)
 unfolding packOn eachBelow
@@ -152,10 +152,10 @@ module _ (s : Bytes) (p v i : ℕ) (g : Packing s p v i) (t : Bool) (e : t ≡ s
         record { ends = whole; packed = long-tells (slice p r s) (omega (arith, length-slice p r s (omega (arith, h .to)))) }
 
     module _ (n : i ≡ p + maxKeyword → ⊥) where
-      pub pack-room : v < 562949953421312
+      pub pack-room : v < 2 * 256 ^ (maxKeyword - 1)
       pack-room =
           let six : i - p ≤ 6 = omega (arith, g .few, n) in
-          let up : 256 ^ (i - p) ≤ 256 ^ 6 = pow-le-pow-right (omega arith) six in
+          let up : 256 ^ (i - p) ≤ 256 ^ (maxKeyword - 1) = pow-le-pow-right (omega arith) six in
           omega (arith, g .low)
 
       pub pack-more : (b : ℕ) → b ≡ getD s i 0 → b < 256 → Packing s p (v * 256 + b) (i + 1)

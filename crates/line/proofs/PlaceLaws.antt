@@ -118,8 +118,8 @@ module _ (sheet : Bytes) (p e r : ℕ) (h : e ≤ length sheet) (f : PieceAt she
       go : (t : Bool) → ltb r d ≡ t → piecesAt sheet p d ≡ slice p r sheet ∷ piecesAt sheet (r + 1) d
       go true q =
           let low : r < d = ltb-true r d q in
-          let rest : slice r d sheet ≡ tab ∷ slice (r + 1) d sheet = tab-behind sheet r d low (omega arith) (f .stop (omega arith)) in
-          let two : slice p d sheet ≡ slice p r sheet ++ (tab ∷ slice (r + 1) d sheet) = slice-two p r d sheet (f .from) k (omega arith) ∙ ap (λ t. slice p r sheet ++ t) rest in
+          let behind : slice r d sheet ≡ tab ∷ slice (r + 1) d sheet = tab-behind sheet r d low (omega arith) (f .stop (omega arith)) in
+          let two : slice p d sheet ≡ slice p r sheet ++ (tab ∷ slice (r + 1) d sheet) = slice-two p r d sheet (f .from) k (omega arith) ∙ ap (λ t. slice p r sheet ++ t) behind in
           some-left sheet p d (omega (arith, f .from)) ∙ ap piecesOf two ∙ pieces-split (slice p r sheet) (slice (r + 1) d sheet) (f .free)
           ∙ ap (λ t. slice p r sheet ∷ t) (sym (some-left sheet (r + 1) d (omega arith)))
       go false q =

@@ -19,30 +19,31 @@ use Rattle.laws.specs.FieldLaws.{read-spell}
 use Rattle.record.specs.Answer.{signedOf}
 use Rattle.record.specs.AnswerLaws.{intIn, signed-read}
 use Rattle.record.specs.declared.Signed.{Signed}
-use Rattle.words.specs.Words.{intOf, fieldOf}
+use Rattle.record.specs.Number.{mostBelow}
+use Rattle.words.specs.Words.{intOf, fieldOf, two31, two32}
 use Rattle.line.specs.FieldRead.{wordsValue, WordsFit, WordsOf}
 use Rattle.line.specs.declared.field.Words.{Words}
 
 -- ── halves ──
 
-joined : (n : ℕ) → n / 4294967296 * 4294967296 + n % 4294967296 ≡ n
-joined n = div-add-mod' n 4294967296
+joined : (n : ℕ) → n / two32 * two32 + n % two32 ≡ n
+joined n = div-add-mod' n two32
 
-high-low : (n : ℕ) → n < 9223372036854775808 → n / 4294967296 < 2147483648
+high-low : (n : ℕ) → n < mostBelow → n / two32 < two31
 high-low n h = omega (arith, joined n)
 
-positive : (n : ℕ) → n < 9223372036854775808 → intOf (n % 4294967296) (n / 4294967296 + 0) ≡ pos n
+positive : (n : ℕ) → n < mostBelow → intOf (n % two32) (n / two32 + 0) ≡ pos n
 unfolding intOf
 positive n h =
-    let low : n / 4294967296 + 0 < 2147483648 = omega (arith, high-low n h) in
-    let whole : (n / 4294967296 + 0) * 4294967296 + n % 4294967296 ≡ n = omega (arith, joined n) in
+    let low : n / two32 + 0 < two31 = omega (arith, high-low n h) in
+    let whole : (n / two32 + 0) * two32 + n % two32 ≡ n = omega (arith, joined n) in
     rw (lt-ltb _ _ low, whole)
 
-negative : (n : ℕ) → intOf (n % 4294967296) (n / 4294967296 + 2147483648) ≡ negsuc n
+negative : (n : ℕ) → intOf (n % two32) (n / two32 + two31) ≡ negsuc n
 unfolding intOf
 negative n =
-    let high : 2147483648 ≤ n / 4294967296 + 2147483648 = omega arith in
-    let whole : (n / 4294967296 + 2147483648 - 2147483648) * 4294967296 + n % 4294967296 ≡ n = omega (arith, joined n) in
+    let high : two31 ≤ n / two32 + two31 = omega arith in
+    let whole : (n / two32 + two31 - two31) * two32 + n % two32 ≡ n = omega (arith, joined n) in
     rw (le-ltb _ _ high, whole)
 
 -- ── the sign ──
@@ -76,10 +77,10 @@ module _ (z : ℤ) (f : SFits w64 z) where
     pub distance-cast : (T (nonNeg (held (negsuc 0 -ℤ held z)))) × Fits w64 (natAbs (held (negsuc 0 -ℤ held z)))
     distance-cast = rw held-distance (tt, record { fits = omega (arith, f .sfits) })
 
-    pub distance-high : natAbs (held (negsuc 0 -ℤ held z)) / 4294967296 + 2147483648 < 4294967296
+    pub distance-high : natAbs (held (negsuc 0 -ℤ held z)) / two32 + two31 < two32
     distance-high = rw held-distance (omega (arith, high-low (mag z) (f .sfits)))
 
-    pub distance-words : (r : Words) → r ≡ Words.Is (natAbs (held (negsuc 0 -ℤ held z)) % 4294967296) (natAbs (held (negsuc 0 -ℤ held z)) / 4294967296 + 2147483648) → (sheet : Bytes) → wordsValue int sheet r ≡ some z
+    pub distance-words : (r : Words) → r ≡ Words.Is (natAbs (held (negsuc 0 -ℤ held z)) % two32) (natAbs (held (negsuc 0 -ℤ held z)) / two32 + two31) → (sheet : Bytes) → wordsValue int sheet r ≡ some z
     unfolding fieldOf
     distance-words r e sheet = rw (e, held-distance) (ap some (negative (mag z) ∙ down z below .1))
 
@@ -90,10 +91,10 @@ module _ (z : ℤ) (f : SFits w64 z) where
     pub plain-cast : (T (nonNeg (held z))) × Fits w64 (natAbs (held z))
     plain-cast = rw (toZ-ofZ f) (not-below z above .0, record { fits = omega (arith, f .sfits, not-below z above .1) })
 
-    pub plain-high : natAbs (held z) / 4294967296 + 0 < 4294967296
+    pub plain-high : natAbs (held z) / two32 + 0 < two32
     plain-high = rw (toZ-ofZ f, not-below z above .1) (omega (arith, high-low (mag z) (f .sfits)))
 
-    pub plain-words : (r : Words) → r ≡ Words.Is (natAbs (held z) % 4294967296) (natAbs (held z) / 4294967296 + 0) → (sheet : Bytes) → wordsValue int sheet r ≡ some z
+    pub plain-words : (r : Words) → r ≡ Words.Is (natAbs (held z) % two32) (natAbs (held z) / two32 + 0) → (sheet : Bytes) → wordsValue int sheet r ≡ some z
     unfolding fieldOf
     plain-words r e sheet = rw (e, toZ-ofZ f, not-below z above .1) (ap some (positive (mag z) (f .sfits) ∙ not-below z above .2))
 

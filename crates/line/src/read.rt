@@ -30,6 +30,11 @@ pub enum Line {
     Not,
 }
 
+// Where the two words of the first field stand; each field behind it has the next two.
+const FIRST_WORD: usize = 2;
+
+const SECOND_WORD: usize = 3;
+
 // The fields of a kind, from behind place p on: field g goes to the words 2g + 2 and 2g + 3. Each stands behind a tab, and the line feed behind the last.
 fn read_fields(sheet: &[u8], p: usize, kind: u32, part: &mut [u32]) -> FieldsTo
     requires { ⌜ InLine (now sheet) p ⌝ }
@@ -48,8 +53,8 @@ fn read_fields(sheet: &[u8], p: usize, kind: u32, part: &mut [u32]) -> FieldsTo
         let FieldRead::Is(x, y, end) = read_form(sheet, at + 1, form) else {
             return FieldsTo::Not;
         };
-        part[g + g + 2] = x;
-        part[g + g + 3] = y;
+        part[g + g + FIRST_WORD] = x;
+        part[g + g + SECOND_WORD] = y;
         at = end;
         g += 1;
         form = form_code(row, g);

@@ -3,13 +3,13 @@ use mathlib.Core.Path.{_≡_, refl, sym, ap, _∙_}
 use mathlib.Core.Bool.{Bool, true, false, cond, _&&_, and-true, and-false}
 use mathlib.Core.List.{[], _∷_}
 use mathlib.Core.Option.{none, some}
-use Prim.Native.Nat.{ℕ, _+_, _≤_}
+use Prim.Native.Nat.{ℕ, _+_, _<_, _≤_}
 use native.Mathlib.Omega.{arith}
 use borrow.Author.Tests.{ne-eqb}
 use lib.Dec.{eqb, leb}
 use lib.ListN.{length, getD}
 use lib.Seq.{slice}
-use Rattle.model.specs.Text.{Bytes, same, sameBy, decimal, value}
+use Rattle.model.specs.Text.{Bytes, lineFeed, same, sameBy, decimal, value}
 use Rattle.model.specs.Field.{num, u32, numOrAbsent, read, meaning, piece, spell, spellOption, fits, fitsOption, optionValue}
 use Rattle.laws.specs.TextLaws.{same-sound}
 use Rattle.record.specs.declared.Decimal.{Decimal}
@@ -20,22 +20,22 @@ use Rattle.record.specs.Answer.{decimalOf, optDecimalOf}
 use Rattle.record.specs.Number.{minus, dash}
 use Rattle.record.specs.Place.{Fed, separates, Ends}
 use Rattle.record.specs.InPlace.{NumberAt, OptNumberAt}
-use Rattle.record.proofs.PlaceLaws.{separates-other, no-feed, fed-on, along-start, along-on, along-back, ends-here, ends-next, ends-cons, ends-none}
+use Rattle.record.proofs.PlaceLaws.{byte-past, byte-fed, byte-alone, ends-next, ends-cons, ends-none}
 use Rattle.record.proofs.DecimalLaws.{decimal-below}
 
 -- ── a dash ──
 
-pub dash-one : (s : Bytes) → length s ≡ 1 → eqb (getD s 0 0) 45 ≡ same s dash
+pub dash-one : (s : Bytes) → length s ≡ 1 → eqb (getD s 0 0) minus ≡ same s dash
 unfolding same sameBy
 dash-one [] h = absurd (omega arith)
-dash-one (b ∷ []) h = sym (and-true (eqb b 45))
+dash-one (b ∷ []) h = sym (and-true (eqb b minus))
 dash-one (b ∷ c ∷ s) h = absurd (omega arith)
 
 pub dash-not : (s : Bytes) → (length s ≡ 1 → ⊥) → false ≡ same s dash
 unfolding same sameBy
 dash-not [] h = refl
 dash-not (b ∷ []) h = absurd (h refl)
-dash-not (b ∷ c ∷ s) h = sym (and-false (eqb b 45))
+dash-not (b ∷ c ∷ s) h = sym (and-false (eqb b minus))
 
 pub dash-first : (b : ℕ) (s : Bytes) → (b ≡ minus → ⊥) → false ≡ same (b ∷ s) dash
 unfolding same sameBy
@@ -76,28 +76,39 @@ dash-is : true ≡ same dash dash
 unfolding same sameBy
 dash-is = refl
 
+-- a dash, and the place behind it
+module _ (s : Bytes) (p : ℕ) (f : Fed s p) (e : getD s p 0 ≡ minus) where
+  dash-high : lineFeed < getD s p 0
+  dash-high = omega arith
+
+  pub dash-past : separates (getD s p 0) ≡ false
+  dash-past = byte-past s p f dash-high
+
+  pub dash-fed : Fed s (p + 1)
+  dash-fed = byte-fed s p f dash-high
+
+  pub dash-alone : separates (getD s (p + 1) 0) ≡ true → Ends s p (p + 1)
+  dash-alone z = byte-alone s p f dash-high z
+
 module _ (limit : ℕ) (l : limit ≤ u32) (s : Bytes) (p : ℕ) (f : Fed s p) where
   module _ (e : getD s p 0 ≡ minus) where
-    dash-past : separates (getD s p 0) ≡ false
-    dash-past = separates-other (getD s p 0) (omega arith)
-
-    pub dash-fed : Fed s (p + 1)
-    dash-fed = fed-on s p f (no-feed (getD s p 0) dash-past)
+    past : separates (getD s p 0) ≡ false
+    past = dash-past s p f e
 
     pub absent-at : (t : Bool) → t ≡ separates (getD s (p + 1) 0) → t ≡ true → OptNumberAt limit s p (OptDecimalAt.Absent (p + 1))
     absent-at t g o =
         record {
-          is = λ q h. rw (ends-cons s p q h dash-past, ends-none s (p + 1) q (ends-next s p q h dash-past) (sym g ∙ o), e) (absent-of limit dash true dash-is refl);
-          ends = along-back s p (p + 1) (along-on s p p (along-start s p) dash-past) (p + 1) (ends-here s (p + 1) dash-fed (sym g ∙ o));
+          is = λ q h. rw (ends-cons s p q h past, ends-none s (p + 1) q (ends-next s p q h past) (sym g ∙ o), e) (absent-of limit dash true dash-is refl);
+          ends = dash-alone s p f e (sym g ∙ o);
         }
 
     pub dash-spare : (t : Bool) → t ≡ separates (getD s (p + 1) 0) → t ≡ false → OptNumberAt limit s p OptDecimalAt.Not
     dash-spare t g o =
         record {
           is = λ q h.
-              rw (ends-cons s p q h dash-past, ends-cons s (p + 1) q (ends-next s p q h dash-past) (sym g ∙ o))
+              rw (ends-cons s p q h past, ends-cons s (p + 1) q (ends-next s p q h past) (sym g ∙ o))
               (neither-of limit _ false (dash-not _ (λ z. omega arith)) refl Decimal.Not
-              (rw (ends-cons s p q h dash-past, ends-cons s (p + 1) q (ends-next s p q h dash-past) (sym g ∙ o)) at (decimal-below limit l s p f (getD s p 0) refl (omega arith) .is q h)) refl);
+              (rw (ends-cons s p q h past, ends-cons s (p + 1) q (ends-next s p q h past) (sym g ∙ o)) at (decimal-below limit l s p f (getD s p 0) refl (omega arith) .is q h)) refl);
           ends = tt;
         }
 

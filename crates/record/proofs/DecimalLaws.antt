@@ -18,11 +18,11 @@ use Rattle.laws.specs.FieldLaws.{limited}
 use Rattle.record.specs.declared.Decimal.{Decimal}
 use Rattle.record.specs.declared.Decimal.the-variants.{Is, Not}
 use Rattle.record.specs.Answer.{decimalOf}
-use Rattle.record.specs.Number.{digit, digit0, allDigits, digitsOn}
+use Rattle.record.specs.Number.{digit, digit0, digit9, allDigits, digitsOn}
 use Rattle.record.specs.declared.DecimalAt.{DecimalAt}
 use Rattle.record.specs.Place.{Fed, separates, Ends, EndsAt}
 use Rattle.record.specs.InPlace.{decimalIn, decimalEnd, DigitsAt, NumberAt}
-use Rattle.record.proofs.PlaceLaws.{separates-other, fed-on, along-start, along-on, along-back, ends-here, ends-next, ends-cons, ends-none}
+use Rattle.record.proofs.PlaceLaws.{separates-other, byte-fed, byte-alone, along-start, along-on, along-back, ends-next, ends-cons, ends-none}
 use Rattle.record.proofs.GatherLaws.{too-big, byte-below, byte-above, byte-on}
 use Rattle.record.proofs.ReadLaws.{accepted, refused, piece-is}
 
@@ -30,14 +30,14 @@ use Rattle.record.proofs.ReadLaws.{accepted, refused, piece-is}
 pub plain : Bytes → Bool
 plain [] = false
 plain (b ∷ []) = digit b
-plain (b ∷ c ∷ s) = not (eqb b 48) && allDigits (b ∷ c ∷ s)
+plain (b ∷ c ∷ s) = not (eqb b digit0) && allDigits (b ∷ c ∷ s)
 
 -- a byte that is a digit
-pub digit-bounds : (b : ℕ) → digit b ≡ true → (48 ≤ b) × (b ≤ 57)
-digit-bounds b e = (leb-true 48 b (and-left _ _ e), leb-true b 57 (and-right (leb 48 b) _ e))
+pub digit-bounds : (b : ℕ) → digit b ≡ true → (digit0 ≤ b) × (b ≤ digit9)
+digit-bounds b e = (leb-true digit0 b (and-left _ _ e), leb-true b digit9 (and-right (leb digit0 b) _ e))
 
-pub is-digit : (b : ℕ) → 48 ≤ b → b ≤ 57 → digit b ≡ true
-is-digit b h k = rw (le-leb 48 b h, le-leb b 57 k)
+pub is-digit : (b : ℕ) → digit0 ≤ b → b ≤ digit9 → digit b ≡ true
+is-digit b h k = rw (le-leb digit0 b h, le-leb b digit9 k)
 
 -- ── digits with no spare zero are spelled by their value ──
 
@@ -48,16 +48,16 @@ digits-enough zero zero n h j = refl
 digits-enough zero (suc m) n h j = rw (lt-ltb n 10 (omega arith))
 digits-enough (suc k) zero n h j = rw (lt-ltb n 10 (omega arith))
 digits-enough (suc k) (suc m) n h j =
-    ap (λ t. cond (ltb n 10) ((48 + n) ∷ []) (t ++ ((48 + n % 10) ∷ [])))
+    ap (λ t. cond (ltb n 10) ((digit0 + n) ∷ []) (t ++ ((digit0 + n % 10) ∷ [])))
     (digits-enough k m (n / 10) (omega (arith, rw pow-suc at h)) (omega (arith, rw pow-suc at j)))
 
 -- one digit more
-digits-snoc : (j v b : ℕ) → 0 < v → 48 ≤ b → b ≤ 57 → digits (suc (suc j)) (v * 10 + (b - 48)) ≡ digits (suc j) v ++ (b ∷ [])
+digits-snoc : (j v b : ℕ) → 0 < v → digit0 ≤ b → b ≤ digit9 → digits (suc (suc j)) (v * 10 + (b - digit0)) ≡ digits (suc j) v ++ (b ∷ [])
 unfolding digits
 digits-snoc j v b h l u =
-    let q : (v * 10 + (b - 48)) / 10 ≡ v = omega arith in
-    let r : 48 + (v * 10 + (b - 48)) % 10 ≡ b = omega arith in
-    rw (le-ltb (v * 10 + (b - 48)) 10 (omega arith), q, r)
+    let q : (v * 10 + (b - digit0)) / 10 ≡ v = omega arith in
+    let r : digit0 + (v * 10 + (b - digit0)) % 10 ≡ b = omega arith in
+    rw (le-ltb (v * 10 + (b - digit0)) 10 (omega arith), q, r)
 
 -- digits behind a number are spelled behind it
 digits-on : (k j v : ℕ) (s : Bytes) → 0 < v → v < 10 ^ suc j → valueOn v s < 10 ^ suc k → allDigits s ≡ true → digits (suc k) (valueOn v s) ≡ digits (suc j) v ++ s
@@ -65,32 +65,32 @@ unfolding allDigits valueOn
 digits-on k j v [] h l m e = digits-enough k j v m l ∙ sym (append-nil (digits (suc j) v))
 digits-on k j v (b ∷ s) h l m e =
     let d = digit-bounds b (and-left (digit b) (allDigits s) e) in
-    let w : v * 10 + (b - 48) < 10 ^ suc (suc j) = omega (arith, pow-suc 10 (suc j)) in
-    digits-on k (suc j) (v * 10 + (b - 48)) s (omega arith) w m (and-right (digit b) (allDigits s) e)
+    let w : v * 10 + (b - digit0) < 10 ^ suc (suc j) = omega (arith, pow-suc 10 (suc j)) in
+    digits-on k (suc j) (v * 10 + (b - digit0)) s (omega arith) w m (and-right (digit b) (allDigits s) e)
     ∙ ap (λ t. t ++ s) (digits-snoc j v b h (d .0) (d .1))
     ∙ append-assoc (digits (suc j) v) (b ∷ []) s
 
-one-digit : (b : ℕ) → 48 ≤ b → b ≤ 57 → (k : ℕ) → digits (suc k) (b - 48) ≡ b ∷ []
+one-digit : (b : ℕ) → digit0 ≤ b → b ≤ digit9 → (k : ℕ) → digits (suc k) (b - digit0) ≡ b ∷ []
 unfolding digits
-one-digit b h u k = let e : 48 + (b - 48) ≡ b = omega arith in rw (lt-ltb (b - 48) 10 (omega arith), e)
+one-digit b h u k = let e : digit0 + (b - digit0) ≡ b = omega arith in rw (lt-ltb (b - digit0) 10 (omega arith), e)
 
-value-cons : (b : ℕ) (s : Bytes) → value (b ∷ s) ≡ valueOn (b - 48) s
+value-cons : (b : ℕ) (s : Bytes) → value (b ∷ s) ≡ valueOn (b - digit0) s
 unfolding value valueOn
-value-cons b s = ap (λ v. valueOn v s) (zero-add (b - 48))
+value-cons b s = ap (λ v. valueOn v s) (zero-add (b - digit0))
 
 pub spelled : (s : Bytes) → plain s ≡ true → value s ≤ u64 → decimal (value s) ≡ s
 unfolding plain decimal
 spelled [] e h = absurd (false≢true e)
 spelled (b ∷ []) e h =
     let d = digit-bounds b e in
-    let v : value (b ∷ []) ≡ b - 48 = unfold valueOn in value-cons b [] in
+    let v : value (b ∷ []) ≡ b - digit0 = unfold valueOn in value-cons b [] in
     ap (λ n. digits 20 n) v ∙ one-digit b (d .0) (d .1) 19
 spelled (b ∷ c ∷ s) e h =
-    let z = eqb-false b 48 (not-true (eqb b 48) (and-left (not (eqb b 48)) (allDigits (b ∷ c ∷ s)) e)) in
-    let a : (digit b && allDigits (c ∷ s)) ≡ true = unfold allDigits in and-right (not (eqb b 48)) (digit b && allDigits (c ∷ s)) e in
+    let z = eqb-false b digit0 (not-true (eqb b digit0) (and-left (not (eqb b digit0)) (allDigits (b ∷ c ∷ s)) e)) in
+    let a : (digit b && allDigits (c ∷ s)) ≡ true = unfold allDigits in and-right (not (eqb b digit0)) (digit b && allDigits (c ∷ s)) e in
     let d = digit-bounds b (and-left (digit b) (allDigits (c ∷ s)) a) in
     ap (λ n. digits 20 n) (value-cons b (c ∷ s))
-    ∙ digits-on 19 0 (b - 48) (c ∷ s) (omega arith) (omega arith) (omega (arith, value-cons b (c ∷ s))) (and-right (digit b) (allDigits (c ∷ s)) a)
+    ∙ digits-on 19 0 (b - digit0) (c ∷ s) (omega arith) (omega arith) (omega (arith, value-cons b (c ∷ s))) (and-right (digit b) (allDigits (c ∷ s)) a)
     ∙ ap (λ t. t ++ (c ∷ s)) (one-digit b (d .0) (d .1) 0)
 
 -- ── what is spelled is digits with no spare zero ──
@@ -98,7 +98,7 @@ spelled (b ∷ c ∷ s) e h =
 -- digits that begin with no zero
 lead : Bytes → Bool
 lead [] = false
-lead (b ∷ s) = not (eqb b 48) && allDigits (b ∷ s)
+lead (b ∷ s) = not (eqb b digit0) && allDigits (b ∷ s)
 
 all-snoc : (s : Bytes) (b : ℕ) → allDigits s ≡ true → digit b ≡ true → allDigits (s ++ (b ∷ [])) ≡ true
 unfolding allDigits
@@ -108,25 +108,25 @@ all-snoc (a ∷ s) b e h = rw (and-left (digit a) (allDigits s) e, all-snoc s b 
 lead-snoc : (s : Bytes) (b : ℕ) → lead s ≡ true → digit b ≡ true → lead (s ++ (b ∷ [])) ≡ true
 unfolding lead
 lead-snoc [] b e h = absurd (false≢true e)
-lead-snoc (a ∷ s) b e h = rw (and-left (not (eqb a 48)) (allDigits (a ∷ s)) e) (all-snoc (a ∷ s) b (and-right (not (eqb a 48)) (allDigits (a ∷ s)) e) h)
+lead-snoc (a ∷ s) b e h = rw (and-left (not (eqb a digit0)) (allDigits (a ∷ s)) e) (all-snoc (a ∷ s) b (and-right (not (eqb a digit0)) (allDigits (a ∷ s)) e) h)
 
 digits-lead : (k n : ℕ) → 0 < n → n < 10 ^ suc k → lead (digits (suc k) n) ≡ true
 unfolding digits
-digits-lead zero n h l = rw (lt-ltb n 10 (omega arith)) (unfold lead allDigits in rw (ne-eqb (48 + n) 48 (omega arith), is-digit (48 + n) (omega arith) (omega arith)))
+digits-lead zero n h l = rw (lt-ltb n 10 (omega arith)) (unfold lead allDigits in rw (ne-eqb (digit0 + n) digit0 (omega arith), is-digit (digit0 + n) (omega arith) (omega arith)))
 digits-lead (suc k) n h l = go (ltb n 10) refl (digits-lead k (n / 10))
   where
     go : (t : Bool) → ltb n 10 ≡ t → (0 < n / 10 → n / 10 < 10 ^ suc k → lead (digits (suc k) (n / 10)) ≡ true) → lead (digits (suc (suc k)) n) ≡ true
     go true e ih =
         let b = ltb-true n 10 e in
-        rw e (unfold lead allDigits in rw (ne-eqb (48 + n) 48 (omega arith), is-digit (48 + n) (omega arith) (omega arith)))
+        rw e (unfold lead allDigits in rw (ne-eqb (digit0 + n) digit0 (omega arith), is-digit (digit0 + n) (omega arith) (omega arith)))
     go false e ih =
         let b = ltb-false n 10 e in
-        rw e (lead-snoc (digits (suc k) (n / 10)) (48 + n % 10) (ih (omega arith) (omega (arith, rw pow-suc at l))) (is-digit (48 + n % 10) (omega arith) (omega arith)))
+        rw e (lead-snoc (digits (suc k) (n / 10)) (digit0 + n % 10) (ih (omega arith) (omega (arith, rw pow-suc at l))) (is-digit (digit0 + n % 10) (omega arith) (omega arith)))
 
 lead-plain : (s : Bytes) → lead s ≡ true → plain s ≡ true
 unfolding lead plain allDigits
 lead-plain [] e = e
-lead-plain (b ∷ []) e = and-left (digit b) true (and-right (not (eqb b 48)) (digit b && true) e)
+lead-plain (b ∷ []) e = and-left (digit b) true (and-right (not (eqb b digit0)) (digit b && true) e)
 lead-plain (b ∷ c ∷ s) e = e
 
 pub decimal-plain : (n : ℕ) → n ≤ u64 → plain (decimal n) ≡ true
@@ -173,13 +173,13 @@ plain-one [] h = absurd (omega arith)
 plain-one (b ∷ []) h = sym (and-true (digit b))
 plain-one (b ∷ c ∷ s) h = absurd (omega arith)
 
-plain-many : (s : Bytes) → (length s ≡ 0 → ⊥) → (length s ≡ 1 → ⊥) → plain s ≡ (not (eqb (getD s 0 0) 48) && allDigits s)
+plain-many : (s : Bytes) → (length s ≡ 0 → ⊥) → (length s ≡ 1 → ⊥) → plain s ≡ (not (eqb (getD s 0 0) digit0) && allDigits s)
 unfolding plain
 plain-many [] h k = absurd (h refl)
 plain-many (b ∷ []) h k = absurd (k refl)
 plain-many (b ∷ c ∷ s) h k = refl
 
-module _ (limit : ℕ) (l : limit < 18446744073709551616) (s : Bytes) where
+module _ (limit : ℕ) (l : limit < suc u64) (s : Bytes) where
   pub none-of : length s ≡ 0 → Not ≡ decimalOf (read (num limit) (s ∷ []))
   none-of h = rw (number-answer limit (omega arith) s, plain-none s h)
 
@@ -188,12 +188,12 @@ module _ (limit : ℕ) (l : limit < 18446744073709551616) (s : Bytes) where
     unfolding digitsOn value
     one-of h = e ∙ rw (number-answer limit (omega arith) s, plain-one s h)
 
-    pub many-of : (length s ≡ 0 → ⊥) → (length s ≡ 1 → ⊥) → (getD s 0 0 ≡ 48 → ⊥) → r ≡ decimalOf (read (num limit) (s ∷ []))
+    pub many-of : (length s ≡ 0 → ⊥) → (length s ≡ 1 → ⊥) → (getD s 0 0 ≡ digit0 → ⊥) → r ≡ decimalOf (read (num limit) (s ∷ []))
     unfolding digitsOn value
-    many-of h k z = e ∙ rw (number-answer limit (omega arith) s, plain-many s h k, ne-eqb (getD s 0 0) 48 z)
+    many-of h k z = e ∙ rw (number-answer limit (omega arith) s, plain-many s h k, ne-eqb (getD s 0 0) digit0 z)
 
-  pub spare-of : (length s ≡ 0 → ⊥) → (length s ≡ 1 → ⊥) → getD s 0 0 ≡ 48 → Not ≡ decimalOf (read (num limit) (s ∷ []))
-  spare-of h k z = rw (number-answer limit (omega arith) s, plain-many s h k, eq-eqb (getD s 0 0) 48 z)
+  pub spare-of : (length s ≡ 0 → ⊥) → (length s ≡ 1 → ⊥) → getD s 0 0 ≡ digit0 → Not ≡ decimalOf (read (num limit) (s ∷ []))
+  spare-of h k z = rw (number-answer limit (omega arith) s, plain-many s h k, eq-eqb (getD s 0 0) digit0 z)
 
   -- with no zero in front the digits are the number
   unspared : (length s ≡ 0 → ⊥) → (getD s 0 0 ≡ digit0 → ⊥) → digitsOn limit 0 s ≡ decimalOf (read (num limit) (s ∷ []))
@@ -206,7 +206,7 @@ module _ (limit : ℕ) (l : limit < 18446744073709551616) (s : Bytes) where
 -- ── in place ──
 
 module _ (limit : ℕ) (l : limit ≤ u32) (s : Bytes) (p : ℕ) (f : Fed s p) (b : ℕ) (e : b ≡ getD s p 0) where
-  small : limit < 18446744073709551616
+  small : limit < suc u64
   small = omega arith
 
   -- a piece whose first byte makes the answer
@@ -230,19 +230,18 @@ module _ (limit : ℕ) (l : limit ≤ u32) (s : Bytes) (p : ℕ) (f : Fed s p) (
   pub decimal-above : digit0 ≤ b → 9 < b - digit0 → NumberAt limit s p DecimalAt.Not
   decimal-above u k = by-first DecimalAt.Not tt (omega arith) (λ q h. sym (byte-above limit 0 b (slice (p + 1) q s) k) ∙ begun (slice (p + 1) q s) (omega arith))
 
+  pub first-fed : digit0 ≤ b → Fed s (p + 1)
+  first-fed u = byte-fed s p f (omega (arith, e))
+
   module _ (u : digit0 ≤ b) (z : b - digit0 ≡ 0) where
     here : b ≡ digit0
     here = omega arith
-
-    pub zero-fed : Fed s (p + 1)
-    zero-fed = fed-on s p f (λ k. omega (arith, e))
 
     pub decimal-zero : (t : Bool) → t ≡ separates (getD s (p + 1) 0) → t ≡ true → NumberAt limit s p (DecimalAt.Is 0 (p + 1))
     unfolding digitsOn allDigits valueOn
     decimal-zero t g o =
         let stop : separates (getD s (p + 1) 0) ≡ true = sym g ∙ o in
-        let past : separates (getD s p 0) ≡ false = rw (← e) (separates-other b (omega arith)) in
-        by-first (DecimalAt.Is 0 (p + 1)) (along-back s p (p + 1) (along-on s p p (along-start s p) past) (p + 1) (ends-here s (p + 1) zero-fed stop)) (omega arith)
+        by-first (DecimalAt.Is 0 (p + 1)) (byte-alone s p f (omega (arith, e)) stop) (omega arith)
         (λ q h. rw (ends-none s (p + 1) q h stop, here) (one-of limit small (digit0 ∷ []) (Is 0) (rw (le-leb 0 limit (omega arith))) refl))
 
     pub decimal-spare : (t : Bool) → t ≡ separates (getD s (p + 1) 0) → t ≡ false → NumberAt limit s p DecimalAt.Not
@@ -256,9 +255,6 @@ module _ (limit : ℕ) (l : limit ≤ u32) (s : Bytes) (p : ℕ) (f : Fed s p) (
 
     pub decimal-over : limit < b - digit0 → NumberAt limit s p DecimalAt.Not
     decimal-over h = by-first DecimalAt.Not tt (omega arith) (λ q g. sym (too-big limit (b - digit0) (slice (p + 1) q s) h) ∙ on-first (slice (p + 1) q s))
-
-    pub first-fed : Fed s (p + 1)
-    first-fed = fed-on s p f (λ k. omega (arith, e))
 
     pub decimal-on : (a : DecimalAt) → DigitsAt limit (b - digit0) s (p + 1) a → NumberAt limit s p a
     decimal-on a d = by-first a (go (decimalEnd a) (d .ends)) (omega arith) (λ q h. d .is q h ∙ on-first (slice (p + 1) q s))

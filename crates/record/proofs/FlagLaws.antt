@@ -12,42 +12,42 @@ use Rattle.model.specs.Text.{Bytes, same, sameBy, digits, decimal, valueOn}
 use Rattle.model.specs.Field.{num, flag, read, meaning, piece, spell, spellFlag, fits}
 use Rattle.record.specs.declared.Decimal.{Decimal}
 use Rattle.record.specs.Answer.{decimalOf, flagOf}
-use Rattle.record.specs.Number.{digit0, allDigits, digitsOn}
+use Rattle.record.specs.Number.{digit0, digit1, digit9, allDigits, digitsOn}
 use Rattle.record.proofs.ReadLaws.{refused, piece-is}
 use Rattle.record.proofs.GatherLaws.{byte-below, byte-above, byte-over}
 use Rattle.record.proofs.DecimalLaws.{none-of, one-of}
 
 -- ── a byte ──
 
-flag-one : (b : ℕ) → flagOf (read flag ((b ∷ []) ∷ [])) ≡ cond (eqb b 48) (Decimal.Is 0) (cond (eqb b 49) (Decimal.Is 1) Decimal.Not)
+flag-one : (b : ℕ) → flagOf (read flag ((b ∷ []) ∷ [])) ≡ cond (eqb b digit0) (Decimal.Is 0) (cond (eqb b digit1) (Decimal.Is 1) Decimal.Not)
 unfolding read meaning piece fits spell spellFlag same sameBy
-flag-one b = go (eqb b 48) refl (eqb b 49) refl
+flag-one b = go (eqb b digit0) refl (eqb b digit1) refl
   where
-    go : (t : Bool) → eqb b 48 ≡ t → (u : Bool) → eqb b 49 ≡ u
-        → flagOf (read flag ((b ∷ []) ∷ [])) ≡ cond (eqb b 48) (Decimal.Is 0) (cond (eqb b 49) (Decimal.Is 1) Decimal.Not)
-    go true e u f = rw (eqb-true b 48 e)
-    go false e true f = rw (eqb-true b 49 f)
-    go false e false f = rw (e, f, ne-eqb 48 b (λ q. eqb-false b 48 e (sym q)))
+    go : (t : Bool) → eqb b digit0 ≡ t → (u : Bool) → eqb b digit1 ≡ u
+        → flagOf (read flag ((b ∷ []) ∷ [])) ≡ cond (eqb b digit0) (Decimal.Is 0) (cond (eqb b digit1) (Decimal.Is 1) Decimal.Not)
+    go true e u f = rw (eqb-true b digit0 e)
+    go false e true f = rw (eqb-true b digit1 f)
+    go false e false f = rw (e, f, ne-eqb digit0 b (λ q. eqb-false b digit0 e (sym q)))
 
-number-one : (b : ℕ) → digitsOn 1 0 (b ∷ []) ≡ cond (eqb b 48) (Decimal.Is 0) (cond (eqb b 49) (Decimal.Is 1) Decimal.Not)
+number-one : (b : ℕ) → digitsOn 1 0 (b ∷ []) ≡ cond (eqb b digit0) (Decimal.Is 0) (cond (eqb b digit1) (Decimal.Is 1) Decimal.Not)
 unfolding digitsOn allDigits valueOn
-number-one b = go (eqb b 48) refl (eqb b 49) refl
+number-one b = go (eqb b digit0) refl (eqb b digit1) refl
   where
-    other : (b ≡ 48 → ⊥) → (b ≡ 49 → ⊥) → (t : Bool) → ltb b 48 ≡ t → (u : Bool) → ltb 57 b ≡ u → digitsOn 1 0 (b ∷ []) ≡ Decimal.Not
-    other h k true e u f = byte-below 1 0 b [] (ltb-true b 48 e)
-    other h k false e true f = byte-above 1 0 b [] (omega (arith, ltb-true 57 b f))
-    other h k false e false f = byte-over 1 0 b [] (ltb-false b 48 e) (omega (arith, ltb-false 57 b f)) (omega (arith, ltb-false b 48 e, h, k))
+    other : (b ≡ digit0 → ⊥) → (b ≡ digit1 → ⊥) → (t : Bool) → ltb b digit0 ≡ t → (u : Bool) → ltb digit9 b ≡ u → digitsOn 1 0 (b ∷ []) ≡ Decimal.Not
+    other h k true e u f = byte-below 1 0 b [] (ltb-true b digit0 e)
+    other h k false e true f = byte-above 1 0 b [] (omega (arith, ltb-true digit9 b f))
+    other h k false e false f = byte-over 1 0 b [] (ltb-false b digit0 e) (omega (arith, ltb-false digit9 b f)) (omega (arith, ltb-false b digit0 e, h, k))
 
-    go : (t : Bool) → eqb b 48 ≡ t → (u : Bool) → eqb b 49 ≡ u → digitsOn 1 0 (b ∷ []) ≡ cond t (Decimal.Is 0) (cond u (Decimal.Is 1) Decimal.Not)
-    go true e u f = rw (eqb-true b 48 e)
-    go false e true f = rw (eqb-true b 49 f)
-    go false e false f = other (eqb-false b 48 e) (eqb-false b 49 f) (ltb b 48) refl (ltb 57 b) refl
+    go : (t : Bool) → eqb b digit0 ≡ t → (u : Bool) → eqb b digit1 ≡ u → digitsOn 1 0 (b ∷ []) ≡ cond t (Decimal.Is 0) (cond u (Decimal.Is 1) Decimal.Not)
+    go true e u f = rw (eqb-true b digit0 e)
+    go false e true f = rw (eqb-true b digit1 f)
+    go false e false f = other (eqb-false b digit0 e) (eqb-false b digit1 f) (ltb b digit0) refl (ltb digit9 b) refl
 
 -- ── two bytes and more ──
 
 flag-long : (b c : ℕ) (s : Bytes) → flagOf (read flag ((b ∷ c ∷ s) ∷ [])) ≡ Decimal.Not
 unfolding read meaning piece fits spell spellFlag same sameBy
-flag-long b c s = rw (and-false (eqb b 49), and-false (eqb 48 b))
+flag-long b c s = rw (and-false (eqb b digit1), and-false (eqb digit0 b))
 
 number-long : (b c : ℕ) (s : Bytes) → read (num 1) ((b ∷ c ∷ s) ∷ []) ≡ none
 unfolding spell fits decimal digits

@@ -17,30 +17,31 @@ use Rattle.laws.specs.TextLaws.{and-left, and-right}
 use Rattle.laws.specs.FieldLaws.{limited}
 use Rattle.record.specs.declared.Decimal.{Decimal}
 use Rattle.record.specs.Answer.{decimalOf}
-use Rattle.record.specs.Hex.{digit, allHex, hexOn}
+use Rattle.record.specs.Number.{digit0, digit9}
+use Rattle.record.specs.Hex.{hexBase, before0, beforeA, letterF, letterBase, digit, allHex, hexOn}
 use Rattle.record.proofs.ReadLaws.{accepted, refused, piece-is}
 
 -- ── one digit ──
 
 -- the ranges of a byte
 data Range (b : ℕ) : Type 0 where
-  number : 47 < b → b ≤ 57 → digit b ≡ b - 48 → Range b
-  letter : 96 < b → b ≤ 102 → digit b ≡ b - 87 → Range b
+  number : before0 < b → b ≤ digit9 → digit b ≡ b - digit0 → Range b
+  letter : beforeA < b → b ≤ letterF → digit b ≡ b - letterBase → Range b
   other : digit b ≡ 16 → Range b
 
 range : (b : ℕ) → Range b
 unfolding digit
-range b = go (ltb 102 b) refl (ltb 96 b) refl (ltb 57 b) refl (ltb 47 b) refl
+range b = go (ltb letterF b) refl (ltb beforeA b) refl (ltb digit9 b) refl (ltb before0 b) refl
   where
-    go : (t : Bool) → ltb 102 b ≡ t → (u : Bool) → ltb 96 b ≡ u → (v : Bool) → ltb 57 b ≡ v → (w : Bool) → ltb 47 b ≡ w → Range b
+    go : (t : Bool) → ltb letterF b ≡ t → (u : Bool) → ltb beforeA b ≡ u → (v : Bool) → ltb digit9 b ≡ v → (w : Bool) → ltb before0 b ≡ w → Range b
     go true e u f v g w h = other (rw e)
-    go false e true f v g w h = letter (ltb-true 96 b f) (ltb-false 102 b e) (rw (e, f))
+    go false e true f v g w h = letter (ltb-true beforeA b f) (ltb-false letterF b e) (rw (e, f))
     go false e false f true g w h = other (rw (e, f, g))
-    go false e false f false g true h = number (ltb-true 47 b h) (ltb-false 57 b g) (rw (e, f, g, h))
+    go false e false f false g true h = number (ltb-true before0 b h) (ltb-false digit9 b g) (rw (e, f, g, h))
     go false e false f false g false h = other (rw (e, f, g, h))
 
 -- a digit's value is the definition's, and spells it
-pub digit-value : (b : ℕ) → digit b < 16 → hexDigitValue b ≡ digit b
+pub digit-value : (b : ℕ) → digit b < hexBase → hexDigitValue b ≡ digit b
 unfolding hexDigitValue
 digit-value b h = go (range b)
   where
@@ -49,13 +50,13 @@ digit-value b h = go (range b)
     go (letter l u e) = rw (e, le-ltb b 58 (omega arith))
     go (other e) = absurd (omega arith)
 
-digit-spells : (b : ℕ) → digit b < 16 → hexDigit (digit b) ≡ b
+digit-spells : (b : ℕ) → digit b < hexBase → hexDigit (digit b) ≡ b
 unfolding hexDigit
 digit-spells b h = go (range b)
   where
     go : Range b → hexDigit (digit b) ≡ b
-    go (number l u e) = rw (e, lt-ltb (b - 48) 10 (omega arith)) (omega arith)
-    go (letter l u e) = rw (e, le-ltb (b - 87) 10 (omega arith)) (omega arith)
+    go (number l u e) = rw (e, lt-ltb (b - digit0) 10 (omega arith)) (omega arith)
+    go (letter l u e) = rw (e, le-ltb (b - letterBase) 10 (omega arith)) (omega arith)
     go (other e) = absurd (omega arith)
 
 digit-of : (d : ℕ) → d < 16 → digit (hexDigit d) < 16
@@ -65,28 +66,28 @@ digit-of d h = go (ltb d 10) refl
     go : (t : Bool) → ltb d 10 ≡ t → digit (hexDigit d) < 16
     go true e =
         let k = ltb-true d 10 e in
-        rw e (rw (le-ltb 102 (48 + d) (omega arith), le-ltb 96 (48 + d) (omega arith), le-ltb 57 (48 + d) (omega arith), lt-ltb 47 (48 + d) (omega arith)) (omega arith))
+        rw e (rw (le-ltb letterF (digit0 + d) (omega arith), le-ltb beforeA (digit0 + d) (omega arith), le-ltb digit9 (digit0 + d) (omega arith), lt-ltb before0 (digit0 + d) (omega arith)) (omega arith))
     go false e =
         let k = ltb-false d 10 e in
-        rw e (rw (le-ltb 102 (87 + d) (omega arith), lt-ltb 96 (87 + d) (omega arith)) (omega arith))
+        rw e (rw (le-ltb letterF (letterBase + d) (omega arith), lt-ltb beforeA (letterBase + d) (omega arith)) (omega arith))
 
 -- ── many ──
 
-all-head : (b : ℕ) (s : Bytes) → allHex (b ∷ s) ≡ true → digit b < 16
+all-head : (b : ℕ) (s : Bytes) → allHex (b ∷ s) ≡ true → digit b < hexBase
 unfolding allHex
-all-head b s e = ltb-true (digit b) 16 (and-left (ltb (digit b) 16) (allHex s) e)
+all-head b s e = ltb-true (digit b) hexBase (and-left (ltb (digit b) hexBase) (allHex s) e)
 
 all-tail : (b : ℕ) (s : Bytes) → allHex (b ∷ s) ≡ true → allHex s ≡ true
 unfolding allHex
-all-tail b s e = and-right (ltb (digit b) 16) (allHex s) e
+all-tail b s e = and-right (ltb (digit b) hexBase) (allHex s) e
 
-all-snoc : (s : Bytes) (b : ℕ) → allHex s ≡ true → digit b < 16 → allHex (s ++ (b ∷ [])) ≡ true
+all-snoc : (s : Bytes) (b : ℕ) → allHex s ≡ true → digit b < hexBase → allHex (s ++ (b ∷ [])) ≡ true
 unfolding allHex
-all-snoc [] b e h = rw (lt-ltb (digit b) 16 h)
+all-snoc [] b e h = rw (lt-ltb (digit b) hexBase h)
 all-snoc (a ∷ s) b e h = rw (lt-ltb (digit a) 16 (all-head a s e), all-snoc s b (all-tail a s e) h)
 
 -- one digit more
-step : (j v b : ℕ) → digit b < 16 → hexDigits (suc j) (v * 16 + hexDigitValue b) ≡ hexDigits j v ++ (b ∷ [])
+step : (j v b : ℕ) → digit b < hexBase → hexDigits (suc j) (v * 16 + hexDigitValue b) ≡ hexDigits j v ++ (b ∷ [])
 unfolding hexDigits
 step j v b h =
     let e = digit-value b h in
@@ -129,9 +130,9 @@ no-digits n = refl
 spelled : (s : Bytes) → length s ≡ 16 → allHex s ≡ true → hexDigits 16 (hexValueOn 0 s) ≡ s
 spelled s h e = rw (h, no-digits 0) at (hex-on 0 0 s e)
 
-hexOn-cons : (v b : ℕ) (s : Bytes) → digit b < 16 → hexOn v (b ∷ s) ≡ hexOn (v * 16 + digit b) s
+hexOn-cons : (v b : ℕ) (s : Bytes) → digit b < hexBase → hexOn v (b ∷ s) ≡ hexOn (v * 16 + digit b) s
 unfolding hexOn allHex hexValueOn
-hexOn-cons v b s h = rw (lt-ltb (digit b) 16 h) (ap (λ x. hexOn (v * 16 + x) s) (digit-value b h))
+hexOn-cons v b s h = rw (lt-ltb (digit b) hexBase h) (ap (λ x. hexOn (v * 16 + x) s) (digit-value b h))
 
 -- ── what is read ──
 
@@ -169,16 +170,16 @@ module _ (s : Bytes) where
     hex-of h = (rw (drop-of-length-le s h) at inv) ∙ float-answer n
 
     module _ (h : i < length s) (d : ℕ) (e : d ≡ digit (getD s i 0)) where
-      pub hex-bad : 15 < d → Decimal.Not ≡ decimalOf (read float (s ∷ []))
+      pub hex-bad : hexBase ≤ d → Decimal.Not ≡ decimalOf (read float (s ∷ []))
       unfolding hexOn allHex
       hex-bad k = (rw (drop-cons s i 0 h, ← e, le-ltb d 16 k) at inv) ∙ float-answer n
 
-      pub hex-more : d ≤ 15 → hexOn (v * 16 + d) (drop (i + 1) s) ≡ hexOn 0 s
+      pub hex-more : d < hexBase → hexOn (v * 16 + d) (drop (i + 1) s) ≡ hexOn 0 s
       hex-more k = rw (add-one i, e) (sym (hexOn-cons v (getD s i 0) (drop (suc i) s) (omega arith)) ∙ (rw (drop-cons s i 0 h) at inv))
 
 -- the number fits as long as there are digits to come
 pub room : (i v : ℕ) → i < 16 → v < 16 ^ i → v ≤ 1152921504606846975
 room i v h k = omega (arith, pow-le-pow-right {n = 16} (omega arith) {i = i} {j = 15} (omega arith))
 
-pub grown : (i v d : ℕ) → v < 16 ^ i → d ≤ 15 → v * 16 + d < 16 ^ (i + 1)
+pub grown : (i v d : ℕ) → v < 16 ^ i → d < hexBase → v * 16 + d < 16 ^ (i + 1)
 grown i v d h k = rw (add-one i) (omega (arith, pow-suc 16 i))

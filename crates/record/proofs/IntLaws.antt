@@ -20,12 +20,13 @@ use Rattle.laws.specs.FieldLaws.{limited, read-spell}
 use Rattle.record.specs.declared.Decimal.{Decimal}
 use Rattle.record.specs.declared.Signed.{Signed}
 use Rattle.record.specs.Answer.{decimalOf, signedOf}
+use Rattle.record.specs.Number.{minus, mostBelow}
 use Rattle.record.specs.AnswerLaws.{numberIn, decimal-read}
 use Rattle.record.proofs.ReadLaws.{accepted, refused, piece-is, headed}
 
 -- ── a signed word ──
 
-module _ (k : ℕ) (h : k < 9223372036854775808) where
+module _ (k : ℕ) (h : k < mostBelow) where
   pub word-positive : toZ w64 k ≡ pos k
   word-positive = toZ-pos w64 k h
 
@@ -61,43 +62,43 @@ module _ (limit : ℕ) (s : Bytes) (d : Decimal) (p : d ≡ decimalOf (read (num
       omega arith
 
 -- a number begins with no minus sign
-no-minus : (n : ℕ) (s : Bytes) → decimal n ≡ 45 ∷ s → ⊥
-no-minus n s e = eqb-false 45 45 (each-head (rw e at (decimal-free 45 (omega arith) n))) refl
+no-minus : (n : ℕ) (s : Bytes) → decimal n ≡ minus ∷ s → ⊥
+no-minus n s e = eqb-false minus minus (each-head (rw e at (decimal-free minus (omega arith) n))) refl
 
 -- ── with a minus sign ──
 
-behind-minus : {s t : Bytes} → _≡_ {A = Bytes} (45 ∷ s) (45 ∷ t) → s ≡ t
+behind-minus : {s t : Bytes} → _≡_ {A = Bytes} (minus ∷ s) (minus ∷ t) → s ≡ t
 behind-minus e = cc
 
 module _ (s : Bytes) where
-  minus-read : (k : ℕ) → k ≤ i64 → decimal (suc k) ≡ s → read int ((45 ∷ s) ∷ []) ≡ some (negsuc k)
+  minus-read : (k : ℕ) → k ≤ i64 → decimal (suc k) ≡ s → read int ((minus ∷ s) ∷ []) ≡ some (negsuc k)
   unfolding spell signed fits fitsInt limited
-  minus-read k h e = accepted int ((45 ∷ s) ∷ []) refl (negsuc k) (ap (λ t. (45 ∷ t) ∷ []) e) (le-leb k i64 h)
+  minus-read k h e = accepted int ((minus ∷ s) ∷ []) refl (negsuc k) (ap (λ t. (minus ∷ t) ∷ []) e) (le-leb k i64 h)
 
-  minus-none : ((k : ℕ) → k ≤ i64 → decimal (suc k) ≡ s → ⊥) → read int ((45 ∷ s) ∷ []) ≡ none
+  minus-none : ((k : ℕ) → k ≤ i64 → decimal (suc k) ≡ s → ⊥) → read int ((minus ∷ s) ∷ []) ≡ none
   unfolding spell signed fits fitsInt
-  minus-none g = refused int ((45 ∷ s) ∷ []) go
+  minus-none g = refused int ((minus ∷ s) ∷ []) go
     where
-      go : (z : ℤ) → spell int z ≡ (45 ∷ s) ∷ [] → fits int z ≡ true → ⊥
+      go : (z : ℤ) → spell int z ≡ (minus ∷ s) ∷ [] → fits int z ≡ true → ⊥
       go (pos n) t f = no-minus n s (piece-is t)
       go (negsuc k) t f = g k (leb-true k i64 f) (behind-minus (piece-is t))
 
-  module _ (d : Decimal) (p : d ≡ decimalOf (read (num 9223372036854775808) (s ∷ []))) where
-    pub minus-of : (n : ℕ) → d ≡ Decimal.Is n → (n ≡ 0 → ⊥) → (z : ℤ) → z ≡ negsuc (n - 1) → Signed.Is z ≡ signedOf (read int ((45 ∷ s) ∷ []))
+  module _ (d : Decimal) (p : d ≡ decimalOf (read (num mostBelow) (s ∷ []))) where
+    pub minus-of : (n : ℕ) → d ≡ Decimal.Is n → (n ≡ 0 → ⊥) → (z : ℤ) → z ≡ negsuc (n - 1) → Signed.Is z ≡ signedOf (read int ((minus ∷ s) ∷ []))
     minus-of n e h z q =
         let m : suc (n - 1) ≡ n = omega arith in
-        let b = number-bound 9223372036854775808 s d p n e in
-        let r : decimal (suc (n - 1)) ≡ s = ap decimal m ∙ number-spelled 9223372036854775808 s d p n e in
+        let b = number-bound mostBelow s d p n e in
+        let r : decimal (suc (n - 1)) ≡ s = ap decimal m ∙ number-spelled mostBelow s d p n e in
         rw (minus-read (n - 1) (omega arith) r, q)
 
-    pub minus-zero : (n : ℕ) → d ≡ Decimal.Is n → n ≡ 0 → Signed.Not ≡ signedOf (read int ((45 ∷ s) ∷ []))
+    pub minus-zero : (n : ℕ) → d ≡ Decimal.Is n → n ≡ 0 → Signed.Not ≡ signedOf (read int ((minus ∷ s) ∷ []))
     minus-zero n e h =
-        let b = number-bound 9223372036854775808 s d p n e in
-        let r = number-spelled 9223372036854775808 s d p n e in
+        let b = number-bound mostBelow s d p n e in
+        let r = number-spelled mostBelow s d p n e in
         rw (minus-none (λ k l t. absurd (omega (arith, sym (decimal-value n (omega arith)) ∙ ap value (r ∙ sym t) ∙ decimal-value (suc k) (omega arith)))))
 
-    pub minus-not : d ≡ Decimal.Not → Signed.Not ≡ signedOf (read int ((45 ∷ s) ∷ []))
-    minus-not e = rw (minus-none (λ k l t. number-not 9223372036854775808 s d p (omega arith) e (suc k) (omega arith) t))
+    pub minus-not : d ≡ Decimal.Not → Signed.Not ≡ signedOf (read int ((minus ∷ s) ∷ []))
+    minus-not e = rw (minus-none (λ k l t. number-not mostBelow s d p (omega arith) e (suc k) (omega arith) t))
 
 -- ── without ──
 
@@ -108,10 +109,10 @@ signed-empty (b ∷ s) h = absurd (omega arith)
 
 module _ (s : Bytes) (m : length s ≡ 0 → ⊥) where
   -- what is behind the sign is read on its own
-  pub signed-minus : getD s 0 0 ≡ 45 → (r : Signed) → r ≡ signedOf (read int ((45 ∷ take (length s - 1) (drop 1 s)) ∷ [])) → r ≡ signedOf (read int (s ∷ []))
-  signed-minus e r q = q ∙ ap (λ t. signedOf (read int (t ∷ []))) (sym (headed s 45 m e))
+  pub signed-minus : getD s 0 0 ≡ minus → (r : Signed) → r ≡ signedOf (read int ((minus ∷ take (length s - 1) (drop 1 s)) ∷ [])) → r ≡ signedOf (read int (s ∷ []))
+  signed-minus e r q = q ∙ ap (λ t. signedOf (read int (t ∷ []))) (sym (headed s minus m e))
 
-  module _ (h : getD s 0 0 ≡ 45 → ⊥) where
+  module _ (h : getD s 0 0 ≡ minus → ⊥) where
     plus-none : ((n : ℕ) → n ≤ i64 → decimal n ≡ s → ⊥) → read int (s ∷ []) ≡ none
     unfolding spell signed fits fitsInt
     plus-none g = refused int (s ∷ []) go
@@ -120,11 +121,11 @@ module _ (s : Bytes) (m : length s ≡ 0 → ⊥) where
         go (pos n) t f = g n (leb-true n i64 f) (piece-is t)
         go (negsuc k) t f = h (sym (ap (λ x. getD x 0 0) (piece-is t)))
 
-    module _ (d : Decimal) (p : d ≡ decimalOf (read (num 9223372036854775807) (s ∷ []))) where
+    module _ (d : Decimal) (p : d ≡ decimalOf (read (num i64) (s ∷ []))) where
       pub signed-of : (n : ℕ) → d ≡ Decimal.Is n → (z : ℤ) → z ≡ pos n → Signed.Is z ≡ signedOf (read int (s ∷ []))
       unfolding spell signed fits fitsInt limited
       signed-of n e z q =
-          rw (accepted int (s ∷ []) refl (pos n) (ap (λ t. t ∷ []) (number-spelled 9223372036854775807 s d p n e)) (le-leb n i64 (number-bound 9223372036854775807 s d p n e)), q)
+          rw (accepted int (s ∷ []) refl (pos n) (ap (λ t. t ∷ []) (number-spelled i64 s d p n e)) (le-leb n i64 (number-bound i64 s d p n e)), q)
 
       pub signed-not : d ≡ Decimal.Not → Signed.Not ≡ signedOf (read int (s ∷ []))
-      signed-not e = rw (plus-none (λ n l t. number-not 9223372036854775807 s d p (omega arith) e n l t))
+      signed-not e = rw (plus-none (λ n l t. number-not i64 s d p (omega arith) e n l t))

@@ -18,8 +18,8 @@ use Rattle.record.specs.Number.{minus, dash}
 use Rattle.record.specs.Name.{Seen, Plain, Escape, Bad, CharAt, bare-one, escaped, broken, equals, letterN, letterT, bare, letter, step, seenOn, isPlain}
 use Rattle.record.specs.Place.{Fed, separates, Ends}
 use Rattle.record.specs.InPlace.{isText, NameAt, AliasReadAt}
-use Rattle.record.proofs.PlaceLaws.{separates-other, no-feed, fed-on, Along, along-start, along-on, along-back, along-ends, ends-here, ends-next, ends-cons, ends-none}
-use Rattle.record.proofs.AbsentLaws.{dash-not, dash-first}
+use Rattle.record.proofs.PlaceLaws.{separates-other, no-feed, fed-on, byte-past, byte-fed, Along, along-start, along-on, along-back, along-ends, ends-here, ends-next, ends-cons, ends-none}
+use Rattle.record.proofs.AbsentLaws.{dash-not, dash-first, dash-past, dash-alone}
 
 bad-stays : (s : Bytes) → seenOn Bad s ≡ Bad
 unfolding seenOn step
@@ -29,35 +29,35 @@ bad-stays (b ∷ s) = bad-stays s
 -- what the walk says of the bytes left, with nothing open and behind a backslash
 record Walked (s : Bytes) : Type 0 where
   plain : isPlain (seenOn Plain s) ≡ same (escape (unescapeOn false s)) s
-  after : isPlain (seenOn Escape s) ≡ same (escape (unescapeOn true s)) (92 ∷ s)
+  after : isPlain (seenOn Escape s) ≡ same (escape (unescapeOn true s)) (backslash ∷ s)
 
 module _ (b : ℕ) (s : Bytes) (h : Walked s) where
   plain-step : isPlain (seenOn Plain (b ∷ s)) ≡ same (escape (unescapeOn false (b ∷ s))) (b ∷ s)
   unfolding seenOn step bare letter same sameBy escape escapeByte unescapeOn unescapeByte meant
-  plain-step = go (eqb b 9) refl (eqb b 10) refl (eqb b 92) refl
+  plain-step = go (eqb b tab) refl (eqb b lineFeed) refl (eqb b backslash) refl
     where
-      go : (t : Bool) → eqb b 9 ≡ t → (u : Bool) → eqb b 10 ≡ u → (w : Bool) → eqb b 92 ≡ w
+      go : (t : Bool) → eqb b tab ≡ t → (u : Bool) → eqb b lineFeed ≡ u → (w : Bool) → eqb b backslash ≡ w
           → isPlain (seenOn Plain (b ∷ s)) ≡ same (escape (unescapeOn false (b ∷ s))) (b ∷ s)
-      go true e u f w g = rw (eqb-true b 9 e, bad-stays s)
-      go false e true f w g = rw (eqb-true b 10 f, bad-stays s)
-      go false e false f true g = rw (eqb-true b 92 g) (h .after)
+      go true e u f w g = rw (eqb-true b tab e, bad-stays s)
+      go false e true f w g = rw (eqb-true b lineFeed f, bad-stays s)
+      go false e false f true g = rw (eqb-true b backslash g) (h .after)
       go false e false f false g = rw (e, f, g) (rw (e, f, g, eq-eqb b b refl) (h .plain))
 
-  after-step : isPlain (seenOn Escape (b ∷ s)) ≡ same (escape (unescapeOn true (b ∷ s))) (92 ∷ b ∷ s)
+  after-step : isPlain (seenOn Escape (b ∷ s)) ≡ same (escape (unescapeOn true (b ∷ s))) (backslash ∷ b ∷ s)
   unfolding seenOn step bare letter same sameBy escape escapeByte unescapeOn unescapeByte meant
-  after-step = go (eqb b 92) refl (eqb b 110) refl (eqb b 116) refl
+  after-step = go (eqb b backslash) refl (eqb b letterN) refl (eqb b letterT) refl
     where
-      other : (t : Bool) → eqb b 9 ≡ t → (u : Bool) → eqb b 10 ≡ u → eqb b 92 ≡ false → false ≡ same (escape (b ∷ unescapeOn false s)) (92 ∷ b ∷ s)
-      other true e u f g = rw (eqb-true b 9 e)
-      other false e true f g = rw (eqb-true b 10 f)
+      other : (t : Bool) → eqb b tab ≡ t → (u : Bool) → eqb b lineFeed ≡ u → eqb b backslash ≡ false → false ≡ same (escape (b ∷ unescapeOn false s)) (backslash ∷ b ∷ s)
+      other true e u f g = rw (eqb-true b tab e)
+      other false e true f g = rw (eqb-true b lineFeed f)
       other false e false f g = rw (e, f, g) (rw g)
 
-      go : (t : Bool) → eqb b 92 ≡ t → (u : Bool) → eqb b 110 ≡ u → (w : Bool) → eqb b 116 ≡ w
-          → isPlain (seenOn Escape (b ∷ s)) ≡ same (escape (unescapeOn true (b ∷ s))) (92 ∷ b ∷ s)
-      go true e u f w g = rw (eqb-true b 92 e) (h .plain)
-      go false e true f w g = rw (eqb-true b 110 f) (h .plain)
-      go false e false f true g = rw (eqb-true b 116 g) (h .plain)
-      go false e false f false g = rw (e, f, g, bad-stays s) (other (eqb b 9) refl (eqb b 10) refl e)
+      go : (t : Bool) → eqb b backslash ≡ t → (u : Bool) → eqb b letterN ≡ u → (w : Bool) → eqb b letterT ≡ w
+          → isPlain (seenOn Escape (b ∷ s)) ≡ same (escape (unescapeOn true (b ∷ s))) (backslash ∷ b ∷ s)
+      go true e u f w g = rw (eqb-true b backslash e) (h .plain)
+      go false e true f w g = rw (eqb-true b letterN f) (h .plain)
+      go false e false f true g = rw (eqb-true b letterT g) (h .plain)
+      go false e false f false g = rw (e, f, g, bad-stays s) (other (eqb b tab) refl (eqb b lineFeed) refl e)
 
 walked : (s : Bytes) → Walked s
 unfolding seenOn same sameBy escape escapeByte unescapeOn
@@ -250,23 +250,20 @@ absent-is = refl
 
 module _ (s : Bytes) (p : ℕ) (f : Fed s p) where
   module _ (e : getD s p 0 ≡ minus) where
-    dash-past : separates (getD s p 0) ≡ false
-    dash-past = separates-other (getD s p 0) (omega arith)
-
-    pub dash-fed : Fed s (p + 1)
-    dash-fed = fed-on s p f (no-feed (getD s p 0) dash-past)
+    past : separates (getD s p 0) ≡ false
+    past = dash-past s p f e
 
     pub alias-absent : (t : Bool) → t ≡ separates (getD s (p + 1) 0) → t ≡ true → AliasReadAt s p (AliasAt.Absent (p + 1))
     alias-absent t g o =
         record {
-          is = λ q h. rw (ends-cons s p q h dash-past, ends-none s (p + 1) q (ends-next s p q h dash-past) (sym g ∙ o), e) absent-is;
-          ends = along-back s p (p + 1) (along-on s p p (along-start s p) dash-past) (p + 1) (ends-here s (p + 1) dash-fed (sym g ∙ o));
+          is = λ q h. rw (ends-cons s p q h past, ends-none s (p + 1) q (ends-next s p q h past) (sym g ∙ o), e) absent-is;
+          ends = dash-alone s p f e (sym g ∙ o);
         }
 
     pub alias-spare : (t : Bool) → t ≡ separates (getD s (p + 1) 0) → t ≡ false → AliasReadAt s p AliasAt.Not
     alias-spare t g o =
         record {
-          is = λ q h. rw (ends-cons s p q h dash-past, ends-cons s (p + 1) q (ends-next s p q h dash-past) (sym g ∙ o)) (alias-other _ (sym (dash-not _ (λ z. omega arith))) (λ z. omega (arith, z)));
+          is = λ q h. rw (ends-cons s p q h past, ends-cons s (p + 1) q (ends-next s p q h past) (sym g ∙ o)) (alias-other _ (sym (dash-not _ (λ z. omega arith))) (λ z. omega (arith, z)));
           ends = tt;
         }
 
@@ -279,10 +276,10 @@ module _ (s : Bytes) (p : ℕ) (f : Fed s p) where
 
   module _ (e : getD s p 0 ≡ equals) where
     name-past : separates (getD s p 0) ≡ false
-    name-past = separates-other (getD s p 0) (omega arith)
+    name-past = byte-past s p f (omega arith)
 
     pub name-fed : Fed s (p + 1)
-    name-fed = fed-on s p f (no-feed (getD s p 0) name-past)
+    name-fed = byte-fed s p f (omega arith)
 
     module _ (a : TextAt) (d : NameAt s (p + 1) a) where
       named : (q : ℕ) → Ends s p q → aliasOf (read alias (slice p q s ∷ [])) ≡ cond (isText a) (some true) none

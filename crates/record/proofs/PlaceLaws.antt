@@ -89,6 +89,17 @@ module _ (s : Bytes) (p : ℕ) where
 pub ends-here : (s : Bytes) (i : ℕ) → Fed s i → separates (getD s i 0) ≡ true → Ends s i i
 ends-here s i f h = record { from = omega arith; to = fed-in s i f; free = λ j a b. absurd (omega arith); stop = h }
 
+-- a byte that no piece ends at, and the place behind it
+module _ (s : Bytes) (p : ℕ) (f : Fed s p) (h : lineFeed < getD s p 0) where
+  pub byte-past : separates (getD s p 0) ≡ false
+  byte-past = separates-other (getD s p 0) h
+
+  pub byte-fed : Fed s (p + 1)
+  byte-fed = fed-on s p f (no-feed (getD s p 0) byte-past)
+
+  pub byte-alone : separates (getD s (p + 1) 0) ≡ true → Ends s p (p + 1)
+  byte-alone z = along-back s p (p + 1) (along-on s p p (along-start s p) byte-past) (p + 1) (ends-here s (p + 1) byte-fed z)
+
 module _ (s : Bytes) (i q : ℕ) (e : Ends s i q) where
   -- at a separator the piece ends
   pub ends-same : separates (getD s i 0) ≡ true → q ≡ i

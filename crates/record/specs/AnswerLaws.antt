@@ -12,6 +12,7 @@ use Rattle.model.specs.Field.{Form, Val, num, var, varOrAbsent, numOrAbsent, te
 use Rattle.record.specs.declared.Decimal.{Decimal}
 use Rattle.record.specs.declared.OptDecimal.{OptDecimal}
 use Rattle.record.specs.declared.Signed.{Signed}
+use Rattle.record.specs.Number.{dash}
 use Rattle.record.specs.Answer.{isRead, decimalOf, optDecimalOf, flagOf, signedOf, aliasOf}
 
 -- an id is a number of 32 bits
@@ -47,7 +48,7 @@ text-value s e = read-meaning text (s ∷ []) e
 
 pub alias-value : (s : Bytes) → aliasOf (read alias (s ∷ [])) ≡ some true → read alias (s ∷ []) ≡ some (some (unescape (tail s)))
 unfolding meaning piece aliasValue
-alias-value s e = go (same s (45 ∷ [])) (read-meaning alias (s ∷ []) (named (read alias (s ∷ [])) e))
+alias-value s e = go (same s dash) (read-meaning alias (s ∷ []) (named (read alias (s ∷ [])) e))
   where
     named : (o : Option (Option Bytes)) → aliasOf o ≡ some true → isRead o ≡ true
     named none e = let z : _≡_ {A = ℕ} 0 1 = cc in absurd (omega arith)

@@ -20,17 +20,21 @@ letterF = 102
 abbrev pub letterBase : ℕ
 letterBase = 87
 
--- the value of a lower-case digit; 16 for any other byte
+-- the value of a digit is below this; that of a byte that is none is this
+abbrev pub hexBase : ℕ
+hexBase = 16
+
+-- the value of a lower-case digit; the base for any other byte
 unfoldable pub digit : ℕ → ℕ
 digit b =
-    cond (ltb letterF b) 16
+    cond (ltb letterF b) hexBase
     (cond (ltb beforeA b) (b - letterBase)
-    (cond (ltb digit9 b) 16
-    (cond (ltb before0 b) (b - digit0) 16)))
+    (cond (ltb digit9 b) hexBase
+    (cond (ltb before0 b) (b - digit0) hexBase)))
 
 unfoldable pub allHex : Bytes → Bool
 allHex [] = true
-allHex (b ∷ s) = ltb (digit b) 16 && allHex s
+allHex (b ∷ s) = ltb (digit b) hexBase && allHex s
 
 -- digits that follow a number v
 unfoldable pub hexOn : ℕ → Bytes → Decimal

@@ -13,8 +13,15 @@ minus = 45
 abbrev pub digit0 : ℕ
 digit0 = 48
 
+abbrev pub digit1 : ℕ
+digit1 = 49
+
 abbrev pub digit9 : ℕ
 digit9 = 57
+
+-- the size of the smallest signed number of 64 bits
+abbrev pub mostBelow : ℕ
+mostBelow = 9223372036854775808
 
 -- what stands for something absent
 abbrev pub dash : Bytes

@@ -9,6 +9,9 @@ use crate::Decimal;
 // A float has so many digits.
 const HEX_DIGITS: usize = 16;
 
+// The value of a digit is below this; that of a byte that is none is this.
+const HEX_BASE: u64 = 16;
+
 const BEFORE_0: u64 = 47;
 
 const DIGIT_0: u64 = 48;
@@ -22,21 +25,21 @@ const LETTER_F: u64 = 102;
 // A letter's byte is so far above its value.
 const LETTER_BASE: u64 = 87;
 
-// The value of a digit, or 16 for any other byte.
+// The value of a digit, or the base for any other byte.
 fn digit(b: u8) -> u64
     ensures { λ r. ⌜ r ≡ digitOf b ⌝ }
 {
     let d = b as u64;
     if LETTER_F < d {
-        return 16;
+        return HEX_BASE;
     }
     if BEFORE_A < d {
         return d - LETTER_BASE;
     }
     if DIGIT_9 < d {
-        return 16;
+        return HEX_BASE;
     }
-    if BEFORE_0 < d { d - DIGIT_0 } else { 16 }
+    if BEFORE_0 < d { d - DIGIT_0 } else { HEX_BASE }
 }
 
 // Sixteen lower-case hexadecimal digits.
@@ -50,10 +53,10 @@ pub fn hex(s: &[u8]) -> Decimal
     let mut i = 0;
     while i < s.len() {
         let d = digit(s[i]);
-        if 15 < d {
+        if HEX_BASE <= d {
             return Decimal::Not;
         }
-        v = v * 16 + d;
+        v = v * HEX_BASE + d;
         i += 1;
     }
     Decimal::Is(v)

@@ -210,10 +210,10 @@ pub groups-behind : (w : List ℕ) (n : ℕ) (ws : List ℕ) (m d : ℕ) → Spa
 groups-behind w n ws m d s low zero h = groups-none w n ws m d s
 groups-behind w n ws m d s low (suc k) h =
     let g : ℕ = groupCount - suc k in
-    let next : groupCount - k ≡ suc g = omega arith in
+    let after : groupCount - k ≡ suc g = omega arith in
     let before : Groups w w n ws (groupCount - k) k m d m = groups-behind w n ws m d s low k (omega arith) in
     let none : countOf ws (groupSource n g) ≡ 0 = rw (none-behind n g low (omega arith) (omega arith)) in
-    groups-more w w w n ws g k m d m m s (omega arith) (rw next at before) (grouped-none w m (groupSort n g) (countOf ws (groupSource n g)) d none)
+    groups-more w w w n ws g k m d m m s (omega arith) (rw after at before) (grouped-none w m (groupSort n g) (countOf ws (groupSource n g)) d none)
 
 -- the same, counted from the other end
 pub begun : (w : List ℕ) (n : ℕ) (ws : List ℕ) (m d g : ℕ) → g ≤ groupCount → Groups w w n ws (groupCount - (groupCount - g)) (groupCount - g) m d m → Groups w w n ws g (groupCount - g) m d m

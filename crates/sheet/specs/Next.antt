@@ -19,6 +19,7 @@ use Rattle.model.specs.Record.{Rec, rec, forms, readRec}
 use Rattle.model.specs.Sheet.{refused, readLine, orElse}
 use Rattle.model.specs.Refusal.{Refusal}
 use Rattle.model.specs.Call.{refuse}
+use Rattle.words.specs.Table.{groupCount}
 use Rattle.words.specs.Words.{Roomy, part, decode, recOf, fieldsOf, maxRecords}
 use Rattle.record.specs.Place.{LineEnd}
 use Rattle.line.specs.LineRead.{Got, IntoRead}
@@ -127,7 +128,7 @@ module _ (sheet : Bytes) (a b w : List ℕ) (i pos m wr : ℕ) (o : SoFar sheet 
           seen true q wrote = seen-write sheet a b w a′ b′ w″ i pos m wr state (e + 1) r″ wr′ (got-it .kind, fields) (writes-is ∙ q) (wrote .new (eqb-true n writeKind q)) (wrote .old (eqb-true n writeKind q))
           seen false q wrote = seen-more sheet a b w a′ b′ w″ i pos m wr state (e + 1) r″ wr′ (got-it .kind, fields) (writes-is ∙ q) (wrote .other (eqb-false n writeKind q))
 
-          pub next-more : Groups w′ w″ n (part a′ b′ i) 0 5 r d r″ → Wrote n wr i wr′ → Next sheet a′ b′ w″ i (More z r″ wr′)
+          pub next-more : Groups w′ w″ n (part a′ b′ i) 0 groupCount r d r″ → Wrote n wr i wr′ → Next sheet a′ b′ w″ i (More z r″ wr′)
           unfolding fields
           next-more groups wrote =
               rw (add-one i, (rw is at into) .line .answer .0)

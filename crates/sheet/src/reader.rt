@@ -115,9 +115,9 @@ fn read_next(
     let Line::Kind(kind, behind) = read_into(sheet, pos, sort, a, b, i) else {
         return Step::Bad;
     };
-    let left = pop(stack, top);
+    let groups = pop(stack, top);
     let below = room_below(sort, room);
-    let due = push_groups(a, b, stack, left, i, kind, below);
+    let due = push_groups(a, b, stack, groups, i, kind, below);
     let first = write_line(kind, write, i);
     Step::More(behind, due, first)
 }

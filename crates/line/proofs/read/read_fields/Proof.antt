@@ -104,22 +104,16 @@ returns-2 c =
 add-part : here tie.Need-add-part
 add-part c =
     let n : here tie.In-loop = search ways in
-    let l : here tie.At-loop = search ways in
-    let s : here tie.Start = search ways in
     omega (arith, room n)
 
 add-part-2 : here tie.Need-add-part-2
 add-part-2 c =
     let n : here tie.In-loop = search ways in
-    let l : here tie.At-loop = search ways in
-    let s : here tie.Start = search ways in
     omega (arith, room n)
 
 mul-part : here tie.Need-mul-part
 mul-part c =
     let n : here tie.In-loop = search ways in
-    let l : here tie.At-loop = search ways in
-    let s : here tie.Start = search ways in
     omega (arith, room n)
 
 slice-write-part : here tie.Need-slice-write-part
@@ -132,22 +126,16 @@ slice-write-part c =
 add-part-3 : here tie.Need-add-part-3
 add-part-3 c =
     let n : here tie.In-loop = search ways in
-    let l : here tie.At-loop = search ways in
-    let s : here tie.Start = search ways in
     omega (arith, room n)
 
 add-part-4 : here tie.Need-add-part-4
 add-part-4 c =
     let n : here tie.In-loop = search ways in
-    let l : here tie.At-loop = search ways in
-    let s : here tie.Start = search ways in
     omega (arith, room n)
 
 mul-part-2 : here tie.Need-mul-part-2
 mul-part-2 c =
     let n : here tie.In-loop = search ways in
-    let l : here tie.At-loop = search ways in
-    let s : here tie.Start = search ways in
     omega (arith, room n)
 
 slice-write-part-2 : here tie.Need-slice-write-part-2
@@ -160,8 +148,6 @@ slice-write-part-2 c =
 add-g : here tie.Need-add-g
 add-g c =
     let n : here tie.In-loop = search ways in
-    let l : here tie.At-loop = search ways in
-    let s : here tie.Start = search ways in
     omega (arith, room n)
 
 form-code-requires-2 : here tie.Need-form-code-requires-2

@@ -3,6 +3,7 @@ use Prim.Native.Nat.{_≤_}
 use native.Mathlib.Omega.{arith}
 use Rattle.record.proofs.IntLaws.{number-bound, minus-of, minus-zero, minus-not}
 use borrow.Author.Needs.{needs}
+use Rattle.record.specs.Number.{mostBelow}
 use Rattle.record.proofs.int.minus.Statement.{statement}
 use Rattle.record.proofs.int.minus.Tie as tie
 
@@ -13,7 +14,7 @@ minus-spec =
     (λ c κs. search needs)
     (λ c. search needs)
     (λ c. search (minus-zero, needs))
-    (λ c κs. let b : (c .before .before .n .given .0 .0) ≤ 9223372036854775808 = search (number-bound, needs) in (omega arith, omega arith))
+    (λ c κs. let b : (c .before .before .n .given .0 .0) ≤ mostBelow = search (number-bound, needs) in (omega arith, omega arith))
     (λ c. search needs)
     (λ c. search (minus-of, needs))
     (λ c. search (minus-not, needs)))

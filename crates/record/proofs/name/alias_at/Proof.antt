@@ -2,7 +2,8 @@
 use native.Mathlib.Omega.{arith}
 use borrow.Author.Needs.{needs}
 use Rattle.record.proofs.PlaceLaws.{fed-in}
-use Rattle.record.proofs.NameLaws.{dash-fed, name-fed, alias-absent, alias-spare, alias-neither, alias-name, alias-bad}
+use Rattle.record.proofs.AbsentLaws.{dash-fed}
+use Rattle.record.proofs.NameLaws.{name-fed, alias-absent, alias-spare, alias-neither, alias-name, alias-bad}
 use Rattle.record.proofs.name.alias_at.Statement.{statement}
 use Rattle.record.proofs.name.alias_at.Tie as tie
 

@@ -2,7 +2,7 @@
 use native.Mathlib.Omega.{arith}
 use borrow.Author.Needs.{needs}
 use Rattle.record.proofs.PlaceLaws.{fed-in}
-use Rattle.record.proofs.DecimalLaws.{decimal-below, decimal-above, zero-fed, decimal-zero, decimal-spare, decimal-over, first-fed, decimal-on}
+use Rattle.record.proofs.DecimalLaws.{decimal-below, decimal-above, decimal-zero, decimal-spare, decimal-over, first-fed, decimal-on}
 use Rattle.record.proofs.number.decimal_at.Statement.{statement}
 use Rattle.record.proofs.number.decimal_at.Tie as tie
 
@@ -15,8 +15,7 @@ next-in : tie.Need-shared-slice-read-separates
 next-in c =
     let s : tie.Start = search in
     let w : tie.After-wide = search in
-    let t : tie.Then3 = search in
-    omega (arith, fed-in _ _ (zero-fed _ (s .pre .1) _ _ (s .pre .0) _ (w .wide .ensures) (omega arith) (t .if3 .taken)))
+    omega (arith, fed-in _ _ (first-fed _ (s .pre .1) _ _ (s .pre .0) _ (w .wide .ensures) (omega arith)))
 
 gather-at-requires : tie.Need-gather-at-requires
 gather-at-requires c κs = (search (first-fed, needs), (omega arith, search needs))

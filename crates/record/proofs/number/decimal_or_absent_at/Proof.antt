@@ -15,7 +15,7 @@ next-in : tie.Need-shared-slice-read-separates
 next-in c =
     let s : tie.Start = search in
     let t : tie.Then1 = search in
-    omega (arith, fed-in _ _ (dash-fed _ (s .pre .1) _ _ (s .pre .0) (t .if1 .taken)))
+    omega (arith, fed-in _ _ (dash-fed _ _ (s .pre .0) (t .if1 .taken)))
 
 pub decimal-or-absent-at-spec : {M : Type 1} → statement M
 decimal-or-absent-at-spec =

@@ -3,7 +3,7 @@ use native.Mathlib.Omega.{arith}
 use mathlib.Core.Path.{_≡_, refl}
 use Prim.Native.Nat.{_+_, _*_, _-_, _≤_, _<_}
 use lib.ListN.{length, drop}
-use Rattle.record.specs.Number.{digitsOn}
+use Rattle.record.specs.Number.{digit0, digitsOn}
 use Rattle.record.proofs.GatherLaws.{gathered, below, above, on, over}
 use borrow.Author.Needs.{needs}
 use Rattle.record.proofs.number.gather.Statement.{statement}
@@ -42,7 +42,7 @@ returns-3 c =
     let after-wide : here tie.After-wide = search ways in
     let at-loop : here tie.At-loop = search ways in
     let start : here tie.Start = search ways in
-    let k : start .args .limit < at-loop .loop .v * 10 + (after-wide .wide .result - 48) = omega arith in search (over, needs)
+    let k : start .args .limit < at-loop .loop .v * 10 + (after-wide .wide .result - digit0) = omega arith in search (over, needs)
 
 mul-if4 : here tie.Need-mul-if4
 mul-if4 c = omega arith
@@ -55,7 +55,7 @@ returns-4 c =
     let after-wide : here tie.After-wide = search ways in
     let at-loop : here tie.At-loop = search ways in
     let start : here tie.Start = search ways in
-    let k : start .args .limit < at-loop .loop .v * 10 + (after-wide .wide .result - 48) = omega arith in search (over, needs)
+    let k : start .args .limit < at-loop .loop .v * 10 + (after-wide .wide .result - digit0) = omega arith in search (over, needs)
 
 mul-v : here tie.Need-mul-v
 mul-v c = omega arith
