@@ -52,7 +52,7 @@ module _ {a b : List ℕ} {at : At} {current : Before} {k e : ℕ} {c : LowerCtx
       let v = a-where (g .words) t hd (g .kind) in
       let sh = g .depth in
       let y = x .run sheet (v .tree) (v .held) W s r (blank-within (omega arith) (omega arith) (bl .first)) in
-      let z = sr .run sheet a b _ _ (y .to .rep .from) (y .to .rep) in
+      let z = sr .run _ _ _ (y .to .rep .from) (y .to .rep) in
       let s₂ : State = orSourceAll (beforeOf current) (lowerExpr (v .tree) s .1) .1 in
       let recs : Recs = filter (orSourceAll (beforeOf current) (lowerExpr (v .tree) s .1) .0) (lowerExpr (v .tree) s .0) in
       let w = push-to m₂ c os (filterOp (atPlace 0 (at .i + 1) (at .left - 1)) k) recs (z .to .rep) pf

@@ -75,8 +75,8 @@ module _ {sheet : Bytes} {a b : List ℕ} {n e k k′ all : ℕ} {below : Option
       let cl′ : LowersClauses sheet a b (v .n) (d - 1) (i + 1) e none below m m₁ = rw (en ∙ sym (v .many)) at cl in
       let x = cl′ .run (v .clauses) (v .held) W s r (both-next i e bl) in
       let s₁ : State = inTurn clauseTurn (v .clauses) none s .1 in
-      let y = ql .run sheet a b _ s₁ (x .to .rep .from) (x .to .rep) in
-      let z = qr .run sheet a b _ _ (y .to .rep .from) (y .to .rep) in
+      let y = ql .run _ _ s₁ (x .to .rep .from) (x .to .rep) in
+      let z = qr .run _ _ _ (y .to .rep .from) (y .to .rep) in
       let recs : Recs = united (v .clauses) o below (cell a b i armAllAt) s s₁ in
       let s₃ : State = righted (v .clauses) o below (cell a b i armAllAt) s s₁ in
       let pu′ : Pushed (m₃ .ctx) c (m₃ .ops) os (unionOp i k k′ (cell a b i armAllAt)) = rw ea at pu in

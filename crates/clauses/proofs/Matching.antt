@@ -24,7 +24,7 @@ use Rattle.context.specs.declared.At.{At}
 use Rattle.context.specs.declared.Before.{Before}
 use Rattle.context.specs.declared.Before.the-variants as before
 use Rattle.context.specs.declared.LowerCtx.{LowerCtx}
-use Rattle.lower.specs.Side.{side}
+use Rattle.lower.specs.Side.{Side, side}
 use Rattle.lower.specs.Shows.{shows-optional}
 use Rattle.lower.specs.Rep.{State, Mem, mem, Written, Sub, Rep, To, Rooted}
 use Rattle.lower.specs.Patterns.{partsL, SomeTrees, LowersParts}
@@ -36,7 +36,7 @@ use Rattle.projections.specs.Passes.{sub-first}
 use Rattle.clauses.proofs.Opened.{a-match}
 
 -- the definition ends on operator k in state s′
-pub leaves : {sheet : Bytes} {a b : List ℕ} {first : ℕ} {W W′ : Written} {lo hi : ℕ} {m m′ : Mem} (t : Tree clause) (current : Option ℕ) (k : ℕ) (s s′ : State) → lowerClause t current s ≡ (some k, s′) → To (side sheet a b first) W W′ s s′ m m′ → Sub W′ (bothPasses lo hi W) → Leaves (side sheet a b first) W (λ s. lowerClause t current s) (some k) lo hi s m m′
+pub leaves : {S : Side} {W W′ : Written} {lo hi : ℕ} {m m′ : Mem} (t : Tree clause) (current : Option ℕ) (k : ℕ) (s s′ : State) → lowerClause t current s ≡ (some k, s′) → To S W W′ s s′ m m′ → Sub W′ (bothPasses lo hi W) → Leaves S W (λ s. lowerClause t current s) (some k) lo hi s m m′
 leaves t current k s s′ e p u = record { to = rw e (to-wider u p); gives = ap (λ (x : Option ℕ × State). x .0) e }
 
 -- the record behind a clause, by another name
@@ -69,7 +69,7 @@ plain-law {k} {o} {m} q nj l = record {
   rest = refl;
   in-ops = refl;
   low = l;
-  run = λ sheet a b W s h r. record { to = rw (plain-join q k o s nj) (to-refl r); root = rw (plain-join q k o s nj) };
+  run = λ S W s h r. record { to = rw (plain-join q k o s nj) (to-refl r); root = rw (plain-join q k o s nj) };
 }
 
 -- a join
@@ -78,8 +78,8 @@ unfolding optionalJoin _>>=_ copy push beforeOf
 joined q k l o s e n = rw (e, n)
 
 module _ {q k l i : ℕ} {o : Before} {c c′ : LowerCtx} {os os′ : List ℕ} (rest : List ℕ) (q1 : q ≤ 1) (qn : (q ≡ 0) → ⊥) (is : o ≡ before.Op l) (li : i < maxRecords) (lk : k < c .ops) (pj : Pushed c c′ os os′ (optionalJoinOp i l k)) (lo : length os′ ≡ length os) where
-  joined-run : (sheet : Bytes) (a b : List ℕ) {first : ℕ} (W : Written) (s : State) → first ≤ k → Rep (side sheet a b first) W s (mem c os rest) → Sourced (side sheet a b first) (joinL q o k) (c .ops) W s (mem c os rest) (mem c′ os′ rest)
-  joined-run sheet a b W s h r =
+  joined-run : (S : Side) (W : Written) (s : State) → S .first ≤ k → Rep S W s (mem c os rest) → Sourced S (joinL q o k) (c .ops) W s (mem c os rest) (mem c′ os′ rest)
+  joined-run S W s h r =
       let D = joined q k l o s (omega arith) is in
       let recs : Recs = op ReadOp.OptionalJoin (l, tt) ∷ Lower.at (s .ops) k in
       let z = push-to (mem c os rest) c′ os′ (optionalJoinOp i l k) recs r pj
@@ -125,7 +125,7 @@ module _ {a b : List ℕ} {at : At} {current : Before} {m : Mem} (g : ClauseAske
         let v = a-match (g .words) t hd (g .kind) in
         let x = parts-run sheet t hd W s r bl in
         let s₁ : State = partsL (v .parts) s .1 in
-        let y = j .run sheet a b _ s₁ (le-trans (r .from) (p .since)) (x .to .rep) in
+        let y = j .run _ _ s₁ (le-trans (r .from) (p .since)) (x .to .rep) in
         let D =
         v .lower (beforeOf current) s
         ∙ ap (λ (z : ℕ). (some (joinL (cell a b (at .i) matchOptionalAt) current z s₁ .0), joinL (cell a b (at .i) matchOptionalAt) current z s₁ .1)) (sym (x .root))

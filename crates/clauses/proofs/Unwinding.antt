@@ -71,7 +71,7 @@ module _ {a b : List ℕ} {at : At} {current : Before} {k e : ℕ} {c : LowerCtx
       let id : ℕ = cell a b (at .i) unwindVarAt in
       let up = x .moved .up in
       let ep : at .i + 1 ≡ suc (at .i) = omega arith in
-      let z = sr .run sheet a b W s (r .from) r in
+      let z = sr .run _ W s (r .from) r in
       let y = x .run sheet (v .tree) (v .held) W (sourced id (v .tree) o s) (z .to .rep) (blank-within (omega arith) (omega arith) (bl .first)) in
       let W₂ : Written = (0 + suc (at .i + 1), 0 + suc e) ∷ W in
       let g : Given (side sheet a b first) W₂ (listed id (v .tree) o s) (mapVar id) (suc (at .i)) m₂ rest₃ r₃ = number-to (mapVar id) (suc (at .i)) m₂ rest₃ r₃ (y .to .rep) (rw ep at nm) (blank-before (omega arith) (blank-within (le-refl _) (omega arith) (bl .first))) in

@@ -20,7 +20,7 @@ use Rattle.words.specs.Places.{yieldVarAt}
 use Rattle.context.specs.Tables.{Numbers, Indexed, varsAt, maxVars, maxCount}
 use Rattle.context.specs.declared.LowerCtx.{LowerCtx}
 use Rattle.context.specs.declared.Numbered.{Numbered}
-use Rattle.lower.specs.Side.{side}
+use Rattle.lower.specs.Side.{Side, side}
 use Rattle.lower.specs.Render.{render, recsOver}
 use Rattle.lower.specs.Rep.{State, Mem, mem, Written, Sub, Blank, Rep, Ran}
 use Rattle.lower.specs.State.{sub-more, sub-within, blank-within, blank-behind, back, to-refl, to-then, to-wider, Given, number-to}
@@ -32,7 +32,7 @@ unfolding size
 yields-size []ᵗ = refl
 yields-size (_∷ᵗ_ {n = n} (node yieldItem line k f end) ts) = let e = yields-size ts in omega arith
 
-nil-run : {sheet : Bytes} {a b : List ℕ} {first : ℕ} (i : ℕ) (m : Mem) (ts : Trees yieldItem 0) (W : Written) (s : State) → Rep (side sheet a b first) W s m → Ran (side sheet a b first) W (yieldsPiece ts) 0 (suc i) (suc i) s m m
+nil-run : {S : Side} (i : ℕ) (m : Mem) (ts : Trees yieldItem 0) (W : Written) (s : State) → Rep S W s m → Ran S W (yieldsPiece ts) 0 (suc i) (suc i) s m m
 unfolding lowerYields render ret
 nil-run i m []ᵗ W s r = record { to = to-wider (sub-more (0 + suc i, 0 + suc i) W) (to-refl r); shown = λ N A f. refl; below = λ N A f. tt }
 

@@ -45,7 +45,7 @@ numberOf (some k) n = k
 
 pub source-there : (current : Before) (k : ℕ) (m : Mem) → current ≡ before.Op k → k < m .ctx .ops → OrSource (m .ctx .ops) (orSourceAll (beforeOf current)) k m m
 unfolding orSourceAll ret beforeOf
-source-there current k m e l = record { grow = le-refl _; few = omega arith; numbers = refl; mapped = refl; rest = refl; in-ops = refl; low = l; run = λ sheet a b W s h r. rw e (record { to = to-refl r; root = refl }) }
+source-there current k m e l = record { grow = le-refl _; few = omega arith; numbers = refl; mapped = refl; rest = refl; in-ops = refl; low = l; run = λ S W s h r. rw e (record { to = to-refl r; root = refl }) }
 
 pub source-new : (current : Before) (m : Mem) (c : LowerCtx) (os : List ℕ) → current ≡ before.Nothing → Pushed (m .ctx) c (m .ops) os (sourceAllOp (m .ctx .numbers)) → length os ≡ length (m .ops) → OrSource (m .ctx .ops) (orSourceAll (beforeOf current)) (m .ctx .ops) m (mem c os (m .rest))
 unfolding orSourceAll pushSourceAll upcoming issue _>>=_ push beforeOf
@@ -57,7 +57,7 @@ source-new current m c os e p lo = record {
   rest = refl;
   in-ops = lo;
   low = omega (arith, p .count);
-  run = λ sheet a b W s h r. rw e (record { to = push-to m c os (sourceAllOp (m .ctx .numbers)) (source (s .scope .next) []) r p (λ N A f. record { bounded = all-bounded (m .ctx .numbers); shows = shows-all refl (ap (λ (x : ℕ). source x []) (sym (upcoming-number m r))) }); root = r .count });
+  run = λ S W s h r. rw e (record { to = push-to m c os (sourceAllOp (m .ctx .numbers)) (source (s .scope .next) []) r p (λ N A f. record { bounded = all-bounded (m .ctx .numbers); shows = shows-all refl (ap (λ (x : ℕ). source x []) (sym (upcoming-number m r))) }); root = r .count });
 }
 
 -- a root as the code has it
@@ -168,7 +168,7 @@ module _ {a b : List ℕ} {n base : ℕ} {c : LowerCtx} {ch : Chain} {os os₁ r
       let v = a-part room t hd in
       let el′ : LowersElements a b (v .n) (d - 1) base (startChain i c) ch os os₁ rs rs₁ = rw (en ∙ sym (v .many)) at el in
       let y = el′ .run sheet (v .elements) (v .held) W s noChain r (start-same sheet a b (d - 1) i c) (blank-within (omega arith) (le-refl _) bl) in
-      let z = sr .run sheet a b _ _ (y .to .rep .from) (y .to .rep) in
+      let z = sr .run _ _ _ (y .to .rep .from) (y .to .rep) in
       record { all = y; src = z; def = λ o. chain-def o (v .elements) s _ (ap rootOf (y .same .last)) ∙ ap (λ (x : ℕ). bindPath o x (afterElements (v .elements) s .0 .path) (orSourceAll (rootOf (lastOf (ch .last))) (afterElements (v .elements) s .1) .1)) (sym (z .root)) }
 
   module _ (so : c .ops ≤ k) (k2 : cell a b i partNamedAt ≡ 0) where

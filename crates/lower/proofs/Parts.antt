@@ -15,7 +15,7 @@ use Rattle.context.specs.Tables.{Pushed}
 use Rattle.context.specs.declared.LowerCtx.{LowerCtx}
 use Rattle.context.specs.declared.Numbered.{Numbered}
 use Rattle.context.specs.Ops.{sourceAllOp}
-use Rattle.lower.specs.Side.{side}
+use Rattle.lower.specs.Side.{Side, side}
 use Rattle.lower.specs.Shows.{InBounds, shows-all}
 use Rattle.lower.specs.Rep.{State, Mem, mem, Written, Blank, Rep, Rooted, RoomFor, Moved}
 use Rattle.lower.specs.Pieces.{SomeTree}
@@ -49,7 +49,7 @@ none-size : (i : ℕ) (ts : Trees patternPart 0) → i ≡ i + sizeOf ts
 unfolding size
 none-size i []ᵗ = omega arith
 
-none-run : {sheet : Bytes} {a b : List ℕ} {first : ℕ} (base i k : ℕ) (m : Mem) (ts : Trees patternPart 0) (W : Written) (s : State) → k < m .ctx .ops → Rep (side sheet a b first) W s m → Rooted (side sheet a b first) W (fromL k ts) k base (suc i) (suc i) s m m
+none-run : {S : Side} (base i k : ℕ) (m : Mem) (ts : Trees patternPart 0) (W : Written) (s : State) → k < m .ctx .ops → Rep S W s m → Rooted S W (fromL k ts) k base (suc i) (suc i) s m m
 unfolding fromL ret
 none-run base i k m []ᵗ W s l r = record { to = to-wider (sub-more (base + suc i, base + suc i) W) (to-refl r); root = refl; low = l }
 

@@ -165,7 +165,7 @@ pub record OrSource (o : ℕ) (L : Lowering ℕ) (k : ℕ) (m m′ : Mem) : Type
   pub rest : m′ .rest ≡ m .rest
   pub in-ops : length (m′ .ops) ≡ length (m .ops)
   pub low : k < m′ .ctx .ops
-  pub run : (sheet : Bytes) (a b : List ℕ) {first : ℕ} (W : Written) (s : State) → first ≤ o → Rep (side sheet a b first) W s m → Sourced (side sheet a b first) L k W s m m′
+  pub run : (S : Side) (W : Written) (s : State) → S .first ≤ o → Rep S W s m → Sourced S L k W s m m′
 
 -- the operator before, or a new source of everything, at op, which was not there before if that one was not; the next record is as it was passed
 pub record SourceLeft (current : Before) (next next′ op : ℕ) (c c′ : LowerCtx) (os os′ : List ℕ) : Type 0 where

@@ -9,7 +9,7 @@ use Rattle.model.specs.Kind.{expr}
 use Rattle.model.specs.Tree.{Tree}
 use Rattle.model.specs.Lower.{Recs, _>>=_, ret, lowerExpr}
 use Rattle.words.specs.Held.{size}
-use Rattle.lower.specs.Side.{side}
+use Rattle.lower.specs.Side.{Side, side}
 use Rattle.lower.specs.Render.{Notes, Ops}
 use Rattle.lower.specs.Shows.{shift}
 use Rattle.lower.specs.Rep.{State, Mem, Written, Sub, Blank, Future, Rep, Ran, RoomFor, Moved}
@@ -46,23 +46,23 @@ nil-next : (gap i : ℕ) (cs : Carried 0) → i ≡ i + sizeC gap cs
 unfolding sizeC
 nil-next gap i []ᶜ = omega arith
 
-nil-run : {sheet : Bytes} {a b : List ℕ} {first : ℕ} (base i : ℕ) (m : Mem) (cs : Carried 0) (W : Written) (s : State) → Rep (side sheet a b first) W s m → Ran (side sheet a b first) W (carriedPiece cs) base (suc i) (suc i) s m m
+nil-run : {S : Side} (base i : ℕ) (m : Mem) (cs : Carried 0) (W : Written) (s : State) → Rep S W s m → Ran S W (carriedPiece cs) base (suc i) (suc i) s m m
 unfolding lowerC renderC BelowC ret
 nil-run base i m []ᶜ W s r = record { to = to-wider (sub-more (base + suc i, base + suc i) W) (to-refl r); shown = λ N A f. refl; below = λ N A f. tt }
 
 pub nil-law : (a b : List ℕ) (gap d base i : ℕ) (m : Mem) → i ≤ maxRecords → LowersExprs a b 0 gap d base i i m m
 nil-law a b gap d base i m h = record { moved = moved-refl h; next = λ sheet cs hd. nil-next gap i cs; run = λ sheet cs hd W s r bl. nil-run base i m cs W s r }
 
-both-run : {sheet : Bytes} {a b : List ℕ} {first : ℕ} (base o i j e : ℕ) (m m₁ m₂ : Mem) {n : ℕ} (c : Recs × Tree expr) (cs : Carried n) (W : Written) (s : State) → o ≤ i → i ≤ j → j ≤ e →
-    Ran (side sheet a b first) W (exprPiece (c .1)) base (suc i) (suc j) s m m₁ → Ran (side sheet a b first) ((base + suc i, base + suc j) ∷ W) (carriedPiece cs) base (suc j) (suc e) (lowerExpr (c .1) s .1) m₁ m₂ →
-    Ran (side sheet a b first) W (carriedPiece (c ∷ᶜ cs)) base (suc o) (suc e) s m m₂
+both-run : {S : Side} (base o i j e : ℕ) (m m₁ m₂ : Mem) {n : ℕ} (c : Recs × Tree expr) (cs : Carried n) (W : Written) (s : State) → o ≤ i → i ≤ j → j ≤ e →
+    Ran S W (exprPiece (c .1)) base (suc i) (suc j) s m m₁ → Ran S ((base + suc i, base + suc j) ∷ W) (carriedPiece cs) base (suc j) (suc e) (lowerExpr (c .1) s .1) m₁ m₂ →
+    Ran S W (carriedPiece (c ∷ᶜ cs)) base (suc o) (suc e) s m m₂
 unfolding lowerC renderC BelowC _>>=_ ret
-both-run {first = first} base o i j e m m₁ m₂ c cs W s lo l l′ p q =
+both-run {S = S} base o i j e m m₁ m₂ c cs W s lo l l′ p q =
     let u : Sub ((base + suc j, base + suc e) ∷ (base + suc i, base + suc j) ∷ W) ((base + suc o, base + suc e) ∷ W) = sub-within (omega arith) (le-refl _) (sub-within (omega arith) (omega arith) (sub-more (base + suc o, base + suc e) W)) in
     record {
       to = to-wider u (to-then (p .to) (q .to));
       shown = λ N A f. rw (p .shown N A (back (q .to) (narrow u f)), q .shown N A (narrow u f));
-      below = λ N A f. (below-more (shift N base) first (m₁ .ctx .ops) (m₂ .ctx .ops) (q .to .grow) (c .1) (p .below N A (back (q .to) (narrow u f))), q .below N A (narrow u f));
+      below = λ N A f. (below-more (shift N base) (S .first) (m₁ .ctx .ops) (m₂ .ctx .ops) (q .to .grow) (c .1) (p .below N A (back (q .to) (narrow u f))), q .below N A (narrow u f));
     }
 
 module _ {a b : List ℕ} {n d base j e : ℕ} {m m₁ m₂ : Mem} (gap i : ℕ) (p : LowersExpr a b d base (i + gap) j m m₁) (q : LowersExprs a b n gap d base j e m₁ m₂) where

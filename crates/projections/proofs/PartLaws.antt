@@ -13,7 +13,7 @@ use Rattle.model.specs.Tree.{Tree, Trees, node, []ᵗ, _∷ᵗ_, end, _▸_, fo
 use Rattle.model.specs.Lower.{Recs, made, _>>=_, ret, over, exprStep, planned, lowerExpr, lowerExprs, Split, noSplit, withKey, withAgg, lowerKey, lowerCallItem, lowerItem, isAggregateFunc, splitProjectionsAgg}
 use Rattle.words.specs.Held.{Held, HeldOf, HeldSome, HeldMany, size, sizeOf}
 use Rattle.words.specs.Words.{maxRecords}
-use Rattle.lower.specs.Side.{side}
+use Rattle.lower.specs.Side.{Side, side}
 use Rattle.lower.specs.Render.{Notes, Ops, render, renderOf, recsOver, exprRecs, exprRest, Below, belowIn, isAggregate, aggOf, keyRecs, aggRecs}
 use Rattle.lower.specs.Shows.{shift}
 use Rattle.lower.specs.Rep.{State, Mem, Written, Sub, Blank, Rep, Ran, RoomFor}
@@ -101,7 +101,7 @@ nil-next : (i : ℕ) (ts : Trees projection 0) → i ≡ i + sizeOf ts
 unfolding size
 nil-next i []ᵗ = omega arith
 
-nil-run : {sheet : Bytes} {a b : List ℕ} {first : ℕ} (i : ℕ) (m : Mem) (ts : Trees projection 0) (W : Written) (s : State) → Rep (side sheet a b first) W s m → Splits (side sheet a b first) W ts 0 (suc i) (suc i) s m m
+nil-run : {S : Side} (i : ℕ) (m : Mem) (ts : Trees projection 0) (W : Written) (s : State) → Rep S W s m → Splits S W ts 0 (suc i) (suc i) s m m
 unfolding splitProjectionsAgg noSplit ret keyRecs aggRecs Below
 nil-run i m []ᵗ W s r = record { to = to-wider (sub-more (0 + suc i, 0 + suc i) W) (to-refl r); counted = refl; keys = λ N A f. refl; aggregates = λ N A f. refl; below = λ N A f. tt }
 
@@ -109,14 +109,14 @@ nil-law : (sheet : Bytes) (a b : List ℕ) (d i : ℕ) (m : Mem) → i ≤ maxRe
 nil-law sheet a b d i m h = record { moved = moved-refl h; next = λ ts hd. nil-next i ts; run = λ ts hd W s r bl. nil-run i m ts W s r }
 
 -- an item and those behind it
-both-run : {sheet : Bytes} {a b : List ℕ} {first : ℕ} {g : ℕ} (i j e : ℕ) (m m₁ m₂ : Mem) {n : ℕ} (line : ℕ) (u : Unit {0}) (f : Fields (forms projection u)) (t : Tree expr) (ts : Trees projection n) (W : Written) (s : State) →
+both-run : {S : Side} {g : ℕ} (i j e : ℕ) (m m₁ m₂ : Mem) {n : ℕ} (line : ℕ) (u : Unit {0}) (f : Fields (forms projection u)) (t : Tree expr) (ts : Trees projection n) (W : Written) (s : State) →
     i + 1 ≤ j →
     j ≤ e →
-    Ran (side sheet a b first) W (exprPiece t) 0 (suc (i + 1)) (suc j) s m m₁ →
-    Splits (side sheet a b first) ((0 + suc (i + 1), 0 + suc j) ∷ W) ts g (suc j) (suc e) (lowerExpr t s .1) m₁ m₂ →
-    Splits (side sheet a b first) W (node projection line u f ((t ∷ᵗ []ᵗ) ▸ end) ∷ᵗ ts) (cond (isAggregate t) (suc g) g) (suc i) (suc e) s m m₂
+    Ran S W (exprPiece t) 0 (suc (i + 1)) (suc j) s m m₁ →
+    Splits S ((0 + suc (i + 1), 0 + suc j) ∷ W) ts g (suc j) (suc e) (lowerExpr t s .1) m₁ m₂ →
+    Splits S W (node projection line u f ((t ∷ᵗ []ᵗ) ▸ end) ∷ᵗ ts) (cond (isAggregate t) (suc g) g) (suc i) (suc e) s m m₂
 unfolding keyRecs aggRecs Below belowIn
-both-run {first = first} i j e m m₁ m₂ line u f t ts W s l l′ p q =
+both-run {S = on} i j e m m₁ m₂ line u f t ts W s l l′ p q =
     let w : Sub ((0 + suc j, 0 + suc e) ∷ (0 + suc (i + 1), 0 + suc j) ∷ W) ((0 + suc i, 0 + suc e) ∷ W) = sub-within (omega arith) (le-refl _) (sub-within (omega arith) (omega arith) (sub-more (0 + suc i, 0 + suc e) W)) in
     let D = split-def line u f t ts s in
     let x = item-adds t s in
@@ -126,7 +126,7 @@ both-run {first = first} i j e m m₁ m₂ line u f t ts W s l l′ p q =
       counted = rw (D, x .aggs S, q .counted);
       keys = rw D (λ N A z. ap (λ (y : Recs). cond (isAggregate t) [] (render (shift N 0) A t) ++ y) (q .keys N A (narrow w z)) ∙ x .key-recs (shift N 0) A (p .shown N A (back (q .to) (narrow w z))) S);
       aggregates = rw D (λ N A z. ap (λ (y : Recs). cond (isAggregate t) (aggOf (shift N 0) A t) [] ++ y) (q .aggregates N A (narrow w z)) ∙ x .agg-recs (shift N 0) A (p .shown N A (back (q .to) (narrow w z))) S);
-      below = rw D (λ N A z. (((below-more (shift N 0) first (m₁ .ctx .ops) (m₂ .ctx .ops) (q .to .grow) t (p .below N A (back (q .to) (narrow w z))), tt), tt), q .below N A (narrow w z)));
+      below = rw D (λ N A z. (((below-more (shift N 0) (on .first) (m₁ .ctx .ops) (m₂ .ctx .ops) (q .to .grow) t (p .below N A (back (q .to) (narrow w z))), tt), tt), q .below N A (narrow w z)));
     }
 
 module _ {sheet : Bytes} {a b : List ℕ} {n d j e g : ℕ} {m m₁ m₂ : Mem} (i : ℕ) (agg : Bool) (is : (t : Tree expr) → Held sheet a b t (d - 1) (i + 1) → agg ≡ isAggregate t) (p : LowersExpr a b (d - 1) 0 (i + 1) j m m₁) (q : LowersSplit sheet a b n d j e g m₁ m₂) where

@@ -20,7 +20,7 @@ use Rattle.context.specs.Ops.{beforeOf, aggregateOp, projectOp, distinctOp}
 use Rattle.context.specs.declared.Before.{Before}
 use Rattle.context.specs.declared.op.Op.{Op}
 use Rattle.context.specs.declared.LowerCtx.{LowerCtx}
-use Rattle.lower.specs.Side.{side}
+use Rattle.lower.specs.Side.{Side, side}
 use Rattle.lower.specs.Render.{Notes, Ops, keyRecs, aggRecs}
 use Rattle.lower.specs.Shows.{shift, Stored, shows-project, shows-aggregate, shows-distinct}
 use Rattle.lower.specs.Rep.{State, Mem, mem, atPlace, Written, Blank, Future, Rep, Rooted}
@@ -56,13 +56,13 @@ pub left-word : {n input k : ℕ} {x : Op} {c c′ : LowerCtx} {o o′ : List �
 left-word (none-pushed e ek ec eo) l l′ = omega arith
 left-word (one-pushed e ek p lo) l l′ = omega arith
 
-pushed-if : {sheet : Bytes} {a b : List ℕ} {first : ℕ} {W : Written} {s : State} {n input k : ℕ} {x : Op} {c′ : LowerCtx} {o′ : List ℕ} (m : Mem) (L : Lowering ℕ) (recs : Recs) →
-    Rep (side sheet a b first) W s m →
+pushed-if : {S : Side} {W : Written} {s : State} {n input k : ℕ} {x : Op} {c′ : LowerCtx} {o′ : List ℕ} (m : Mem) (L : Lowering ℕ) (recs : Recs) →
+    Rep S W s m →
     PushedIf n x input k (m .ctx) c′ (m .ops) o′ →
     (n ≡ 0 → L s ≡ (input, s)) →
     (((n ≡ 0) → ⊥) → L s ≡ push recs s) →
-    ((N : Notes) (A : Ops) → Future W s m N A → Stored (side sheet a b first) N A (m .ctx .ops) x recs) →
-    Sourced (side sheet a b first) L k W s m (mem c′ o′ (m .rest))
+    ((N : Notes) (A : Ops) → Future W s m N A → Stored S N A (m .ctx .ops) x recs) →
+    Sourced S L k W s m (mem c′ o′ (m .rest))
 unfolding push
 pushed-if m L recs r (none-pushed e ek ec eo) h h′ st = rw (ek, ec, eo) (record { to = rw (h e) (to-refl r); root = rw (h e) })
 pushed-if {x = x} {c′ = c′} {o′ = o′} m L recs r (one-pushed e ek p lo) h h′ st = record { to = rw (h′ e) (push-to m c′ o′ x recs r p st); root = rw (h′ e) (ek ∙ r .count) }
@@ -107,7 +107,7 @@ module _ {sheet : Bytes} {a b : List ℕ} {of : ReturnItems} {current : Before} 
   first-run items hd W s r bl =
       let s₁ : State = orSourceAll (beforeOf current) s .1 in
       let S : Split = parted items s₁ in
-      let x₀ = sr .run sheet a b W s (r .from) r in
+      let x₀ = sr .run _ W s (r .from) r in
       let x₁ = pt .run items hd W s₁ (x₀ .to .rep) bl in
       let ek : S .keys ≡ of .n - aggs = keys-left (S .keys) (S .aggs) (of .n) aggs (split-total items s₁) (x₁ .counted) in
       let x₂ = pushed-if m₂ (λ z. aggregateIf (S .aggs) k₀ S z) (aggregated k₀ S) (x₁ .to .rep) pi

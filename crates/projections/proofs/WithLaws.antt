@@ -123,7 +123,7 @@ module _ {a b : List ℕ} {at : At} {current : Before} {m : Mem} (g : ClauseAske
               let u₂ = pr .moved .up in
               let u₃ = tl .moved .up in
               let s₁ : State = orSourceAll (beforeOf current) s .1 in
-              let x₀ = sr .run sheet a b W s (r .from) r in
+              let x₀ = sr .run _ W s (r .from) r in
               let x₁ = items-as (v .n) (v .counted) .run sheet (itemsC (v .items)) (items-held sheet a b (v .items) (at .left - 1) (at .i + 1) (v .held-items)) W s₁ (x₀ .to .rep) (blank-within (omega arith) (omega arith) (bl .first)) in
               let x₂ = predicate-as (one (v .filtered)) (v .flagged) .run sheet (plainC (v .predicate)) (plain-held sheet a b (v .predicate) (at .left - 1) j (predicate-held sheet t v)) _ _ (x₁ .to .rep) (blank-behind (le-refl _) (blank-within (omega arith) (omega arith) (bl .first))) in
               let x₃ = push-to m₃ c os (withOp (atPlace 0 (at .i) (at .left - 1)) k₀) (withRecs (v .filtered) (v .items) (v .predicate) k₀ s₁) (x₂ .to .rep) ps
