@@ -165,10 +165,7 @@ module _ (t : ℕ) where
                 (s .pre .1 .1 .planned)
                 (w .read-op .ensures)
                 (s .pre .1 .0 .records)
-                (arm .match .rest .0 .0 .0 .1)
-                (arm .match .rest .0 .0 .1)
-                (arm .match .rest .0 .1)
-                (arm .match .rest .1)
+                (arm .match .rest)
                 (many .many-of .ensures)
                 (first .first-of .ensures),
           ),
@@ -192,10 +189,7 @@ module _ (t : ℕ) where
               (s .pre .1 .1 .planned)
               (w .read-op .ensures)
               (s .pre .1 .0 .records)
-              (arm .match .rest .0 .0 .0 .1)
-              (arm .match .rest .0 .0 .1)
-              (arm .match .rest .0 .1)
-              (arm .match .rest .1)
+              (arm .match .rest)
               (many .many-of .ensures)
               (first .first-of .ensures)
               (exprs .write-exprs .ensures),
@@ -268,10 +262,7 @@ module _ (t : ℕ) where
       p
       (w .read-op .ensures)
       (s .pre .1 .0 .records)
-      (arm .match .rest .0 .0 .0 .1)
-      (arm .match .rest .0 .0 .1)
-      (arm .match .rest .0 .1)
-      (arm .match .rest .1)
+      (arm .match .rest)
       (many .many-of .ensures)
       (first .first-of .ensures)
       (line .put-op .ensures)
