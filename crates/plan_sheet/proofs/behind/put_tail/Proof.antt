@@ -40,7 +40,7 @@ ruleset ways = (
 count-requires : tie.Need-count-requires
 count-requires c κs =
     let start : tie.Start = search ways in
-    (start .pre .1 .0 .2, (omega arith, start .pre .0))
+    (start .pre .1 .0 .low, (omega arith, start .pre .0))
 
 put-names-requires : tie.Need-put-names-requires
 put-names-requires c κs =

@@ -181,7 +181,7 @@ module _ (t : ℕ) where
       let v = OpLaws.bounded-at _ (s .pre .1 .1 .planned) (w .read-op .ensures) in (
         s .pre .1 .0 .records,
         (
-          (s .pre .1 .0 .in-rest, v .near, v .low),
+          record { in-rest = s .pre .1 .0 .in-rest; near = v .near; low = v .low },
           BehindLaws.tail-there
               _
               (s .pre .1 .1 .planned)
