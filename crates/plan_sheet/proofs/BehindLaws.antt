@@ -2,7 +2,7 @@
 use mathlib.Core.Path.{_≡_, refl, sym, ap, subst, _∙_}
 use Prim.Native.Nat.{ℕ, suc, _+_, _-_, _≤_, _<_}
 use native.Mathlib.Omega.{arith}
-use mathlib.Core.Bool.{false}
+use mathlib.Core.Bool.{false, true}
 use mathlib.Core.List.{List, [], _∷_, _++_, append-nil}
 use mathlib.Core.Option.{none, some}
 use borrow.Author.Tests.{ne-eqb, eqb-false}
@@ -38,18 +38,37 @@ use Rattle.plan_sheet.proofs.HeadLaws.{texts-at}
 use Rattle.plan_sheet.proofs.DueLaws.{Made, exprs-made, keys-made, items-made, joined, spell-append}
 use Rattle.plan_sheet.proofs.NameLaws.{names-made}
 use Rattle.plan_sheet.proofs.OpLaws.{here, shown-at, planned-below, first-more}
-use Rattle.context.specs.Ops.{aggregateKind, bindPathKind, expandKind, filterKind, limitKind, optionalJoinKind, orderByKind, procedureCallKind, projectKind, shortestPathKind, skipKind, sourceKind, unwindKind, withKind}
+use Rattle.context.specs.Ops.{aggregateKind, bindPathKind, expandKind, filterKind, limitKind, optionalJoinKind, orderByKind, procedureCallKind, projectKind, shortestPathKind, skipKind, sourceKind, unwindKind, withKind, sourceAllKind, distinctKind, unionKind}
 use Rattle.words.specs.Places.{callArgsAt, callYieldsAt, nodeLabelsAt, partElementsAt, yieldNameAt}
+use Rattle.words.specs.Numbers.{Others, among, other-than}
 
 -- ── how many, and from where ──
 
-pub none-at : (kind x y z u : ℕ) → (kind ≡ filterKind → ⊥) → (kind ≡ withKind → ⊥) → (kind ≡ projectKind → ⊥) → (kind ≡ orderByKind → ⊥) → (kind ≡ skipKind → ⊥) → (kind ≡ limitKind → ⊥) → (kind ≡ unwindKind → ⊥) → (kind ≡ procedureCallKind → ⊥) → 0 ≡ manyBy kind x y z u
-unfolding manyBy
-none-at kind x y z u c d e f g h i j = rw (ne-eqb kind filterKind c, ne-eqb kind withKind d, ne-eqb kind projectKind e, ne-eqb kind orderByKind f, ne-eqb kind skipKind g, ne-eqb kind limitKind h, ne-eqb kind unwindKind i, ne-eqb kind procedureCallKind j)
+-- the kinds that are written in ways of their own, as a `match` leaves them behind its arms
+abbrev pub ownWays : List ℕ
+ownWays = aggregateKind ∷ optionalJoinKind ∷ shortestPathKind ∷ expandKind ∷ []
 
-pub next-at : (kind x : ℕ) → (kind ≡ filterKind → ⊥) → (kind ≡ orderByKind → ⊥) → (kind ≡ skipKind → ⊥) → (kind ≡ limitKind → ⊥) → (kind ≡ unwindKind → ⊥) → x + 1 ≡ firstBy kind x
+-- the kinds that have expressions, and those that begin with one, as a `match` leaves them behind its arms
+abbrev withExprs : List ℕ
+withExprs = procedureCallKind ∷ unwindKind ∷ limitKind ∷ skipKind ∷ orderByKind ∷ projectKind ∷ withKind ∷ filterKind ∷ []
+
+abbrev exprFirst : List ℕ
+exprFirst = unwindKind ∷ limitKind ∷ skipKind ∷ orderByKind ∷ filterKind ∷ []
+
+pub none-at : (kind x y z u : ℕ) → Others kind withExprs → 0 ≡ manyBy kind x y z u
+unfolding manyBy
+none-at kind x y z u r =
+    rw (none filterKind refl, none withKind refl, none projectKind refl, none orderByKind refl, none skipKind refl, none limitKind refl, none unwindKind refl, none procedureCallKind refl)
+  where
+    none : (k : ℕ) → among k withExprs ≡ true → eqb kind k ≡ false
+    none k e = ne-eqb kind k (other-than kind k withExprs r e)
+
+pub next-at : (kind x : ℕ) → Others kind exprFirst → x + 1 ≡ firstBy kind x
 unfolding firstBy
-next-at kind x c d e f g = rw (ne-eqb kind filterKind c, ne-eqb kind orderByKind d, ne-eqb kind skipKind e, ne-eqb kind limitKind f, ne-eqb kind unwindKind g)
+next-at kind x r = rw (none filterKind refl, none orderByKind refl, none skipKind refl, none limitKind refl, none unwindKind refl)
+  where
+    none : (k : ℕ) → among k exprFirst ≡ true → eqb kind k ≡ false
+    none k e = ne-eqb kind k (other-than kind k exprFirst r e)
 
 -- ── yields ──
 
@@ -191,12 +210,12 @@ module _ {sheet : Bytes} {a b rest : List ℕ} {o : Op} {i : ℕ} where
     pub yields-wrote : o .kind ≡ procedureCallKind → WroteYields sheet a b rest (o .base) (cell a b (o .idx) callYieldsAt) i g g′ → WroteTail sheet a b rest o i g g′
     yields-wrote e w recs t = yields-put e t w
 
-  pub nothing-wrote : {g : Page} → (o .kind ≡ sourceKind → ⊥) → (o .kind ≡ bindPathKind → ⊥) → (o .kind ≡ procedureCallKind → ⊥) → WroteTail sheet a b rest o i g g
+  pub nothing-wrote : {g : Page} → Others (o .kind) (procedureCallKind ∷ bindPathKind ∷ sourceKind ∷ []) → WroteTail sheet a b rest o i g g
   unfolding spellRecs
-  nothing-wrote x y z recs (Behind.nothing p q r) = stay
-  nothing-wrote x y z recs (Behind.labels q h) = absurd (x q)
-  nothing-wrote x y z recs (Behind.path q h) = absurd (y q)
-  nothing-wrote x y z recs (Behind.yields q h) = absurd (z q)
+  nothing-wrote z recs (Behind.nothing p q r) = stay
+  nothing-wrote z recs (Behind.labels q h) = absurd (z .0 .0 .1 q)
+  nothing-wrote z recs (Behind.path q h) = absurd (z .0 .1 q)
+  nothing-wrote z recs (Behind.yields q h) = absurd (z .1 q)
 
 -- ── both ──
 
@@ -269,33 +288,34 @@ module _ {sheet : Bytes} {a b rest : List ℕ} {A : Ops} {k : ℕ} {o : Op} {rec
   by-path : o .kind ≡ bindPathKind → (h : ByPath (side sheet a b 0) (noted rest) A k o recs) → Inside sheet a b rest A k o recs 0 (o .idx + 1)
   by-path e h = bare (o .idx + 1) _ _ (path-tail e (h .counted) (record { depth = o .left; trees = h .elements; held = h .held })) (h .is)
 
-  pub inside : Roomy a b → (o .kind ≡ expandKind → ⊥) → (o .kind ≡ shortestPathKind → ⊥) → (o .kind ≡ optionalJoinKind → ⊥) → (o .kind ≡ aggregateKind → ⊥) → Shows (side sheet a b 0) (noted rest) A k o recs → Inside sheet a b rest A k o recs (manyOf a b o) (firstOf o)
+  -- all kinds but those that are written in ways of their own
+  pub inside : Roomy a b → Others (o .kind) ownWays → Shows (side sheet a b 0) (noted rest) A k o recs → Inside sheet a b rest A k o recs (manyOf a b o) (firstOf o)
   unfolding manyBy firstBy source fieldsOf fieldOf
-  inside room x y z w (shows-all q r) = by-words (rw q) (rw q) (bare (o .idx + 1) _ [] (no-tail 0 q refl refl refl (o .idx + 1)) r)
-  inside room x y z w (shows-source q r) = by-words (rw q) (rw q) (by-labels q r)
-  inside room x y z w (shows-filter q r) = by-words (rw q) (rw q) (over-expr (no-tail 2 q refl refl refl) r)
-  inside room x y z w (shows-expand q r) = absurd (x q)
-  inside room x y z w (shows-short q r) = absurd (y q)
-  inside room x y z w (shows-path q r) = by-words (rw q) (rw q) (by-path q r)
-  inside room x y z w (shows-optional q f l r) = absurd (z q)
-  inside room x y z w (shows-with q r) = by-words (rw (q, r .counted, r .flagged)) (rw q) (by-with (no-tail 7 q refl refl refl) r)
-  inside room x y z w (shows-project q r) = by-words (rw (q, r .counted)) (rw q) (alone _ (no-tail 8 q refl refl refl) (items-made (shift (noted rest) (o .base)) k (o .left) (r .items) (o .idx + 1) (r .held) (r .below)) (r .is))
-  inside room x y z w (shows-aggregate q r) = absurd (w q)
-  inside room x y z w (shows-order q r) = by-words (rw q) (rw q) (alone _ (no-tail 10 q refl refl refl) (keys-made (shift (noted rest) (o .base)) k (o .left) (r .keys) (o .idx) (r .held) (r .below)) (r .is))
-  inside room x y z w (shows-skip q r) = by-words (rw q) (rw q) (over-expr (no-tail 11 q refl refl refl) r)
-  inside room x y z w (shows-limit q r) = by-words (rw q) (rw q) (over-expr (no-tail 12 q refl refl refl) r)
-  inside room x y z w (shows-distinct q r) = by-words (rw q) (rw q) (bare (o .idx + 1) _ [] (no-tail 13 q refl refl refl (o .idx + 1)) r)
-  inside room x y z w (shows-unwind q r) = by-words (rw q) (rw q) (over-expr (no-tail 14 q refl refl refl) r)
-  inside room x y z w (shows-union q r) = by-words (rw q) (rw q) (bare (o .idx + 1) _ [] (no-tail 15 q refl refl refl (o .idx + 1)) r)
-  inside room x y z w (shows-call q r) =
+  inside room z (shows-all q r) = by-words (rw q) (rw q) (bare (o .idx + 1) _ [] (no-tail sourceAllKind q refl refl refl (o .idx + 1)) r)
+  inside room z (shows-source q r) = by-words (rw q) (rw q) (by-labels q r)
+  inside room z (shows-filter q r) = by-words (rw q) (rw q) (over-expr (no-tail filterKind q refl refl refl) r)
+  inside room z (shows-expand q r) = absurd (z .0 .0 .0 .1 q)
+  inside room z (shows-short q r) = absurd (z .0 .0 .1 q)
+  inside room z (shows-path q r) = by-words (rw q) (rw q) (by-path q r)
+  inside room z (shows-optional q first l r) = absurd (z .0 .1 q)
+  inside room z (shows-with q r) = by-words (rw (q, r .counted, r .flagged)) (rw q) (by-with (no-tail withKind q refl refl refl) r)
+  inside room z (shows-project q r) = by-words (rw (q, r .counted)) (rw q) (alone _ (no-tail projectKind q refl refl refl) (items-made (shift (noted rest) (o .base)) k (o .left) (r .items) (o .idx + 1) (r .held) (r .below)) (r .is))
+  inside room z (shows-aggregate q r) = absurd (z .1 q)
+  inside room z (shows-order q r) = by-words (rw q) (rw q) (alone _ (no-tail orderByKind q refl refl refl) (keys-made (shift (noted rest) (o .base)) k (o .left) (r .keys) (o .idx) (r .held) (r .below)) (r .is))
+  inside room z (shows-skip q r) = by-words (rw q) (rw q) (over-expr (no-tail skipKind q refl refl refl) r)
+  inside room z (shows-limit q r) = by-words (rw q) (rw q) (over-expr (no-tail limitKind q refl refl refl) r)
+  inside room z (shows-distinct q r) = by-words (rw q) (rw q) (bare (o .idx + 1) _ [] (no-tail distinctKind q refl refl refl (o .idx + 1)) r)
+  inside room z (shows-unwind q r) = by-words (rw q) (rw q) (over-expr (no-tail unwindKind q refl refl refl) r)
+  inside room z (shows-union q r) = by-words (rw q) (rw q) (bare (o .idx + 1) _ [] (no-tail unionKind q refl refl refl (o .idx + 1)) r)
+  inside room z (shows-call q r) =
       let c : r .fields .1 .0 ≡ cell a b (o .idx) callArgsAt = ap (λ (f : Fields (forms clause Clause.Call)). f .1 .0) (shown room (r .at) .fields) in
       by-words (rw (q, c)) (rw q) (by-call room q r)
 
 -- ── a whole operator ──
 
-module _ (k : ℕ) {sheet : Bytes} {a b os rest : List ℕ} {A : Ops} {o : Op} (p : Planned sheet a b os rest (k + 1) A) (e : o ≡ opAt os k) (room : Roomy a b) (x : o .kind ≡ expandKind → ⊥) (y : o .kind ≡ shortestPathKind → ⊥) (z : o .kind ≡ optionalJoinKind → ⊥) (w : o .kind ≡ aggregateKind → ⊥) {n i : ℕ} (count : n ≡ manyOf a b o) (place : i ≡ firstOf o) where
+module _ (k : ℕ) {sheet : Bytes} {a b os rest : List ℕ} {A : Ops} {o : Op} (p : Planned sheet a b os rest (k + 1) A) (e : o ≡ opAt os k) (room : Roomy a b) (z : Others (o .kind) ownWays) {n i : ℕ} (count : n ≡ manyOf a b o) (place : i ≡ firstOf o) where
   inside-at : Inside sheet a b rest A k o (A k) n i
-  inside-at = rw (count, place) (inside room x y z w (here k p e))
+  inside-at = rw (count, place) (inside room z (here k p e))
 
   pub exprs-there : Many sheet a b os rest k (o .base) (o .left) n i
   exprs-there = record { ops = A; planned = planned-below k p e; list = inside-at .list }

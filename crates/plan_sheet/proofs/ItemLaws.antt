@@ -18,7 +18,7 @@ use Rattle.output.specs.Writes.{_⨾_}
 use Rattle.words.specs.Words.{Roomy, cell, kindOf, firstKind, nth, aliasOf, fieldOf, fieldsOf}
 use Rattle.words.specs.Held.{RecordAt, PlaceAt}
 use Rattle.words.specs.Cells.{shown}
-use Rattle.words.specs.Numbers.{sameNumber, exprNumber}
+use Rattle.words.specs.Numbers.{sameNumber, exprNumber, Others}
 use Rattle.plan_line.specs.Keywords.{word, letters, itemWord}
 use Rattle.plan_line.specs.Row.{numbersText, namedText}
 use Rattle.plan_sheet.specs.Due.{ExprAt, ItemAt, namedRec, itemName, TextIn, textAt}
@@ -90,16 +90,20 @@ same-none Same.Case z f = refl
 same-none Same.IsNull z f = refl
 same-none Same.InList z f = refl
 
-kind-none : (k : Expr) → (exprNumber k ≡ propKind → ⊥) → (exprNumber k ≡ varKind → ⊥) → (exprNumber k ≡ fnKind → ⊥) → (f : Fields (exprForms k)) → exprAlias k f ≡ bytes "_"
+-- the kinds that have a name, as a `match` leaves them behind its arms
+abbrev named : List ℕ
+named = fnKind ∷ varKind ∷ propKind ∷ []
+
+kind-none : (k : Expr) → Others (exprNumber k) named → (f : Fields (exprForms k)) → exprAlias k f ≡ bytes "_"
 unfolding exprNumber
-kind-none (Expr.Over h) x y z f = same-none h x f
-kind-none Expr.Var x y z f = absurd (y refl)
-kind-none Expr.Map x y z f = refl
-kind-none Expr.Call x y z f = absurd (z refl)
-kind-none Expr.PatternPredicate x y z f = refl
-kind-none Expr.ListPredicate x y z f = refl
-kind-none Expr.Unresolved x y z f = refl
-kind-none Expr.Undesugared x y z f = refl
+kind-none (Expr.Over h) z f = same-none h (z .0 .0 .1) f
+kind-none Expr.Var z f = absurd (z .0 .1 refl)
+kind-none Expr.Map z f = refl
+kind-none Expr.Call z f = absurd (z .1 refl)
+kind-none Expr.PatternPredicate z f = refl
+kind-none Expr.ListPredicate z f = refl
+kind-none Expr.Unresolved z f = refl
+kind-none Expr.Undesugared z f = refl
 
 -- ── an item without an alias ──
 
@@ -123,8 +127,8 @@ module _ {sheet : Bytes} {a b : List ℕ} {i : ℕ} (room : Roomy a b) (h : Expr
   unfolding kindOf firstKind nth kinds sames fieldsOf fieldOf
   id-named e = named-is _ _ (at-kind Expr.Var (h .kind) (λ k f. RecordAt sheet a b i expr k f → escape (exprAlias k f) ≡ bytes "_v" ++ decimal (cell a b i varIdAt)) (kind-is room h varKind Expr.Var e refl) (λ f at. rw (shown room at .fields) (id-escape (cell a b i varIdAt))) (h .fields) (h .at))
 
-  pub none-named : (cell a b i kindAt ≡ propKind → ⊥) → (cell a b i kindAt ≡ varKind → ⊥) → (cell a b i kindAt ≡ fnKind → ⊥) → spellRec (namedRec (exprAlias (h .kind) (h .fields))) ≡ namedText itemWord (bytes "_") []
-  none-named x y z = let n = number-is room h in named-is _ _ (rw (kind-none (h .kind) (λ e. x (n ∙ e)) (λ e. y (n ∙ e)) (λ e. z (n ∙ e)) (h .fields)) no-escape)
+  pub none-named : (kind : ℕ) → kind ≡ cell a b i kindAt → Others kind named → spellRec (namedRec (exprAlias (h .kind) (h .fields))) ≡ namedText itemWord (bytes "_") []
+  none-named kind e z = named-is _ _ (rw (kind-none (h .kind) (rw (e ∙ number-is room h) at z) (h .fields)) no-escape)
 
 -- ── an item ──
 

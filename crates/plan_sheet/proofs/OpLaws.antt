@@ -32,8 +32,18 @@ use Rattle.plan_sheet.proofs.DueLaws.{planned-less, spell-append}
 use Rattle.plan_sheet.proofs.NameLaws.{names-made}
 use Rattle.context.specs.Ops.{aggregateKind, bindPathKind, distinctKind, expandKind, filterKind, limitKind, optionalJoinKind, orderByKind, procedureCallKind, projectKind, shortestPathKind, skipKind, sourceAllKind, sourceKind, unionKind, unwindKind, withKind}
 use Rattle.words.specs.Places.{callArgsAt, callNameAt, callOptionalAt, callYieldsAt, itemsAt, nodeLabelsAt, partShortestAt, withFilterAt}
+use Rattle.words.specs.Numbers.{Others, other-than}
 
 -- ── by kind ──
+
+-- the kinds that a pattern makes, and all that a clause makes but the last, as a `match` leaves them behind its arms
+abbrev pub patternOps : List ℕ
+patternOps = bindPathKind ∷ shortestPathKind ∷ expandKind ∷ filterKind ∷ sourceKind ∷ sourceAllKind ∷ []
+
+abbrev pub clauseOps : List ℕ
+clauseOps =
+    unionKind ∷ unwindKind ∷ distinctKind ∷ limitKind ∷ skipKind ∷ orderByKind ∷ aggregateKind ∷ projectKind
+    ∷ withKind ∷ optionalJoinKind ∷ []
 
 -- types by number
 pub data Types : Type 1 where
@@ -91,34 +101,32 @@ module _ {sheet : Bytes} {a b : List ℕ} {N : Notes} {A : Ops} {k : ℕ} {o : O
   pub of-kind : (n : ℕ) → o .kind ≡ n → Shows (side sheet a b 0) N A k o recs → typeAt (byKind sheet a b N A k o recs) n
   of-kind n e h = subst (λ (x : ℕ). typeAt (byKind sheet a b N A k o recs) x) e (told h)
 
-  last-kind : Shows (side sheet a b 0) N A k o recs → unionKind < o .kind → o .kind ≡ procedureCallKind
-  last-kind (shows-all q r) l = absurd (omega arith)
-  last-kind (shows-source q r) l = absurd (omega arith)
-  last-kind (shows-filter q r) l = absurd (omega arith)
-  last-kind (shows-expand q r) l = absurd (omega arith)
-  last-kind (shows-short q r) l = absurd (omega arith)
-  last-kind (shows-path q r) l = absurd (omega arith)
-  last-kind (shows-optional q f x r) l = absurd (omega arith)
-  last-kind (shows-with q r) l = absurd (omega arith)
-  last-kind (shows-project q r) l = absurd (omega arith)
-  last-kind (shows-aggregate q r) l = absurd (omega arith)
-  last-kind (shows-order q r) l = absurd (omega arith)
-  last-kind (shows-skip q r) l = absurd (omega arith)
-  last-kind (shows-limit q r) l = absurd (omega arith)
-  last-kind (shows-distinct q r) l = absurd (omega arith)
-  last-kind (shows-unwind q r) l = absurd (omega arith)
-  last-kind (shows-union q r) l = absurd (omega arith)
-  last-kind (shows-call q r) l = q
+  -- the last kind
+  last-kind : Shows (side sheet a b 0) N A k o recs → bindPathKind < o .kind → Others (o .kind) clauseOps → o .kind ≡ procedureCallKind
+  last-kind (shows-all q r) l z = absurd (omega arith)
+  last-kind (shows-source q r) l z = absurd (omega arith)
+  last-kind (shows-filter q r) l z = absurd (omega arith)
+  last-kind (shows-expand q r) l z = absurd (omega arith)
+  last-kind (shows-short q r) l z = absurd (omega arith)
+  last-kind (shows-path q r) l z = absurd (omega arith)
+  last-kind (shows-optional q first x r) l z = absurd (other-than (o .kind) optionalJoinKind clauseOps z refl q)
+  last-kind (shows-with q r) l z = absurd (other-than (o .kind) withKind clauseOps z refl q)
+  last-kind (shows-project q r) l z = absurd (other-than (o .kind) projectKind clauseOps z refl q)
+  last-kind (shows-aggregate q r) l z = absurd (other-than (o .kind) aggregateKind clauseOps z refl q)
+  last-kind (shows-order q r) l z = absurd (other-than (o .kind) orderByKind clauseOps z refl q)
+  last-kind (shows-skip q r) l z = absurd (other-than (o .kind) skipKind clauseOps z refl q)
+  last-kind (shows-limit q r) l z = absurd (other-than (o .kind) limitKind clauseOps z refl q)
+  last-kind (shows-distinct q r) l z = absurd (other-than (o .kind) distinctKind clauseOps z refl q)
+  last-kind (shows-unwind q r) l z = absurd (other-than (o .kind) unwindKind clauseOps z refl q)
+  last-kind (shows-union q r) l z = absurd (other-than (o .kind) unionKind clauseOps z refl q)
+  last-kind (shows-call q r) l z = q
 
 -- what is none of the first kinds
 past : (m n : ℕ) → m ≤ n → (n ≡ m → ⊥) → suc m ≤ n
 past m n l z = omega arith
 
-pub above-five : (n : ℕ) → (n ≡ sourceAllKind → ⊥) → (n ≡ sourceKind → ⊥) → (n ≡ filterKind → ⊥) → (n ≡ expandKind → ⊥) → (n ≡ shortestPathKind → ⊥) → (n ≡ bindPathKind → ⊥) → bindPathKind < n
-above-five n a b c d e f = past 5 n (past 4 n (past 3 n (past 2 n (past 1 n (past 0 n (omega arith) a) b) c) d) e) f
-
-pub above-fifteen : (n : ℕ) → bindPathKind < n → (n ≡ optionalJoinKind → ⊥) → (n ≡ withKind → ⊥) → (n ≡ projectKind → ⊥) → (n ≡ aggregateKind → ⊥) → (n ≡ orderByKind → ⊥) → (n ≡ skipKind → ⊥) → (n ≡ limitKind → ⊥) → (n ≡ distinctKind → ⊥) → (n ≡ unwindKind → ⊥) → (n ≡ unionKind → ⊥) → unionKind < n
-above-fifteen n l a b c d e f g h i j = past 15 n (past 14 n (past 13 n (past 12 n (past 11 n (past 10 n (past 9 n (past 8 n (past 7 n (past 6 n l a) b) c) d) e) f) g) h) i) j
+pub of-clause : (n : ℕ) → Others n patternOps → bindPathKind < n
+of-clause n z = past 5 n (past 4 n (past 3 n (past 2 n (past 1 n (past 0 n (omega arith) (z .0 .0 .0 .0 .0 .1)) (z .0 .0 .0 .0 .1)) (z .0 .0 .0 .1)) (z .0 .0 .1)) (z .0 .1)) (z .1)
 
 -- ── the first line ──
 
@@ -221,9 +229,8 @@ module _ {sheet : Bytes} {a b rest : List ℕ} {o : Op} (h : OpShown sheet a b r
   unfolding keyword planKeyword opKeyword word letters bytes bytesFrom spellFields spell
   union-line e = first-rec (of-kind unionKind e (h .stored .shows)) ∙ row-rec _ unionWord (o .input ∷ o .x ∷ o .y ∷ []) refl (rw (flag-decimal (o .y) (h .stored .bounded .flagged e)))
 
-  -- the last kind
-  pub is-call : unionKind < o .kind → o .kind ≡ procedureCallKind
-  is-call l = last-kind (h .stored .shows) l
+  pub is-call : bindPathKind < o .kind → Others (o .kind) clauseOps → o .kind ≡ procedureCallKind
+  is-call l z = last-kind (h .stored .shows) l z
 
 -- ── a call ──
 

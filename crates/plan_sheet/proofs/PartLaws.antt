@@ -10,20 +10,20 @@ use borrow.Author.Tests.{eq-eqb, ne-eqb}
 use Rattle.model.specs.Text.{Bytes}
 use Rattle.model.specs.Field.{Fields}
 use Rattle.model.specs.Kind.{Expr, PatternElement, patternElement, name, expr}
-use Rattle.model.specs.Record.{one, arity, exprForms, elementForms}
-use Rattle.model.specs.Tree.{Tree, Trees, node, end, _▸_}
+use Rattle.model.specs.Record.{one, arity, elementForms, children, kinds, sames}
+use Rattle.model.specs.Tree.{Tree, Trees, Forest, node, end, _▸_}
 use Rattle.model.specs.Lower.{Recs, exprHead}
-use Rattle.words.specs.Words.{Roomy, cell, fieldOf, fieldsOf}
-use Rattle.words.specs.Held.{Held, HeldOf, RecordAt, size, sizeOf}
+use Rattle.words.specs.Words.{Roomy, cell, kindOf, firstKind, nth, fieldOf, fieldsOf}
+use Rattle.words.specs.Held.{Held, HeldOf, size, sizeOf}
 use Rattle.words.specs.Cells.{shown}
 use Rattle.lower.specs.Render.{Notes, Ops, exprRecs, exprRest, recsOver, render, renderOf, renderIn, Below, BelowOf, BelowIn, belowIn, copiesBelow, specRec, specRecs, KidsBelow}
-use Rattle.words.specs.Places.{patKind, fnKind, kindAt, listPredicateKind, mapKind, nodeKind, nodeLabelsAt, nodePropsAt, relKind, relPropsAt, undesKind, unresKind, varKind}
+use Rattle.words.specs.Places.{patKind, kindAt, nodeKind, nodeLabelsAt, nodePropsAt, relKind, relPropsAt}
 use Rattle.words.specs.Count.{countAt}
 use Rattle.words.proofs.Counting.{counted, flag-one}
-use Rattle.words.specs.Numbers.{sameNumber, same-low, exprNumber, elementNumber}
+use Rattle.words.specs.Numbers.{exprNumber, elementNumber}
 use Rattle.plan_sheet.specs.Due.{ExprAt, ElementAt, Carried, carriedRecs, carriedEnd, Names, namesRecs}
 use Rattle.plan_sheet.specs.Due
-use Rattle.plan_sheet.proofs.HeadLaws.{number-is}
+use Rattle.plan_sheet.proofs.HeadLaws.{at-kind, number-is, kind-is}
 use Rattle.plan_sheet.proofs.DueLaws.{Made, expr-of, exprs-made, entries-made}
 use Rattle.plan_sheet.proofs.NameLaws.{NamesMade, names-made, names-alike, element-number}
 
@@ -74,20 +74,14 @@ pub record Copy (N : Notes) (below i : ℕ) {sheet : Bytes} {a b : List ℕ} (t 
   pub low : N (suc i) < below
   pub recs : (A : Ops) → render N A t ≡ exprHead (N (suc i)) (at .kind) (at .fields) ∷ A (N (suc i))
 
-no-copy : {X : Type 0} {sheet : Bytes} {a b : List ℕ} {i : ℕ} → Roomy a b → (k : Expr) (f : Fields (exprForms k)) → RecordAt sheet a b i expr k f → cell a b i kindAt ≡ patKind → (exprNumber k ≡ patKind → ⊥) → X
-no-copy room k f h e z = absurd (z (sym (number-is room (record { kind = k; fields = f; at = h })) ∙ e))
-
 module _ {sheet : Bytes} {a b : List ℕ} (N : Notes) (below left i : ℕ) where
   pub copied : Roomy a b → (t : Tree expr) (h : Held sheet a b t left i) → Below N 0 below t → cell a b i kindAt ≡ patKind → Copy N below i t (expr-of left t i h)
-  unfolding Held Below render belowIn copiesBelow recsOver exprRecs exprRest expr-of exprNumber
-  copied room (node expr line (Expr.Over o) f kids) h u e = no-copy room (Expr.Over o) f (h .1) e (λ x. let y : sameNumber o ≡ patKind = x in omega (arith, same-low o))
-  copied room (node expr line Expr.Var f kids) h u e = no-copy room Expr.Var f (h .1) e (λ x. let y : _≡_ {A = ℕ} varKind patKind = x in omega arith)
-  copied room (node expr line Expr.Map f kids) h u e = no-copy room Expr.Map f (h .1) e (λ x. let y : _≡_ {A = ℕ} mapKind patKind = x in omega arith)
-  copied room (node expr line Expr.Call f kids) h u e = no-copy room Expr.Call f (h .1) e (λ x. let y : _≡_ {A = ℕ} fnKind patKind = x in omega arith)
-  copied room (node expr line Expr.PatternPredicate f kids) h u e = record { low = rw (h .0) at (u .1); recs = λ A. rw (h .0) }
-  copied room (node expr line Expr.ListPredicate f kids) h u e = no-copy room Expr.ListPredicate f (h .1) e (λ x. let y : _≡_ {A = ℕ} listPredicateKind patKind = x in omega arith)
-  copied room (node expr line Expr.Unresolved f kids) h u e = no-copy room Expr.Unresolved f (h .1) e (λ x. let y : _≡_ {A = ℕ} unresKind patKind = x in omega arith)
-  copied room (node expr line Expr.Undesugared f kids) h u e = no-copy room Expr.Undesugared f (h .1) e (λ x. let y : _≡_ {A = ℕ} undesKind patKind = x in omega arith)
+  unfolding Held Below render belowIn copiesBelow recsOver exprRecs exprRest expr-of kindOf firstKind nth kinds sames
+  copied room (node expr line k f kids) h u e =
+      at-kind Expr.PatternPredicate k (λ k f. (kids : Forest (children expr k f)) (h : Held sheet a b (node expr line k f kids) left i) → Below N 0 below (node expr line k f kids) → Copy N below i (node expr line k f kids) (expr-of left (node expr line k f kids) i h))
+      (kind-is room (record { kind = k; fields = f; at = h .1 }) patKind Expr.PatternPredicate e refl)
+      (λ f kids h u. record { low = rw (h .0) at (u .1); recs = λ A. rw (h .0) })
+      f kids h u
 
 pub deep : (sheet : Bytes) (a b : List ℕ) (left i : ℕ) (t : Tree expr) → Held sheet a b t left i → 0 < left
 unfolding Held

@@ -13,7 +13,7 @@ use Rattle.model.specs.Record.{Rec, rec, forms, exprForms, elementForms, spellR
 use Rattle.model.specs.Tree.{Tree}
 use Rattle.model.specs.Lower.{Recs, exprAlias, aliasOr}
 use Rattle.output.specs.Page.{Page, Puts}
-use Rattle.words.specs.Words.{Roomy, cell}
+use Rattle.words.specs.Words.{Roomy, cell, maxRecords}
 use Rattle.words.specs.Places.{nullKind, propKind, varKind}
 use Rattle.words.specs.Held.{Held, RecordAt, size}
 use Rattle.context.specs.Tables.{opAt, maxStored, secondPass}
@@ -37,6 +37,12 @@ pub record Room (a b os rest : List ℕ) : Type 0 where
 pub record Near (base left : ℕ) : Type 0 where
   pub near : base ≤ secondPass
   pub shallow : left ≤ maxDepth
+
+-- the notes of an operator's pass are inside the fourth slice, and its record is one of the first
+pub record NotesIn (rest : List ℕ) (o : Op) : Type 0 where
+  pub in-rest : workWords ≤ length rest
+  pub near : o .base ≤ secondPass
+  pub low : o .idx < maxRecords
 
 -- A has the operators below n, as the tables show them
 pub record Planned (sheet : Bytes) (a b os rest : List ℕ) (n : ℕ) (A : Ops) : Type 0 where

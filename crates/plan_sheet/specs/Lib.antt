@@ -2,3 +2,4 @@ pub mod Due
 pub mod Path
 pub mod Behind
 pub mod Parted
+pub mod Asked

@@ -1,13 +1,11 @@
 // What stands behind the first line of an operator, but for copies: where its expressions are, its labels, its path, its yields.
 ghost use mathlib.Core.Path.{_≡_};
-ghost use Prim.Native.Nat.{_+_, _<_, _≤_};
-ghost use lib.ListN.{length};
+ghost use Prim.Native.Nat.{_+_, _<_};
 ghost use Rattle.output.specs.Page.{on};
 ghost use Rattle.words.specs.Words.{Roomy, cell, maxRecords};
 ghost use Rattle.words.specs.Places.{callYieldsAt};
+ghost use Rattle.plan_sheet.specs.Due.{NotesIn};
 ghost use Rattle.plan_sheet.specs.Behind.{manyOf, firstOf, Yields, WroteYields, SomeTail, WroteTail};
-ghost use Rattle.context.specs.Tables.{secondPass};
-ghost use Rattle.model.specs.Call.{workWords};
 use context::op;
 use context::op::Op;
 use context::read::note_of;
@@ -68,7 +66,7 @@ fn put_yields(
     i: usize,
 ) -> usize
     requires { ⌜ Roomy (now a) (now b) ⌝ }
-    requires { ⌜ (workWords ≤ length (now rest)) × (w .base ≤ secondPass) × (w .idx < maxRecords) ⌝ }
+    requires { ⌜ NotesIn (now rest) w ⌝ }
     requires { ⌜ Yields (now sheet) (now a) (now b) (cell (now a) (now b) (w .idx) callYieldsAt) i ⌝ }
     ensures { λ r. ⌜ WroteYields (now (sheet .entry)) (now (a .entry)) (now (b .entry)) (now (rest .entry)) (w .base) (cell (now (a .entry)) (now (b .entry)) (w .idx) callYieldsAt) i (on (now (plan .entry)) out) (on (now (plan .exit)) r) ⌝ }
 {
@@ -99,7 +97,7 @@ pub fn put_tail(
     i: usize,
 ) -> usize
     requires { ⌜ Roomy (now a) (now b) ⌝ }
-    requires { ⌜ (workWords ≤ length (now rest)) × (w .base ≤ secondPass) × (w .idx < maxRecords) ⌝ }
+    requires { ⌜ NotesIn (now rest) w ⌝ }
     requires { ⌜ SomeTail (now sheet) (now a) (now b) (now rest) w i ⌝ }
     ensures { λ r. ⌜ WroteTail (now (sheet .entry)) (now (a .entry)) (now (b .entry)) (now (rest .entry)) w i (on (now (plan .entry)) out) (on (now (plan .exit)) r) ⌝ }
 {

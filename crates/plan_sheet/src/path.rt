@@ -8,7 +8,7 @@ ghost use Rattle.words.specs.Words.{Roomy, cell, maxRecords};
 ghost use Rattle.words.specs.Places.{partElementsAt};
 ghost use Rattle.lower.specs.Render.{keptRel};
 ghost use Rattle.lower.specs.Shows.{shift};
-ghost use Rattle.plan_sheet.specs.Due.{noted};
+ghost use Rattle.plan_sheet.specs.Due.{noted, NotesIn};
 ghost use Rattle.plan_sheet.specs.Path.{waitsOf, Stepped, Elements, WrotePath};
 ghost use Rattle.context.specs.Tables.{secondPass};
 ghost use Rattle.model.specs.Call.{workWords};
@@ -91,7 +91,7 @@ pub fn put_path(
     i: usize,
 ) -> usize
     requires { ⌜ Roomy (now a) (now b) ⌝ }
-    requires { ⌜ (workWords ≤ length (now rest)) × (w .base ≤ secondPass) × (w .idx < maxRecords) ⌝ }
+    requires { ⌜ NotesIn (now rest) w ⌝ }
     requires { ⌜ Elements (now sheet) (now a) (now b) (cell (now a) (now b) (w .idx) partElementsAt) i ⌝ }
     ensures { λ r. ⌜ WrotePath (now (sheet .entry)) (now (a .entry)) (now (b .entry)) (now (rest .entry)) (w .base) (cell (now (a .entry)) (now (b .entry)) (w .idx) partElementsAt) i (on (now (plan .entry)) out) (on (now (plan .exit)) r) ⌝ }
 {

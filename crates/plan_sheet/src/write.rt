@@ -1,8 +1,8 @@
 // Expressions, elements of patterns and operators, with the operators that they copy.
 ghost use Prim.Native.Nat.{_+_};
 ghost use Rattle.output.specs.Page.{on};
-ghost use Rattle.plan_sheet.specs.Due.{Room, One, Many, Element, Near, SomePlan, WroteMany, WroteElement, WroteOp};
-ghost use Rattle.plan_sheet.specs.Parted.{Items, WrotePart, WroteParts, WroteItems};
+ghost use Rattle.plan_sheet.specs.Due.{Room, SomePlan, WroteOp};
+ghost use Rattle.plan_sheet.specs.Asked.{ExprAsked, ExprWrote, ExprsAsked, ExprsWrote, ElementAsked, ElementWrote, PartAsked, PartWrote, PartsAsked, PartsWrote, ItemsAsked, ItemsWrote};
 use crate::head::Wrote;
 use aggregate::is_aggregate;
 use context::op;
@@ -59,10 +59,8 @@ fn write_expr(
     rest: &[u32],
     at: At,
 ) -> Wrote
-    requires { ⌜ Room (now a) (now b) (now ops) (now rest) ⌝ }
-    requires { ⌜ Near (at .base) (at .left) ⌝ }
-    requires { ⌜ Many (now sheet) (now a) (now b) (now ops) (now rest) (at .below) (at .base) (at .left) 1 (at .i) ⌝ }
-    ensures { λ r. ⌜ WroteMany (now (sheet .entry)) (now (a .entry)) (now (b .entry)) (now (ops .entry)) (now (rest .entry)) (at .below) (at .base) (at .left) 1 (at .i) (on (now (plan .entry)) out) (r .next) (on (now (plan .exit)) (r .out)) ⌝ }
+    requires { ⌜ ExprAsked (now sheet) (now a) (now b) (now ops) (now rest) at ⌝ }
+    ensures { λ r. ⌜ ExprWrote (now (sheet .entry)) (now (a .entry)) (now (b .entry)) (now (ops .entry)) (now (rest .entry)) at (on (now (plan .entry)) out) (r .next) (on (now (plan .exit)) (r .out)) ⌝ }
 {
     let line = crate::head::put_before(plan, out, sheet, a, b, at.i);
     let i = line.next;
@@ -101,10 +99,8 @@ fn write_exprs(
     rest: &[u32],
     run: Run,
 ) -> Wrote
-    requires { ⌜ Room (now a) (now b) (now ops) (now rest) ⌝ }
-    requires { ⌜ Near (run .base) (run .left) ⌝ }
-    requires { ⌜ Many (now sheet) (now a) (now b) (now ops) (now rest) (run .below) (run .base) (run .left) (run .n) (run .i) ⌝ }
-    ensures { λ r. ⌜ WroteMany (now (sheet .entry)) (now (a .entry)) (now (b .entry)) (now (ops .entry)) (now (rest .entry)) (run .below) (run .base) (run .left) (run .n) (run .i) (on (now (plan .entry)) out) (r .next) (on (now (plan .exit)) (r .out)) ⌝ }
+    requires { ⌜ ExprsAsked (now sheet) (now a) (now b) (now ops) (now rest) run ⌝ }
+    ensures { λ r. ⌜ ExprsWrote (now (sheet .entry)) (now (a .entry)) (now (b .entry)) (now (ops .entry)) (now (rest .entry)) run (on (now (plan .entry)) out) (r .next) (on (now (plan .exit)) (r .out)) ⌝ }
 {
     let mut i = run.i;
     let mut due = run.n;
@@ -135,10 +131,8 @@ fn write_element(
     rest: &[u32],
     at: At,
 ) -> usize
-    requires { ⌜ Room (now a) (now b) (now ops) (now rest) ⌝ }
-    requires { ⌜ Near (at .base) (at .left) ⌝ }
-    requires { ⌜ Element (now sheet) (now a) (now b) (now ops) (now rest) (at .below) (at .base) (at .left) (at .i) ⌝ }
-    ensures { λ r. ⌜ WroteElement (now (sheet .entry)) (now (a .entry)) (now (b .entry)) (now (ops .entry)) (now (rest .entry)) (at .below) (at .base) (at .left) (at .i) (on (now (plan .entry)) out) (on (now (plan .exit)) r) ⌝ }
+    requires { ⌜ ElementAsked (now sheet) (now a) (now b) (now ops) (now rest) at ⌝ }
+    ensures { λ r. ⌜ ElementWrote (now (sheet .entry)) (now (a .entry)) (now (b .entry)) (now (ops .entry)) (now (rest .entry)) at (on (now (plan .entry)) out) (on (now (plan .exit)) r) ⌝ }
 {
     let i = at.i;
     let kind = words::word(a, b, i, field::KIND);
@@ -169,10 +163,8 @@ fn write_part(
     rest: &[u32],
     part: Part,
 ) -> Wrote
-    requires { ⌜ Room (now a) (now b) (now ops) (now rest) ⌝ }
-    requires { ⌜ Near (part .base) (part .left) ⌝ }
-    requires { ⌜ One (now sheet) (now a) (now b) (now ops) (now rest) (part .below) (part .base) (part .left) (part .i) ⌝ }
-    ensures { λ r. ⌜ WrotePart (now (sheet .entry)) (now (a .entry)) (now (b .entry)) (now (ops .entry)) (now (rest .entry)) (part .below) (part .base) (part .left) (part .i) (part .aggregates) (on (now (plan .entry)) out) (r .next) (on (now (plan .exit)) (r .out)) ⌝ }
+    requires { ⌜ PartAsked (now sheet) (now a) (now b) (now ops) (now rest) part ⌝ }
+    ensures { λ r. ⌜ PartWrote (now (sheet .entry)) (now (a .entry)) (now (b .entry)) (now (ops .entry)) (now (rest .entry)) part (on (now (plan .entry)) out) (r .next) (on (now (plan .exit)) (r .out)) ⌝ }
 {
     let i = part.i;
     let is = is_aggregate(sheet, a, b, i);
@@ -213,10 +205,8 @@ fn write_parts(
     rest: &[u32],
     parts: Parts,
 ) -> usize
-    requires { ⌜ Room (now a) (now b) (now ops) (now rest) ⌝ }
-    requires { ⌜ Near (parts .base) (parts .left) ⌝ }
-    requires { ⌜ Items (now sheet) (now a) (now b) (now ops) (now rest) (parts .below) (parts .base) (parts .left) (parts .n) (parts .i) ⌝ }
-    ensures { λ r. ⌜ WroteParts (now (sheet .entry)) (now (a .entry)) (now (b .entry)) (now (ops .entry)) (now (rest .entry)) (parts .below) (parts .base) (parts .left) (parts .n) (parts .i) (parts .aggregates) (on (now (plan .entry)) out) (on (now (plan .exit)) r) ⌝ }
+    requires { ⌜ PartsAsked (now sheet) (now a) (now b) (now ops) (now rest) parts ⌝ }
+    ensures { λ r. ⌜ PartsWrote (now (sheet .entry)) (now (a .entry)) (now (b .entry)) (now (ops .entry)) (now (rest .entry)) parts (on (now (plan .entry)) out) (on (now (plan .exit)) r) ⌝ }
 {
     let mut i = parts.i;
     let mut due = parts.n;
@@ -249,10 +239,8 @@ fn write_items(
     rest: &[u32],
     run: Run,
 ) -> usize
-    requires { ⌜ Room (now a) (now b) (now ops) (now rest) ⌝ }
-    requires { ⌜ Near (run .base) (run .left) ⌝ }
-    requires { ⌜ Items (now sheet) (now a) (now b) (now ops) (now rest) (run .below) (run .base) (run .left) (run .n) (run .i) ⌝ }
-    ensures { λ r. ⌜ WroteItems (now (sheet .entry)) (now (a .entry)) (now (b .entry)) (now (ops .entry)) (now (rest .entry)) (run .below) (run .base) (run .left) (run .n) (run .i) (on (now (plan .entry)) out) (on (now (plan .exit)) r) ⌝ }
+    requires { ⌜ ItemsAsked (now sheet) (now a) (now b) (now ops) (now rest) run ⌝ }
+    ensures { λ r. ⌜ ItemsWrote (now (sheet .entry)) (now (a .entry)) (now (b .entry)) (now (ops .entry)) (now (rest .entry)) run (on (now (plan .entry)) out) (on (now (plan .exit)) r) ⌝ }
 {
     let keys = Parts {
         base: run.base,

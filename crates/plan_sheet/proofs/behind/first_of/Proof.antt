@@ -38,7 +38,7 @@ returns-5 c = rw ((c .match .keys5))
 
 -- src/behind.rt:36:1
 returns-6 : tie.Need-returns-6
-returns-6 c = let r = (c .match .rest) in BehindLaws.next-at _ _ (r .0 .0 .0 .0 .1) (r .0 .0 .0 .1) (r .0 .0 .1) (r .0 .1) (r .1)
+returns-6 c = BehindLaws.next-at _ _ (c .match .rest)
 
 pub first-of-spec : {M : Type 1} → statement M
 first-of-spec =

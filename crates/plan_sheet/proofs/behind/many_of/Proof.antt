@@ -57,22 +57,7 @@ returns-8 c =
     rw (c .match .keys8, args .count3 .ensures .0)
 
 returns-9 : tie.Need-returns-9
-returns-9 c =
-    let r = c .match .rest in
-    BehindLaws.none-at
-    _
-    _
-    _
-    _
-    _
-    (r .0 .0 .0 .0 .0 .0 .0 .1)
-    (r .0 .0 .0 .0 .0 .0 .1)
-    (r .0 .0 .0 .0 .0 .1)
-    (r .0 .0 .0 .0 .1)
-    (r .0 .0 .0 .1)
-    (r .0 .0 .1)
-    (r .0 .1)
-    (r .1)
+returns-9 c = BehindLaws.none-at _ _ _ _ _ (c .match .rest)
 
 pub many-of-spec : {M : Type 1} → statement M
 many-of-spec =

@@ -40,7 +40,7 @@ ruleset ways = (
 count-requires : tie.Need-count-requires
 count-requires c κs =
     let start : tie.Start = search ways in
-    (start .pre .1 .0 .2, (omega arith, start .pre .0))
+    (start .pre .1 .0 .low, (omega arith, start .pre .0))
 
 put-names-requires : tie.Need-put-names-requires
 put-names-requires c κs =
@@ -91,7 +91,7 @@ returns-3 c =
     BehindLaws.yields-wrote (at-match-keys3 .match .keys3) (after-put-yields .put-yields .ensures)
 
 returns-4 : tie.Need-returns-4
-returns-4 c = BehindLaws.nothing-wrote (c .match .rest .0 .0 .1) (c .match .rest .0 .1) (c .match .rest .1)
+returns-4 c = BehindLaws.nothing-wrote (c .match .rest)
 
 pub put-tail-spec : {M : Type 1} → statement M
 put-tail-spec =

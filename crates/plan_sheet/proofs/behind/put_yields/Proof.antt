@@ -50,7 +50,7 @@ low l = BehindLaws.yield-low (l .loop-test .taken) (l .before .loop .inv .some)
 word-requires : here tie.Need-word-requires
 word-requires c κs =
     let start : here tie.Start = search ways depth 8 in
-    (start .pre .1 .0 .2, (omega arith, start .pre .0))
+    (start .pre .1 .0 .low, (omega arith, start .pre .0))
 
 loop-holds : here tie.Need-loop-holds
 loop-holds c =
@@ -73,7 +73,7 @@ note-of-requires : here tie.Need-note-of-requires
 note-of-requires c κs =
     let in-loop : here tie.In-loop = search ways depth 8 in
     let start : here tie.Start = search ways depth 8 in
-    (start .pre .1 .0 .1, omega (arith, low in-loop), start .pre .1 .0 .0)
+    (start .pre .1 .0 .near, omega (arith, low in-loop), start .pre .1 .0 .in-rest)
 
 put-named1-requires : here tie.Need-put-named1-requires
 put-named1-requires c κs =

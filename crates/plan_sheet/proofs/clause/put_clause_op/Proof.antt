@@ -117,21 +117,7 @@ put-procedure-requires c κs =
         OpLaws.procedure-in
             (start .pre .0)
             (start .pre .1 .1)
-            (OpLaws.is-call
-            (start .pre .1 .1)
-            (OpLaws.above-fifteen
-            _
-            (start .pre .1 .0)
-            (r .0 .0 .0 .0 .0 .0 .0 .0 .0 .1)
-            (r .0 .0 .0 .0 .0 .0 .0 .0 .1)
-            (r .0 .0 .0 .0 .0 .0 .0 .1)
-            (r .0 .0 .0 .0 .0 .0 .1)
-            (r .0 .0 .0 .0 .0 .1)
-            (r .0 .0 .0 .0 .1)
-            (r .0 .0 .0 .1)
-            (r .0 .0 .1)
-            (r .0 .1)
-            (r .1))),
+            (OpLaws.is-call (start .pre .1 .1) (start .pre .1 .0) (at-match-rest .match .rest)),
       ),
     )
 
@@ -200,27 +186,12 @@ returns-11 c =
     let after-put-procedure : tie.After-put-procedure = search ways in
     let at-match-rest : tie.At-match-rest = search ways in
     let start : tie.Start = search ways in
-    let r = at-match-rest .match .rest in
     λ h.
     rw
     (OpLaws.call-line
     (start .pre .0)
     h
-    (OpLaws.is-call
-    (start .pre .1 .1)
-    (OpLaws.above-fifteen
-    _
-    (start .pre .1 .0)
-    (r .0 .0 .0 .0 .0 .0 .0 .0 .0 .1)
-    (r .0 .0 .0 .0 .0 .0 .0 .0 .1)
-    (r .0 .0 .0 .0 .0 .0 .0 .1)
-    (r .0 .0 .0 .0 .0 .0 .1)
-    (r .0 .0 .0 .0 .0 .1)
-    (r .0 .0 .0 .0 .1)
-    (r .0 .0 .0 .1)
-    (r .0 .0 .1)
-    (r .0 .1)
-    (r .1))))
+    (OpLaws.is-call (start .pre .1 .1) (start .pre .1 .0) (at-match-rest .match .rest)))
     (after-put-procedure .put-procedure .ensures)
 
 pub put-clause-op-spec : {M : Type 1} → statement M

@@ -124,9 +124,9 @@ returns-4 c =
     (ItemLaws.none-named
     (start .pre .0)
     h
-    (λ e. (at-match-rest .match .rest .0 .0 .1) ((after-word .word .ensures) ∙ e))
-    (λ e. (at-match-rest .match .rest .0 .1) ((after-word .word .ensures) ∙ e))
-    (λ e. (at-match-rest .match .rest .1) ((after-word .word .ensures) ∙ e)))
+    _
+    (after-word .word .ensures)
+    (at-match-rest .match .rest))
     (after-put-no-name .put-no-name .ensures)
 
 pub put-synthesised-spec : {M : Type 1} → statement M

@@ -95,8 +95,7 @@ put-clause-op-requires : tie.Need-put-clause-op-requires
 put-clause-op-requires c κs =
     let at-match-rest : tie.At-match-rest = search ways in
     let start : tie.Start = search ways in
-    let r = at-match-rest .match .rest in
-    (start .pre .0, (OpLaws.above-five _ (r .0 .0 .0 .0 .0 .1) (r .0 .0 .0 .0 .1) (r .0 .0 .0 .1) (r .0 .0 .1) (r .0 .1) (r .1), start .pre .1 .1))
+    (start .pre .0, (OpLaws.of-clause _ (at-match-rest .match .rest), start .pre .1 .1))
 
 returns : tie.Need-returns
 returns c =

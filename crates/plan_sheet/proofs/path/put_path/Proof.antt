@@ -42,7 +42,7 @@ loop-holds c =
 word-requires : here tie.Need-word-requires
 word-requires c κs =
     let start : here tie.Start = search ways in
-    (start .pre .1 .0 .2, (omega arith, start .pre .0))
+    (start .pre .1 .0 .low, (omega arith, start .pre .0))
 
 word-requires-2 : here tie.Need-word-requires-2
 word-requires-2 c κs =
@@ -55,8 +55,8 @@ put-step-requires c κs =
     let in-loop : here tie.In-loop = search ways in
     let at-loop : here tie.At-loop = search ways in
     let start : here tie.Start = search ways in (
-      start .pre .1 .0 .0,
-      start .pre .1 .0 .1,
+      start .pre .1 .0 .in-rest,
+      start .pre .1 .0 .near,
       at-loop .loop .inv .low,
       PathLaws.element-starts (in-loop .loop-test .taken) (at-loop .loop .inv .some) .1,
     )

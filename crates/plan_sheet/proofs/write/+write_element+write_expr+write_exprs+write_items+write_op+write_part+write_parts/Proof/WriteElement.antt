@@ -38,39 +38,39 @@ module _ (t : ℕ) where
   word-requires : here lts.Need-word-requires
   word-requires c κs =
       let s : here lts.Start = search ways depth 9 in
-      ((CycleLaws.element-is (s .pre .1 .0 .records) (s .pre .1 .1 .1)) .at .at .low, (omega arith, s .pre .1 .0 .records))
+      ((CycleLaws.element-is (s .pre .1 .room .records) (s .pre .1 .due)) .at .at .low, (omega arith, s .pre .1 .room .records))
 
   count-requires : here lts.Need-count-requires
   count-requires c κs =
       let s : here lts.Start = search ways depth 9 in
-      ((CycleLaws.element-is (s .pre .1 .0 .records) (s .pre .1 .1 .1)) .at .at .low, (omega arith, s .pre .1 .0 .records))
+      ((CycleLaws.element-is (s .pre .1 .room .records) (s .pre .1 .due)) .at .at .low, (omega arith, s .pre .1 .room .records))
 
   props-of-requires : here lts.Need-props-of-requires
   props-of-requires c κs =
       let s : here lts.Start = search ways depth 9 in
-      (s .pre .1 .0 .records, (CycleLaws.element-is (s .pre .1 .0 .records) (s .pre .1 .1 .1)) .at .at .low)
+      (s .pre .1 .room .records, (CycleLaws.element-is (s .pre .1 .room .records) (s .pre .1 .due)) .at .at .low)
 
   put-element-requires : here lts.Need-put-element-requires
   put-element-requires c κs =
       let kind : here lts.After-word = search ways depth 9 in
       let s : here lts.Start = search ways depth 9 in
-      (s .pre .1 .0 .records, ((CycleLaws.element-is (s .pre .1 .0 .records) (s .pre .1 .1 .1)) .at, kind .word .ensures))
+      (s .pre .1 .room .records, ((CycleLaws.element-is (s .pre .1 .room .records) (s .pre .1 .due)) .at, kind .word .ensures))
 
   add-put-names : here lts.Need-add-put-names
   add-put-names c =
       let s : here lts.Start = search ways depth 9 in
-      omega (arith, (CycleLaws.element-is (s .pre .1 .0 .records) (s .pre .1 .1 .1)) .at .at .low)
+      omega (arith, (CycleLaws.element-is (s .pre .1 .room .records) (s .pre .1 .due)) .at .at .low)
 
   put-names-requires : here lts.Need-put-names-requires
   put-names-requires c κs =
       let names : here lts.After-count = search ways depth 9 in
       let s : here lts.Start = search ways depth 9 in
-      (s .pre .1 .0 .records, CycleLaws.element-names (s .pre .1 .0 .records) (s .pre .1 .1 .1) (names .count .ensures .0))
+      (s .pre .1 .room .records, CycleLaws.element-names (s .pre .1 .room .records) (s .pre .1 .due) (names .count .ensures .0))
 
   sub-t21 : here lts.Need-sub-t21
   sub-t21 c =
       let s : here lts.Start = search ways depth 9 in
-      omega (arith, (CycleLaws.element-is (s .pre .1 .0 .records) (s .pre .1 .1 .1)) .deep)
+      omega (arith, (CycleLaws.element-is (s .pre .1 .room .records) (s .pre .1 .due)) .deep)
 
   write-exprs-requires : here lts.Need-write-exprs-requires
   write-exprs-requires c κs =
@@ -79,20 +79,18 @@ module _ (t : ℕ) where
       let count : here lts.After-count = search ways depth 9 in
       let kind : here lts.After-word = search ways depth 9 in
       let s : here lts.Start = search ways depth 9 in (
-        omega (arith, (CycleLaws.element-is (s .pre .1 .0 .records) (s .pre .1 .1 .1)) .deep, s .pre .0),
-        (
-          s .pre .1 .0,
-          (
-            CycleLaws.nearer (s .pre .1 .1 .0),
-            CycleLaws.element-props
-                (s .pre .1 .0 .records)
-                (s .pre .1 .1 .1)
-                (kind .word .ensures)
-                (count .count .ensures .0)
-                (props .props-of .ensures)
-                (names .put-names .ensures),
-          ),
-        ),
+        omega (arith, (CycleLaws.element-is (s .pre .1 .room .records) (s .pre .1 .due)) .deep, s .pre .0),
+        record {
+          room = s .pre .1 .room;
+          near = CycleLaws.nearer (s .pre .1 .near);
+          due = CycleLaws.element-props
+              (s .pre .1 .room .records)
+              (s .pre .1 .due)
+              (kind .word .ensures)
+              (count .count .ensures .0)
+              (props .props-of .ensures)
+              (names .put-names .ensures);
+        },
       )
 
   returns : here lts.Need-returns
@@ -106,7 +104,7 @@ module _ (t : ℕ) where
       let s : here lts.Start = search ways depth 9 in
       λ h.
       CycleLaws.element-wrote
-      (s .pre .1 .0 .records)
+      (s .pre .1 .room .records)
       h
       (kind .word .ensures)
       (count .count .ensures .0)

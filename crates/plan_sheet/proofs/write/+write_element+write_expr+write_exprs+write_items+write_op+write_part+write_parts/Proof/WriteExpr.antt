@@ -71,35 +71,35 @@ module _ (t : ℕ) where
   put-before-requires : here lts.Need-put-before-requires
   put-before-requires c κs =
       let s : here lts.Start = search ways depth 12 in
-      (s .pre .1 .0 .records, DueLaws.first-line (s .pre .1 .1 .1))
+      (s .pre .1 .room .records, DueLaws.first-line (s .pre .1 .due))
 
   word-requires : here lts.Need-word-requires
   word-requires c κs =
       let line : here lts.After-put-before = search ways depth 12 in
       let s : here lts.Start = search ways depth 12 in
-      let one = DueLaws.first-there (s .pre .1 .1 .1) (line .put-before .ensures) in
-      (CycleLaws.one-low one, (omega arith, s .pre .1 .0 .records))
+      let one = DueLaws.first-there (s .pre .1 .due) (line .put-before .ensures) in
+      (CycleLaws.one-low one, (omega arith, s .pre .1 .room .records))
 
   note-of-requires : here lts.Need-note-of-requires
   note-of-requires c κs =
       let line : here lts.After-put-before = search ways depth 12 in
       let s : here lts.Start = search ways depth 12 in
-      let one = DueLaws.first-there (s .pre .1 .1 .1) (line .put-before .ensures) in
-      (omega (arith, s .pre .1 .1 .0 .near), omega (arith, CycleLaws.one-low one), s .pre .1 .0 .in-rest)
+      let one = DueLaws.first-there (s .pre .1 .due) (line .put-before .ensures) in
+      (omega (arith, s .pre .1 .near .near), omega (arith, CycleLaws.one-low one), s .pre .1 .room .in-rest)
 
   put-expr-requires : here lts.Need-put-expr-requires
   put-expr-requires c κs =
       let kind : here lts.After-word = search ways depth 12 in
       let line : here lts.After-put-before = search ways depth 12 in
       let s : here lts.Start = search ways depth 12 in
-      let one = DueLaws.first-there (s .pre .1 .1 .1) (line .put-before .ensures) in
-      (s .pre .1 .0 .records, (CycleLaws.one-at one, kind .word .ensures))
+      let one = DueLaws.first-there (s .pre .1 .due) (line .put-before .ensures) in
+      (s .pre .1 .room .records, (CycleLaws.one-at one, kind .word .ensures))
 
   add-next : here lts.Need-add-next
   add-next c =
       let line : here lts.After-put-before = search ways depth 12 in
       let s : here lts.Start = search ways depth 12 in
-      let one = DueLaws.first-there (s .pre .1 .1 .1) (line .put-before .ensures) in
+      let one = DueLaws.first-there (s .pre .1 .due) (line .put-before .ensures) in
       omega (arith, CycleLaws.one-low one)
 
   returns : here lts.Need-returns
@@ -113,7 +113,7 @@ module _ (t : ℕ) where
       let s : here lts.Start = search ways depth 12 in
       DueLaws.lined
       (line .put-before .ensures)
-      (CycleLaws.leaf-wrote (s .pre .1 .0 .records) (kind .word .ensures) (sym (told .is-leaf .ensures) ∙ leaf .if1 .taken) (note .note-of .ensures) (head .put-expr .ensures))
+      (CycleLaws.leaf-wrote (s .pre .1 .room .records) (kind .word .ensures) (sym (told .is-leaf .ensures) ∙ leaf .if1 .taken) (note .note-of .ensures) (head .put-expr .ensures))
 
   write-op-requires : here lts.Need-write-op-requires
   write-op-requires c κs =
@@ -122,18 +122,18 @@ module _ (t : ℕ) where
       let kind : here lts.After-word = search ways depth 12 in
       let line : here lts.After-put-before = search ways depth 12 in
       let s : here lts.Start = search ways depth 12 in
-      let one = DueLaws.first-there (s .pre .1 .1 .1) (line .put-before .ensures) in
+      let one = DueLaws.first-there (s .pre .1 .due) (line .put-before .ensures) in
       let e = sym (kind .word .ensures) ∙ then .if2 .taken in (
-        omega (arith, CycleLaws.copy-low (s .pre .1 .0 .records) e (note .note-of .ensures) one, s .pre .0),
-        (s .pre .1 .0, CycleLaws.copy-plan (s .pre .1 .0 .records) e (note .note-of .ensures) one),
+        omega (arith, CycleLaws.copy-low (s .pre .1 .room .records) e (note .note-of .ensures) one, s .pre .0),
+        (s .pre .1 .room, CycleLaws.copy-plan (s .pre .1 .room .records) e (note .note-of .ensures) one),
       )
 
   skip-requires : here lts.Need-skip-requires
   skip-requires c κs =
       let line : here lts.After-put-before = search ways depth 12 in
       let s : here lts.Start = search ways depth 12 in
-      let one = DueLaws.first-there (s .pre .1 .1 .1) (line .put-before .ensures) in
-      (s .pre .1 .0 .records, CycleLaws.starts one)
+      let one = DueLaws.first-there (s .pre .1 .due) (line .put-before .ensures) in
+      (s .pre .1 .room .records, CycleLaws.starts one)
 
   returns-2 : here lts.Need-returns-2
   returns-2 c =
@@ -147,28 +147,28 @@ module _ (t : ℕ) where
       let e = sym (kind .word .ensures) ∙ then .if2 .taken in
       DueLaws.lined
       (line .put-before .ensures)
-      (λ h. CycleLaws.copy-wrote (s .pre .1 .0 .records) e (note .note-of .ensures) h (head .put-expr .ensures) (copy .write-op .ensures) (c .skip .ensures))
+      (λ h. CycleLaws.copy-wrote (s .pre .1 .room .records) e (note .note-of .ensures) h (head .put-expr .ensures) (copy .write-op .ensures) (c .skip .ensures))
 
   add-first : here lts.Need-add-first
   add-first c =
       let line : here lts.After-put-before = search ways depth 12 in
       let s : here lts.Start = search ways depth 12 in
-      let one = DueLaws.first-there (s .pre .1 .1 .1) (line .put-before .ensures) in
+      let one = DueLaws.first-there (s .pre .1 .due) (line .put-before .ensures) in
       omega (arith, CycleLaws.one-low one)
 
   sub-left : here lts.Need-sub-left
   sub-left c =
       let line : here lts.After-put-before = search ways depth 12 in
       let s : here lts.Start = search ways depth 12 in
-      let one = DueLaws.first-there (s .pre .1 .1 .1) (line .put-before .ensures) in
+      let one = DueLaws.first-there (s .pre .1 .due) (line .put-before .ensures) in
       omega (arith, CycleLaws.one-deep one)
 
   children-requires : here lts.Need-children-requires
   children-requires c κs =
       let line : here lts.After-put-before = search ways depth 12 in
       let s : here lts.Start = search ways depth 12 in
-      let one = DueLaws.first-there (s .pre .1 .1 .1) (line .put-before .ensures) in
-      (CycleLaws.one-low one, s .pre .1 .0 .records)
+      let one = DueLaws.first-there (s .pre .1 .due) (line .put-before .ensures) in
+      (CycleLaws.one-low one, s .pre .1 .room .records)
 
   write-exprs-requires : here lts.Need-write-exprs-requires
   write-exprs-requires c κs =
@@ -177,15 +177,9 @@ module _ (t : ℕ) where
       let kind : here lts.After-word = search ways depth 12 in
       let line : here lts.After-put-before = search ways depth 12 in
       let s : here lts.Start = search ways depth 12 in
-      let one = DueLaws.first-there (s .pre .1 .1 .1) (line .put-before .ensures) in (
+      let one = DueLaws.first-there (s .pre .1 .due) (line .put-before .ensures) in (
         omega (arith, CycleLaws.one-deep one, s .pre .0),
-        (
-          s .pre .1 .0,
-          (
-            CycleLaws.nearer (s .pre .1 .1 .0),
-            CycleLaws.kids (s .pre .1 .0 .records) (count .children .ensures .0) (λ e. other .if2 .left (kind .word .ensures ∙ e)) one,
-          ),
-        ),
+        record { room = s .pre .1 .room; near = CycleLaws.nearer (s .pre .1 .near); due = CycleLaws.kids (s .pre .1 .room .records) (count .children .ensures .0) (λ e. other .if2 .left (kind .word .ensures ∙ e)) one },
       )
 
   returns-3 : here lts.Need-returns-3
@@ -202,7 +196,7 @@ module _ (t : ℕ) where
       (line .put-before .ensures)
       (λ h.
       CycleLaws.kids-wrote
-      (s .pre .1 .0 .records)
+      (s .pre .1 .room .records)
       (count .children .ensures .0)
       (λ e. other .if2 .left (kind .word .ensures ∙ e))
       h

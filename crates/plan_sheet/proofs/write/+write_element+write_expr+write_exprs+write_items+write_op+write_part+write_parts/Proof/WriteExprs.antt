@@ -36,14 +36,14 @@ module _ (t : ℕ) where
   loop-holds : here lts.Need-loop-holds
   loop-holds c =
       let s : here lts.Start = search ways depth 9 in
-      DueLaws.going (s .pre .1 .1 .1)
+      DueLaws.going (s .pre .1 .due)
 
   write-expr-requires : here lts.Need-write-expr-requires
   write-expr-requires c κs =
       let turn : here lts.In-loop = search ways depth 9 in
       let l : here lts.At-loop = search ways depth 9 in
       let s : here lts.Start = search ways depth 9 in
-      (omega (arith, s .pre .0), (s .pre .1 .0, (s .pre .1 .1 .0, DueLaws.first-one (turn .loop-test .taken) (l .loop .inv .some))))
+      (omega (arith, s .pre .0), record { room = s .pre .1 .room; near = s .pre .1 .near; due = DueLaws.first-one (turn .loop-test .taken) (l .loop .inv .some) })
 
   loop-again : here lts.Need-loop-again
   loop-again c =

@@ -87,7 +87,7 @@ module _ (t : ℕ) where
       let w : here lts.After-read-op = search ways depth 9 in
       let s : here lts.Start = search ways depth 9 in
       let v = OpLaws.bounded-at _ (s .pre .1 .1 .planned) (w .read-op .ensures) in
-      (omega (arith, s .pre .0, v .shallow), (s .pre .1 .0, (record { near = v .near; shallow = v .shallow }, OpLaws.rel-of _ (s .pre .1 .1 .planned) (w .read-op .ensures) (arm .match .keys1))))
+      (omega (arith, s .pre .0, v .shallow), record { room = s .pre .1 .0; near = record { near = v .near; shallow = v .shallow }; due = OpLaws.rel-of _ (s .pre .1 .1 .planned) (w .read-op .ensures) (arm .match .keys1) })
 
   write-element-requires-2 : here lts.Need-write-element-requires-2
   write-element-requires-2 c κs =
@@ -95,7 +95,7 @@ module _ (t : ℕ) where
       let w : here lts.After-read-op = search ways depth 9 in
       let s : here lts.Start = search ways depth 9 in
       let v = OpLaws.bounded-at _ (s .pre .1 .1 .planned) (w .read-op .ensures) in
-      (omega (arith, s .pre .0, v .shallow), (s .pre .1 .0, (record { near = v .near; shallow = v .shallow }, OpLaws.far-of _ (s .pre .1 .1 .planned) (w .read-op .ensures) (arm .match .keys1))))
+      (omega (arith, s .pre .0, v .shallow), record { room = s .pre .1 .0; near = record { near = v .near; shallow = v .shallow }; due = OpLaws.far-of _ (s .pre .1 .1 .planned) (w .read-op .ensures) (arm .match .keys1) })
 
   write-element-requires-3 : here lts.Need-write-element-requires-3
   write-element-requires-3 c κs =
@@ -103,7 +103,7 @@ module _ (t : ℕ) where
       let w : here lts.After-read-op = search ways depth 9 in
       let s : here lts.Start = search ways depth 9 in
       let v = OpLaws.bounded-at _ (s .pre .1 .1 .planned) (w .read-op .ensures) in
-      (omega (arith, s .pre .0, v .shallow), (s .pre .1 .0, (record { near = v .near; shallow = v .shallow }, OpLaws.short-rel _ (s .pre .1 .1 .planned) (w .read-op .ensures) (arm .match .keys2))))
+      (omega (arith, s .pre .0, v .shallow), record { room = s .pre .1 .0; near = record { near = v .near; shallow = v .shallow }; due = OpLaws.short-rel _ (s .pre .1 .1 .planned) (w .read-op .ensures) (arm .match .keys2) })
 
   write-op-requires : here lts.Need-write-op-requires
   write-op-requires c κs =
@@ -133,7 +133,7 @@ module _ (t : ℕ) where
       let w : here lts.After-read-op = search ways depth 9 in
       let s : here lts.Start = search ways depth 9 in
       let v = OpLaws.bounded-at _ (s .pre .1 .1 .planned) (w .read-op .ensures) in
-      (omega (arith, s .pre .0, v .shallow), (s .pre .1 .0, (record { near = v .near; shallow = v .shallow }, PartedLaws.items-of _ (s .pre .1 .1 .planned) (w .read-op .ensures) (arm .match .keys4) (count .count .ensures .0))))
+      (omega (arith, s .pre .0, v .shallow), record { room = s .pre .1 .0; near = record { near = v .near; shallow = v .shallow }; due = PartedLaws.items-of _ (s .pre .1 .1 .planned) (w .read-op .ensures) (arm .match .keys4) (count .count .ensures .0) })
 
   first-of-requires : here lts.Need-first-of-requires
   first-of-requires c κs =
@@ -156,23 +156,18 @@ module _ (t : ℕ) where
       let s : here lts.Start = search ways depth 9 in
       let v = OpLaws.bounded-at _ (s .pre .1 .1 .planned) (w .read-op .ensures) in (
         omega (arith, s .pre .0, v .shallow),
-        (
-          s .pre .1 .0,
-          (
-            record { near = v .near; shallow = v .shallow },
-            BehindLaws.exprs-there
-                _
-                (s .pre .1 .1 .planned)
-                (w .read-op .ensures)
-                (s .pre .1 .0 .records)
-                (arm .match .rest .0 .0 .0 .1)
-                (arm .match .rest .0 .0 .1)
-                (arm .match .rest .0 .1)
-                (arm .match .rest .1)
-                (many .many-of .ensures)
-                (first .first-of .ensures),
-          ),
-        ),
+        record {
+          room = s .pre .1 .0;
+          near = record { near = v .near; shallow = v .shallow };
+          due = BehindLaws.exprs-there
+              _
+              (s .pre .1 .1 .planned)
+              (w .read-op .ensures)
+              (s .pre .1 .0 .records)
+              (arm .match .rest)
+              (many .many-of .ensures)
+              (first .first-of .ensures);
+        },
       )
 
   put-tail-requires : here lts.Need-put-tail-requires
@@ -186,16 +181,13 @@ module _ (t : ℕ) where
       let v = OpLaws.bounded-at _ (s .pre .1 .1 .planned) (w .read-op .ensures) in (
         s .pre .1 .0 .records,
         (
-          (s .pre .1 .0 .in-rest, v .near, v .low),
+          record { in-rest = s .pre .1 .0 .in-rest; near = v .near; low = v .low },
           BehindLaws.tail-there
               _
               (s .pre .1 .1 .planned)
               (w .read-op .ensures)
               (s .pre .1 .0 .records)
-              (arm .match .rest .0 .0 .0 .1)
-              (arm .match .rest .0 .0 .1)
-              (arm .match .rest .0 .1)
-              (arm .match .rest .1)
+              (arm .match .rest)
               (many .many-of .ensures)
               (first .first-of .ensures)
               (exprs .write-exprs .ensures),
@@ -268,10 +260,7 @@ module _ (t : ℕ) where
       p
       (w .read-op .ensures)
       (s .pre .1 .0 .records)
-      (arm .match .rest .0 .0 .0 .1)
-      (arm .match .rest .0 .0 .1)
-      (arm .match .rest .0 .1)
-      (arm .match .rest .1)
+      (arm .match .rest)
       (many .many-of .ensures)
       (first .first-of .ensures)
       (line .put-op .ensures)

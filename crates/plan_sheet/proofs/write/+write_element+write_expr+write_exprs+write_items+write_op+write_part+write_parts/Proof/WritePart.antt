@@ -48,34 +48,34 @@ module _ (t : ℕ) where
   is-aggregate-requires : here lts.Need-is-aggregate-requires
   is-aggregate-requires c κs =
       let s : here lts.Start = search ways depth 9 in
-      (s .pre .1 .0 .records, PartedLaws.some-expr (s .pre .1 .1 .1))
+      (s .pre .1 .room .records, PartedLaws.some-expr (s .pre .1 .due))
 
   put-agg-requires : here lts.Need-put-agg-requires
   put-agg-requires c κs =
       let then : here lts.Then2 = search ways depth 9 in
       let told : here lts.After-is-aggregate = search ways depth 9 in
       let s : here lts.Start = search ways depth 9 in (
-        s .pre .1 .0 .records,
+        s .pre .1 .room .records,
         (
-          CycleLaws.one-low (s .pre .1 .1 .1),
-          PartedLaws.agg-in (s .pre .1 .0 .records) (told .is-aggregate .ensures) (then .if2 .taken) (s .pre .1 .1 .1),
+          CycleLaws.one-low (s .pre .1 .due),
+          PartedLaws.agg-in (s .pre .1 .room .records) (told .is-aggregate .ensures) (then .if2 .taken) (s .pre .1 .due),
         ),
       )
 
   add-first : here lts.Need-add-first
   add-first c =
       let s : here lts.Start = search ways depth 9 in
-      omega (arith, CycleLaws.one-low (s .pre .1 .1 .1))
+      omega (arith, CycleLaws.one-low (s .pre .1 .due))
 
   sub-left : here lts.Need-sub-left
   sub-left c =
       let s : here lts.Start = search ways depth 9 in
-      omega (arith, CycleLaws.one-deep (s .pre .1 .1 .1))
+      omega (arith, CycleLaws.one-deep (s .pre .1 .due))
 
   count-requires : here lts.Need-count-requires
   count-requires c κs =
       let s : here lts.Start = search ways depth 9 in
-      (CycleLaws.one-low (s .pre .1 .1 .1), (omega arith, s .pre .1 .0 .records))
+      (CycleLaws.one-low (s .pre .1 .due), (omega arith, s .pre .1 .room .records))
 
   write-exprs-requires : here lts.Need-write-exprs-requires
   write-exprs-requires c κs =
@@ -83,14 +83,8 @@ module _ (t : ℕ) where
       let then : here lts.Then2 = search ways depth 9 in
       let told : here lts.After-is-aggregate = search ways depth 9 in
       let s : here lts.Start = search ways depth 9 in (
-        omega (arith, s .pre .0, CycleLaws.one-deep (s .pre .1 .1 .1)),
-        (
-          s .pre .1 .0,
-          (
-            CycleLaws.nearer (s .pre .1 .1 .0),
-            PartedLaws.args (s .pre .1 .0 .records) (told .is-aggregate .ensures) (then .if2 .taken) (s .pre .1 .1 .1) (count .count .ensures .0),
-          ),
-        ),
+        omega (arith, s .pre .0, CycleLaws.one-deep (s .pre .1 .due)),
+        record { room = s .pre .1 .room; near = CycleLaws.nearer (s .pre .1 .near); due = PartedLaws.args (s .pre .1 .room .records) (told .is-aggregate .ensures) (then .if2 .taken) (s .pre .1 .due) (count .count .ensures .0) },
       )
 
   returns-2 : here lts.Need-returns-2
@@ -104,7 +98,7 @@ module _ (t : ℕ) where
       let s : here lts.Start = search ways depth 9 in
       λ h.
       PartedLaws.agg-wrote
-      (s .pre .1 .0 .records)
+      (s .pre .1 .room .records)
       (told .is-aggregate .ensures)
       (then .if2 .taken)
       h
@@ -117,7 +111,7 @@ module _ (t : ℕ) where
   skip-requires : here lts.Need-skip-requires
   skip-requires c κs =
       let s : here lts.Start = search ways depth 9 in
-      (s .pre .1 .0 .records, CycleLaws.starts (s .pre .1 .1 .1))
+      (s .pre .1 .room .records, CycleLaws.starts (s .pre .1 .due))
 
   returns : here lts.Need-returns
   returns c =
@@ -128,7 +122,7 @@ module _ (t : ℕ) where
   write-expr-requires : here lts.Need-write-expr-requires
   write-expr-requires c κs =
       let s : here lts.Start = search ways depth 9 in
-      (omega (arith, s .pre .0), (s .pre .1 .0, (s .pre .1 .1 .0, CycleLaws.alone (s .pre .1 .1 .1))))
+      (omega (arith, s .pre .0), record { room = s .pre .1 .room; near = s .pre .1 .near; due = CycleLaws.alone (s .pre .1 .due) })
 
   returns-3 : here lts.Need-returns-3
   returns-3 c =

@@ -37,7 +37,7 @@ module _ (t : ℕ) where
   loop-holds : here lts.Need-loop-holds
   loop-holds c =
       let s : here lts.Start = search ways depth 9 in
-      PartedLaws.parts-going (s .pre .1 .1 .1)
+      PartedLaws.parts-going (s .pre .1 .due)
 
   add-expr : here lts.Need-add-expr
   add-expr c =
@@ -50,7 +50,7 @@ module _ (t : ℕ) where
       let turn : here lts.In-loop = search ways depth 9 in
       let l : here lts.At-loop = search ways depth 9 in
       let s : here lts.Start = search ways depth 9 in
-      (omega (arith, s .pre .0), (s .pre .1 .0, (s .pre .1 .1 .0, PartedLaws.item-one (turn .loop-test .taken) (l .loop .inv .some))))
+      (omega (arith, s .pre .0), record { room = s .pre .1 .room; near = s .pre .1 .near; due = PartedLaws.item-one (turn .loop-test .taken) (l .loop .inv .some) })
 
   loop-again : here lts.Need-loop-again
   loop-again c =
