@@ -20,7 +20,7 @@ use Rattle.laws.specs.FieldLaws.{read-spell}
 use Rattle.words.specs.Words.{fieldOf, piecesOf}
 use Rattle.words.specs.Held.{PlaceAt}
 use Rattle.line.specs.Place.{piecesAt, PieceAt}
-use Rattle.line.specs.FieldRead.{WordsOf, wordsValue, WordsAt, BehindAt, FieldAt, FieldHere, fieldWords}
+use Rattle.line.specs.FieldRead.{wordsValue, WordsAt, BehindAt, FieldAt, FieldHere, fieldWords}
 use Rattle.line.specs.declared.field.FieldRead.{FieldRead}
 use Rattle.laws.specs.PartLaws.{part-is}
 use Rattle.line.proofs.PlaceLaws.{piece-at, line-behind, line-done, pieces-from, none-left, some-left}

@@ -1,6 +1,6 @@
 -- A line from its keyword and its fields. Assumes nothing.
 use mathlib.Core.Path.{_≡_, sym, ap, _∙_}
-use Prim.Native.Nat.{ℕ, _+_, _<_, _≤_}
+use Prim.Native.Nat.{ℕ, _+_, _<_}
 use mathlib.Core.List.{List, _∷_}
 use mathlib.Core.Option.{some}
 use native.Mathlib.Omega.{arith}
@@ -17,7 +17,7 @@ use Rattle.words.specs.TableLaws.{Row, tabled, kind-row}
 use Rattle.record.specs.Place.{LineEnd, Fed, Ends}
 use Rattle.line.specs.Kinds.{Packed, KeywordAt, kindFound, Named}
 use Rattle.line.specs.Place.{piecesAt}
-use Rattle.line.specs.LineRead.{FieldsRead, FieldsHere, Got, LineRead, LineHere}
+use Rattle.line.specs.LineRead.{FieldsRead, FieldsHere, Got, LineHere}
 use Rattle.line.specs.declared.kind.KindFound.{KindFound}
 use Rattle.line.specs.declared.read.FieldsTo.{FieldsTo}
 use Rattle.line.specs.declared.read.Line.{Line}

@@ -1,4 +1,4 @@
-// The two words of a field, from its piece.
+// The two words of a field of one piece, which begins at a place of a line.
 ghost use mathlib.Core.Path.{_≡_};
 ghost use mathlib.Core.List.{[], _∷_};
 ghost use mathlib.Core.Option.{some};
@@ -73,7 +73,7 @@ fn halves(n: u64, top: u32) -> Words
     Words::Is(low as u32, high as u32 + top)
 }
 
-// The bits of a float.
+// The bits of a float, from its piece.
 fn float_words(s: &[u8]) -> Words
     ensures { λ r. ⌜ ((sheet : Bytes) → WordsOf Form.float sheet (now (s .entry) ∷ []) r) ⌝ }
 {
@@ -94,7 +94,7 @@ fn signed_words(v: i64) -> Words
     halves(v as u64, 0)
 }
 
-// A signed number.
+// A signed number, from its piece.
 fn int_words(s: &[u8]) -> Words
     ensures { λ r. ⌜ ((sheet : Bytes) → WordsOf Form.int sheet (now (s .entry) ∷ []) r) ⌝ }
 {
@@ -104,6 +104,7 @@ fn int_words(s: &[u8]) -> Words
     }
 }
 
+// A signed number.
 pub fn int(sheet: &[u8], p: usize) -> FieldRead
     requires { ⌜ Fed (now sheet) p ⌝ }
     ensures { λ r. ⌜ WordsAt Form.int (now (sheet .entry)) p r ⌝ }
@@ -113,6 +114,7 @@ pub fn int(sheet: &[u8], p: usize) -> FieldRead
     placed(w, r)
 }
 
+// The bits of a float.
 pub fn float(sheet: &[u8], p: usize) -> FieldRead
     requires { ⌜ Fed (now sheet) p ⌝ }
     ensures { λ r. ⌜ WordsAt Form.float (now (sheet .entry)) p r ⌝ }

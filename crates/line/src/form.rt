@@ -1,12 +1,11 @@
 // The field at a place of a line, by its form.
-ghost use mathlib.Core.Path.{_≡_};
 ghost use Prim.Native.Nat.{_<_};
 ghost use Rattle.model.specs.Field.{Form};
-ghost use Rattle.words.specs.Places.{spanForm, lengthForm, formCount};
+ghost use Rattle.words.specs.Places.{formCount};
 ghost use Rattle.words.specs.Table.{formOf};
 ghost use Rattle.record.specs.Place.{Fed};
 ghost use Rattle.line.specs.Place.{InLine};
-ghost use Rattle.line.specs.FieldRead.{FieldHere, WordsAt};
+ghost use Rattle.line.specs.FieldRead.{FieldHere};
 use crate::field::FieldRead;
 use crate::field::alias;
 use crate::field::float;
@@ -60,11 +59,11 @@ fn hops(sheet: &[u8], p: usize) -> FieldRead
     FieldRead::Not
 }
 
-// A field of one piece, by a code below that of a span.
-fn plain(sheet: &[u8], p: usize, form: u32) -> FieldRead
+// The field that begins at p, by the code of its form: a number with the table's limit from that of a number on.
+pub fn read_form(sheet: &[u8], p: usize, form: u32) -> FieldRead
     requires { ⌜ InLine (now sheet) p ⌝ }
-    requires { ⌜ (0 < form) × (form < spanForm) ⌝ }
-    ensures { λ w. ⌜ WordsAt (formOf form) (now (sheet .entry)) p w ⌝ }
+    requires { ⌜ (0 < form) × (form < formCount) ⌝ }
+    ensures { λ w. ⌜ FieldHere (formOf form) (now (sheet .entry)) p w ⌝ }
 {
     match form {
         form::FLAG => number(sheet, p, 1),
@@ -73,35 +72,9 @@ fn plain(sheet: &[u8], p: usize, form: u32) -> FieldRead
         form::INT => int(sheet, p),
         form::FLOAT => float(sheet, p),
         form::TEXT => text(sheet, p),
-        _ => alias(sheet, p),
+        form::ALIAS => alias(sheet, p),
+        form::SPAN => span(sheet, p),
+        form::LENGTH => hops(sheet, p),
+        _ => number(sheet, p, limit(form - form::NUMBER)),
     }
-}
-
-// A field of one piece, by its code: a number with the table's limit from that of a number on.
-fn single(sheet: &[u8], p: usize, form: u32) -> FieldRead
-    requires { ⌜ InLine (now sheet) p ⌝ }
-    requires { ⌜ (0 < form) × (form < formCount) ⌝ }
-    requires { ⌜ ((form ≡ spanForm → ⊥) × (form ≡ lengthForm → ⊥)) ⌝ }
-    ensures { λ w. ⌜ WordsAt (formOf form) (now (sheet .entry)) p w ⌝ }
-{
-    if form < form::SPAN {
-        return plain(sheet, p, form);
-    }
-    let most = limit(form - form::NUMBER);
-    number(sheet, p, most)
-}
-
-// The field that begins at p.
-pub fn read_form(sheet: &[u8], p: usize, form: u32) -> FieldRead
-    requires { ⌜ InLine (now sheet) p ⌝ }
-    requires { ⌜ (0 < form) × (form < formCount) ⌝ }
-    ensures { λ w. ⌜ FieldHere (formOf form) (now (sheet .entry)) p w ⌝ }
-{
-    if form == form::SPAN {
-        return span(sheet, p);
-    }
-    if form == form::LENGTH {
-        return hops(sheet, p);
-    }
-    single(sheet, p, form)
 }

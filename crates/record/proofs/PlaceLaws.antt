@@ -5,7 +5,7 @@ use mathlib.Core.List.{List, [], _∷_, _++_}
 use Prim.Native.Nat.{ℕ, zero, suc, _+_, _-_, _≤_, _<_}
 use native.Mathlib.Numerals.{add-one}
 use native.Mathlib.Omega.{arith}
-use borrow.Author.Tests.{eq-eqb, ne-eqb, eqb-true, eqb-false, ltb-true, ltb-false, not-true, not-false}
+use borrow.Author.Tests.{ne-eqb, eqb-true, ltb-true, ltb-false, not-true, not-false}
 use lib.Dec.{eqb, ltb}
 use lib.ListN.{length, take, getD}
 use lib.Seq.{slice, slice-cons, slice-empty, take-suc, drop-append-le, length-take-le}
@@ -13,10 +13,6 @@ use Rattle.model.specs.Text.{Bytes, tab, lineFeed}
 use Rattle.record.specs.Place.{LineEnd, Fed, separates, Ends}
 
 -- ── a byte ──
-
-pub separates-tab : (b : ℕ) → b ≡ tab → separates b ≡ true
-unfolding separates
-separates-tab b e = rw (eq-eqb b tab e)
 
 pub separates-feed : (b : ℕ) → b ≡ lineFeed → separates b ≡ true
 unfolding separates

@@ -5,7 +5,6 @@ use mathlib.Core.List.{List, [], _∷_, tail}
 use mathlib.Core.Option.{Option, none, some}
 use Prim.Native.Nat.{ℕ}
 use native.Mathlib.Omega.{arith}
-use lib.Dec.{eqb}
 use lib.IntN.{ℤ}
 use Rattle.model.specs.Text.{Bytes, same, sameBy, unescape}
 use Rattle.model.specs.Field.{Form, Val, num, var, varOrAbsent, numOrAbsent, text, alias, u32, read, meaning, piece, spell, fits, aliasValue}
@@ -13,7 +12,7 @@ use Rattle.record.specs.declared.Decimal.{Decimal}
 use Rattle.record.specs.declared.OptDecimal.{OptDecimal}
 use Rattle.record.specs.declared.Signed.{Signed}
 use Rattle.record.specs.Number.{dash}
-use Rattle.record.specs.Answer.{isRead, decimalOf, optDecimalOf, flagOf, signedOf, aliasOf}
+use Rattle.record.specs.Answer.{isRead, decimalOf, optDecimalOf, signedOf, aliasOf}
 
 -- an id is a number of 32 bits
 pub var-is : (ps : List Bytes) → read var ps ≡ read (num u32) ps
@@ -69,10 +68,6 @@ optNumberIn (OptDecimal.Is n) = some (some n)
 optNumberIn OptDecimal.Absent = some none
 optNumberIn OptDecimal.Not = none
 
-abbrev pub flagIn : Decimal → Option Bool
-flagIn (Decimal.Is n) = some (eqb n 1)
-flagIn Decimal.Not = none
-
 abbrev pub intIn : Signed → Option ℤ
 intIn (Signed.Is z) = some z
 intIn Signed.Not = none
@@ -85,11 +80,6 @@ pub opt-read : (o : Option (Option ℕ)) (r : OptDecimal) → r ≡ optDecimalOf
 opt-read none r e = rw e
 opt-read (some none) r e = rw e
 opt-read (some (some n)) r e = rw e
-
-pub flag-read : (o : Option Bool) (r : Decimal) → r ≡ flagOf o → o ≡ flagIn r
-flag-read none r e = rw e
-flag-read (some false) r e = rw e
-flag-read (some true) r e = rw e
 
 pub signed-read : (o : Option ℤ) (r : Signed) → r ≡ signedOf o → o ≡ intIn r
 signed-read none r e = rw e

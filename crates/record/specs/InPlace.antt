@@ -11,7 +11,7 @@ use Rattle.record.specs.declared.DecimalAt.{DecimalAt}
 use Rattle.record.specs.declared.OptDecimalAt.{OptDecimalAt}
 use Rattle.record.specs.declared.TextAt.{TextAt}
 use Rattle.record.specs.declared.AliasAt.{AliasAt}
-use Rattle.record.specs.Answer.{decimalOf, optDecimalOf, flagOf, isRead, aliasOf}
+use Rattle.record.specs.Answer.{decimalOf, optDecimalOf, isRead, aliasOf}
 use Rattle.record.specs.Number.{digitsOn}
 use Rattle.record.specs.Place.{ReadAt}
 
@@ -65,9 +65,6 @@ NumberAt limit s p a = ReadAt s p (λ t. decimalOf (read (Form.num limit) (t ∷
 
 abbrev pub OptNumberAt : ℕ → Bytes → ℕ → OptDecimalAt → Type 0
 OptNumberAt limit s p a = ReadAt s p (λ t. optDecimalOf (read (Form.numOrAbsent limit) (t ∷ []))) (optDecimalIn a) (optDecimalEnd a)
-
-abbrev pub FlagAt : Bytes → ℕ → DecimalAt → Type 0
-FlagAt s p a = ReadAt s p (λ t. flagOf (read Form.flag (t ∷ []))) (decimalIn a) (decimalEnd a)
 
 abbrev pub NameAt : Bytes → ℕ → TextAt → Type 0
 NameAt s p a = ReadAt s p (λ t. isRead (read Form.text (t ∷ []))) (isText a) (textEnd a)

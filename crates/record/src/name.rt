@@ -1,7 +1,5 @@
 // Names of a sheet, and what may be named.
 ghost use mathlib.Core.Path.{_≡_};
-ghost use mathlib.Core.Bool.{false};
-ghost use lib.ListN.{getD};
 ghost use Rattle.record.specs.Name.{isPlain, letter, CharAt};
 ghost use Rattle.record.specs.Place.{Fed, separates};
 ghost use Rattle.record.specs.InPlace.{NameAt, AliasReadAt};

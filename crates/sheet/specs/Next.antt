@@ -8,7 +8,7 @@ use mathlib.Core.List.{List, [], _∷_, _++_}
 use mathlib.Core.Option.{some}
 use borrow.Author.Tests.{eqb-true, eqb-false}
 use lib.Dec.{eqb}
-use lib.ListN.{length, drop, getD}
+use lib.ListN.{drop, getD}
 use lib.Seq.{slice}
 use Rattle.sheet.specs.Stack.{dueWords, dueCountAt, dueRoomAt}
 use Rattle.words.specs.Places.{writeKind, kindCount, sortCount, lineStartAt, lineEndAt}
@@ -29,7 +29,7 @@ use Rattle.sheet.specs.declared.reader.Read.the-variants.{BadLine, BigTr
 use Rattle.sheet.specs.declared.reader.Step.{Step}
 use Rattle.sheet.specs.declared.reader.Step.the-variants.{More, Bad, Big}
 use Rattle.words.specs.Held.{LineAt}
-use Rattle.sheet.specs.LineLaws.{LinesEnd, line-first, line-more, line-stands}
+use Rattle.sheet.specs.LineLaws.{line-first, line-more, line-stands}
 use Rattle.sheet.specs.Due.{roomBelow, isZero}
 use Rattle.sheet.specs.Writes.{writes, writeAmong}
 use Rattle.sheet.specs.Progress.{placeAt, rest, line-refused, no-feed, too-many, deep, unformed, well-formed}

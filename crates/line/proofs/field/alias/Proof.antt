@@ -1,6 +1,5 @@
 -- `line::field::alias` meets its contract: the place of an alias. Assumes nothing.
 use borrow.Author.Needs.{needs}
-use native.Mathlib.Omega.{arith}
 use Rattle.line.proofs.NameLaws.{alias-dash, alias-named, alias-not, alias-small}
 use Rattle.line.proofs.field.alias.Statement.{statement}
 use Rattle.line.proofs.field.alias.Tie as tie

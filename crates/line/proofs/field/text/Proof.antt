@@ -1,6 +1,5 @@
 -- `line::field::text` meets its contract: the place of a name. Assumes nothing.
 use borrow.Author.Needs.{needs}
-use native.Mathlib.Omega.{arith}
 use Rattle.line.proofs.NameLaws.{text-is, text-not, text-small}
 use Rattle.line.proofs.field.text.Statement.{statement}
 use Rattle.line.proofs.field.text.Tie as tie

@@ -1,7 +1,6 @@
 -- `line::form::span` meets its contract: two numbers in order. Assumes nothing.
 use borrow.Author.Needs.{needs}
 use native.Mathlib.Omega.{arith}
-use Rattle.record.proofs.PlaceLaws.{fed-in}
 use Rattle.line.proofs.PlaceLaws.{fed-behind}
 use Rattle.line.proofs.FormLaws.{span-start-not, ends, span-few, span-end-not, span-is, span-not}
 use Rattle.line.proofs.form.span.Statement.{statement}

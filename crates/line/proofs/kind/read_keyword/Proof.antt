@@ -1,11 +1,9 @@
 -- `line::kind::read_keyword` meets its contract: a short text packs into a number that tells it from every other short text. The invariant: the bytes passed are packed. Assumes nothing.
-use mathlib.Core.Path.{_≡_}
-use Prim.Native.Nat.{_+_, _-_}
+use Prim.Native.Nat.{_-_}
 use native.Mathlib.Omega.{arith}
 use lib.ListN.{length}
 use borrow.Author.Needs.{needs}
 use Rattle.record.proofs.PlaceLaws.{fed-in}
-use Rattle.line.specs.Kinds.{maxKeyword}
 use Rattle.line.proofs.PackLaws.{Packing, pack-none, pack-room, pack-more, pack-long, pack-done}
 use Rattle.line.proofs.kind.read_keyword.Statement.{statement}
 use Rattle.line.proofs.kind.read_keyword.Tie as tie

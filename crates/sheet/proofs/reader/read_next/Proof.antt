@@ -61,7 +61,7 @@ slice-read-room c =
 returns : tie.Need-returns
 returns c =
     let start : tie.Start = search ways depth 11 in
-    next-many _ _ _ _ _ _ _ _ (start .pre .1) _ (start .pre .0 .fed .line) (c .if1 .taken)
+    next-many _ _ _ _ _ _ _ _ (start .pre .1) _ (start .pre .0 .fed .line) (omega (arith, c .if1 .taken))
 
 returns-2 : tie.Need-returns-2
 returns-2 c =
