@@ -71,13 +71,12 @@ pub record SpecialAsked (a b : List ℕ) (at : At) (ends : NodeRelNode) (between
   pub rel : ReadAt a b (ends .rel) relPropsAt between
   pub to : ReadAt a b (ends .far) nodePropsAt (ends .to)
 
--- the part at a place, over a root, and room for a number and an operator
-pub record PathAsked (a b : List ℕ) (at : At) (root : ℕ) (c : LowerCtx) (os rs : List ℕ) : Type 0 where
-  pub words : Roomy a b
+-- room for the number and the operator of a path
+pub record PathAsked (at : At) (input : ℕ) (c : LowerCtx) (os rs : List ℕ) : Type 0 where
   pub low : at .i < maxRecords
-  pub fits : Fits at
   pub near : at .base ≤ secondPass
-  pub input : root < two32
+  pub fits : Fits at
+  pub small : input < two32
   pub number : CanNumber c (at .base + (at .i + 1)) rs
   pub few : c .ops < maxCount
   pub in-ops : workWords ≤ length os

@@ -248,6 +248,8 @@ lower-chain-calls t = (
   root-of-reads.Learnt,
   or-source-all-reads.Asked,
   or-source-all-reads.Learnt,
+  word-reads.Asked,
+  word-reads.Learnt,
   bind-path-reads.Asked,
   bind-path-reads.Learnt,
 )

@@ -3,7 +3,7 @@ use Prim.Native.Nat.{_-_, _+_, ℕ}
 use Rattle.lower.proofs.Chaining
 use Rattle.lower.specs.Exprs
 use Rattle.lower.proofs.Room
-use mathlib.Core.Path.{refl, _∙_}
+use mathlib.Core.Path.{refl, sym, _∙_}
 use native.Mathlib.Omega.{arith}
 use borrow.Fn.Kinds.{In, Out}
 use Rattle.lower.proofs.lower_chain.Reads as reads
@@ -17,8 +17,17 @@ module _ (t : ℕ) where
   here X = X (lower-chain-calls t) (lower-chain-at t) reads.Post
 
   -- the ways back, from place to place
-  abbrev back-bind-path : here lts.After-bind-path → here lts.After-or-source-all
+  abbrev back-bind-path : here lts.After-bind-path → here lts.After-word2
   back-bind-path c = search
+
+  abbrev back-word2 : here lts.After-word2 → here lts.Else1
+  back-word2 c = search
+
+  abbrev back-else1 : here lts.Else1 → here lts.After-word
+  back-else1 c = search
+
+  abbrev back-word : here lts.After-word → here lts.After-or-source-all
+  back-word c = search
 
   abbrev back-or-source-all : here lts.After-or-source-all → here lts.After-root-of
   back-or-source-all c = search
@@ -32,7 +41,7 @@ module _ (t : ℕ) where
   abbrev back-count : here lts.After-count → here lts.Start
   back-count c = search
 
-  ruleset ways = (back-bind-path, back-or-source-all, back-root-of, back-lower-elements, back-count)
+  ruleset ways = (back-bind-path, back-word2, back-else1, back-word, back-or-source-all, back-root-of, back-lower-elements, back-count)
 
   count-requires : here lts.Need-count-requires
   count-requires c κs =
@@ -68,6 +77,44 @@ module _ (t : ℕ) where
       let g = Exprs.good-after (after-lower-elements .lower-elements .ensures .moved) before in
       (Room.can-push g, Chaining.root-under (after-root-of .root-of .ensures) (after-lower-elements .lower-elements .ensures .bounded .last))
 
+  word-requires : here lts.Need-word-requires
+  word-requires c κs =
+      let start : here lts.Start = search ways depth 12 in
+      (Room.low (start .pre .1 .tree), (omega arith, start .pre .1 .words))
+
+  same-length : here lts.Need-same-length
+  same-length c =
+      let after-or-source-all : here lts.After-or-source-all = search ways depth 12 in
+      let after-lower-elements : here lts.After-lower-elements = search ways depth 12 in
+      after-or-source-all .or-source-all .kept .0 ∙ after-lower-elements .lower-elements .kept .1 .1 .0
+
+  same-length-2 : here lts.Need-same-length-2
+  same-length-2 c =
+      let after-lower-elements : here lts.After-lower-elements = search ways depth 12 in
+      after-lower-elements .lower-elements .kept .1 .1 .1 .0
+
+  returns : here lts.Need-returns
+  returns c =
+      let after-word : here lts.After-word = search ways depth 12 in
+      let after-or-source-all : here lts.After-or-source-all = search ways depth 12 in
+      let after-root-of : here lts.After-root-of = search ways depth 12 in
+      let after-lower-elements : here lts.After-lower-elements = search ways depth 12 in
+      let after-count : here lts.After-count = search ways depth 12 in
+      let start : here lts.Start = search ways depth 12 in
+      let elements = after-lower-elements .lower-elements .ensures in
+      let source = after-or-source-all .or-source-all .ensures in
+      let root = after-root-of .root-of .ensures in
+      let since = source .since _ (elements .moved .grow) (Chaining.root-since root (Chaining.start-since _ elements)) in
+      let unnamed = sym (after-word .word .ensures) ∙ c .if1 .taken in
+      rw
+      (source .same)
+      (Chaining.unnamed-law _ _ (start .pre .1 .words) (start .pre .1 .pass) (after-count .count .ensures .0) elements (Chaining.source-as root (source .source _)) since unnamed)
+
+  word-requires-2 : here lts.Need-word-requires-2
+  word-requires-2 c κs =
+      let start : here lts.Start = search ways depth 12 in
+      (Room.low (start .pre .1 .tree), (omega arith, start .pre .1 .words))
+
   bind-path-requires : here lts.Need-bind-path-requires
   bind-path-requires c κs =
       let after-or-source-all : here lts.After-or-source-all = search ways depth 12 in
@@ -79,45 +126,44 @@ module _ (t : ℕ) where
       let source = after-or-source-all .or-source-all .ensures .source _ in
       let few = Room.source-few g source in
       record {
-        words = start .pre .1 .words;
         low = l .low;
-        fits = Room.fits (l .near) (omega arith) (omega arith);
         near = l .near;
-        input = omega (arith, few .1);
+        fits = Room.fits (l .near) (omega arith) (omega arith);
+        small = omega (arith, few .1);
         number = Room.source-number g source _ _ _ (l .near) (omega arith) refl;
         few = omega (arith, few .0);
         in-ops = rw (after-or-source-all .or-source-all .kept .0) (g .in-ops);
       }
 
-  same-length : here lts.Need-same-length
-  same-length c =
+  same-length-3 : here lts.Need-same-length-3
+  same-length-3 c =
       let after-bind-path : here lts.After-bind-path = search ways depth 12 in
       let after-or-source-all : here lts.After-or-source-all = search ways depth 12 in
       let after-lower-elements : here lts.After-lower-elements = search ways depth 12 in
-      after-bind-path .bind-path .kept .1 .1 .0 ∙ after-or-source-all .or-source-all .kept .0 ∙ after-lower-elements .lower-elements .kept .1 .1 .0
+      after-bind-path .bind-path .kept .0 ∙ after-or-source-all .or-source-all .kept .0 ∙ after-lower-elements .lower-elements .kept .1 .1 .0
 
-  same-length-2 : here lts.Need-same-length-2
-  same-length-2 c =
+  same-length-4 : here lts.Need-same-length-4
+  same-length-4 c =
       let after-bind-path : here lts.After-bind-path = search ways depth 12 in
       let after-lower-elements : here lts.After-lower-elements = search ways depth 12 in
-      after-bind-path .bind-path .kept .1 .1 .1 .0 ∙ after-lower-elements .lower-elements .kept .1 .1 .1 .0
+      after-bind-path .bind-path .kept .1 .0 ∙ after-lower-elements .lower-elements .kept .1 .1 .1 .0
 
-  returns : here lts.Need-returns
-  returns c =
+  returns-2 : here lts.Need-returns-2
+  returns-2 c =
       let after-bind-path : here lts.After-bind-path = search ways depth 12 in
+      let after-word2 : here lts.After-word2 = search ways depth 12 in
+      let else1 : here lts.Else1 = search ways depth 12 in
+      let after-word : here lts.After-word = search ways depth 12 in
       let after-or-source-all : here lts.After-or-source-all = search ways depth 12 in
       let after-root-of : here lts.After-root-of = search ways depth 12 in
       let after-lower-elements : here lts.After-lower-elements = search ways depth 12 in
       let after-count : here lts.After-count = search ways depth 12 in
       let start : here lts.Start = search ways depth 12 in
-      let elements = after-lower-elements .lower-elements .ensures in
+      let asked = start .pre .1 in
       let source = after-or-source-all .or-source-all .ensures in
-      let root = after-root-of .root-of .ensures in
-      let path = after-bind-path .bind-path in
-      let since = source .since _ (elements .moved .grow) (Chaining.root-since root (Chaining.start-since _ elements)) in
-      rw
-      (path .ensures .0 ∙ source .same)
-      (Chaining.chain-law _ _ (start .pre .1 .words) (start .pre .1 .pass) (start .pre .1 .depth) (after-count .count .ensures .0) elements (Chaining.source-as root (source .source _)) since (path .ensures .1) (path .kept .1 .1 .0) (path .kept .1 .1 .1 .0))
+      let bound = after-bind-path .bind-path in
+      let law = Chaining.bound-law _ _ (asked .words) (asked .pass) (asked .depth) (after-count .count .ensures .0) (after-lower-elements .lower-elements .ensures) (Chaining.source-as (after-root-of .root-of .ensures) (source .source _)) in
+      rw (source .same) (law (λ e. else1 .if1 .left (after-word .word .ensures ∙ e)) (after-word2 .word2 .ensures) (bound .ensures) (bound .kept .0) (bound .kept .1 .0))
 
   pub meets : {M : Type 1} → lts.Closed (lower-chain-calls t) (lower-chain-at t) reads.Post M
   meets =
@@ -130,7 +176,12 @@ module _ (t : ℕ) where
       lower-elements-requires
       root-of-requires
       or-source-all-requires
-      bind-path-requires
+      word-requires
       same-length
       same-length-2
       returns
+      word-requires-2
+      bind-path-requires
+      same-length-3
+      same-length-4
+      returns-2
