@@ -28,7 +28,7 @@ use Rattle.lower.specs.Shows.{shows-all, shows-path}
 use Rattle.lower.specs.Rep.{atPlace, State, Mem, mem, Written, Sub, Blank, Rep, Rooted}
 use Rattle.lower.specs.Pieces.{SomeTree}
 use Rattle.lower.specs.Patterns.{SomeTrees}
-use Rattle.lower.specs.Chains.{lastOf, LastUnder, LastSince, stepsOf, no-rel, SameChain, ChainInBounds, Anchored, passed, ChainedAll, LowersElements, Sourced, OrSource, PathBound, chainL, LowersChain, startChain}
+use Rattle.lower.specs.Chains.{lastOf, LastUnder, LastSince, stepsOf, no-rel, SameChain, ChainInBounds, Anchored, passed, ChainedAll, LowersElements, Sourced, OrSource, chainL, LowersChain, startChain}
 use Rattle.lower.specs.declared.Last.{Last}
 use Rattle.lower.specs.declared.Last.the-variants as last
 use Rattle.lower.specs.declared.Chain.{Chain}
@@ -247,10 +247,3 @@ module _ {a b : List ℕ} {n base : ℕ} {c : LowerCtx} {ch : Chain} {os os₁ r
           next = chain-next;
           run = named-run;
         }
-
--- the path, as it is bound
-pub bound-law : {a b : List ℕ} {n base : ℕ} {c c′ : LowerCtx} {ch : Chain} {os os₁ os′ rs rs₁ rs′ : List ℕ} {k id : ℕ} {m₂ : Mem} (d i : ℕ) (room : Roomy a b) (lb : base ≤ secondPass) (sh : d ≤ deepest)
-    (en : n ≡ cell a b i partElementsAt) (el : LowersElements a b n (d - 1) base (startChain i c) ch os os₁ rs rs₁)
-    (sr : OrSource (ch .ctx .ops) (orSourceAll (rootOf (lastOf (ch .last)))) k (mem (ch .ctx) os₁ rs₁) m₂) → ((cell a b i partNamedAt ≡ 0) → ⊥) → id ≡ cell a b i partVarAt →
-    PathBound (atPlace base i (d - 1)) k id (ch .kept) (m₂ .ctx) c′ (m₂ .ops) os′ (m₂ .rest) rs′ → length os′ ≡ length (m₂ .ops) → length rs′ ≡ length (m₂ .rest) → LowersChain a b d base i (ch .next) (m₂ .ctx .ops) (mem c os rs) (mem c′ os′ rs′)
-bound-law d i room lb sh en el sr ne ei p lo lr = rw (← p .numbered .issued .ops) (named-law d i room lb en el sr sh ne refl (rw ei at (p .numbered)) lr (p .pushed) lo)

@@ -10,7 +10,7 @@ use lib.ListN.{length}
 use Rattle.model.specs.Text.{Bytes}
 use Rattle.model.specs.Kind.{patternPart, patternElement}
 use Rattle.model.specs.Tree.{Tree, Trees, node, _∷ᵗ_, end, _▸_, toList, fold, foldOf}
-use Rattle.model.specs.Lower.{Lowering, Lowered, made, _>>=_, push, source, filterByProps, Step, RelStep, NodeStep, ofNode, ofRel, lowerElement, lowerElements, lowerChain, orSourceAll, endpointVar, mapVar}
+use Rattle.model.specs.Lower.{Lowering, Lowered, made, _>>=_, push, source, filterByProps, Step, RelStep, NodeStep, ofNode, ofRel, lowerElement, lowerElements, lowerChain, orSourceAll, endpointVar}
 use Rattle.model.specs.Lower
 use Rattle.words.specs.Words.{cell, optionOf, maxRecords}
 use Rattle.words.specs.Held.{Held, HeldOf, size, sizeOf}
@@ -19,8 +19,7 @@ use Rattle.lower.specs.Render.{Notes, Ops, keptFrom}
 use Rattle.lower.specs.Shows.{shift}
 use Rattle.lower.specs.Rep.{State, Mem, mem, Written, Blank, Future, Rep, To, Rooted, Moved}
 use Rattle.lower.specs.Pieces.{LowersExprs}
-use Rattle.context.specs.Tables.{Numbers, Pushed}
-use Rattle.context.specs.declared.At.{At}
+use Rattle.context.specs.Tables.{Numbers}
 use Rattle.context.specs.declared.LowerCtx.{LowerCtx}
 use Rattle.context.specs.declared.Numbered.{Numbered}
 use Rattle.lower.specs.declared.Chain.{Chain}
@@ -31,7 +30,7 @@ use Rattle.lower.specs.declared.Pending.the-variants as pending
 use Rattle.lower.specs.declared.Element.{Element}
 use Rattle.lower.specs.declared.Element.the-variants as element
 use Rattle.lower.specs.declared.Read.{Read}
-use Rattle.context.specs.Ops.{beforeOf, bindOf, Since, bindPathOp}
+use Rattle.context.specs.Ops.{beforeOf, bindOf, Since}
 use Rattle.context.specs.declared.Before.{Before}
 use Rattle.words.specs.Places.{kindAt, nodeKind, relKind, elementNamedAt, elementVarAt, relTypesAt, relPropsAt, partShortestAt, partElementsAt, nodeLabelsAt, nodePropsAt}
 
@@ -172,12 +171,6 @@ pub record SourceLeft (current : Before) (next next′ op : ℕ) (c c′ : Lower
   pub same : next′ ≡ next
   pub since : (n : ℕ) → n ≤ c .ops → Since current n → n ≤ op
   pub source : (rest : List ℕ) → OrSource (c .ops) (orSourceAll (beforeOf current)) op (mem c os rest) (mem c′ os′ rest)
-
--- the path of the part at a place is bound over operator `input`, by its variable and with so many numbers
-pub record PathBound (at : At) (input id kept : ℕ) (c c′ : LowerCtx) (os os′ rs rs′ : List ℕ) : Type 0 where
-  pub named : Numbered
-  pub numbered : Numbers (mapVar id) (at .base + (at .i + 1)) c rs rs′ named
-  pub pushed : Pushed (named .ctx) c′ os os′ (bindPathOp at input kept (named .number))
 
 unfoldable pub chainL : Tree patternPart → Lowering ℕ
 chainL (node patternPart line k (namedAs, (shortest, (n, _))) (ts ▸ end)) = λ s. lowerChain namedAs (stepsOf ts) s

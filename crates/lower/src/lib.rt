@@ -11,8 +11,8 @@ ghost use Rattle.words.specs.Places.{elementNamedAt, elementVarAt};
 ghost use Rattle.lower.specs.Rep.{mem};
 ghost use Rattle.lower.specs.Pieces.{LowersExpr, LowersExprs};
 ghost use Rattle.lower.specs.Patterns.{LowersPart, LowersParts};
-ghost use Rattle.lower.specs.Chains.{lastOf, LowersElement, LowersElements, LowersStart, LowersRel, SourceLeft, PathBound, LowersChain, ReadAt, ElementAt, startChain};
-ghost use Rattle.lower.specs.Asked.{PathAsked, TreeAsked, ExprsAsked, BehindAsked, NodeAsked, RelAsked, SpecialAsked, ChainAsked, StartAsked, ExpandAsked};
+ghost use Rattle.lower.specs.Chains.{lastOf, LowersElement, LowersElements, LowersStart, LowersRel, SourceLeft, LowersChain, ReadAt, ElementAt, startChain};
+ghost use Rattle.lower.specs.Asked.{TreeAsked, ExprsAsked, BehindAsked, NodeAsked, RelAsked, SpecialAsked, ChainAsked, StartAsked, ExpandAsked};
 ghost use Rattle.context.specs.Tables.{maxCount};
 ghost use Rattle.context.specs.Ops.{beforeOf, bindOf, Under};
 use context::At;
@@ -174,24 +174,6 @@ fn lower_no_parts(ops: &mut [u32], ctx: LowerCtx, i: usize) -> Root
         op: k,
         ctx: z,
     }
-}
-
-// The path of the part at a place over an operator: its number, by its variable, and an operator that lists so many numbers.
-fn bind_path(
-    ops: &mut [u32],
-    rest: &mut [u32],
-    ctx: LowerCtx,
-    at: At,
-    input: usize,
-    id: u32,
-    kept: u32,
-) -> LowerCtx
-    requires { ⌜ PathAsked at input ctx (now ops) (now rest) ⌝ }
-    ensures { λ r. ⌜ PathBound at input id kept ctx r (now (ops .entry)) (now (ops .exit)) (now (rest .entry)) (now (rest .exit)) ⌝ }
-{
-    let m = ctx.number(rest, id, at.base + (at.i + 1));
-    let c = m.ctx;
-    c.push(ops, op::bind_path(at, input, kept, m.number))
 }
 
 // The expression at a place.
@@ -443,8 +425,10 @@ fn lower_chain(
     }
     let id = words::word(a, b, i, field::PART_VAR);
     let d = q.ctx;
-    let k = d.ops;
-    let z = bind_path(ops, rest, d, below, q.op, id, ch.kept);
+    let m = d.number(rest, id, at.base + (i + 1));
+    let e = m.ctx;
+    let k = e.ops;
+    let z = e.push(ops, op::bind_path(below, q.op, ch.kept, m.number));
     Root {
         next: q.next,
         op: k,
