@@ -28,7 +28,7 @@ use Rattle.lower.specs.Shows.{shows-all, shows-path}
 use Rattle.lower.specs.Rep.{atPlace, State, Mem, mem, Written, Sub, Blank, Rep, Rooted}
 use Rattle.lower.specs.Pieces.{SomeTree}
 use Rattle.lower.specs.Patterns.{SomeTrees}
-use Rattle.lower.specs.Chains.{lastOf, LastUnder, LastSince, stepsOf, no-rel, SameChain, ChainInBounds, Anchored, passed, ChainedAll, LowersElements, Sourced, OrSource, BindsPath, no-path, a-path, chainL, LowersChain, startChain}
+use Rattle.lower.specs.Chains.{lastOf, LastUnder, LastSince, stepsOf, no-rel, SameChain, ChainInBounds, Anchored, passed, ChainedAll, LowersElements, Sourced, OrSource, chainL, LowersChain, startChain}
 use Rattle.lower.specs.declared.Last.{Last}
 use Rattle.lower.specs.declared.Last.the-variants as last
 use Rattle.lower.specs.declared.Chain.{Chain}
@@ -247,11 +247,3 @@ module _ {a b : List ℕ} {n base : ℕ} {c : LowerCtx} {ch : Chain} {os os₁ r
           next = chain-next;
           run = named-run;
         }
-
--- named or not
-pub chain-law : {a b : List ℕ} {n base : ℕ} {c c′ : LowerCtx} {ch : Chain} {os os₁ os′ rs rs₁ rs′ : List ℕ} {k k′ : ℕ} {m₂ : Mem} (d i : ℕ) (room : Roomy a b) (lb : base ≤ secondPass) (sh : d ≤ deepest)
-    (en : n ≡ cell a b i partElementsAt) (el : LowersElements a b n (d - 1) base (startChain i c) ch os os₁ rs rs₁)
-    (sr : OrSource (ch .ctx .ops) (orSourceAll (rootOf (lastOf (ch .last)))) k (mem (ch .ctx) os₁ rs₁) m₂) (so : c .ops ≤ k) →
-    BindsPath a b (atPlace base i (d - 1)) (ch .kept) k k′ m₂ (mem c′ os′ rs′) → length os′ ≡ length (m₂ .ops) → length rs′ ≡ length (m₂ .rest) → LowersChain a b d base i (ch .next) k′ (mem c os rs) (mem c′ os′ rs′)
-chain-law d i room lb sh en el sr so (no-path e ek em) lo lr = rw (ek, em) (unnamed-law d i room lb en el sr so e)
-chain-law d i room lb sh en el sr so (a-path ne n nm ek pp) lo lr = rw ek (named-law d i room lb en el sr sh ne refl nm lr pp lo)

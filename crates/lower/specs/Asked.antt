@@ -3,13 +3,9 @@ use mathlib.Core.Path.{_≡_}
 use Prim.Native.Nat.{ℕ, _+_, _-_, _≤_, _<_}
 use mathlib.Core.List.{List}
 use Rattle.model.specs.Kind.{Sort, patternPart, patternElement}
-use lib.ListN.{length}
-use Rattle.model.specs.Call.{workWords}
-use Rattle.words.specs.Words.{Roomy, cell, maxRecords, two32}
+use Rattle.words.specs.Words.{Roomy, cell, maxRecords}
 use Rattle.words.specs.Places.{kindAt, nodeKind, relKind, nodePropsAt, relPropsAt}
-use Rattle.context.specs.Ops.{Fits}
-use Rattle.context.specs.declared.LowerCtx.{LowerCtx}
-use Rattle.context.specs.Tables.{CanNumber, maxCount, secondPass, deepest}
+use Rattle.context.specs.Tables.{secondPass, deepest}
 use Rattle.context.specs.declared.At.{At}
 use Rattle.lower.specs.Rep.{Mem, mem, RoomFor}
 use Rattle.lower.specs.Pieces.{SomeTree, SomeCarried}
@@ -70,17 +66,6 @@ pub record SpecialAsked (a b : List ℕ) (at : At) (ends : NodeRelNode) (between
   pub near : ReadAt a b (at .i + 1) nodePropsAt (ends .near)
   pub rel : ReadAt a b (ends .rel) relPropsAt between
   pub to : ReadAt a b (ends .far) nodePropsAt (ends .to)
-
--- the part at a place, over a root, and room for a number and an operator
-pub record PathAsked (a b : List ℕ) (at : At) (root : ℕ) (c : LowerCtx) (os rs : List ℕ) : Type 0 where
-  pub words : Roomy a b
-  pub low : at .i < maxRecords
-  pub fits : Fits at
-  pub near : at .base ≤ secondPass
-  pub input : root < two32
-  pub number : CanNumber c (at .base + (at .i + 1)) rs
-  pub few : c .ops < maxCount
-  pub in-ops : workWords ≤ length os
 
 -- the next element of a chain
 pub record ChainAsked (a b : List ℕ) (base left : ℕ) (ch : Chain) (os rs : List ℕ) : Type 0 where

@@ -10,7 +10,7 @@ use lib.ListN.{length}
 use Rattle.model.specs.Text.{Bytes}
 use Rattle.model.specs.Kind.{patternPart, patternElement}
 use Rattle.model.specs.Tree.{Tree, Trees, node, _∷ᵗ_, end, _▸_, toList, fold, foldOf}
-use Rattle.model.specs.Lower.{Lowering, Lowered, made, _>>=_, push, source, filterByProps, Step, RelStep, NodeStep, ofNode, ofRel, lowerElement, lowerElements, lowerChain, orSourceAll, endpointVar, mapVar}
+use Rattle.model.specs.Lower.{Lowering, Lowered, made, _>>=_, push, source, filterByProps, Step, RelStep, NodeStep, ofNode, ofRel, lowerElement, lowerElements, lowerChain, orSourceAll, endpointVar}
 use Rattle.model.specs.Lower
 use Rattle.words.specs.Words.{cell, optionOf, maxRecords}
 use Rattle.words.specs.Held.{Held, HeldOf, size, sizeOf}
@@ -19,8 +19,7 @@ use Rattle.lower.specs.Render.{Notes, Ops, keptFrom}
 use Rattle.lower.specs.Shows.{shift}
 use Rattle.lower.specs.Rep.{State, Mem, mem, Written, Blank, Future, Rep, To, Rooted, Moved}
 use Rattle.lower.specs.Pieces.{LowersExprs}
-use Rattle.context.specs.Tables.{Numbers, Pushed}
-use Rattle.context.specs.declared.At.{At}
+use Rattle.context.specs.Tables.{Numbers}
 use Rattle.context.specs.declared.LowerCtx.{LowerCtx}
 use Rattle.context.specs.declared.Numbered.{Numbered}
 use Rattle.lower.specs.declared.Chain.{Chain}
@@ -31,9 +30,9 @@ use Rattle.lower.specs.declared.Pending.the-variants as pending
 use Rattle.lower.specs.declared.Element.{Element}
 use Rattle.lower.specs.declared.Element.the-variants as element
 use Rattle.lower.specs.declared.Read.{Read}
-use Rattle.context.specs.Ops.{beforeOf, bindOf, Since, bindPathOp}
+use Rattle.context.specs.Ops.{beforeOf, bindOf, Since}
 use Rattle.context.specs.declared.Before.{Before}
-use Rattle.words.specs.Places.{kindAt, nodeKind, relKind, elementNamedAt, elementVarAt, partNamedAt, partVarAt, relTypesAt, relPropsAt, partShortestAt, partElementsAt, nodeLabelsAt, nodePropsAt}
+use Rattle.words.specs.Places.{kindAt, nodeKind, relKind, elementNamedAt, elementVarAt, relTypesAt, relPropsAt, partShortestAt, partElementsAt, nodeLabelsAt, nodePropsAt}
 
 -- the last operator and its node's number, as the definition has them
 abbrev pub lastOf : Last → Option (ℕ × ℕ)
@@ -167,16 +166,11 @@ pub record OrSource (o : ℕ) (L : Lowering ℕ) (k : ℕ) (m m′ : Mem) : Type
   pub low : k < m′ .ctx .ops
   pub run : (S : Side) (W : Written) (s : State) → S .first ≤ o → Rep S W s m → Sourced S L k W s m m′
 
--- the operator before, or a new source of everything, at op, which was not there before if that one was not; the next record is as it was passed
+-- the operator before, or a new source of everything, at op, which is from n on if that one is; the next record is as it was passed
 pub record SourceLeft (current : Before) (next next′ op : ℕ) (c c′ : LowerCtx) (os os′ : List ℕ) : Type 0 where
   pub same : next′ ≡ next
   pub since : (n : ℕ) → n ≤ c .ops → Since current n → n ≤ op
   pub source : (rest : List ℕ) → OrSource (c .ops) (orSourceAll (beforeOf current)) op (mem c os rest) (mem c′ os′ rest)
-
--- the path of the part at a place is bound over operator k, if the part is named, with so many numbers; then k′ is the root
-pub data BindsPath (a b : List ℕ) (at : At) (kept k k′ : ℕ) (m m′ : Mem) : Type 0 where
-  no-path : cell a b (at .i) partNamedAt ≡ 0 → k′ ≡ k → m′ ≡ m → BindsPath a b at kept k k′ m m′
-  a-path : ((cell a b (at .i) partNamedAt ≡ 0) → ⊥) → (n : Numbered) → Numbers (mapVar (cell a b (at .i) partVarAt)) (at .base + (at .i + 1)) (m .ctx) (m .rest) (m′ .rest) n → k′ ≡ n .ctx .ops → Pushed (n .ctx) (m′ .ctx) (m .ops) (m′ .ops) (bindPathOp at k kept (n .number)) → BindsPath a b at kept k k′ m m′
 
 unfoldable pub chainL : Tree patternPart → Lowering ℕ
 chainL (node patternPart line k (namedAs, (shortest, (n, _))) (ts ▸ end)) = λ s. lowerChain namedAs (stepsOf ts) s

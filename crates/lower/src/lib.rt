@@ -11,8 +11,8 @@ ghost use Rattle.words.specs.Places.{elementNamedAt, elementVarAt};
 ghost use Rattle.lower.specs.Rep.{mem};
 ghost use Rattle.lower.specs.Pieces.{LowersExpr, LowersExprs};
 ghost use Rattle.lower.specs.Patterns.{LowersPart, LowersParts};
-ghost use Rattle.lower.specs.Chains.{lastOf, LowersElement, LowersElements, LowersStart, LowersRel, SourceLeft, BindsPath, LowersChain, ReadAt, ElementAt, startChain};
-ghost use Rattle.lower.specs.Asked.{PathAsked, TreeAsked, ExprsAsked, BehindAsked, NodeAsked, RelAsked, SpecialAsked, ChainAsked, StartAsked, ExpandAsked};
+ghost use Rattle.lower.specs.Chains.{lastOf, LowersElement, LowersElements, LowersStart, LowersRel, SourceLeft, LowersChain, ReadAt, ElementAt, startChain};
+ghost use Rattle.lower.specs.Asked.{TreeAsked, ExprsAsked, BehindAsked, NodeAsked, RelAsked, SpecialAsked, ChainAsked, StartAsked, ExpandAsked};
 ghost use Rattle.context.specs.Tables.{maxCount};
 ghost use Rattle.context.specs.Ops.{beforeOf, bindOf, Under};
 use context::At;
@@ -171,37 +171,6 @@ fn lower_no_parts(ops: &mut [u32], ctx: LowerCtx, i: usize) -> Root
     let z = c.push(ops, op::source_all(f.number));
     Root {
         next: i + 1,
-        op: k,
-        ctx: z,
-    }
-}
-
-// The path of the part at a place over a root, if the part is named: its number, and an operator that lists so many numbers.
-fn bind_path(
-    a: &[u32],
-    b: &[u32],
-    ops: &mut [u32],
-    rest: &mut [u32],
-    root: Root,
-    at: At,
-    kept: u32,
-) -> Root
-    requires { ⌜ PathAsked (now a) (now b) at (root .op) (root .ctx) (now ops) (now rest) ⌝ }
-    ensures { λ r. ⌜ (r .next ≡ root .next) × BindsPath (now (a .entry)) (now (b .entry)) at kept (root .op) (r .op) (mem (root .ctx) (now (ops .entry)) (now (rest .entry))) (mem (r .ctx) (now (ops .exit)) (now (rest .exit))) ⌝ }
-{
-    let i = at.i;
-    let named = words::word(a, b, i, field::PART_NAMED);
-    if named == 0 {
-        return root;
-    }
-    let id = words::word(a, b, i, field::PART_VAR);
-    let c = root.ctx;
-    let m = c.number(rest, id, at.base + (i + 1));
-    let d = m.ctx;
-    let k = d.ops;
-    let z = d.push(ops, op::bind_path(at, root.op, kept, m.number));
-    Root {
-        next: root.next,
         op: k,
         ctx: z,
     }
@@ -450,7 +419,21 @@ fn lower_chain(
     let last = ch.last;
     let root = root_of(last);
     let q = or_source_all(ops, c, root, ch.next);
-    bind_path(a, b, ops, rest, q, below, ch.kept)
+    let named = words::word(a, b, i, field::PART_NAMED);
+    if named == 0 {
+        return q;
+    }
+    let id = words::word(a, b, i, field::PART_VAR);
+    let d = q.ctx;
+    let m = d.number(rest, id, at.base + (i + 1));
+    let e = m.ctx;
+    let k = e.ops;
+    let z = e.push(ops, op::bind_path(below, q.op, ch.kept, m.number));
+    Root {
+        next: q.next,
+        op: k,
+        ctx: z,
+    }
 }
 
 // The n elements behind the record at a place.

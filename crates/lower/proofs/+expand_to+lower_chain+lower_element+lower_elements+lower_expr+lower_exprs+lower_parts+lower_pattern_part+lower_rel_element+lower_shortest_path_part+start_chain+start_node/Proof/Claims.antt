@@ -45,7 +45,7 @@ use Rattle.context.proofs.op.source.Reads as source-reads
 use Rattle.context.proofs.op.filter.Reads as filter-reads
 use Rattle.context.proofs.op.expand.Reads as expand-reads
 use Rattle.context.proofs.op.shortest_path.Reads as shortest-path-reads
-use Rattle.lower.proofs.bind_path.Reads as bind-path-reads
+use Rattle.context.proofs.op.bind_path.Reads as bind-path-reads
 use Rattle.context.proofs.note.Reads as note-reads
 use Rattle.lower.proofs.lower_no_parts.Reads as lower-no-parts-reads
 use Rattle.lower.proofs.or_source_all.Reads as or-source-all-reads
@@ -248,8 +248,14 @@ lower-chain-calls t = (
   root-of-reads.Learnt,
   or-source-all-reads.Asked,
   or-source-all-reads.Learnt,
+  word-reads.Asked,
+  word-reads.Learnt,
+  number-reads.Asked,
+  number-reads.Learnt,
   bind-path-reads.Asked,
   bind-path-reads.Learnt,
+  push-reads.Asked,
+  push-reads.Learnt,
 )
 
 abbrev pub lower-element-calls : ℕ → lower-element-lts.Claims
