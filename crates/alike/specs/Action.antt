@@ -15,7 +15,7 @@ module _ (R : ℕ → ℕ → Type 0) where
 
   pub data Ctx~ : LowerCtx → LowerCtx → Type 0 where
     ctx~ : {ops : List Recs} {vs ws : List (ℕ × ℕ)} {next : ℕ} → List~ Var~ vs ws →
-        Ctx~ (record { ops = ops; scope = record { vars = vs; next = next } }) (record { ops = ops; scope = record { vars = ws; next = next } })
+        Ctx~ (record { ops = ops; scope = record { vars = vs; nextVar = next } }) (record { ops = ops; scope = record { vars = ws; nextVar = next } })
 
   -- results that W joins, and states alike
   pub data Ran~ {A : Type 0} (W : A → A → Type 0) : A × LowerCtx → A × LowerCtx → Type 0 where
@@ -62,7 +62,7 @@ module _ (R : ℕ → ℕ → Type 0) where
 
   -- an action alike is one that does alike on the parts of a state
   abbrev Parts~ : {A : Type 0} → (A → A → Type 0) → Lowering A → Lowering A → Type 0
-  Parts~ W m n = (ops : List Recs) (vs ws : List (ℕ × ℕ)) (next : ℕ) → List~ Var~ vs ws → Ran~ W (m (record { ops = ops; scope = record { vars = vs; next = next } })) (n (record { ops = ops; scope = record { vars = ws; next = next } }))
+  Parts~ W m n = (ops : List Recs) (vs ws : List (ℕ × ℕ)) (next : ℕ) → List~ Var~ vs ws → Ran~ W (m (record { ops = ops; scope = record { vars = vs; nextVar = next } })) (n (record { ops = ops; scope = record { vars = ws; nextVar = next } }))
 
   by-parts~ : {A : Type 0} {W : A → A → Type 0} (m n : Lowering A) → Parts~ W m n → Action~ W m n
   by-parts~ {W} m n h = record { run = go }

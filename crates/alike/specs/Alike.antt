@@ -95,10 +95,10 @@ module _ (s t : List ℕ) where
     full-or-not (ctx~ {ops = ops} {vs = vs} {ws = ws} {next = next} h) r r′ = go (ltb maxPlan (length ops) || ltb maxPlan next) r r′
       where
         c : LowerCtx
-        c = record { ops = ops; scope = record { vars = vs; next = next } }
+        c = record { ops = ops; scope = record { vars = vs; nextVar = next } }
 
         d : LowerCtx
-        d = record { ops = ops; scope = record { vars = ws; next = next } }
+        d = record { ops = ops; scope = record { vars = ws; nextVar = next } }
 
         go : (b : Bool) → ((e : LowerCtx) → cond b (refuse Refusal.PlanFull) (pass c) ≡ pass e → length (planSheet e) ≤ length slice) → ((e : LowerCtx) → cond b (refuse Refusal.PlanFull) (pass d) ≡ pass e → length (planSheet e) ≤ length slice′) → AlikeOutcomes s t (outcome slice (cond b (refuse Refusal.PlanFull) (pass c))) (outcome slice′ (cond b (refuse Refusal.PlanFull) (pass d)))
         go true x y = refusedAlike (record { refused = λ e. omega arith; number = refl; line = refl; kind = refl })

@@ -10,7 +10,7 @@ use Rattle.model.specs.Kind.{Sort, Kind, PatternElement, Same, Expr, PlanExpr}
 use Rattle.model.specs.Kind.{statement, unionArm, clause, projection, orderItem, patternPart, patternElement, name, yieldItem, entry, expr, inPlan}
 use Rattle.model.specs.Record.{Rec, Group, one, forms, sameForms, exprForms, elementForms, children, exprChildren, elementChildren, arity}
 use Rattle.model.specs.Tree.{Tree, Trees, Forest, Many, toList, Results, fold, foldOf, foldIn}
-use Rattle.model.specs.Lower.{Recs, Lowering, Props, Lowered, propsOf, over, exprStep, elementStep, made, planned}
+use Rattle.model.specs.Lower.{Recs, Lowering, Props, Lowered, propsOf, over, exprStep, elementStep, made, planExprRec}
 use Rattle.alike.specs.Relation.{Equal, equal, Option~, none~, some~, List~, []~, _∷~_, Fields~, Tree~, Trees~, Forest~, node~, []ᵗ~, _∷ᵗ~_, end~, _▸~_}
 use Rattle.alike.specs.Action.{Does~, then~, ret~, copy~, mapVar~, inOrder~}
 use Rattle.alike.specs.Pattern.{Props~, NodeStep~, RelStep~, Step~, ofNode~, ofRel~, nodeStep~, relStep~, lowerPatternPart~, lowerMatchPattern~}
@@ -84,7 +84,7 @@ module _ (R : ℕ → ℕ → Type 0) where
   sameFields~ Same.IsNull (a, _) (b, _) (equal, _) = equal
   sameFields~ Same.InList f g v = equal
 
-  sameStep~ : (h : Same) (f g : Fields (sameForms h)) → Equal f g → {x : Many (Lowering Recs) (arity h f)} {y : Many (Lowering Recs) (arity h g)} → Many~ expr (arity h f) (arity h g) x y → Does~ R (over (planned (PlanExpr.Over h) f) (arity h f) x) (over (planned (PlanExpr.Over h) g) (arity h g) y)
+  sameStep~ : (h : Same) (f g : Fields (sameForms h)) → Equal f g → {x : Many (Lowering Recs) (arity h f)} {y : Many (Lowering Recs) (arity h g)} → Many~ expr (arity h f) (arity h g) x y → Does~ R (over (planExprRec (PlanExpr.Over h) f) (arity h f) x) (over (planExprRec (PlanExpr.Over h) g) (arity h g) y)
   sameStep~ h f g equal es = over~ _ (arity h f) _ _ (toList~ es)
 
   module _ (one-to-one : (a b x y : ℕ) → R a b → R x y → eqb a x ≡ eqb b y) where

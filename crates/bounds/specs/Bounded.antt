@@ -21,13 +21,13 @@ falling-raise le (lt ∷ᶠ vs) = lt-of-lt-of-le lt le ∷ᶠ vs
 
 pub record Ordered (c : LowerCtx) : Type 0 where
   pub earlier : Earlier (c .ops)
-  pub falling : Falling (c .scope .next) (c .scope .vars)
+  pub falling : Falling (c .scope .nextVar) (c .scope .vars)
 
 -- between two states: no operator is lost, at most k are added, and at most j numbers issued
 pub record Spent (k j : ℕ) (c d : LowerCtx) : Type 0 where
   pub kept : length (c .ops) ≤ length (d .ops)
   pub added : length (d .ops) ≤ length (c .ops) + k
-  pub issued : d .scope .next ≤ c .scope .next + j
+  pub issued : d .scope .nextVar ≤ c .scope .nextVar + j
 
 -- a result with the number of operators behind it
 abbrev pub Post : Type 0 → Type 1

@@ -25,13 +25,13 @@ unfolding recordCount empty
 operators-few t = omega (arith, spent t .added, size-records t)
 
 -- `return` lowers its items twice, so one for each record is too few
-pub numbers-few : (t : Tree statement) → lowerStatement t .scope .next ≤ 2 * recordCount t
+pub numbers-few : (t : Tree statement) → lowerStatement t .scope .nextVar ≤ 2 * recordCount t
 unfolding recordCount empty
 numbers-few t = omega (arith, spent t .issued, size-records t)
 
 -- ── mapped variables ──
 
-pub falling : (t : Tree statement) → Falling (lowerStatement t .scope .next) (lowerStatement t .scope .vars)
+pub falling : (t : Tree statement) → Falling (lowerStatement t .scope .nextVar) (lowerStatement t .scope .vars)
 unfolding lowerStatement empty
 falling t = lower✓ t .run empty refl ordered-empty .ordered .falling
 
@@ -39,7 +39,7 @@ pub falling-few : {bound : ℕ} {vs : List (ℕ × ℕ)} → Falling bound vs �
 falling-few []ᶠ = omega arith
 falling-few (lt ∷ᶠ vs) = omega (arith, falling-few vs)
 
-pub mapped-few : (t : Tree statement) → length (lowerStatement t .scope .vars) ≤ lowerStatement t .scope .next
+pub mapped-few : (t : Tree statement) → length (lowerStatement t .scope .vars) ≤ lowerStatement t .scope .nextVar
 mapped-few t = falling-few (falling t)
 
 -- `v` lines whose numbers rise strictly, from `low` on and all below `high`
@@ -57,7 +57,7 @@ falling-rising []ᶠ = none zero-le
 falling-rising (_∷ᶠ_ {v = v} lt vs) = rising-snoc (v .0) (falling-rising vs) lt
 
 -- the `v` lines of the plan, in its order: every mapped number is one that was issued
-pub mapped-rising : (t : Tree statement) → Rising 0 (lowerStatement t .scope .next) (mappedRecs (lowerStatement t .scope .vars))
+pub mapped-rising : (t : Tree statement) → Rising 0 (lowerStatement t .scope .nextVar) (mappedRecs (lowerStatement t .scope .vars))
 mapped-rising t = falling-rising (falling t)
 
 -- ── the sizing call ──

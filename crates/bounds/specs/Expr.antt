@@ -8,7 +8,7 @@ use Rattle.model.specs.Kind.{Sort, Kind, PatternElement, Same, Expr, PlanExpr}
 use Rattle.model.specs.Kind.{statement, unionArm, clause, projection, orderItem, patternPart, patternElement, name, yieldItem, entry, expr, inPlan}
 use Rattle.model.specs.Record.{Rec, Group, one, forms, sameForms, exprForms, elementForms, children, exprChildren, elementChildren, arity, inputs}
 use Rattle.model.specs.Tree.{Tree, Trees, Forest, node, []ᵗ, _∷ᵗ_, end, _▸_, Many, toList, Results, fold, foldOf, foldIn}
-use Rattle.model.specs.Lower.{Recs, Lowering, inOrder, planned, propsOf, Lowered, over, exprStep, elementStep, made, lowerExpr, lowerExprs, lowerPattern}
+use Rattle.model.specs.Lower.{Recs, Lowering, inOrder, propsOf, Lowered, over, exprStep, elementStep, made, lowerExpr, lowerExprs, lowerPattern, planExprRec}
 use Rattle.bounds.specs.Earlier.{All, []ᵃ, _∷ᵃ_, all-append, Low, raise}
 use Rattle.bounds.specs.Bounded.{Bounded, Old, Lows, bind✓, within, ret✓, copy✓, mapVar✓, nothing}
 use Rattle.bounds.specs.Pattern.{Cheap, cheaper, Each, []ˢ, each, more, PropsOf, without, with, StepOf, isNode, isRel, lowerPatternPart✓, lowerMatchPattern✓}
@@ -49,7 +49,7 @@ unfolding over
 over✓ {n} r i es low h = within (bind✓ (inOrder✓ n h) λ rs n′ le low′. ret✓ _ (all-append (raise (omega arith) (low ∷ᵃ []ᵃ)) low′)) (omega arith) (omega arith)
 
 -- an expression that is the same record in both sheets names no operator
-same-inputs : (h : Same) (f : Fields (sameForms h)) → All (λ k. k < 0) (inputs (planned (PlanExpr.Over h) f))
+same-inputs : (h : Same) (f : Fields (sameForms h)) → All (λ k. k < 0) (inputs (planExprRec (PlanExpr.Over h) f))
 same-inputs Same.Null f = []ᵃ
 same-inputs Same.Bool f = []ᵃ
 same-inputs Same.Int f = []ᵃ

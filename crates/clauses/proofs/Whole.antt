@@ -82,7 +82,7 @@ module _ {sheet : Bytes} {a b : List ℕ} {d : ℕ} {m : Mem} (g : StatementAske
 -- tables that stand for a state stand for it without its variables too, once none is counted
 pub forgets : {S : Side} {W : Written} {s : State} {m : Mem} → Rep S W s m → Rep S W (forget s) (mem (forgetting (m .ctx)) (m .ops) (m .rest))
 unfolding varsOf
-forgets r = record { count = r .count; state = rw (ap (λ (z : State). z .scope .next) (r .state)); from = r .from; shows = λ k o h h′ N A f. r .shows k o h h′ N A (record { notes = f .notes; ops = f .ops }) }
+forgets r = record { count = r .count; state = rw (ap (λ (z : State). z .scope .nextVar) (r .state)); from = r .from; shows = λ k o h h′ N A f. r .shows k o h h′ N A (record { notes = f .notes; ops = f .ops }) }
 
 -- ── from nothing ──
 
@@ -100,7 +100,7 @@ ready-behind {m = m} os′ rs′ p lo lr = let v = p .moved in start-ready (m .c
 -- Tables of another sheet, whatever they hold, stand for a state without its variables: the operators that they hold begin behind those that there are.
 pub begins : (sheet : Bytes) (a b os rs : List ℕ) {S : Side} {W : Written} {s : State} {m : Mem} → Rep S W s m → Rep (side sheet a b (m .ctx .ops)) [] (forget s) (mem (forgetting (m .ctx)) os rs)
 unfolding varsOf
-begins sheet a b os rs r = record { count = r .count; state = rw (ap (λ (z : State). z .scope .next) (r .state)); from = le-refl _; shows = λ k o h. absurd (omega arith) }
+begins sheet a b os rs r = record { count = r .count; state = rw (ap (λ (z : State). z .scope .nextVar) (r .state)); from = le-refl _; shows = λ k o h. absurd (omega arith) }
 
 start-rep : (sheet : Bytes) (a b os rs : List ℕ) → Rep (side sheet a b 0) [] empty (mem start os rs)
 unfolding empty varsOf

@@ -22,7 +22,7 @@ use Rattle.projections.specs.Ready.{Ready}
 
 -- the step that forgets the variables: operators and the next number stay
 abbrev pub forget : State → State
-forget s = record { ops = s .ops; scope = record { vars = []; next = s .scope .next } }
+forget s = record { ops = s .ops; scope = record { vars = []; nextVar = s .scope .nextVar } }
 
 -- the same of the counts
 abbrev pub forgetting : LowerCtx → LowerCtx

@@ -129,7 +129,7 @@ foundOf (some n) = At n
 
 -- a state of the definition, by its operators, the counts and the variables' words
 abbrev pub stateOf : List Recs → LowerCtx → List ℕ → Lower.LowerCtx
-stateOf ops c vs = record { ops = ops; scope = record { vars = varsOf (c .mapped) vs; next = c .numbers } }
+stateOf ops c vs = record { ops = ops; scope = record { vars = varsOf (c .mapped) vs; nextVar = c .numbers } }
 
 -- an operator as it is stored, by the words of the operators' slice
 unfoldable pub opAt : List ℕ → ℕ → Op

@@ -119,7 +119,7 @@ planned-tested work sheet =
     then-tested (choice-tested (ltb maxBytes (length sheet)) Refusal.LongSheet tt long-sheet) λ _ b.
     then-tested (reading-tested sheet refl (sheet-numbered maxDepth sheet)) λ t g.
     known (ltb-false maxBytes (length sheet) (b .0)) g (tree-tested t (numbers g))) λ t k.
-    over-limits t k (ltb maxPlan (length (lowerStatement t .ops)) || ltb maxPlan (lowerStatement t .scope .next))
+    over-limits t k (ltb maxPlan (length (lowerStatement t .ops)) || ltb maxPlan (lowerStatement t .scope .nextVar))
   where
     Known : Tree statement → Type 0
     Known t = WellFormed sheet t × ((firstWrite t ≡ none) × (precheckStatement t ≡ fine))

@@ -33,7 +33,7 @@ pub record ForTree (a : Answer) : Type 0 where
 -- the limits of a plan: refusals 9 and 10
 pub record WithinLimits (c : LowerCtx) (slice : Bytes) : Type 0 where
   pub operators : length (c .ops) ≤ maxPlan
-  pub numbers : c .scope .next ≤ maxPlan
+  pub numbers : c .scope .nextVar ≤ maxPlan
   pub room : length (planSheet c) ≤ length slice
 
 -- its plan in the slice, and behind it what stood there
@@ -75,7 +75,7 @@ module _ (t : Tree statement) (slice : Bytes) where
 
   fine-not : ForTree (behindCheck t slice fine .answer) → ⊥
   unfolding behindCheck then testCheck testPlan
-  fine-not h = fine-planned (ltb maxPlan (length (lowerStatement t .ops)) || ltb maxPlan (lowerStatement t .scope .next)) h
+  fine-not h = fine-planned (ltb maxPlan (length (lowerStatement t .ops)) || ltb maxPlan (lowerStatement t .scope .nextVar)) h
 
   fault-for-tree : (line : ℕ) (s : Span) (x : Fault) → ForTree (valuesOf (refusalAt line s x))
   fault-for-tree line s (Fault.UnresolvedName x) = record { low = omega arith; high = omega arith }
@@ -93,7 +93,7 @@ module _ (t : Tree statement) (slice : Bytes) where
 
   fine-plan : WithinLimits (lowerStatement t) slice → behindCheck t slice fine ≡ planIn t slice
   unfolding behindCheck then testCheck testPlan outcome written
-  fine-plan h = rw (le-ltb maxPlan (length (lowerStatement t .ops)) (h .operators), le-ltb maxPlan (lowerStatement t .scope .next) (h .numbers), le-ltb (length slice) (length (planSheet (lowerStatement t))) (h .room))
+  fine-plan h = rw (le-ltb maxPlan (length (lowerStatement t .ops)) (h .operators), le-ltb maxPlan (lowerStatement t .scope .nextVar) (h .numbers), le-ltb (length slice) (length (planSheet (lowerStatement t))) (h .room))
 
   met-otherwise : {ls : List Line} {v : Verdict} → Walked 1 ls v → (Meets ls → ⊥) → WithinLimits (lowerStatement t) slice → behindCheck t slice v ≡ planIn t slice
   met-otherwise (met-none f) g h = fine-plan h

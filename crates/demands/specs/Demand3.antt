@@ -181,7 +181,7 @@ module _ (R : ℕ → ℕ → Type 0) where
   same-ops : {c d : LowerCtx} → Ctx~ R c d → c .ops ≡ d .ops
   same-ops (ctx~ h) = refl
 
-  same-next : {c d : LowerCtx} → Ctx~ R c d → c .scope .next ≡ d .scope .next
+  same-next : {c d : LowerCtx} → Ctx~ R c d → c .scope .nextVar ≡ d .scope .nextVar
   same-next (ctx~ h) = refl
 
 module _ (s t : List ℕ) where
@@ -201,7 +201,7 @@ module _ (t u : Tree statement) (slice slice′ : Bytes) where
       nine b x = cond b (refuse Refusal.PlanFull) (pass (lowerStatement x))
 
       over : LowerCtx → Bool
-      over d = ltb maxPlan (length (d .ops)) || ltb maxPlan (d .scope .next)
+      over d = ltb maxPlan (length (d .ops)) || ltb maxPlan (d .scope .nextVar)
 
       same : over (lowerStatement t) ≡ over (lowerStatement u)
       same = rw (same-ops _ c, same-next _ c)

@@ -10,7 +10,7 @@ use Rattle.model.specs.Text.{Bytes}
 use Rattle.model.specs.Kind.{Sort, Clause, statement, unionArm, clause}
 use Rattle.model.specs.Record.{Group, RecOf, readRec, children, beside}
 use Rattle.model.specs.Tree.{Tree, Trees, node, []ᵗ, _∷ᵗ_, end, _▸_, records, recordsOf}
-use Rattle.model.specs.Sheet.{maxLines, Place, Reading, got, refused, next, Reader, formed, lineAt, readLine, readMany, readGroups, readNode, readTree, atEnd, readSheet, orElse, isWrite, writeIn, writeInArms, firstWrite}
+use Rattle.model.specs.Sheet.{maxLines, Place, Reading, got, refused, thenRead, Reader, formed, lineAt, readLine, readMany, readGroups, readNode, readTree, atEnd, readSheet, orElse, isWrite, writeIn, writeInArms, firstWrite}
 use Rattle.model.specs.Refusal.{Refusal}
 use Rattle.laws.specs.TreeLaws.{numbered, numberedOf}
 
@@ -21,8 +21,8 @@ pub data Numbered {A : Type 0} : Reading A → Type 0 where
   three : {line : ℕ} → 1 ≤ line → Numbered (refused (Refusal.BadLine line))
   four : {line : ℕ} → 1 ≤ line → Numbered (refused (Refusal.BigTree line))
 
-next-numbered : {A B : Type 0} {m : Reading A} {k : A → Place → Reading B} → Numbered m → ((a : A) (p : Place) → 1 ≤ p .line → Numbered (k a p)) → Numbered (next m k)
-unfolding next
+next-numbered : {A B : Type 0} {m : Reading A} {k : A → Place → Reading B} → Numbered m → ((a : A) (p : Place) → 1 ≤ p .line → Numbered (k a p)) → Numbered (thenRead m k)
+unfolding thenRead
 next-numbered (read {a = a} {p = p} l) f = f a p l
 next-numbered (three l) f = three l
 next-numbered (four l) f = four l

@@ -15,7 +15,7 @@ use Rattle.model.specs.Record.{Group, forms, exprForms, children, exprChildren}
 use Rattle.model.specs.Tree.{Tree, Trees, Forest, node, []ᵗ, _∷ᵗ_, end, _▸_, toList, Results, fold, foldOf, foldIn}
 use Rattle.model.specs.Sheet.{isWrite, writeIn, writeInArms, firstWrite}
 use Rattle.model.specs.Check.{fine, spanIn, ofPart, ofRecord, check, checkOf, checkIn}
-use Rattle.model.specs.Lower.{Recs, LowerCtx, Lowering, _>>=_, ret, push, at, copy, endpointVar, op, planned}
+use Rattle.model.specs.Lower.{Recs, LowerCtx, Lowering, _>>=_, ret, push, at, copy, endpointVar, op, planExprRec}
 use Rattle.model.specs.Lower.{NodeStep, RelStep, Step, ofNode, ofRel, Chain, startNode, expandTo, reach, lowerElement, lowerElements, orSourceAll, rootOf, bindPath, lowerChain, lowerShortestPathPart, Shape}
 use Rattle.model.specs.Lower.{nodeRelNode, other, shapeOf, lowerShaped, lowerPatternPart, lowerParts, optionalJoin, lowerMatchPattern, Lowered, exprStep, elementStep, made, lowerPattern, lowerClause, lowerClauses, lowerArms, lower, lowerStatement}
 use Rattle.demands.specs.Sheets.{WellFormed, ReadOnly}
@@ -113,7 +113,7 @@ module _ (d : Defaults) where
   exprStepOr Expr.PatternPredicate (n, _) (parts, _) = do
     k ← lowerMatchPattern (toList n parts) none false
     inner ← copyOr k
-    ret (planned PlanExpr.Exists tt ∷ inner)
+    ret (planExprRec PlanExpr.Exists tt ∷ inner)
   exprStepOr Expr.ListPredicate f r = exprStep Expr.ListPredicate f r
   exprStepOr Expr.Unresolved (n, _) r = d .unresolved n
   exprStepOr Expr.Undesugared (kind, _) r = d .undesugared kind
@@ -144,9 +144,9 @@ module _ (d : Defaults) where
       go true e older = refl
       go false e older = older (omega (arith, eqb-false k (length ops) e))
 
-  exists-or : {n : ℕ} (ps : Trees patternPart n) → (lowerMatchPattern (lowerPattern ps) none false >>= λ k. copyOr k >>= λ inner. ret (planned PlanExpr.Exists tt ∷ inner)) ≡ (lowerMatchPattern (lowerPattern ps) none false >>= λ k. copy k >>= λ inner. ret (planned PlanExpr.Exists tt ∷ inner))
+  exists-or : {n : ℕ} (ps : Trees patternPart n) → (lowerMatchPattern (lowerPattern ps) none false >>= λ k. copyOr k >>= λ inner. ret (planExprRec PlanExpr.Exists tt ∷ inner)) ≡ (lowerMatchPattern (lowerPattern ps) none false >>= λ k. copy k >>= λ inner. ret (planExprRec PlanExpr.Exists tt ∷ inner))
   unfolding lowerMatchPattern optionalJoin _>>=_ ret copyOr copy
-  exists-or ps = fun-ext λ c. ap (λ inner. (planned PlanExpr.Exists tt ∷ inner, lowerParts (lowerPattern ps) c .1)) (at-or _ _ (root-in ps c))
+  exists-or ps = fun-ext λ c. ap (λ inner. (planExprRec PlanExpr.Exists tt ∷ inner, lowerParts (lowerPattern ps) c .1)) (at-or _ _ (root-in ps c))
 
   -- ── chains ──
 
@@ -367,7 +367,7 @@ any-write (node statement line k f (cs ▸ arms ▸ end)) r d =
 -- ── the Rust's counters of 32 bits do not overflow ──
 
 pub record Counts (c : LowerCtx) : Type 0 where
-  pub numbers : c .scope .next ≤ 4096
+  pub numbers : c .scope .nextVar ≤ 4096
   pub operators : length (c .ops) ≤ 8192
 
 pub counts-small : (sheet : Bytes) (t : Tree statement) → WellFormed sheet t → Counts (lowerStatement t)

@@ -13,7 +13,7 @@ use Rattle.model.specs.Text.{Bytes, Pieces}
 use Rattle.model.specs.Kind.{Sort}
 use Rattle.model.specs.Record.{Rec, RecOf, readRec, children, Group, beside}
 use Rattle.model.specs.Tree.{Tree, Trees, Forest, node, _∷ᵗ_, _▸_, records, recordsOf, recordsIn}
-use Rattle.model.specs.Sheet.{maxLines, Place, Reading, got, refused, next, Reader, formed, lineAt, readLine, readMany, readGroups, readNode, readTree}
+use Rattle.model.specs.Sheet.{maxLines, Place, Reading, got, refused, thenRead, Reader, formed, lineAt, readLine, readMany, readGroups, readNode, readTree}
 use Rattle.model.specs.Refusal.{Refusal}
 use Rattle.laws.specs.TextLaws.{Each, each[], _each∷_, each-append}
 use Rattle.laws.specs.RecordLaws.{recOf, Fits, lineText, ahead, ahead-append, read-line}
@@ -46,8 +46,8 @@ module _ {A : Type 0} where
   yielded P refuses a p e = absurd (refused-got e)
 
 -- a step that yields P, and then one that yields Q from there
-pub then : {A B : Type 0} {P : A → Place → Type 0} {Q : B → Place → Type 0} {m : Reading A} {k : A → Place → Reading B} → Yields P m → ((a : A) (p : Place) → P a p → Yields Q (k a p)) → Yields Q (next m k)
-unfolding next
+pub then : {A B : Type 0} {P : A → Place → Type 0} {Q : B → Place → Type 0} {m : Reading A} {k : A → Place → Reading B} → Yields P m → ((a : A) (p : Place) → P a p → Yields Q (k a p)) → Yields Q (thenRead m k)
+unfolding thenRead
 then (yields {a} {p} h) f = f a p h
 then refuses f = refuses
 

@@ -9,7 +9,7 @@ use Rattle.model.specs.Text.{Bytes, split, behind, join, lineFeed}
 use Rattle.model.specs.Kind.{statement}
 use Rattle.model.specs.Record.{spellRecs}
 use Rattle.model.specs.Tree.{Tree, records}
-use Rattle.model.specs.Sheet.{maxLines, Place, got, next, atEnd, readSheet}
+use Rattle.model.specs.Sheet.{maxLines, Place, got, thenRead, atEnd, readSheet}
 use Rattle.laws.specs.TextLaws.{Each, join-split}
 use Rattle.laws.specs.RecordLaws.{Fits, join-ahead, lines-all, nothing}
 use Rattle.laws.specs.TreeLaws.{depth, numbered}
@@ -57,7 +57,7 @@ sheet-sound d sheet t q e = yielded (λ u q. WellFormed d sheet u × (q ≡ endi
 
 -- the records of any tree spell a sheet of the tree, numbered anew
 pub spelled-got : (d : ℕ) (t : Tree statement) → Each Fits (records t) → length (records t) ≤ maxLines → depth t ≤ d → readSheet d (spellRecs (records t)) ≡ got (numbered t 1) (ending t)
-unfolding readSheet next atEnd
+unfolding readSheet thenRead atEnd
 spelled-got d t fit few deep = rw (lines-all (records t), tree-got t d 1 nothing deep fit (omega arith)) (ap (λ l. got (numbered t 1) (place l nothing)) (omega arith))
 
 pub sheet-complete : (d : ℕ) (sheet : Bytes) (t : Tree statement) → WellFormed d sheet t → readSheet d sheet ≡ got t (ending t)

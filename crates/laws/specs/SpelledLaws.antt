@@ -13,7 +13,7 @@ use Rattle.model.specs.Kind.{statement, unionArm, clause, projection, orderItem
 use Rattle.model.specs.Kind.{plan, readOp, relSpec, nodeSpec, planProjection, aggExpr, orderKey, pathElement, mapped, planEntry, planExpr}
 use Rattle.model.specs.Record.{Rec, rec, RecOf, forms, children, Group, beside}
 use Rattle.model.specs.Tree.{Tree, Trees, Forest, node, []ᵗ, _∷ᵗ_, end, _▸_, records, recordsOf, recordsIn}
-use Rattle.model.specs.Sheet.{maxLines, Place, Reading, got, refused, next, Reader, formed, lineAt, readLine, readMany, readGroups, readNode, readTree}
+use Rattle.model.specs.Sheet.{maxLines, Place, Reading, got, refused, thenRead, Reader, formed, lineAt, readLine, readMany, readGroups, readNode, readTree}
 use Rattle.laws.specs.TextLaws.{Each, each[], _each∷_, each-head, each-tail, each-left, each-right, each-map}
 use Rattle.laws.specs.RecordLaws.{recOf, Fits, ahead, ahead-append, line-read}
 use Rattle.laws.specs.TreeLaws.{below, level-below, level-positive, depth, depthOf, depthIn, numbered, numberedOf, numberedIn}
@@ -49,20 +49,20 @@ beside-once expr e k f = absurd (false≢true e)
 beside-once (inPlan p) e k f = plan-beside p e k f
 
 -- what follows may be anything that reads the same
-pub next-same : {A B : Type 0} (m : Reading A) (k l : A → Place → Reading B) → ((a : A) (p : Place) → k a p ≡ l a p) → next m k ≡ next m l
-unfolding next
-next-same (got a p) k l h = h a p
-next-same (refused r) k l h = refl
+pub thenRead-same : {A B : Type 0} (m : Reading A) (k l : A → Place → Reading B) → ((a : A) (p : Place) → k a p ≡ l a p) → thenRead m k ≡ thenRead m l
+unfolding thenRead
+thenRead-same (got a p) k l h = h a p
+thenRead-same (refused r) k l h = refl
 
 -- groups are read alike by readers that agree on their sorts
 groups-same : (r r′ : (s : Sort) → Reader (Tree s)) (gs : List Group) → Each (λ g. (q : Place) → r (g .0) q ≡ r′ (g .0) q) gs → (p : Place) → readGroups r gs p ≡ readGroups r′ gs p
 unfolding readGroups
 groups-same r r′ [] h p = refl
-groups-same r r′ (g ∷ gs) (a each∷ bs) p = ap (λ m. next m (λ ts p′. next (readGroups r gs p′) (λ f p″. got (ts ▸ f) p″))) (ap (λ x. readMany x (g .1) p) (fun-ext a)) ∙ next-same (readMany (λ q. r′ (g .0) q) (g .1) p) _ _ (λ ts p′. ap (λ m. next m (λ f p″. got (ts ▸ f) p″)) (groups-same r r′ gs bs p′))
+groups-same r r′ (g ∷ gs) (a each∷ bs) p = ap (λ m. thenRead m (λ ts p′. thenRead (readGroups r gs p′) (λ f p″. got (ts ▸ f) p″))) (ap (λ x. readMany x (g .1) p) (fun-ext a)) ∙ thenRead-same (readMany (λ q. r′ (g .0) q) (g .1) p) _ _ (λ ts p′. ap (λ m. thenRead m (λ f p″. got (ts ▸ f) p″)) (groups-same r r′ gs bs p′))
 
 node-same : (r r′ : (s : Sort) → Reader (Tree s)) (s : Sort) → ((k : Kind s) (f : Fields (forms s k)) → Each (λ g. (q : Place) → r (g .0) q ≡ r′ (g .0) q) (children s k f)) → (p : Place) → readNode r s p ≡ readNode r′ s p
 unfolding readNode
-node-same r r′ s h p = next-same (readLine s false p) _ _ (λ x q. ap (λ m. next m (λ f p″. got (node s (p .line) (x .0) (x .1) f) p″)) (groups-same r r′ (children s (x .0) (x .1)) (h (x .0) (x .1)) q))
+node-same r r′ s h p = thenRead-same (readLine s false p) _ _ (λ x q. ap (λ m. thenRead m (λ f p″. got (node s (p .line) (x .0) (x .1) f) p″)) (groups-same r r′ (children s (x .0) (x .1)) (h (x .0) (x .1)) q))
 
 -- a sort that stands beside nothing
 plain-step : (d : ℕ) (s : Sort) → beside s ≡ false → (p : Place) → readNode (λ c q. readTree d c q) s p ≡ readTree (suc d) s p
@@ -93,7 +93,7 @@ node-got : (s : Sort) (line : ℕ) (k : Kind s) (f : Fields (forms s k)) (kids :
     → ((e : ℕ) → depthIn kids ≤ e → readGroups (λ c q. readTree e c q) (children s k f) (place (suc n) (ahead (recordsIn kids) p)) ≡ got (numberedIn kids (suc n)) (place (suc n + length (recordsIn kids)) p))
     → depth (node s line k f kids) ≤ d → Fits (rec s k f) → n ≤ maxLines
     → readTree d s (place n (ahead (rec s k f ∷ recordsIn kids) p)) ≡ got (node s n k f (numberedIn kids (suc n))) (place (suc n + length (recordsIn kids)) p)
-unfolding depth readNode next ahead
+unfolding depth readNode thenRead ahead
 node-got s line k f kids zero n p ih deep fit few = absurd (level-positive (beside s) (depthIn kids) deep)
 node-got s line k f kids (suc d) n p ih deep fit few = tree-step d s (place n (ahead (rec s k f ∷ recordsIn kids) p)) ∙ rw (line-got s (k, f) n (ahead (recordsIn kids) p) fit few, ih (below (beside s) d) (level-below (beside s) (depthIn kids) d deep)) refl
 
@@ -102,7 +102,7 @@ behind-both : (n : ℕ) (rs ss : List Rec) (p : Pieces) → place (n + length rs
 behind-both n rs ss p = ap (λ m. place m p) (omega (arith, length-append rs ss))
 
 mutual
-  unfolding depth records numbered readMany readGroups next ahead
+  unfolding depth records numbered readMany readGroups thenRead ahead
 
   -- the lines of a tree's records are read as the tree, with the numbers of these lines
   pub tree-got : {s : Sort} (t : Tree s) (d n : ℕ) (p : Pieces) → depth t ≤ d → Each Fits (records t) → n + length (records t) ≤ suc maxLines → readTree d s (place n (ahead (records t) p)) ≡ got (numbered t n) (place (n + length (records t)) p)

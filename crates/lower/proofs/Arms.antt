@@ -9,7 +9,7 @@ use Rattle.model.specs.Field.{Fields}
 use Rattle.model.specs.Kind.{Same, Expr, PlanExpr, expr}
 use Rattle.model.specs.Record.{Rec, exprForms}
 use Rattle.model.specs.Tree.{Tree, node, end, _▸_, fold}
-use Rattle.model.specs.Lower.{Recs, made, _>>=_, ret, over, exprStep, planned, lowerExpr, at}
+use Rattle.model.specs.Lower.{Recs, made, _>>=_, ret, over, exprStep, lowerExpr, at, planExprRec}
 use Rattle.words.specs.Words.{Roomy, cell, maxRecords}
 use Rattle.words.specs.Held.{Held, RecordAt, size}
 use Rattle.words.specs.Cells.{shown}
@@ -57,9 +57,9 @@ module _ {sheet : Bytes} {a b : List ℕ} {d i : ℕ} (room : Roomy a b) where
     total = counted room tt (hd .1) ∙ (omega arith);
     held = plain-held sheet a b ts (d - 1) (i + 1) (hd .3 .0);
     sized = let e = plain-size ts in omega arith;
-    head = planned (PlanExpr.Over h) f;
+    head = planExprRec (PlanExpr.Over h) f;
     lower = λ s. rw (plain-lower ts s);
-    shown = λ N A. ap (λ (x : Recs). planned (PlanExpr.Over h) f ∷ x) (append-nil (renderOf N A ts) ∙ plain-render N A ts);
+    shown = λ N A. ap (λ (x : Recs). planExprRec (PlanExpr.Over h) f ∷ x) (append-nil (renderOf N A ts) ∙ plain-render N A ts);
     below = λ N lo k b. (plain-below N lo k ts b, tt);
   }
   plainly (node expr line Expr.Var f kids) hd no-var no-map no-pat no-predicate = absurd (no-var (number-at room (hd .1)))
@@ -70,15 +70,15 @@ module _ {sheet : Bytes} {a b : List ℕ} {d i : ℕ} (room : Roomy a b) where
     total = counted room tt (hd .1) ∙ (omega arith);
     held = plain-held sheet a b ts (d - 1) (i + 1) (hd .3 .0);
     sized = let e = plain-size ts in omega arith;
-    head = planned PlanExpr.Call (func, (n, tt));
+    head = planExprRec PlanExpr.Call (func, (n, tt));
     lower = λ s. rw (plain-lower ts s);
-    shown = λ N A. ap (λ (x : Recs). planned PlanExpr.Call (func, (n, tt)) ∷ x) (append-nil (renderOf N A ts) ∙ plain-render N A ts);
+    shown = λ N A. ap (λ (x : Recs). planExprRec PlanExpr.Call (func, (n, tt)) ∷ x) (append-nil (renderOf N A ts) ∙ plain-render N A ts);
     below = λ N lo k b. (plain-below N lo k ts b, tt);
   }
   plainly (node expr line Expr.PatternPredicate f kids) hd no-var no-map no-pat no-predicate = absurd (no-pat (number-at room (hd .1)))
   plainly (node expr line Expr.ListPredicate f kids) hd no-var no-map no-pat no-predicate = absurd (no-predicate (number-at room (hd .1)))
-  plainly (node expr line Expr.Unresolved f end) hd no-var no-map no-pat no-predicate = record { n = 0; list = []ᶜ; total = counted room tt (hd .1); held = tt; sized = refl; head = planned (PlanExpr.Over Same.Null) tt; lower = λ s. refl; shown = λ N A. refl; below = λ N lo k b. tt }
-  plainly (node expr line Expr.Undesugared f end) hd no-var no-map no-pat no-predicate = record { n = 0; list = []ᶜ; total = counted room tt (hd .1); held = tt; sized = refl; head = planned (PlanExpr.Over Same.Null) tt; lower = λ s. refl; shown = λ N A. refl; below = λ N lo k b. tt }
+  plainly (node expr line Expr.Unresolved f end) hd no-var no-map no-pat no-predicate = record { n = 0; list = []ᶜ; total = counted room tt (hd .1); held = tt; sized = refl; head = planExprRec (PlanExpr.Over Same.Null) tt; lower = λ s. refl; shown = λ N A. refl; below = λ N lo k b. tt }
+  plainly (node expr line Expr.Undesugared f end) hd no-var no-map no-pat no-predicate = record { n = 0; list = []ᶜ; total = counted room tt (hd .1); held = tt; sized = refl; head = planExprRec (PlanExpr.Over Same.Null) tt; lower = λ s. refl; shown = λ N A. refl; below = λ N lo k b. tt }
 
   mapped-of : Opens sheet a b d i expr (λ t. Headed sheet a b 1 d i t) Expr.Map
   unfolding Held size lowerExpr fold made exprStep over _>>=_ ret render recsOver exprRecs exprRest Below belowIn copiesBelow
@@ -88,9 +88,9 @@ module _ {sheet : Bytes} {a b : List ℕ} {d i : ℕ} (room : Roomy a b) where
     total = counted room tt (hd .1) ∙ (omega arith);
     held = entries-held sheet a b ts (d - 1) (i + 1) (hd .3 .0);
     sized = let e = entries-size ts in omega arith;
-    head = planned PlanExpr.Map (n, tt);
+    head = planExprRec PlanExpr.Map (n, tt);
     lower = λ s. rw (entries-lower ts s);
-    shown = λ N A. ap (λ (x : Recs). planned PlanExpr.Map (n, tt) ∷ x) (append-nil (renderOf N A ts) ∙ entries-render N A ts);
+    shown = λ N A. ap (λ (x : Recs). planExprRec PlanExpr.Map (n, tt) ∷ x) (append-nil (renderOf N A ts) ∙ entries-render N A ts);
     below = λ N lo k b. (entries-below N lo k ts b, tt);
   }
 

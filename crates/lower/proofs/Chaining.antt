@@ -57,7 +57,7 @@ source-new current m c os e p lo = record {
   rest = refl;
   in-ops = lo;
   low = omega (arith, p .count);
-  run = λ S W s h r. rw e (record { to = push-to m c os (sourceAllOp (m .ctx .numbers)) (source (s .scope .next) []) r p (λ N A f. record { bounded = all-bounded (m .ctx .numbers); shows = shows-all refl (ap (λ (x : ℕ). source x []) (sym (upcoming-number m r))) }); root = r .count });
+  run = λ S W s h r. rw e (record { to = push-to m c os (sourceAllOp (m .ctx .numbers)) (source (s .scope .nextVar) []) r p (λ N A f. record { bounded = all-bounded (m .ctx .numbers); shows = shows-all refl (ap (λ (x : ℕ). source x []) (sym (upcoming-number m r))) }); root = r .count });
 }
 
 -- a root as the code has it

@@ -11,7 +11,7 @@ use Rattle.model.specs.Field.{Fields}
 use Rattle.model.specs.Kind.{Expr, PlanExpr, expr, patternPart}
 use Rattle.model.specs.Record.{Rec, exprForms}
 use Rattle.model.specs.Tree.{Tree, Trees, end, _▸_, fold}
-use Rattle.model.specs.Lower.{Recs, made, _>>=_, ret, mapVar, over, exprStep, planned, lowerExpr, lowerMatchPattern, optionalJoin, copy, at}
+use Rattle.model.specs.Lower.{Recs, made, _>>=_, ret, mapVar, over, exprStep, lowerExpr, lowerMatchPattern, optionalJoin, copy, at, planExprRec}
 use Rattle.words.specs.Words.{Roomy, cell, fieldsOf, fieldOf, maxRecords}
 use Rattle.words.specs.Held.{Held, HeldOf, size, sizeOf}
 use Rattle.context.specs.Tables.{Numbers, NoteWritten, secondPass}
@@ -52,7 +52,7 @@ module _ {sheet : Bytes} {a b : List ℕ} {d i : ℕ} (room : Roomy a b) where
   unfolding Held size lowerExpr fold made exprStep _>>=_ ret render recsOver exprRecs exprRest Below belowIn copiesBelow lowerC renderC sizeC HeldC fieldsOf fieldOf
   variable-of line (id, t) end hd =
       let ei : id ≡ cell a b i varIdAt = ap (λ (x : Fields (exprForms Expr.Var)). x .0) (shown room (hd .1) .fields) in
-      record { n = 0; list = []ᶜ; total = counted room tt (hd .1); held = tt; sized = refl; head = λ x. planned PlanExpr.Var (x, tt); lower = λ s. rw ei; shown = λ N A. rw (hd .0); below = λ N lo k b. tt }
+      record { n = 0; list = []ᶜ; total = counted room tt (hd .1); held = tt; sized = refl; head = λ x. planExprRec PlanExpr.Var (x, tt); lower = λ s. rw ei; shown = λ N A. rw (hd .0); below = λ N lo k b. tt }
 
   pub variable : (t : Tree expr) → Held sheet a b t d i → cell a b i kindAt ≡ varKind → Naming sheet a b d i (cell a b i varIdAt) t
   unfolding exprNumber
@@ -68,9 +68,9 @@ module _ {sheet : Bytes} {a b : List ℕ} {d i : ℕ} (room : Roomy a b) where
         total = counted room tt (hd .1) ∙ (omega arith);
         held = plain-held sheet a b ts (d - 1) (i + 1) (hd .3 .0);
         sized = let e = plain-size ts in omega arith;
-        head = λ x. planned PlanExpr.ListPredicate (kind, (x, (pred, tt)));
+        head = λ x. planExprRec PlanExpr.ListPredicate (kind, (x, (pred, tt)));
         lower = λ s. rw (ei, plain-lower ts (mapVar (cell a b i listPredicateVarAt) s .1));
-        shown = λ N A. rw (hd .0) (ap (λ (x : Recs). planned PlanExpr.ListPredicate (kind, (N (suc i), (pred, tt))) ∷ x) (append-nil (renderOf N A ts) ∙ plain-render N A ts));
+        shown = λ N A. rw (hd .0) (ap (λ (x : Recs). planExprRec PlanExpr.ListPredicate (kind, (N (suc i), (pred, tt))) ∷ x) (append-nil (renderOf N A ts) ∙ plain-render N A ts));
         below = λ N lo k b. (plain-below N lo k ts b, tt);
       }
 
@@ -130,8 +130,8 @@ pub record Matched (sheet : Bytes) (a b : List ℕ) (d i : ℕ) (t : Tree expr) 
   pub total : cell a b i patPartsAt ≡ n
   pub held : HeldOf sheet a b parts (d - 1) (i + 1)
   pub sized : size t ≡ suc (sizeOf parts)
-  pub lower : (s : State) → lowerExpr t s ≡ (planned PlanExpr.Exists tt ∷ at (partsL parts s .1 .ops) (partsL parts s .0), partsL parts s .1)
-  pub shown : (N : Render.Notes) (A : Ops) → render N A t ≡ planned PlanExpr.Exists tt ∷ A (N (suc i))
+  pub lower : (s : State) → lowerExpr t s ≡ (planExprRec PlanExpr.Exists tt ∷ at (partsL parts s .1 .ops) (partsL parts s .0), partsL parts s .1)
+  pub shown : (N : Render.Notes) (A : Ops) → render N A t ≡ planExprRec PlanExpr.Exists tt ∷ A (N (suc i))
   pub below : (N : Render.Notes) (lo k : ℕ) → lo ≤ N (suc i) → N (suc i) < k → Below N lo k t
 
 module _ {sheet : Bytes} {a b : List ℕ} {d i : ℕ} (room : Roomy a b) where
@@ -179,7 +179,7 @@ module _ {a b : List ℕ} {n d base i e k place : ℕ} {rest′ : List ℕ} {m m
         to = rw (o .lower s) (to-wider u (to-then (g .to) h));
         shown = λ N A f.
             let f′ = rw (o .lower s) at f in
-            rw (o .shown (shift N base) A, o .lower s, noted N A f′) (ap (λ (x : Recs). planned PlanExpr.Exists tt ∷ x) (f′ .ops k (p .low) ∙ ap (λ (x : ℕ). at (partsL (o .parts) s .1 .ops) x) (g .root)));
+            rw (o .shown (shift N base) A, o .lower s, noted N A f′) (ap (λ (x : Recs). planExprRec PlanExpr.Exists tt ∷ x) (f′ .ops k (p .low) ∙ ap (λ (x : ℕ). at (partsL (o .parts) s .1 .ops) x) (g .root)));
         below = λ N A f. (let z = noted N A (rw (o .lower s) at f) in o .below (shift N base) first (m₁ .ctx .ops) (rw z (le-trans (q .from) (p .since))) (rw z (p .low)));
       }
 

@@ -175,11 +175,11 @@ module _ {S : Side} {W : Written} {s : State} where
   pub fresh-to : (m : Mem) (c : LowerCtx) → Rep S W s m → c .ops ≡ m .ctx .ops → c .numbers ≡ m .ctx .numbers + 1 → c .mapped ≡ m .ctx .mapped → To S W W s (Lower.fresh s .1) m (mem c (m .ops) (m .rest))
   unfolding Lower.fresh Lower.issue
   fresh-to m c r eo en em =
-      let z : suc (m .ctx .numbers) ≡ suc (s .scope .next) = ap (λ (x : State). suc (x .scope .next)) (r .state) in
+      let z : suc (m .ctx .numbers) ≡ suc (s .scope .nextVar) = ap (λ (x : State). suc (x .scope .nextVar)) (r .state) in
       record {
         rep = record {
           count = eo ∙ r .count;
-          state = rw (em, en, add-one (m .ctx .numbers)) (ap (λ (x : State). record { ops = s .ops; scope = record { vars = x .scope .vars; next = suc (x .scope .next) } }) (r .state));
+          state = rw (em, en, add-one (m .ctx .numbers)) (ap (λ (x : State). record { ops = s .ops; scope = record { vars = x .scope .vars; nextVar = suc (x .scope .nextVar) } }) (r .state));
           from = rw eo (r .from);
           shows = λ k o h l N A f. r .shows k o (rw eo at h) l N A (record { notes = f .notes; ops = λ j g. f .ops j (rw eo g) });
         };
@@ -191,7 +191,7 @@ module _ {S : Side} {W : Written} {s : State} where
 
   pub fresh-number : (m : Mem) → Rep S W s m → m .ctx .numbers ≡ Lower.fresh s .0
   unfolding Lower.fresh Lower.issue
-  fresh-number m r = ap (λ (x : State). x .scope .next) (r .state)
+  fresh-number m r = ap (λ (x : State). x .scope .nextVar) (r .state)
 
-  pub upcoming-number : (m : Mem) → Rep S W s m → m .ctx .numbers ≡ s .scope .next
-  upcoming-number m r = ap (λ (x : State). x .scope .next) (r .state)
+  pub upcoming-number : (m : Mem) → Rep S W s m → m .ctx .numbers ≡ s .scope .nextVar
+  upcoming-number m r = ap (λ (x : State). x .scope .nextVar) (r .state)

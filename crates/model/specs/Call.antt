@@ -68,7 +68,7 @@ testCheck t (violated r) = refuse r
 
 -- 9
 unfoldable pub testPlan : LowerCtx → Test LowerCtx
-testPlan c = cond (ltb maxPlan (length (c .ops)) || ltb maxPlan (c .scope .next)) (refuse Refusal.PlanFull) (pass c)
+testPlan c = cond (ltb maxPlan (length (c .ops)) || ltb maxPlan (c .scope .nextVar)) (refuse Refusal.PlanFull) (pass c)
 
 -- tests 1 to 8: the checked tree. `depth` is the depth that a sheet may have, `work` the lengths of the work slices
 unfoldable pub checked : (depth : ℕ) (work : List ℕ) → Bytes → Test (Tree statement)

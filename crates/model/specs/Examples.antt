@@ -25,7 +25,7 @@ unfolding Text.bytesFrom Text.bytes Text.sameBy Text.same Text.split Text.behind
     Field.lengthValue Field.piece Field.meaning Field.read Field.spellFields Field.both Field.readFields Record.sameKeyword
     Record.exprKeyword Record.clauseKeyword Record.elementKeyword Record.opKeyword Record.planExprKeyword Record.planKeyword Record.keyword
     Record.sames Record.planKinds Record.kinds Record.spellRec Record.spellRecs Record.kindNamed Record.withFields Record.readAs
-    Record.readRec Tree.toList Tree.records Tree.fold Sheet.next Sheet.formed Sheet.lineAt Sheet.readLine Sheet.readMany Sheet.readGroups
+    Record.readRec Tree.toList Tree.records Tree.fold Sheet.thenRead Sheet.formed Sheet.lineAt Sheet.readLine Sheet.readMany Sheet.readGroups
     Sheet.readNode Sheet.readTree Sheet.atEnd Sheet.readSheet Sheet.orElse Sheet.isWrite Sheet.writeIn Sheet.writeInArms Sheet.firstWrite
     Check.andThen Check.ofExpr Check.ofElements Check.ofPart Check.ofRecord Check.noSpan Check.precheckStatement Check.check Lower._>>=_
     Lower.ret Lower.push Lower.at Lower.copy Lower.lookup Lower.issue Lower.numbered Lower.mapVar Lower.fresh Lower.upcoming

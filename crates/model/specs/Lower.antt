@@ -21,7 +21,7 @@ Recs = List Rec
 -- what numbers are issued from: the variables that have one, the newest first, each its id and its number; and the next number
 pub record Scope : Type 0 where
   pub vars : List (ℕ × ℕ)
-  pub next : ℕ
+  pub nextVar : ℕ
 
 -- operators, the newest first, and the scope
 pub record LowerCtx : Type 0 where
@@ -63,18 +63,18 @@ issue f = λ c. let r = f (c .scope) in (r .0, record { ops = c .ops; scope = r 
 -- the number of a variable that has one, or the next one, which it then has
 unfoldable pub numbered : ℕ → Option ℕ → Scope → ℕ × Scope
 numbered id (some n) s = (n, s)
-numbered id none s = (s .next, record { vars = (id, s .next) ∷ s .vars; next = suc (s .next) })
+numbered id none s = (s .nextVar, record { vars = (id, s .nextVar) ∷ s .vars; nextVar = suc (s .nextVar) })
 
 unfoldable pub mapVar : ℕ → Lowering ℕ
 mapVar id = issue (λ s. numbered id (lookup (s .vars) id) s)
 
 -- the next number, for something unnamed
 unfoldable pub fresh : Lowering ℕ
-fresh = issue (λ s. (s .next, record { vars = s .vars; next = suc (s .next) }))
+fresh = issue (λ s. (s .nextVar, record { vars = s .vars; nextVar = suc (s .nextVar) }))
 
 -- the next number, which is not taken
 unfoldable pub upcoming : Lowering ℕ
-upcoming = issue (λ s. (s .next, s))
+upcoming = issue (λ s. (s .nextVar, s))
 
 unfoldable pub endpointVar : Option ℕ → Lowering ℕ
 endpointVar none = fresh
@@ -93,8 +93,8 @@ inOrder (m ∷ ms) = do
 abbrev pub op : (k : ReadOp) → Fields (opForms k) → Rec
 op k f = rec (inPlan readOp) k f
 
-abbrev pub planned : (k : PlanExpr) → Fields (planExprForms k) → Rec
-planned k f = rec (inPlan planExpr) k f
+abbrev pub planExprRec : (k : PlanExpr) → Fields (planExprForms k) → Rec
+planExprRec k f = rec (inPlan planExpr) k f
 
 unfoldable pub source : ℕ → Recs → Recs
 source bind labels = op ReadOp.Source (bind, (length labels, tt)) ∷ labels
@@ -316,14 +316,14 @@ noNote = 0
 
 -- the first record of an expression in the plan; n is what is noted at it, a variable's number
 abbrev pub exprHead : ℕ → (k : Expr) → Fields (exprForms k) → Rec
-exprHead n (Expr.Over h) f = planned (PlanExpr.Over h) f
-exprHead n Expr.Var f = planned PlanExpr.Var (n, tt)
-exprHead n Expr.Map (m, _) = planned PlanExpr.Map (m, tt)
-exprHead n Expr.Call (func, (m, _)) = planned PlanExpr.Call (func, (m, tt))
-exprHead n Expr.PatternPredicate f = planned PlanExpr.Exists tt
-exprHead n Expr.ListPredicate (kind, (id, (pred, _))) = planned PlanExpr.ListPredicate (kind, (n, (pred, tt)))
-exprHead n Expr.Unresolved f = planned (PlanExpr.Over Same.Null) tt
-exprHead n Expr.Undesugared f = planned (PlanExpr.Over Same.Null) tt
+exprHead n (Expr.Over h) f = planExprRec (PlanExpr.Over h) f
+exprHead n Expr.Var f = planExprRec PlanExpr.Var (n, tt)
+exprHead n Expr.Map (m, _) = planExprRec PlanExpr.Map (m, tt)
+exprHead n Expr.Call (func, (m, _)) = planExprRec PlanExpr.Call (func, (m, tt))
+exprHead n Expr.PatternPredicate f = planExprRec PlanExpr.Exists tt
+exprHead n Expr.ListPredicate (kind, (id, (pred, _))) = planExprRec PlanExpr.ListPredicate (kind, (n, (pred, tt)))
+exprHead n Expr.Unresolved f = planExprRec (PlanExpr.Over Same.Null) tt
+exprHead n Expr.Undesugared f = planExprRec (PlanExpr.Over Same.Null) tt
 
 -- the arms of lower_expr. What the check refuses does not come here.
 unfoldable pub exprStep : (k : Expr) (f : Fields (exprForms k)) → Results Lowered (exprChildren k f) → Lowering Recs
@@ -591,7 +591,7 @@ lower (node statement line k f (cs ▸ arms ▸ end)) = do
   lowerArms arms head
 
 unfoldable pub empty : LowerCtx
-empty = record { ops = []; scope = record { vars = []; next = 0 } }
+empty = record { ops = []; scope = record { vars = []; nextVar = 0 } }
 
 unfoldable pub lowerStatement : Tree statement → LowerCtx
 lowerStatement t = lower t empty .1

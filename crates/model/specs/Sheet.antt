@@ -28,9 +28,9 @@ pub data Reading (A : Type 0) : Type 0 where
   got : A → Place → Reading A
   refused : Refusal → Reading A
 
-unfoldable pub next : {A B : Type 0} → Reading A → (A → Place → Reading B) → Reading B
-next (got a p) k = k a p
-next (refused r) k = refused r
+unfoldable pub thenRead : {A B : Type 0} → Reading A → (A → Place → Reading B) → Reading B
+thenRead (got a p) k = k a p
+thenRead (refused r) k = refused r
 
 -- a reader of something
 abbrev pub Reader : Type 0 → Type 0
@@ -51,19 +51,19 @@ readLine s deep p = lineAt s deep (p .line) (p .text) (p .more)
 -- n of them, and groups of them, one after another
 unfoldable pub readMany : {s : Sort} → Reader (Tree s) → (n : ℕ) → Reader (Trees s n)
 readMany r zero p = got []ᵗ p
-readMany r (suc n) p = next (r p) (λ t p′. next (readMany r n p′) (λ ts p″. got (t ∷ᵗ ts) p″))
+readMany r (suc n) p = thenRead (r p) (λ t p′. thenRead (readMany r n p′) (λ ts p″. got (t ∷ᵗ ts) p″))
 
 unfoldable pub readGroups : ((s : Sort) → Reader (Tree s)) → (gs : List Group) → Reader (Forest gs)
 readGroups r [] p = got end p
-readGroups r (g ∷ gs) p = next (readMany (λ q. r (g .0) q) (g .1) p) (λ ts p′. next (readGroups r gs p′) (λ f p″. got (ts ▸ f) p″))
+readGroups r (g ∷ gs) p = thenRead (readMany (λ q. r (g .0) q) (g .1) p) (λ ts p′. thenRead (readGroups r gs p′) (λ f p″. got (ts ▸ f) p″))
 
 -- a record and its children, which r reads
 unfoldable pub readNode : ((s : Sort) → Reader (Tree s)) → (s : Sort) → Reader (Tree s)
-readNode r s p = next (readLine s false p) (λ x p′. next (readGroups r (children s (x .0) (x .1)) p′) (λ f p″. got (node s (p .line) (x .0) (x .1) f) p″))
+readNode r s p = thenRead (readLine s false p) (λ x p′. thenRead (readGroups r (children s (x .0) (x .1)) p′) (λ f p″. got (node s (p .line) (x .0) (x .1) f) p″))
 
 -- a tree, which may be d records deep
 unfoldable pub readTree : ℕ → (s : Sort) → Reader (Tree s)
-readTree zero s p = next (readLine s true p) (λ x p′. refused (Refusal.BigTree (p .line)))
+readTree zero s p = thenRead (readLine s true p) (λ x p′. refused (Refusal.BigTree (p .line)))
 readTree (suc d) s p = readNode (cond (beside s) (readNode (λ c q. readTree d c q)) (λ c q. readTree d c q)) s p
 
 -- behind the last due record nothing may follow
@@ -76,7 +76,7 @@ atEnd a line (b ∷ t) ms = refused (Refusal.BadLine line)
 unfoldable pub readSheet : ℕ → Bytes → Reading (Tree statement)
 readSheet d sheet =
     let p = split lineFeed sheet in
-    next (readTree d statement (record { line = 1; text = p .first; more = p .more })) (λ t q. atEnd t (q .line) (q .text) (q .more))
+    thenRead (readTree d statement (record { line = 1; text = p .first; more = p .more })) (λ t q. atEnd t (q .line) (q .text) (q .more))
 
 -- the line of the first `write`
 unfoldable pub orElse : {A : Type 0} → Option A → Option A → Option A

@@ -10,7 +10,7 @@ use Rattle.model.specs.Kind.{Expr, PlanExpr, expr, projection, inPlan, aggExpr}
 use Rattle.model.specs.Field.{Fields}
 use Rattle.model.specs.Record.{rec, forms}
 use Rattle.model.specs.Tree.{Tree, Trees, node, []ᵗ, _∷ᵗ_, end, _▸_, fold}
-use Rattle.model.specs.Lower.{Recs, made, _>>=_, ret, over, exprStep, planned, lowerExpr, lowerExprs, Split, noSplit, withKey, withAgg, lowerKey, lowerCallItem, lowerItem, isAggregateFunc, splitProjectionsAgg}
+use Rattle.model.specs.Lower.{Recs, made, _>>=_, ret, over, exprStep, lowerExpr, lowerExprs, Split, noSplit, withKey, withAgg, lowerKey, lowerCallItem, lowerItem, isAggregateFunc, splitProjectionsAgg, planExprRec}
 use Rattle.words.specs.Held.{Held, HeldOf, HeldSome, HeldMany, size, sizeOf}
 use Rattle.words.specs.Words.{maxRecords}
 use Rattle.lower.specs.Side.{Side, side}
@@ -45,7 +45,7 @@ tailOf : Recs → Recs
 tailOf [] = []
 tailOf (r ∷ rs) = rs
 
-call-lower : (line n : ℕ) (func : Bytes) (distinct : Bool) (u : Unit {0}) (args : Trees expr n) (s : State) → lowerExpr (node expr line Expr.Call (func, (n, (distinct, u))) (args ▸ end)) s ≡ (planned PlanExpr.Call (func, (n, tt)) ∷ lowerExprs args s .0, lowerExprs args s .1)
+call-lower : (line n : ℕ) (func : Bytes) (distinct : Bool) (u : Unit {0}) (args : Trees expr n) (s : State) → lowerExpr (node expr line Expr.Call (func, (n, (distinct, u))) (args ▸ end)) s ≡ (planExprRec PlanExpr.Call (func, (n, tt)) ∷ lowerExprs args s .0, lowerExprs args s .1)
 unfolding lowerExpr fold made exprStep over _>>=_ ret
 call-lower line n func distinct u args s = rw (plain-lower args s, exprs-lower args s)
 

@@ -26,8 +26,8 @@ use Rattle.line.specs.LineRead.{Got, IntoRead}
 use Rattle.line.specs.declared.read.Line.{Line}
 use Rattle.sheet.specs.declared.reader.Read.{Read}
 use Rattle.sheet.specs.declared.reader.Read.the-variants.{BadLine, BigTree}
-use Rattle.sheet.specs.declared.reader.Step.{Step}
-use Rattle.sheet.specs.declared.reader.Step.the-variants.{More, Bad, Big}
+use Rattle.sheet.specs.declared.reader.Reached.{Reached}
+use Rattle.sheet.specs.declared.reader.Reached.the-variants.{More, Bad, Big}
 use Rattle.words.specs.Held.{LineAt}
 use Rattle.sheet.specs.LineLaws.{line-first, line-more, line-stands}
 use Rattle.sheet.specs.Due.{roomBelow, isZero}
@@ -38,7 +38,7 @@ use Rattle.sheet.specs.Steps.{writes-kind, space, due-now}
 use Rattle.sheet.specs.Reader.{readOnly, Reads, Ends, SoFar, writeOf, rest-refused, top-is, advance, seen-more, seen-write}
 
 -- behind record i
-abbrev pub Next : Bytes → List ℕ → List ℕ → List ℕ → ℕ → Step → Type 0
+abbrev pub Next : Bytes → List ℕ → List ℕ → List ℕ → ℕ → Reached → Type 0
 Next sheet a b w i (More pos m wr) = SoFar sheet a b w (i + 1) pos m wr
 Next sheet a b w i Bad = readOnly sheet ≡ refuse (Refusal.BadLine (i + 1))
 Next sheet a b w i Big = readOnly sheet ≡ refuse (Refusal.BigTree (i + 1))
@@ -155,11 +155,11 @@ module _ (sheet : Bytes) (a b w : List ℕ) (i pos m wr : ℕ) (o : SoFar sheet 
   loop-done e r h = h .is a b w (rw e at o)
 
 -- what a line answers, by cases
-pub next-more-is : (sheet : Bytes) (a b w : List ℕ) (i : ℕ) (s : Step) (p n wr : ℕ) → s ≡ More p n wr → Next sheet a b w i s → SoFar sheet a b w (i + 1) p n wr
+pub next-more-is : (sheet : Bytes) (a b w : List ℕ) (i : ℕ) (s : Reached) (p n wr : ℕ) → s ≡ More p n wr → Next sheet a b w i s → SoFar sheet a b w (i + 1) p n wr
 next-more-is sheet a b w i s p n wr e h = rw e at h
 
-pub next-bad-is : (sheet : Bytes) (a b w : List ℕ) (i : ℕ) (s : Step) → s ≡ Bad → Next sheet a b w i s → Reads sheet a b (BadLine (i + 1))
+pub next-bad-is : (sheet : Bytes) (a b w : List ℕ) (i : ℕ) (s : Reached) → s ≡ Bad → Next sheet a b w i s → Reads sheet a b (BadLine (i + 1))
 next-bad-is sheet a b w i s e h = rw e at h
 
-pub next-big-is : (sheet : Bytes) (a b w : List ℕ) (i : ℕ) (s : Step) → s ≡ Big → Next sheet a b w i s → Reads sheet a b (BigTree (i + 1))
+pub next-big-is : (sheet : Bytes) (a b w : List ℕ) (i : ℕ) (s : Reached) → s ≡ Big → Next sheet a b w i s → Reads sheet a b (BigTree (i + 1))
 next-big-is sheet a b w i s e h = rw e at h

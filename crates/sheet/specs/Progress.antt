@@ -13,7 +13,7 @@ use Rattle.model.specs.Text.{Bytes, Pieces, split, lineFeed}
 use Rattle.model.specs.Kind.{Sort, statement}
 use Rattle.model.specs.Record.{Rec, rec, RecOf, readRec, children}
 use Rattle.model.specs.Tree.{Tree, []ᵗ, _∷ᵗ_, records, recordsOf}
-use Rattle.model.specs.Sheet.{lineAt, Place, Reading, got, refused, next, formed, readLine, readMany, readTree, readSheet, atEnd, maxLines}
+use Rattle.model.specs.Sheet.{lineAt, Place, Reading, got, refused, thenRead, formed, readLine, readMany, readTree, readSheet, atEnd, maxLines}
 use Rattle.model.specs.Refusal.{Refusal}
 use Rattle.sheet.specs.Due.{Due, due, dueOf, mapped, readDue, isZero, roomBelow, step}
 
@@ -23,7 +23,7 @@ placeAt sheet pos line = let p = split lineFeed (drop pos sheet) in record { lin
 
 -- the records that are left, behind which nothing may follow
 unfoldable pub rest : List Due → Place → Reading (List Rec)
-rest st p = next (readDue st p) (λ rs q. atEnd rs (q .line) (q .text) (q .more))
+rest st p = thenRead (readDue st p) (λ rs q. atEnd rs (q .line) (q .text) (q .more))
 
 -- the records of a sheet
 unfoldable pub whole : ℕ → Bytes → Reading (List Rec)
@@ -42,34 +42,34 @@ mapped-end f a line [] [] = refl
 mapped-end f a line [] (m ∷ ms) = refl
 mapped-end f a line (b ∷ t) ms = refl
 
-one-tree : (r : Reading (Tree statement)) → mapped (λ t. records t) (next r (λ t q. atEnd t (q .line) (q .text) (q .more))) ≡ next (next (next r (λ t q. got (t ∷ᵗ []ᵗ) q)) (λ ts q. mapped (λ rs. recordsOf ts ++ rs) (got [] q))) (λ rs q. atEnd rs (q .line) (q .text) (q .more))
-unfolding next mapped recordsOf
+one-tree : (r : Reading (Tree statement)) → mapped (λ t. records t) (thenRead r (λ t q. atEnd t (q .line) (q .text) (q .more))) ≡ thenRead (thenRead (thenRead r (λ t q. got (t ∷ᵗ []ᵗ) q)) (λ ts q. mapped (λ rs. recordsOf ts ++ rs) (got [] q))) (λ rs q. atEnd rs (q .line) (q .text) (q .more))
+unfolding thenRead mapped recordsOf
 one-tree (got t q) = mapped-end (λ t. records t) t (q .line) (q .text) (q .more) ∙ ap (λ l. atEnd l (q .line) (q .text) (q .more)) (sym (append-nil (records t)) ∙ sym (append-nil (records t ++ [])))
 one-tree (refused y) = refl
 
 pub at-start : (d : ℕ) (sheet : Bytes) → whole d sheet ≡ rest (due statement 1 d ∷ []) (placeAt sheet 0 1)
-unfolding whole readSheet rest readDue readMany placeAt next
+unfolding whole readSheet rest readDue readMany placeAt thenRead
 at-start d sheet = one-tree (readTree d statement (placeAt sheet 0 1))
 
 -- ── a line ──
 
-end-mapped : (f : List Rec → List Rec) (r : Reading (List Rec)) → next (mapped f r) (λ rs p. atEnd rs (p .line) (p .text) (p .more)) ≡ mapped f (next r (λ rs p. atEnd rs (p .line) (p .text) (p .more)))
-unfolding next mapped
+end-mapped : (f : List Rec → List Rec) (r : Reading (List Rec)) → thenRead (mapped f r) (λ rs p. atEnd rs (p .line) (p .text) (p .more)) ≡ mapped f (thenRead r (λ rs p. atEnd rs (p .line) (p .text) (p .more)))
+unfolding thenRead mapped
 end-mapped f (got rs p) = sym (mapped-end f rs (p .line) (p .text) (p .more))
 end-mapped f (refused y) = refl
 
-rest-got : {A : Type 0} (x : A) (f : A → List Rec → List Rec) (k : A → Place → Reading (List Rec)) (q : Place) (r : Reading A) → r ≡ got x q → next (next r (λ a p. mapped (f a) (k a p))) (λ rs p. atEnd rs (p .line) (p .text) (p .more)) ≡ mapped (f x) (next (k x q) (λ rs p. atEnd rs (p .line) (p .text) (p .more)))
-unfolding next
+rest-got : {A : Type 0} (x : A) (f : A → List Rec → List Rec) (k : A → Place → Reading (List Rec)) (q : Place) (r : Reading A) → r ≡ got x q → thenRead (thenRead r (λ a p. mapped (f a) (k a p))) (λ rs p. atEnd rs (p .line) (p .text) (p .more)) ≡ mapped (f x) (thenRead (k x q) (λ rs p. atEnd rs (p .line) (p .text) (p .more)))
+unfolding thenRead
 rest-got x f k q r e = rw e (end-mapped (f x) (k x q))
 
 pub line-got : (s : Sort) (n d : ℕ) (st : List Due) (p q : Place) (x : RecOf s) → readLine s (isZero d) p ≡ got x q → rest (due s (suc n) d ∷ st) p ≡ mapped (λ rs. rec s (x .0) (x .1) ∷ rs) (rest (dueOf (roomBelow s d) (children s (x .0) (x .1)) ++ (due s n d ∷ st)) q)
 unfolding rest
 line-got s n d st p q x e =
-    ap (λ r. next r (λ rs z. atEnd rs (z .line) (z .text) (z .more))) (step s n d st p)
+    ap (λ r. thenRead r (λ rs z. atEnd rs (z .line) (z .text) (z .more))) (step s n d st p)
     ∙ rest-got x (λ y rs. rec s (y .0) (y .1) ∷ rs) (λ y z. readDue (dueOf (roomBelow s d) (children s (y .0) (y .1)) ++ (due s n d ∷ st)) z) q (readLine s (isZero d) p) e
 
 pub line-refused : (s : Sort) (n d : ℕ) (st : List Due) (p : Place) (x : Refusal) → readLine s (isZero d) p ≡ refused x → rest (due s (suc n) d ∷ st) p ≡ refused x
-unfolding rest next
+unfolding rest thenRead
 line-refused s n d st p x e = rw (step s n d st p, e)
 
 -- what a line gives, by its pieces
@@ -100,7 +100,7 @@ module _ (sheet : Bytes) (pos n : ℕ) (s : Sort) (d : ℕ) where
 -- ── the end ──
 
 pub at-the-end : (sheet : Bytes) (n : ℕ) → rest [] (placeAt sheet (length sheet) n) ≡ got [] (placeAt sheet (length sheet) n)
-unfolding rest readDue next placeAt atEnd split
+unfolding rest readDue thenRead placeAt atEnd split
 at-the-end sheet n = rw (drop-length sheet)
 
 more-at : (n : ℕ) (t : Bool) (b : ℕ) (p : Pieces) → atEnd {A = List Rec} [] n (cond {A = Pieces} t (record { first = []; more = p .first ∷ p .more }) (record { first = b ∷ p .first; more = p .more }) .first) (cond {A = Pieces} t (record { first = []; more = p .first ∷ p .more }) (record { first = b ∷ p .first; more = p .more }) .more) ≡ refused (Refusal.BadLine n)
@@ -113,5 +113,5 @@ unfolding split atEnd
 more-follows n b t = more-at n (eqb b lineFeed) b (split lineFeed t)
 
 pub not-the-end : (sheet : Bytes) (pos n : ℕ) → pos < length sheet → rest [] (placeAt sheet pos n) ≡ refused (Refusal.BadLine n)
-unfolding rest readDue next placeAt
+unfolding rest readDue thenRead placeAt
 not-the-end sheet pos n h = rw (drop-cons sheet pos 0 h) (more-follows n _ _)

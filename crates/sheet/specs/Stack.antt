@@ -9,11 +9,11 @@ use Rattle.model.specs.Kind.{Sort}
 use Rattle.model.specs.Record.{rec, Group, children, beside}
 use Rattle.model.specs.Call.{maxDepth}
 use Rattle.model.specs.Tree.{recordsOf}
-use Rattle.model.specs.Sheet.{Place, next, readLine, readMany, readTree, atEnd}
+use Rattle.model.specs.Sheet.{Place, thenRead, readLine, readMany, readTree, atEnd}
 use Rattle.words.specs.GroupLaws.{sortsOf}
 use Rattle.sheet.specs.Due.{Due, due, dueOf, mapped, readDue, isZero, roomBelow, step, none-due}
 use Rattle.sheet.specs.Progress.{rest}
-use Rattle.laws.specs.SpelledLaws.{next-same}
+use Rattle.laws.specs.SpelledLaws.{thenRead-same}
 
 -- ── the words of a group ──
 
@@ -40,7 +40,7 @@ alike-trans h g = record { reads = λ p. h .reads p ∙ g .reads p }
 
 pub alike-under : (g : Due) {st st′ : List Due} → Alike st st′ → Alike (g ∷ st) (g ∷ st′)
 unfolding readDue
-alike-under g h = record { reads = λ p. next-same (readMany (λ q. readTree (g .room) (g .sort) q) (g .count) p) _ _ (λ ts q. ap (mapped (λ rs. recordsOf ts ++ rs)) (h .reads q)) }
+alike-under g h = record { reads = λ p. thenRead-same (readMany (λ q. readTree (g .room) (g .sort) q) (g .count) p) _ _ (λ ts q. ap (mapped (λ rs. recordsOf ts ++ rs)) (h .reads q)) }
 
 -- a group of none is passed over
 pub alike-none : (s : Sort) (d : ℕ) (st : List Due) → Alike (due s 0 d ∷ st) st
@@ -48,7 +48,7 @@ alike-none s d st = record { reads = λ p. none-due s d st p }
 
 pub rest-alike : {st st′ : List Due} → Alike st st′ → (p : Place) → rest st p ≡ rest st′ p
 unfolding rest
-rest-alike h p = ap (λ r. next r (λ rs q. atEnd rs (q .line) (q .text) (q .more))) (h .reads p)
+rest-alike h p = ap (λ r. thenRead r (λ rs q. atEnd rs (q .line) (q .text) (q .more))) (h .reads p)
 
 pub alike-behind : (ks : List Due) {st st′ : List Due} → Alike st st′ → Alike (ks ++ st) (ks ++ st′)
 alike-behind [] h = h
@@ -61,7 +61,7 @@ split-at s d st b (suc a) =
       reads = λ p.
           ap (λ n. readDue (due s n d ∷ st) p) (omega arith)
           ∙ step s (a + b) d st p
-          ∙ next-same (readLine s (isZero d) p) _ _ (λ x q. ap (mapped (λ rs. rec s (x .0) (x .1) ∷ rs)) (alike-behind (dueOf (roomBelow s d) (children s (x .0) (x .1))) (split-at s d st b a) .reads q))
+          ∙ thenRead-same (readLine s (isZero d) p) _ _ (λ x q. ap (mapped (λ rs. rec s (x .0) (x .1) ∷ rs)) (alike-behind (dueOf (roomBelow s d) (children s (x .0) (x .1))) (split-at s d st b a) .reads q))
           ∙ sym (step s a d (due s b d ∷ st) p);
     }
 

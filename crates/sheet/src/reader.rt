@@ -44,7 +44,7 @@ fn finish(sheet: &[u8], i: usize, pos: usize, write: u32) -> Read
 }
 
 // How far a line leads: the next position, how many groups are due then, and the line of the first write.
-pub enum Step {
+pub enum Reached {
     More(usize, usize, u32),
     Bad,
     Big,
@@ -98,7 +98,7 @@ fn read_next(
     pos: usize,
     top: usize,
     write: u32,
-) -> Step
+) -> Reached
     requires { ⌜ InLine (now sheet) pos ⌝ }
     requires { ⌜ SoFar (now sheet) (now a) (now b) (now stack) i pos (top + 1) write ⌝ }
     ensures { λ r. ⌜ Next (now (sheet .entry)) (now (a .exit)) (now (b .exit)) (now (stack .exit)) i r ⌝ }
@@ -107,19 +107,19 @@ fn read_next(
     let sort = stack[at];
     let room = stack[at + crate::stack::ROOM];
     if i == words::MAX_RECORDS {
-        return Step::Big;
+        return Reached::Big;
     }
     if room == 0 {
-        return Step::Big;
+        return Reached::Big;
     }
     let Line::Kind(kind, behind) = read_into(sheet, pos, sort, a, b, i) else {
-        return Step::Bad;
+        return Reached::Bad;
     };
     let groups = pop(stack, top);
     let below = room_below(sort, room);
     let due = push_groups(a, b, stack, groups, i, kind, below);
     let first = write_line(kind, write, i);
-    Step::More(behind, due, first)
+    Reached::More(behind, due, first)
 }
 
 // Reads a sheet into the records of two slices; the third is room to work in. What a refusal leaves in them is not promised.
@@ -140,16 +140,16 @@ pub fn read_sheet(sheet: &[u8], a: &mut [u32], b: &mut [u32], stack: &mut [u32])
             return Read::BadLine(i as u32 + 1);
         }
         match read_next(sheet, a, b, stack, i, pos, due - 1, write) {
-            Step::More(p, n, w) => {
+            Reached::More(p, n, w) => {
                 pos = p;
                 due = n;
                 write = w;
                 i += 1;
             }
-            Step::Bad => {
+            Reached::Bad => {
                 return Read::BadLine(i as u32 + 1);
             }
-            Step::Big => {
+            Reached::Big => {
                 return Read::BigTree(i as u32 + 1);
             }
         }

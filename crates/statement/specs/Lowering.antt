@@ -38,13 +38,13 @@ module _ (slice : Bytes) (s : LowerCtx) where
   unfolding testPlan outcome
   too-many h = rw (lt-ltb maxPlan (length (s .ops)) h)
 
-  pub too-far : maxPlan < s .scope .next → Gives slice slice Answer.PlanFull (testPlan s)
+  pub too-far : maxPlan < s .scope .nextVar → Gives slice slice Answer.PlanFull (testPlan s)
   unfolding testPlan outcome
-  too-far h = rw (lt-ltb maxPlan (s .scope .next) h, or-true (ltb maxPlan (length (s .ops))))
+  too-far h = rw (lt-ltb maxPlan (s .scope .nextVar) h, or-true (ltb maxPlan (length (s .ops))))
 
-  pub wrote : (slice′ : Bytes) (x : Answer) → length (s .ops) ≤ maxPlan → s .scope .next ≤ maxPlan → _≡_ {A = Outcome} (record { answer = answerOf x; slice = slice′ }) (written (planSheet s) slice) → Gives slice slice′ x (testPlan s)
+  pub wrote : (slice′ : Bytes) (x : Answer) → length (s .ops) ≤ maxPlan → s .scope .nextVar ≤ maxPlan → _≡_ {A = Outcome} (record { answer = answerOf x; slice = slice′ }) (written (planSheet s) slice) → Gives slice slice′ x (testPlan s)
   unfolding testPlan outcome
-  wrote slice′ x h h′ e = rw (le-ltb maxPlan (length (s .ops)) h, le-ltb maxPlan (s .scope .next) h′) e
+  wrote slice′ x h h′ e = rw (le-ltb maxPlan (length (s .ops)) h, le-ltb maxPlan (s .scope .nextVar) h′) e
 
 -- ── the check ──
 

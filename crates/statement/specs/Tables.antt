@@ -41,8 +41,8 @@ module _ {sheet : Bytes} {a b : List ℕ} {m : Mem} where
     pub ops-count : m .ctx .ops ≡ length (s .ops)
     ops-count = r .count
 
-    pub next-count : m .ctx .numbers ≡ s .scope .next
-    next-count = ap (λ (z : LowerCtx). z .scope .next) (r .state)
+    pub next-count : m .ctx .numbers ≡ s .scope .nextVar
+    next-count = ap (λ (z : LowerCtx). z .scope .nextVar) (r .state)
 
 -- ── the plan, as it is answered ──
 
