@@ -1,4 +1,4 @@
--- How many records a tree has, by recursion on it. Assumes nothing: these are definitions, and lemmas with their proofs.
+-- How many records a tree has is the length of their list. Assumes nothing: lemmas with their proofs.
 use Prim.Native.Nat.{ℕ, suc, _+_, _≤_}
 use native.Mathlib.Omega.{arith}
 use mathlib.Core.List.{List}
@@ -7,18 +7,7 @@ use lib.ListN.{length, length-append}
 use Rattle.model.specs.Kind.{Sort}
 use Rattle.model.specs.Record.{Group}
 use Rattle.model.specs.Tree.{Tree, Trees, Forest, node, []ᵗ, _∷ᵗ_, end, _▸_, records, recordsOf, recordsIn}
-
-unfoldable mutual
-  pub size : {s : Sort} → Tree s → ℕ
-  size (node s line k f kids) = suc (sizeIn kids)
-
-  pub sizeOf : {s : Sort} {n : ℕ} → Trees s n → ℕ
-  sizeOf []ᵗ = 0
-  sizeOf (t ∷ᵗ ts) = size t + sizeOf ts
-
-  pub sizeIn : {gs : List Group} → Forest gs → ℕ
-  sizeIn end = 0
-  sizeIn (ts ▸ f) = sizeOf ts + sizeIn f
+unfoldable pub use Rattle.model.specs.Tree.{size, sizeOf, sizeIn}
 
 pub sizeOf-pos : {s : Sort} {n : ℕ} (t : Tree s) (ts : Trees s n) → 1 ≤ sizeOf (t ∷ᵗ ts)
 unfolding size

@@ -31,7 +31,7 @@ varsAt = 4608
 abbrev pub maxVars : ℕ
 maxVars = 4352
 
--- The lowering's promises are for trees of at most this depth. The variables' words have room for a level more each for up to maxVars less two for each record, so it may be any number up to 256; the single call needs maxDepth.
+-- The lowering's promises are for trees of at most this depth. The variables' words have room for a level more each, up to 256 levels; the writer asks for no more than the single call's depth.
 abbrev pub deepest : ℕ
 deepest = maxDepth
 

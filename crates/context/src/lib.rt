@@ -163,13 +163,13 @@ impl LowerCtx {
             return more;
         }
         let at = k * OP_WORDS;
-        ops[at + 1] = op.kind;
-        ops[at + 2] = op.idx;
-        ops[at + 3] = op.input;
-        ops[at + 4] = op.x;
-        ops[at + 5] = op.y;
-        ops[at + 6] = op.left;
-        ops[at + 7] = op.base;
+        ops[at + op::KIND_WORD] = op.kind;
+        ops[at + op::IDX_WORD] = op.idx;
+        ops[at + op::INPUT_WORD] = op.input;
+        ops[at + op::X_WORD] = op.x;
+        ops[at + op::Y_WORD] = op.y;
+        ops[at + op::LEFT_WORD] = op.left;
+        ops[at + op::BASE_WORD] = op.base;
         more
     }
 }

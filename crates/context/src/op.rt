@@ -30,6 +30,21 @@ use crate::At;
 use crate::Before;
 use crate::OP_WORDS;
 
+// Where the words of an operator stand among its eight; the first is free.
+pub const KIND_WORD: usize = 1;
+
+pub const IDX_WORD: usize = 2;
+
+pub const INPUT_WORD: usize = 3;
+
+pub const X_WORD: usize = 4;
+
+pub const Y_WORD: usize = 5;
+
+pub const LEFT_WORD: usize = 6;
+
+pub const BASE_WORD: usize = 7;
+
 pub const SOURCE_ALL: u32 = 0;
 
 pub const SOURCE: u32 = 1;
@@ -354,13 +369,13 @@ pub fn read_op(ops: &[u32], k: usize) -> Op
     requires { ⌜ (k < maxStored) × (workWords ≤ length (now ops)) ⌝ }
     ensures { λ r. ⌜ r ≡ opAt (now (ops .entry)) k ⌝ }
 {
-    let kind = op_word(ops, k, 1);
-    let idx = op_word(ops, k, 2);
-    let input = op_word(ops, k, 3);
-    let x = op_word(ops, k, 4);
-    let y = op_word(ops, k, 5);
-    let left = op_word(ops, k, 6);
-    let base = op_word(ops, k, 7);
+    let kind = op_word(ops, k, KIND_WORD);
+    let idx = op_word(ops, k, IDX_WORD);
+    let input = op_word(ops, k, INPUT_WORD);
+    let x = op_word(ops, k, X_WORD);
+    let y = op_word(ops, k, Y_WORD);
+    let left = op_word(ops, k, LEFT_WORD);
+    let base = op_word(ops, k, BASE_WORD);
     Op {
         kind,
         idx,

@@ -181,8 +181,8 @@ module _ (R : ℕ → ℕ → Type 0) where
   same-ops : {c d : LowerCtx} → Ctx~ R c d → c .ops ≡ d .ops
   same-ops (ctx~ h) = refl
 
-  same-next : {c d : LowerCtx} → Ctx~ R c d → c .scope .nextVar ≡ d .scope .nextVar
-  same-next (ctx~ h) = refl
+  same-numbers : {c d : LowerCtx} → Ctx~ R c d → c .scope .nextVar ≡ d .scope .nextVar
+  same-numbers (ctx~ h) = refl
 
 module _ (s t : List ℕ) where
   vars-paired : {c d : LowerCtx} → Ctx~ (λ a b. Stands s t a b) c d → Paired s t (mappedRecs (c .scope .vars)) (mappedRecs (d .scope .vars))
@@ -204,7 +204,7 @@ module _ (t u : Tree statement) (slice slice′ : Bytes) where
       over d = ltb maxPlan (length (d .ops)) || ltb maxPlan (d .scope .nextVar)
 
       same : over (lowerStatement t) ≡ over (lowerStatement u)
-      same = rw (same-ops _ c, same-next _ c)
+      same = rw (same-ops _ c, same-numbers _ c)
 
       go : (a b : Bool) → a ≡ b → FindsRoom (nine a t) slice → FindsRoom (nine b u) slice′ → Demand3 t u (outcome slice (nine a t)) (outcome slice′ (nine b u))
       go true true e x y = refused-alike (record { refused = λ z. omega arith; number = refl; line = refl; kind = refl })

@@ -21,11 +21,11 @@ pub data Numbered {A : Type 0} : Reading A → Type 0 where
   three : {line : ℕ} → 1 ≤ line → Numbered (refused (Refusal.BadLine line))
   four : {line : ℕ} → 1 ≤ line → Numbered (refused (Refusal.BigTree line))
 
-next-numbered : {A B : Type 0} {m : Reading A} {k : A → Place → Reading B} → Numbered m → ((a : A) (p : Place) → 1 ≤ p .line → Numbered (k a p)) → Numbered (thenRead m k)
+thenRead-numbered : {A B : Type 0} {m : Reading A} {k : A → Place → Reading B} → Numbered m → ((a : A) (p : Place) → 1 ≤ p .line → Numbered (k a p)) → Numbered (thenRead m k)
 unfolding thenRead
-next-numbered (read {a = a} {p = p} l) f = f a p l
-next-numbered (three l) f = three l
-next-numbered (four l) f = four l
+thenRead-numbered (read {a = a} {p = p} l) f = f a p l
+thenRead-numbered (three l) f = three l
+thenRead-numbered (four l) f = four l
 
 formed-numbered : {A : Type 0} (line : ℕ) (p : Place) (o : Option A) → 1 ≤ line → 1 ≤ p .line → Numbered (formed line p o)
 unfolding formed
@@ -44,16 +44,16 @@ line-numbered s deep line text (m ∷ ms) l = go (deep || ltb maxLines line) (fo
 many-numbered : {s : Sort} (r : Reader (Tree s)) → ((p : Place) → 1 ≤ p .line → Numbered (r p)) → (n : ℕ) (p : Place) → 1 ≤ p .line → Numbered (readMany r n p)
 unfolding readMany
 many-numbered r h zero p l = read l
-many-numbered r h (suc n) p l = next-numbered (h p l) λ t p′ l′. next-numbered (many-numbered r h n p′ l′) λ ts p″ l″. read l″
+many-numbered r h (suc n) p l = thenRead-numbered (h p l) λ t p′ l′. thenRead-numbered (many-numbered r h n p′ l′) λ ts p″ l″. read l″
 
 groups-numbered : (r : (s : Sort) → Reader (Tree s)) → ((s : Sort) (p : Place) → 1 ≤ p .line → Numbered (r s p)) → (gs : List Group) (p : Place) → 1 ≤ p .line → Numbered (readGroups r gs p)
 unfolding readGroups
 groups-numbered r h [] p l = read l
-groups-numbered r h (g ∷ gs) p l = next-numbered (many-numbered (λ q. r (g .0) q) (λ q. h (g .0) q) (g .1) p l) λ ts p′ l′. next-numbered (groups-numbered r h gs p′ l′) λ f p″ l″. read l″
+groups-numbered r h (g ∷ gs) p l = thenRead-numbered (many-numbered (λ q. r (g .0) q) (λ q. h (g .0) q) (g .1) p l) λ ts p′ l′. thenRead-numbered (groups-numbered r h gs p′ l′) λ f p″ l″. read l″
 
 node-numbered : (r : (s : Sort) → Reader (Tree s)) → ((s : Sort) (p : Place) → 1 ≤ p .line → Numbered (r s p)) → (s : Sort) (p : Place) → 1 ≤ p .line → Numbered (readNode r s p)
 unfolding readNode readLine
-node-numbered r h s p l = next-numbered (line-numbered s false (p .line) (p .text) (p .more) l) λ x p′ l′. next-numbered (groups-numbered r h (children s (x .0) (x .1)) p′ l′) λ f p″ l″. read l″
+node-numbered r h s p l = thenRead-numbered (line-numbered s false (p .line) (p .text) (p .more) l) λ x p′ l′. thenRead-numbered (groups-numbered r h (children s (x .0) (x .1)) p′ l′) λ f p″ l″. read l″
 
 beside-numbered : (b : Bool) (r : (s : Sort) → Reader (Tree s)) → ((s : Sort) (p : Place) → 1 ≤ p .line → Numbered (r s p)) → (s : Sort) (p : Place) → 1 ≤ p .line → Numbered (cond b (readNode r) r s p)
 beside-numbered true r h s p l = node-numbered r h s p l
@@ -61,7 +61,7 @@ beside-numbered false r h s p l = h s p l
 
 tree-numbered : (d : ℕ) (s : Sort) (p : Place) → 1 ≤ p .line → Numbered (readTree d s p)
 unfolding readTree readLine
-tree-numbered zero s p l = next-numbered (line-numbered s true (p .line) (p .text) (p .more) l) λ x p′ l′. four l
+tree-numbered zero s p l = thenRead-numbered (line-numbered s true (p .line) (p .text) (p .more) l) λ x p′ l′. four l
 tree-numbered (suc d) s p l = node-numbered (cond (beside s) (readNode (λ c q. readTree d c q)) (λ c q. readTree d c q)) (λ c q m. beside-numbered (beside s) (λ c q. readTree d c q) (λ c q. tree-numbered d c q) c q m) s p l
 
 end-numbered : {A : Type 0} (a : A) (line : ℕ) (text : Bytes) (more : List Bytes) → 1 ≤ line → Numbered (atEnd a line text more)
@@ -72,7 +72,7 @@ end-numbered a line (b ∷ t) ms l = three l
 
 pub sheet-numbered : (d : ℕ) (sheet : Bytes) → Numbered (readSheet d sheet)
 unfolding readSheet
-sheet-numbered d sheet = next-numbered (tree-numbered d statement _ (omega arith)) λ t q l. end-numbered t (q .line) (q .text) (q .more) l
+sheet-numbered d sheet = thenRead-numbered (tree-numbered d statement _ (omega arith)) λ t q l. end-numbered t (q .line) (q .text) (q .more) l
 
 -- ── the line of a `write` ──
 

@@ -17,8 +17,11 @@ use record::number::decimal;
 // So many bytes of a plan slice are printed at most.
 const SHOWN: usize = 2048;
 
+// A page for a sheet, and the longest plan slice.
+const PAGE: usize = 65536;
+
 // A work slice that is one word short.
-const SHORT: usize = 16383;
+const SHORT: usize = words::WORK_WORDS - 1;
 
 // A word behind a blank.
 fn say_word(word: usize) {
@@ -110,7 +113,7 @@ fn show(
         return;
     }
     let label = &head[0..end];
-    let Decimal::Is(bytes) = decimal(&head[from..head.len()], 65536) else {
+    let Decimal::Is(bytes) = decimal(&head[from..head.len()], PAGE as u64) else {
         show_size(label, sheet, a, b, c, d, answer);
         return;
     };
@@ -213,13 +216,13 @@ fn show_list(
 }
 
 fn main() {
-    let mut list = [0u8; 32768];
-    let mut page = [0u8; 65536];
-    let mut a = [0u32; 16384];
-    let mut b = [0u32; 16384];
-    let mut c = [0u32; 16384];
-    let mut d = [0u32; 16384];
-    let mut plan = [0u8; 65536];
+    let mut list = [0u8; words::MAX_BYTES];
+    let mut page = [0u8; PAGE];
+    let mut a = [0u32; words::WORK_WORDS];
+    let mut b = [0u32; words::WORK_WORDS];
+    let mut c = [0u32; words::WORK_WORDS];
+    let mut d = [0u32; words::WORK_WORDS];
+    let mut plan = [0u8; PAGE];
     let n = io::read_full(STDIN_FILENO, &mut list);
     show_list(
         &list[0..n],

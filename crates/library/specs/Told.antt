@@ -7,16 +7,20 @@ use lib.ListN.{length, drop}
 use Rattle.model.specs.Refusal.{Answer}
 use Rattle.model.specs.Call.{Outcome}
 
+-- an answer has so many words
+abbrev pub answerWords : ℕ
+answerWords = 6
+
 -- number, line, start, end, kind and length, and behind them what stood there
 abbrev pub noted : Answer → List ℕ → List ℕ
-noted x w = x .number ∷ x .line ∷ x .start ∷ x .end ∷ x .kind ∷ x .length ∷ drop 6 w
+noted x w = x .number ∷ x .line ∷ x .start ∷ x .end ∷ x .kind ∷ x .length ∷ drop answerWords w
 
 -- true, and an answer that may be given; or false, and nothing written, if six words have no room
 abbrev pub Told : (Answer → Type 0) → (before after : List ℕ) → Bool → Type 0
-Told Given before after true = (6 ≤ length before) × ((x : Answer) × (Given x × (after ≡ noted x before)))
-Told Given before after false = (length before < 6) × (after ≡ before)
+Told Given before after true = (answerWords ≤ length before) × ((x : Answer) × (Given x × (after ≡ noted x before)))
+Told Given before after false = (length before < answerWords) × (after ≡ before)
 
 -- true, and an outcome's answer and plan slice; or false, and nothing written
 abbrev pub Lowers : Outcome → (slice slice′ before after : List ℕ) → Bool → Type 0
-Lowers o slice slice′ before after true = (6 ≤ length before) × ((slice′ ≡ o .slice) × (after ≡ noted (o .answer) before))
-Lowers o slice slice′ before after false = (length before < 6) × ((slice′ ≡ slice) × (after ≡ before))
+Lowers o slice slice′ before after true = (answerWords ≤ length before) × ((slice′ ≡ o .slice) × (after ≡ noted (o .answer) before))
+Lowers o slice slice′ before after false = (length before < answerWords) × ((slice′ ≡ slice) × (after ≡ before))

@@ -5,11 +5,14 @@ ghost use Prim.Native.Nat.{_≤_};
 ghost use lib.ListN.{length, drop};
 ghost use Rattle.model.specs.Call.{SizeCall, lowerCall};
 ghost use Rattle.values.specs.Told.{told};
-ghost use Rattle.library.specs.Told.{noted, Told, Lowers};
+ghost use Rattle.library.specs.Told.{answerWords, noted, Told, Lowers};
 use statement::lowering::lower_statement;
 use statement::size_statement;
 use values::Values;
 use values::values_of;
+
+// An answer has so many words.
+const ANSWER_WORDS: usize = 6;
 
 // Six words at the start of a slice.
 fn put(
@@ -21,8 +24,8 @@ fn put(
     kind: usize,
     size: usize,
 )
-    requires { ⌜ 6 ≤ length (now answer) ⌝ }
-    ensures { λ _. ⌜ now (answer .exit) ≡ number ∷ line ∷ start ∷ end ∷ kind ∷ size ∷ drop 6 (now (answer .entry)) ⌝ }
+    requires { ⌜ answerWords ≤ length (now answer) ⌝ }
+    ensures { λ _. ⌜ now (answer .exit) ≡ number ∷ line ∷ start ∷ end ∷ kind ∷ size ∷ drop answerWords (now (answer .entry)) ⌝ }
 {
     answer[0] = number;
     answer[1] = line;
@@ -34,7 +37,7 @@ fn put(
 
 // The six words of an answer.
 fn put_answer(answer: &mut [usize], v: Values)
-    requires { ⌜ 6 ≤ length (now answer) ⌝ }
+    requires { ⌜ answerWords ≤ length (now answer) ⌝ }
     ensures { λ _. ⌜ now (answer .exit) ≡ noted (told v) (now (answer .entry)) ⌝ }
 {
     put(
@@ -60,7 +63,7 @@ pub extern "C" fn dresserhawk_size(
 ) -> bool
     ensures { λ r. ⌜ Told (SizeCall (length (now (a .entry)) ∷ length (now (b .entry)) ∷ length (now (c .entry)) ∷ length (now (d .entry)) ∷ []) (now (sheet .entry))) (now (answer .entry)) (now (answer .exit)) r ⌝ }
 {
-    if answer.len() < 6 {
+    if answer.len() < ANSWER_WORDS {
         return false;
     }
     put_answer(answer, values_of(size_statement(sheet, a, b, c, d)));
@@ -80,7 +83,7 @@ pub extern "C" fn dresserhawk_lower(
 ) -> bool
     ensures { λ r. ⌜ Lowers (lowerCall (length (now (a .entry)) ∷ length (now (b .entry)) ∷ length (now (c .entry)) ∷ length (now (d .entry)) ∷ []) (now (sheet .entry)) (now (plan .entry))) (now (plan .entry)) (now (plan .exit)) (now (answer .entry)) (now (answer .exit)) r ⌝ }
 {
-    if answer.len() < 6 {
+    if answer.len() < ANSWER_WORDS {
         return false;
     }
     put_answer(answer, values_of(lower_statement(sheet, a, b, c, d, plan)));

@@ -25,7 +25,7 @@ record Looking (n : ℕ) (w : Bytes) (x end k : ℕ) : Type 0 where
   pub low : firstKind (sortOf n) ≤ k
   pub high : k ≤ end
   pub ends : end ≡ firstKind (sortOf n) + length (kinds (sortOf n))
-  pub left : kindNamed (sortOf n) w (drop (k - firstKind (sortOf n)) (kinds (sortOf n))) ≡ kindNamed (sortOf n) w (kinds (sortOf n))
+  pub remains : kindNamed (sortOf n) w (drop (k - firstKind (sortOf n)) (kinds (sortOf n))) ≡ kindNamed (sortOf n) w (kinds (sortOf n))
 
 module _ (n : ℕ) (w : Bytes) (x end k : ℕ) where
   look-first : n < sortCount → Packed w x → end ≡ getD first (n + 1) 0 → k ≡ getD first n 0 → Looking n w x end k
@@ -33,7 +33,7 @@ module _ (n : ℕ) (w : Bytes) (x end k : ℕ) where
       let from : k ≡ firstKind (sortOf n) = f ∙ tabled n h .from in
       let to : end ≡ firstKind (sortOf n) + length (kinds (sortOf n)) = e ∙ tabled n h .to in
       let none-yet : k - firstKind (sortOf n) ≡ 0 = omega arith in
-      record { known = h; tells = t; low = omega arith; high = omega arith; ends = to; left = rw none-yet }
+      record { known = h; tells = t; low = omega arith; high = omega arith; ends = to; remains = rw none-yet }
 
   module _ (l : Looking n w x end k) where
     at : k < end → Nth (sortOf n) (λ m j. Row (sortOf n) m j) (firstKind (sortOf n)) (kinds (sortOf n)) (k - firstKind (sortOf n))
@@ -53,7 +53,7 @@ module _ (n : ℕ) (w : Bytes) (x end k : ℕ) where
 
     step : (h : k < end) → cond (same w (keyword (sortOf n) (at h .kind))) (some (at h .kind)) (kindNamed (sortOf n) w (drop (suc (k - firstKind (sortOf n))) (kinds (sortOf n)))) ≡ kindNamed (sortOf n) w (kinds (sortOf n))
     unfolding kindNamed
-    step h = rw (at h .rest) at (l .left)
+    step h = rw (at h .rest) at (l .remains)
 
     look-here : k < end → getD keys k 0 ≡ x → Named (sortOf n) w (Is k)
     look-here h e =
@@ -64,13 +64,13 @@ module _ (n : ℕ) (w : Bytes) (x end k : ℕ) where
     look-past h e =
         let other : same w (keyword (sortOf n) (at h .kind)) ≡ false = sym (test h) ∙ ne-eqb x _ (λ q. e (sym q)) in
         let later : k + 1 - firstKind (sortOf n) ≡ suc (k - firstKind (sortOf n)) = omega (arith, l .low) in
-        record { known = l .known; tells = l .tells; low = omega (arith, l .low); high = omega arith; ends = l .ends; left = rw later (rw other at (step h)) }
+        record { known = l .known; tells = l .tells; low = omega (arith, l .low); high = omega arith; ends = l .ends; remains = rw later (rw other at (step h)) }
 
     look-none : end ≤ k → Named (sortOf n) w Not
     unfolding kindNamed
     look-none h =
         let past : length (kinds (sortOf n)) ≤ k - firstKind (sortOf n) = omega (arith, l .ends) in
-        record { is = sym (rw (drop-of-length-le (kinds (sortOf n)) past) at (l .left)); known = tt }
+        record { is = sym (rw (drop-of-length-le (kinds (sortOf n)) past) at (l .remains)); known = tt }
 
 -- ── by the number of a keyword ──
 

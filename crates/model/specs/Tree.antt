@@ -1,5 +1,5 @@
 -- The tree: a record with its line and its children, as the record table has them. So a tree of sort `statement` is a Statement of cyrs-hir, with its counts and sorts right by its type, and a line number at each record. Assumes nothing: these are definitions.
-use Prim.Native.Nat.{ℕ, zero, suc}
+use Prim.Native.Nat.{ℕ, zero, suc, _+_}
 use mathlib.Core.List.{List, [], _∷_, _++_}
 use Rattle.model.specs.Field.{Fields}
 use Rattle.model.specs.Kind.{Sort, Kind}
@@ -33,6 +33,19 @@ unfoldable mutual
   pub recordsIn : {gs : List Group} → Forest gs → List Rec
   recordsIn end = []
   recordsIn (ts ▸ f) = recordsOf ts ++ recordsIn f
+
+-- how many records a tree has
+unfoldable mutual
+  pub size : {s : Sort} → Tree s → ℕ
+  size (node s line k f kids) = suc (sizeIn kids)
+
+  pub sizeOf : {s : Sort} {n : ℕ} → Trees s n → ℕ
+  sizeOf []ᵗ = 0
+  sizeOf (t ∷ᵗ ts) = size t + sizeOf ts
+
+  pub sizeIn : {gs : List Group} → Forest gs → ℕ
+  sizeIn end = 0
+  sizeIn (ts ▸ f) = sizeOf ts + sizeIn f
 
 -- n results
 abbrev pub Many : Type 0 → ℕ → Type 0

@@ -18,14 +18,19 @@ fn show(sheet: &[u8], a: &mut [u32], b: &mut [u32], c: &mut [u32], d: &mut [u32]
     io::write_all(STDOUT_FILENO, &plan[0..n]);
 }
 
-// The sheet's array has room for one byte more than a sheet may have, so that a longer one is refused however long it is.
+// One byte more than a sheet may have, so that a longer one is refused however long it is.
+const SHEET_BYTES: usize = words::MAX_BYTES + 1;
+
+// The plan's slice.
+const PLAN_BYTES: usize = 65536;
+
 fn main() {
-    let mut sheet = [0u8; 32769];
-    let mut a = [0u32; 16384];
-    let mut b = [0u32; 16384];
-    let mut c = [0u32; 16384];
-    let mut d = [0u32; 16384];
-    let mut plan = [0u8; 65536];
+    let mut sheet = [0u8; SHEET_BYTES];
+    let mut a = [0u32; words::WORK_WORDS];
+    let mut b = [0u32; words::WORK_WORDS];
+    let mut c = [0u32; words::WORK_WORDS];
+    let mut d = [0u32; words::WORK_WORDS];
+    let mut plan = [0u8; PLAN_BYTES];
     let n = io::read_full(STDIN_FILENO, &mut sheet);
     show(&sheet[0..n], &mut a, &mut b, &mut c, &mut d, &mut plan);
 }

@@ -10,7 +10,6 @@ use Rattle.context.specs.Tables.{maxStored, maxVars}
 use Rattle.lower.specs.Side.{side}
 use Rattle.lower.specs.Rep.{Mem, Written, Rep}
 use Rattle.plan_writer.specs.Whole.{Tables}
-use Rattle.context.specs.Tables.{maxStored, maxVars}
 
 -- tables that stand for a state in the lowering's own words, from operator 0 on, of which all are stored
 pub tables-of : {sheet : Bytes} {a b : List ℕ} {W : Written} {s : LowerCtx} {m : Mem} → Rep (side sheet a b 0) W s m → m .ctx .ops ≤ maxStored → m .ctx .mapped ≤ maxVars → Tables sheet a b (m .ops) (m .rest) (m .ctx .ops) (m .ctx .mapped) s

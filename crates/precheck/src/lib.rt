@@ -6,6 +6,7 @@ ghost use Rattle.model.specs.Check.{Verdict, noSpan, precheckStatement};
 ghost use Rattle.model.specs.Text.{Bytes};
 ghost use Rattle.model.specs.Tree.{Tree};
 ghost use Rattle.words.specs.Held.{Held, HeldSome};
+ghost use Rattle.words.specs.Places.{lineEndAt};
 ghost use Rattle.words.specs.Words.{Roomy, maxRecords};
 ghost use Rattle.model.specs.Call.{maxDepth};
 ghost use Rattle.precheck.specs.Answer.{spanOf, Says};
@@ -49,7 +50,7 @@ enum Walk {
 // The span in words c and c + 1 of record i.
 fn span_at(a: &[u32], b: &[u32], i: usize, c: usize) -> HirSpan
     requires { ⌜ i < maxRecords ⌝ }
-    requires { ⌜ c < 15 ⌝ }
+    requires { ⌜ c < lineEndAt ⌝ }
     requires { ⌜ Roomy (now a) (now b) ⌝ }
     ensures { λ r. ⌜ Spans (now (a .entry)) (now (b .entry)) i c r ⌝ }
 {
@@ -220,7 +221,7 @@ fn check_elements(a: &[u32], b: &[u32], i: usize, n: usize, left: usize) -> Walk
 
 // The word of a clause's record at which its span begins.
 fn span_word(kind: u32) -> usize
-    ensures { λ r. ⌜ (r ≡ spanWord kind) × (r < 15) ⌝ }
+    ensures { λ r. ⌜ (r ≡ spanWord kind) × (r < lineEndAt) ⌝ }
 {
     match kind {
         kind::MATCH => field::MATCH_SPAN,

@@ -32,7 +32,7 @@ use Rattle.words.specs.Held.{LineAt}
 use Rattle.sheet.specs.LineLaws.{line-first, line-more, line-stands}
 use Rattle.sheet.specs.Due.{roomBelow, isZero}
 use Rattle.sheet.specs.Writes.{writes, writeAmong}
-use Rattle.sheet.specs.Progress.{placeAt, rest, line-refused, no-feed, too-many, deep, unformed, well-formed}
+use Rattle.sheet.specs.Progress.{placeAt, readRest, line-refused, no-feed, too-many, deep, unformed, well-formed}
 use Rattle.sheet.specs.Dues.{dues, dues-length, group, Room, Popped, Groups, Space}
 use Rattle.sheet.specs.Steps.{writes-kind, space, due-now}
 use Rattle.sheet.specs.Reader.{readOnly, Reads, Ends, SoFar, writeOf, rest-refused, top-is, advance, seen-more, seen-write}
@@ -69,7 +69,7 @@ module _ (sheet : Bytes) (a b w : List ℕ) (i pos m wr : ℕ) (o : SoFar sheet 
   roomy-still sort e a′ b′ l into = record { first = omega (arith, o .roomy .first, into .first); second = omega (arith, o .roomy .second, into .second) }
 
   line-refuses : (x : ℕ → Refusal) → readLine (group w m .sort) (isZero (group w m .room)) (placeAt sheet pos (suc i)) ≡ refused (x (suc i)) → readOnly sheet ≡ refuse (x (i + 1))
-  line-refuses x e = rw (add-one i) (rest-refused sheet a b w i pos (suc m) wr state (x (suc i)) (ap (λ st. rest st (placeAt sheet pos (suc i))) (top-is w m (state .fit)) ∙ line-refused (group w m .sort) (group w m .count - 1) (group w m .room) (dues w m) (placeAt sheet pos (suc i)) (x (suc i)) e))
+  line-refuses x e = rw (add-one i) (rest-refused sheet a b w i pos (suc m) wr state (x (suc i)) (ap (λ st. readRest st (placeAt sheet pos (suc i))) (top-is w m (state .fit)) ∙ line-refused (group w m .sort) (group w m .count - 1) (group w m .room) (dues w m) (placeAt sheet pos (suc i)) (x (suc i)) e))
 
   -- from pos on there is no line feed
   pub next-unended : split lineFeed (drop pos sheet) .more ≡ [] → readOnly sheet ≡ refuse (Refusal.BadLine (i + 1))

@@ -22,8 +22,8 @@ unfoldable pub placeAt : Bytes → ℕ → ℕ → Place
 placeAt sheet pos line = let p = split lineFeed (drop pos sheet) in record { line = line; text = p .first; more = p .more }
 
 -- the records that are left, behind which nothing may follow
-unfoldable pub rest : List Due → Place → Reading (List Rec)
-rest st p = thenRead (readDue st p) (λ rs q. atEnd rs (q .line) (q .text) (q .more))
+unfoldable pub readRest : List Due → Place → Reading (List Rec)
+readRest st p = thenRead (readDue st p) (λ rs q. atEnd rs (q .line) (q .text) (q .more))
 
 -- the records of a sheet
 unfoldable pub whole : ℕ → Bytes → Reading (List Rec)
@@ -47,8 +47,8 @@ unfolding thenRead mapped recordsOf
 one-tree (got t q) = mapped-end (λ t. records t) t (q .line) (q .text) (q .more) ∙ ap (λ l. atEnd l (q .line) (q .text) (q .more)) (sym (append-nil (records t)) ∙ sym (append-nil (records t ++ [])))
 one-tree (refused y) = refl
 
-pub at-start : (d : ℕ) (sheet : Bytes) → whole d sheet ≡ rest (due statement 1 d ∷ []) (placeAt sheet 0 1)
-unfolding whole readSheet rest readDue readMany placeAt thenRead
+pub at-start : (d : ℕ) (sheet : Bytes) → whole d sheet ≡ readRest (due statement 1 d ∷ []) (placeAt sheet 0 1)
+unfolding whole readSheet readRest readDue readMany placeAt thenRead
 at-start d sheet = one-tree (readTree d statement (placeAt sheet 0 1))
 
 -- ── a line ──
@@ -62,14 +62,14 @@ rest-got : {A : Type 0} (x : A) (f : A → List Rec → List Rec) (k : A → Pla
 unfolding thenRead
 rest-got x f k q r e = rw e (end-mapped (f x) (k x q))
 
-pub line-got : (s : Sort) (n d : ℕ) (st : List Due) (p q : Place) (x : RecOf s) → readLine s (isZero d) p ≡ got x q → rest (due s (suc n) d ∷ st) p ≡ mapped (λ rs. rec s (x .0) (x .1) ∷ rs) (rest (dueOf (roomBelow s d) (children s (x .0) (x .1)) ++ (due s n d ∷ st)) q)
-unfolding rest
+pub line-got : (s : Sort) (n d : ℕ) (st : List Due) (p q : Place) (x : RecOf s) → readLine s (isZero d) p ≡ got x q → readRest (due s (suc n) d ∷ st) p ≡ mapped (λ rs. rec s (x .0) (x .1) ∷ rs) (readRest (dueOf (roomBelow s d) (children s (x .0) (x .1)) ++ (due s n d ∷ st)) q)
+unfolding readRest
 line-got s n d st p q x e =
     ap (λ r. thenRead r (λ rs z. atEnd rs (z .line) (z .text) (z .more))) (step s n d st p)
     ∙ rest-got x (λ y rs. rec s (y .0) (y .1) ∷ rs) (λ y z. readDue (dueOf (roomBelow s d) (children s (y .0) (y .1)) ++ (due s n d ∷ st)) z) q (readLine s (isZero d) p) e
 
-pub line-refused : (s : Sort) (n d : ℕ) (st : List Due) (p : Place) (x : Refusal) → readLine s (isZero d) p ≡ refused x → rest (due s (suc n) d ∷ st) p ≡ refused x
-unfolding rest thenRead
+pub line-refused : (s : Sort) (n d : ℕ) (st : List Due) (p : Place) (x : Refusal) → readLine s (isZero d) p ≡ refused x → readRest (due s (suc n) d ∷ st) p ≡ refused x
+unfolding readRest thenRead
 line-refused s n d st p x e = rw (step s n d st p, e)
 
 -- what a line gives, by its pieces
@@ -99,8 +99,8 @@ module _ (sheet : Bytes) (pos n : ℕ) (s : Sort) (d : ℕ) where
 
 -- ── the end ──
 
-pub at-the-end : (sheet : Bytes) (n : ℕ) → rest [] (placeAt sheet (length sheet) n) ≡ got [] (placeAt sheet (length sheet) n)
-unfolding rest readDue thenRead placeAt atEnd split
+pub at-the-end : (sheet : Bytes) (n : ℕ) → readRest [] (placeAt sheet (length sheet) n) ≡ got [] (placeAt sheet (length sheet) n)
+unfolding readRest readDue thenRead placeAt atEnd split
 at-the-end sheet n = rw (drop-length sheet)
 
 more-at : (n : ℕ) (t : Bool) (b : ℕ) (p : Pieces) → atEnd {A = List Rec} [] n (cond {A = Pieces} t (record { first = []; more = p .first ∷ p .more }) (record { first = b ∷ p .first; more = p .more }) .first) (cond {A = Pieces} t (record { first = []; more = p .first ∷ p .more }) (record { first = b ∷ p .first; more = p .more }) .more) ≡ refused (Refusal.BadLine n)
@@ -112,6 +112,6 @@ more-follows : (n : ℕ) (b : ℕ) (t : Bytes) → atEnd {A = List Rec} [] n (sp
 unfolding split atEnd
 more-follows n b t = more-at n (eqb b lineFeed) b (split lineFeed t)
 
-pub not-the-end : (sheet : Bytes) (pos n : ℕ) → pos < length sheet → rest [] (placeAt sheet pos n) ≡ refused (Refusal.BadLine n)
-unfolding rest readDue thenRead placeAt
+pub not-the-end : (sheet : Bytes) (pos n : ℕ) → pos < length sheet → readRest [] (placeAt sheet pos n) ≡ refused (Refusal.BadLine n)
+unfolding readRest readDue thenRead placeAt
 not-the-end sheet pos n h = rw (drop-cons sheet pos 0 h) (more-follows n _ _)

@@ -25,7 +25,7 @@ use Rattle.sheet.specs.declared.reader.Read.the-variants.{Records, BadLi
 use Rattle.sheet.specs.Due.{due, dueOf, mapped, mapped-mapped, mapped-ext, roomBelow, isZero}
 use Rattle.sheet.specs.Standing.{Standing, standing-both, stands-held}
 use Rattle.sheet.specs.Writes.{writes, writeAmong, first-write, orElse-none}
-use Rattle.sheet.specs.Progress.{placeAt, rest, whole, at-start, line-got, at-the-end, not-the-end}
+use Rattle.sheet.specs.Progress.{placeAt, readRest, whole, at-start, line-got, at-the-end, not-the-end}
 use Rattle.sheet.specs.Stack.{Alike, rest-alike, Fit}
 use Rattle.sheet.specs.Dues.{dues, group, Sorted, Pushed}
 
@@ -56,7 +56,7 @@ pub record SoFar (sheet : Bytes) (a b w : List ℕ) (i pos m wr : ℕ) : Type 0 
   pub roomy : Roomy a b
   pub fit : Fit (dues w m)
   pub sorted : Sorted w m
-  pub left : whole maxDepth sheet ≡ mapped (λ rs. done ++ rs) (rest (dues w m) (placeAt sheet pos (suc i)))
+  pub remains : whole maxDepth sheet ≡ mapped (λ rs. done ++ rs) (readRest (dues w m) (placeAt sheet pos (suc i)))
   pub wrote : (ss : List Rec) → writeAmong 1 (done ++ ss) ≡ orElse (writeOf wr) (writeAmong (suc i) ss)
 
 -- ── refusals ──
@@ -71,9 +71,9 @@ unfolding readOnly then testReading
 refusal sheet x e = rw e
 
 module _ (sheet : Bytes) (a b w : List ℕ) (i pos m wr : ℕ) (s : SoFar sheet a b w i pos m wr) where
-  pub rest-refused : (x : Refusal) → rest (dues w m) (placeAt sheet pos (suc i)) ≡ refused x → readOnly sheet ≡ refuse x
+  pub rest-refused : (x : Refusal) → readRest (dues w m) (placeAt sheet pos (suc i)) ≡ refused x → readOnly sheet ≡ refuse x
   unfolding mapped whole
-  rest-refused x e = refusal sheet x (mapped-refused (λ t. records t) (readSheet maxDepth sheet) x (s .left ∙ ap (mapped (λ rs. s .done ++ rs)) e))
+  rest-refused x e = refusal sheet x (mapped-refused (λ t. records t) (readSheet maxDepth sheet) x (s .remains ∙ ap (mapped (λ rs. s .done ++ rs)) e))
 
 -- ── the end ──
 
@@ -109,7 +109,7 @@ written t (suc l) z = refl
 module _ (sheet : Bytes) (a b w : List ℕ) (i pos wr : ℕ) (s : SoFar sheet a b w i pos 0 wr) (e : pos ≡ length sheet) where
   ended-whole : whole maxDepth sheet ≡ got (s .done) (placeAt sheet (length sheet) (suc i))
   unfolding mapped dues
-  ended-whole = s .left ∙ rw (e, at-the-end sheet (suc i)) (ap (λ l. got l (placeAt sheet (length sheet) (suc i))) (append-nil (s .done)))
+  ended-whole = s .remains ∙ rw (e, at-the-end sheet (suc i)) (ap (λ l. got l (placeAt sheet (length sheet) (suc i))) (append-nil (s .done)))
 
   ended-tree : (t : Tree statement) (q : Place) → readSheet maxDepth sheet ≡ got t q → records t ≡ s .done → Ended sheet a b i wr
   unfolding recordCount writeAmong
@@ -169,17 +169,17 @@ module _ (sheet : Bytes) (a b w a′ b′ w′ : List ℕ) (i pos m wr : ℕ) (o
   unfolding writeAmong
   seen-write q new old ss = ap (writeAmong 1) (append-assoc (o .done) (rec (group w m .sort) (x .0) (x .1) ∷ []) ss) ∙ o .wrote (rec (group w m .sort) (x .0) (x .1) ∷ ss) ∙ rw q (first-of wr wr′ i (writeAmong (suc (suc i)) ss) new old)
 
-  left-is :
+  remains-is :
       readLine (group w m .sort) (isZero (group w m .room)) (placeAt sheet pos (suc i)) ≡ got x (placeAt sheet to (suc (suc i)))
       → Alike (dues w′ m′) (dueOf (roomBelow (group w m .sort) (group w m .room)) (children (group w m .sort) (x .0) (x .1)) ++ (due (group w m .sort) (group w m .count - 1) (group w m .room) ∷ dues w m))
-      → whole maxDepth sheet ≡ mapped (λ rs. (o .done ++ (rec (group w m .sort) (x .0) (x .1) ∷ [])) ++ rs) (rest (dues w′ m′) (placeAt sheet to (suc (suc i))))
-  left-is r alike =
-      o .left
-      ∙ ap (λ st. mapped (λ rs. o .done ++ rs) (rest st (placeAt sheet pos (suc i)))) (top-is w m (o .fit))
+      → whole maxDepth sheet ≡ mapped (λ rs. (o .done ++ (rec (group w m .sort) (x .0) (x .1) ∷ [])) ++ rs) (readRest (dues w′ m′) (placeAt sheet to (suc (suc i))))
+  remains-is r alike =
+      o .remains
+      ∙ ap (λ st. mapped (λ rs. o .done ++ rs) (readRest st (placeAt sheet pos (suc i)))) (top-is w m (o .fit))
       ∙ ap (mapped (λ rs. o .done ++ rs)) (line-got (group w m .sort) (group w m .count - 1) (group w m .room) (dues w m) (placeAt sheet pos (suc i)) (placeAt sheet to (suc (suc i))) x r)
       ∙ mapped-mapped (λ rs. o .done ++ rs) (λ rs. rec (group w m .sort) (x .0) (x .1) ∷ rs) _
       ∙ ap (mapped (λ rs. o .done ++ (rec (group w m .sort) (x .0) (x .1) ∷ rs))) (sym (rest-alike alike (placeAt sheet to (suc (suc i)))))
-      ∙ mapped-ext (rest (dues w′ m′) (placeAt sheet to (suc (suc i)))) _ _ (λ rs. sym (append-assoc (o .done) (rec (group w m .sort) (x .0) (x .1) ∷ []) rs))
+      ∙ mapped-ext (readRest (dues w′ m′) (placeAt sheet to (suc (suc i)))) _ _ (λ rs. sym (append-assoc (o .done) (rec (group w m .sort) (x .0) (x .1) ∷ []) rs))
 
   pub advance :
       readLine (group w m .sort) (isZero (group w m .room)) (placeAt sheet pos (suc i)) ≡ got x (placeAt sheet to (suc (suc i)))
@@ -205,7 +205,7 @@ module _ (sheet : Bytes) (a b w a′ b′ w′ : List ℕ) (i pos m wr : ℕ) (o
         roomy = roomy;
         fit = fit;
         sorted = sorted;
-        left = left-is r alike;
+        remains = remains-is r alike;
         wrote = wrote;
       }
     where
@@ -240,7 +240,7 @@ begin sheet a b w w′ roomy long p =
       roomy = roomy;
       fit = subst (λ st. Fit st) (sym e) statement-fits;
       sorted = p .sorted (record { at = λ j l. absurd (omega arith) }) (omega arith);
-      left = at-start maxDepth sheet ∙ sym (mapped-all (rest (due statement 1 maxDepth ∷ []) (placeAt sheet 0 1))) ∙ ap (λ st. mapped (λ rs. [] ++ rs) (rest st (placeAt sheet 0 1))) (sym e);
+      remains = at-start maxDepth sheet ∙ sym (mapped-all (readRest (due statement 1 maxDepth ∷ []) (placeAt sheet 0 1))) ∙ ap (λ st. mapped (λ rs. [] ++ rs) (readRest st (placeAt sheet 0 1))) (sym e);
       wrote = λ ss. refl;
     }
 

@@ -12,7 +12,7 @@ use Rattle.model.specs.Tree.{recordsOf}
 use Rattle.model.specs.Sheet.{Place, thenRead, readLine, readMany, readTree, atEnd}
 use Rattle.words.specs.GroupLaws.{sortsOf}
 use Rattle.sheet.specs.Due.{Due, due, dueOf, mapped, readDue, isZero, roomBelow, step, none-due}
-use Rattle.sheet.specs.Progress.{rest}
+use Rattle.sheet.specs.Progress.{readRest}
 use Rattle.laws.specs.SpelledLaws.{thenRead-same}
 
 -- ── the words of a group ──
@@ -46,8 +46,8 @@ alike-under g h = record { reads = λ p. thenRead-same (readMany (λ q. readTree
 pub alike-none : (s : Sort) (d : ℕ) (st : List Due) → Alike (due s 0 d ∷ st) st
 alike-none s d st = record { reads = λ p. none-due s d st p }
 
-pub rest-alike : {st st′ : List Due} → Alike st st′ → (p : Place) → rest st p ≡ rest st′ p
-unfolding rest
+pub rest-alike : {st st′ : List Due} → Alike st st′ → (p : Place) → readRest st p ≡ readRest st′ p
+unfolding readRest
 rest-alike h p = ap (λ r. thenRead r (λ rs q. atEnd rs (q .line) (q .text) (q .more))) (h .reads p)
 
 pub alike-behind : (ks : List Due) {st st′ : List Due} → Alike st st′ → Alike (ks ++ st) (ks ++ st′)

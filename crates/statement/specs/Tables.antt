@@ -41,8 +41,8 @@ module _ {sheet : Bytes} {a b : List ℕ} {m : Mem} where
     pub ops-count : m .ctx .ops ≡ length (s .ops)
     ops-count = r .count
 
-    pub next-count : m .ctx .numbers ≡ s .scope .nextVar
-    next-count = ap (λ (z : LowerCtx). z .scope .nextVar) (r .state)
+    pub numbers-count : m .ctx .numbers ≡ s .scope .nextVar
+    numbers-count = ap (λ (z : LowerCtx). z .scope .nextVar) (r .state)
 
 -- ── the plan, as it is answered ──
 
@@ -51,11 +51,11 @@ module _ {sheet : Bytes} {a b : List ℕ} {m : Mem} {W : Written} {s : LowerCtx}
   full-ops slice h = too-many slice s (rw (ops-count r) at h)
 
   pub full-numbers : (slice : Bytes) → maxPlan < m .ctx .numbers → Gives slice slice Answer.PlanFull (testPlan s)
-  full-numbers slice h = too-far slice s (rw (next-count r) at h)
+  full-numbers slice h = too-far slice s (rw (numbers-count r) at h)
 
-  module _ (slice slice′ : Bytes) (p : Plan) (met : m .ctx .mapped ≤ maxVars) (ops : m .ctx .ops ≤ maxPlan) (next : m .ctx .numbers ≤ maxPlan) (w : WrotePlan sheet a b (m .ops) (m .rest) (m .ctx .ops) (m .ctx .mapped) slice slice′ p) where
+  module _ (slice slice′ : Bytes) (p : Plan) (met : m .ctx .mapped ≤ maxVars) (ops : m .ctx .ops ≤ maxPlan) (few-numbers : m .ctx .numbers ≤ maxPlan) (w : WrotePlan sheet a b (m .ops) (m .rest) (m .ctx .ops) (m .ctx .mapped) slice slice′ p) where
     told : (x : Answer) → answerOf x ≡ Whole.answerOf p → Gives slice slice′ x (testPlan s)
-    told x e = wrote slice s slice′ x (rw (ops-count r) at ops) (rw (next-count r) at next) (subst (λ (z : Values). _≡_ {A = Outcome} (record { answer = z; slice = slice′ }) (written (planSheet s) slice)) (sym e) (w s (tables-of r ops met)))
+    told x e = wrote slice s slice′ x (rw (ops-count r) at ops) (rw (numbers-count r) at few-numbers) (subst (λ (z : Values). _≡_ {A = Outcome} (record { answer = z; slice = slice′ }) (written (planSheet s) slice)) (sym e) (w s (tables-of r ops met)))
 
     pub no-room : p ≡ Plan.NoRoom → Gives slice slice′ Answer.NoRoom (testPlan s)
     unfolding Whole.answerOf

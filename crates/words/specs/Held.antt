@@ -12,6 +12,7 @@ use Rattle.model.specs.Field
 use Rattle.model.specs.Kind.{Sort, Kind}
 use Rattle.model.specs.Record.{Group, rec, forms, beside, spellRec}
 use Rattle.model.specs.Tree.{Tree, Trees, Forest, node, []ᵗ, _∷ᵗ_, end, _▸_}
+unfoldable pub use Rattle.model.specs.Tree.{size, sizeOf, sizeIn}
 use Rattle.words.specs.Places.{lineStartAt, lineEndAt}
 use Rattle.words.specs.Words.{part, decode, fieldOf, piecesOf, maxRecords}
 
@@ -80,19 +81,6 @@ pub record RecordAt (sheet : Bytes) (a b : List ℕ) (i : ℕ) (s : Sort) (k : K
   pub flags : Flags (forms s k) (part a b i) 0
   pub texts : Texts (forms s k) sheet (part a b i) 0
   pub line : LineAt s k f sheet (getD (part a b i) lineStartAt 0) (getD (part a b i) lineEndAt 0)
-
--- how many records a tree has
-unfoldable mutual
-  pub size : {s : Sort} → Tree s → ℕ
-  size (node s line k f kids) = suc (sizeIn kids)
-
-  pub sizeOf : {s : Sort} {n : ℕ} → Trees s n → ℕ
-  sizeOf []ᵗ = 0
-  sizeOf (t ∷ᵗ ts) = size t + sizeOf ts
-
-  pub sizeIn : {gs : List Group} → Forest gs → ℕ
-  sizeIn end = 0
-  sizeIn (ts ▸ f) = sizeOf ts + sizeIn f
 
 -- `Held d i t`: the tree t, at most d deep, has the records from i on; its lines are one more than those
 module _ (sheet : Bytes) (a b : List ℕ) where
