@@ -19,7 +19,7 @@ tables-of {s = s} {m = m} r few mapped-few =
       count = r .count;
       planned = record {
         few = few;
-        stored = λ k l. r .shows k (omega arith) l (omega arith) (λ q. getD (m .rest) q 0) (λ j. at (s .ops) j) (record { notes = record { at = λ q h i. refl }; ops = λ j h. refl });
+        stored = λ k f l. r .shows k f l (omega arith) (λ q. getD (m .rest) q 0) (λ j. at (s .ops) j) (record { notes = record { at = λ q h i. refl }; ops = λ j h. refl });
       };
       vars = ap (λ (x : LowerCtx). x .scope .vars) (r .state);
       few = mapped-few;
