@@ -28,7 +28,7 @@ use Rattle.lower.specs.Render.{Notes, Ops, render, renderOf, recsOver, Below, k
 use Rattle.lower.specs.Shows.{shift, Shows, OverExpr, ByLabels, ByPath, ByWith, ByCall, shows-all, shows-source, shows-filter, shows-expand, shows-short, shows-path, shows-optional, shows-with, shows-project, shows-aggregate, shows-order, shows-skip, shows-limit, shows-distinct, shows-unwind, shows-union, shows-call}
 use Rattle.plan_line.specs.Keywords.{word, letters, yieldWord}
 use Rattle.plan_line.specs.Row.{namedText}
-use Rattle.plan_sheet.specs.Due.{noted, Planned, Names, namesRecs, Carried, carriedRecs, carriedEnd, Many, WroteMany, WroteFirst, textAt}
+use Rattle.plan_sheet.specs.Due.{noted, SomePlan, Names, namesRecs, Carried, carriedRecs, carriedEnd, Many, WroteMany, WroteFirst, textAt}
 use Rattle.plan_sheet.specs.Path.{Elements, WrotePath}
 use Rattle.plan_sheet.specs.Behind.{manyBy, manyOf, firstBy, firstOf, Yields, no-yields, yield-more, yieldsRecs, WroteYields, Tail, SomeTail, WroteTail}
 use Rattle.plan_sheet.specs.Due
@@ -220,12 +220,12 @@ module _ {sheet : Bytes} {a b rest : List ℕ} {o : Op} {i : ℕ} where
 -- ── both ──
 
 -- n expressions from record i on, and what is behind them
-pub record Inside (sheet : Bytes) (a b rest : List ℕ) (A : Ops) (k : ℕ) (o : Op) (recs : Recs) (n i : ℕ) : Type 0 where
-  pub list : Carried sheet a b (shift (noted rest) (o .base)) k (o .left) n i
-  pub first : Rec
+pub record Inside (sheet : Bytes) (a b rest : List ℕ) (first : ℕ) (A : Ops) (k : ℕ) (o : Op) (recs : Recs) (n i : ℕ) : Type 0 where
+  pub list : Carried sheet a b (shift (noted rest) (o .base)) first k (o .left) n i
+  pub line : Rec
   pub tail : Recs
   pub tail-is : Tail sheet a b rest o (carriedEnd list) tail
-  pub recs-are : recs ≡ first ∷ (carriedRecs A list ++ tail)
+  pub recs-are : recs ≡ line ∷ (carriedRecs A list ++ tail)
 
 module _ {sheet : Bytes} {a b rest : List ℕ} {o : Op} where
   no-tail : (n : ℕ) → o .kind ≡ n → eqb n sourceKind ≡ false → eqb n bindPathKind ≡ false → eqb n procedureCallKind ≡ false → (i : ℕ) → Tail sheet a b rest o i []
@@ -240,56 +240,56 @@ module _ {sheet : Bytes} {a b rest : List ℕ} {o : Op} where
   yields-tail : {n i : ℕ} → o .kind ≡ procedureCallKind → n ≡ cell a b (o .idx) callYieldsAt → (y : Yields sheet a b n i) → Tail sheet a b rest o i (yieldsRecs (shift (noted rest) (o .base)) y)
   yields-tail {n} {i} e c = subst (λ (n : ℕ). (y : Yields sheet a b n i) → Tail sheet a b rest o i (yieldsRecs (shift (noted rest) (o .base)) y)) (sym c) (λ y. Behind.yields e y)
 
-module _ {sheet : Bytes} {a b rest : List ℕ} {A : Ops} {k : ℕ} {o : Op} {recs : Recs} where
+module _ {sheet : Bytes} {a b rest : List ℕ} {first : ℕ} {A : Ops} {k : ℕ} {o : Op} {recs : Recs} where
   -- of such a kind, they are as the words say
-  by-words : {n i : ℕ} → n ≡ manyOf a b o → i ≡ firstOf o → Inside sheet a b rest A k o recs n i → Inside sheet a b rest A k o recs (manyOf a b o) (firstOf o)
+  by-words : {n i : ℕ} → n ≡ manyOf a b o → i ≡ firstOf o → Inside sheet a b rest first A k o recs n i → Inside sheet a b rest first A k o recs (manyOf a b o) (firstOf o)
   by-words e q h = rw (← e, ← q) h
 
   -- no expressions
-  bare : (i : ℕ) (first : Rec) (tail : Recs) → Tail sheet a b rest o i tail → recs ≡ first ∷ tail → Inside sheet a b rest A k o recs 0 i
+  bare : (i : ℕ) (line : Rec) (tail : Recs) → Tail sheet a b rest o i tail → recs ≡ line ∷ tail → Inside sheet a b rest first A k o recs 0 i
   unfolding carriedRecs carriedEnd
-  bare i first tail t e = record { list = Due.none; first = first; tail = tail; tail-is = t; recs-are = e }
+  bare i line tail t e = record { list = Due.none; line = line; tail = tail; tail-is = t; recs-are = e }
 
   -- and what is behind them
-  behind-made : {n i stop : ℕ} {R : Ops → Recs} (first : Rec) (tail : Recs) (m : Made sheet a b (shift (noted rest) (o .base)) k (o .left) n i R stop) → Tail sheet a b rest o (carriedEnd (m .list)) tail → recs ≡ first ∷ (R A ++ tail) → Inside sheet a b rest A k o recs n i
-  behind-made first tail m t e = record { list = m .list; first = first; tail = tail; tail-is = t; recs-are = rw (m .recs-are A) e }
+  behind-made : {n i stop : ℕ} {R : Ops → Recs} (line : Rec) (tail : Recs) (m : Made sheet a b (shift (noted rest) (o .base)) first k (o .left) n i R stop) → Tail sheet a b rest o (carriedEnd (m .list)) tail → recs ≡ line ∷ (R A ++ tail) → Inside sheet a b rest first A k o recs n i
+  behind-made line tail m t e = record { list = m .list; line = line; tail = tail; tail-is = t; recs-are = rw (m .recs-are A) e }
 
   -- nothing behind them
-  alone : {n i stop : ℕ} {R : Ops → Recs} (first : Rec) → ((i : ℕ) → Tail sheet a b rest o i []) → Made sheet a b (shift (noted rest) (o .base)) k (o .left) n i R stop → recs ≡ first ∷ R A → Inside sheet a b rest A k o recs n i
-  alone {R = R} first t m e = behind-made first [] m (t (carriedEnd (m .list))) (rw (append-nil (R A)) e)
+  alone : {n i stop : ℕ} {R : Ops → Recs} (line : Rec) → ((i : ℕ) → Tail sheet a b rest o i []) → Made sheet a b (shift (noted rest) (o .base)) first k (o .left) n i R stop → recs ≡ line ∷ R A → Inside sheet a b rest first A k o recs n i
+  alone {R = R} line t m e = behind-made line [] m (t (carriedEnd (m .list))) (rw (append-nil (R A)) e)
 
-  over-expr : {head : Rec} → ((i : ℕ) → Tail sheet a b rest o i []) → OverExpr (side sheet a b 0) (noted rest) A k o head recs → Inside sheet a b rest A k o recs 1 (o .idx)
+  over-expr : {head : Rec} → ((i : ℕ) → Tail sheet a b rest o i []) → OverExpr (side sheet a b first) (noted rest) A k o head recs → Inside sheet a b rest first A k o recs 1 (o .idx)
   unfolding Held Below render
-  over-expr {head} t h = alone head t (exprs-made (shift (noted rest) (o .base)) k (o .left) (h .tree ∷ᵗ []ᵗ) (o .idx) (h .held, tt) (h .below, tt)) (rw (append-nil (render (shift (noted rest) (o .base)) A (h .tree))) (h .is))
+  over-expr {head} t h = alone head t (exprs-made (shift (noted rest) (o .base)) first k (o .left) (h .tree ∷ᵗ []ᵗ) (o .idx) (h .held, tt) (h .below, tt)) (rw (append-nil (render (shift (noted rest) (o .base)) A (h .tree))) (h .is))
 
-  by-with : ((i : ℕ) → Tail sheet a b rest o i []) → (h : ByWith (side sheet a b 0) (noted rest) A k o recs) → Inside sheet a b rest A k o recs (h .count + one (h .filtered)) (o .idx + 1)
+  by-with : ((i : ℕ) → Tail sheet a b rest o i []) → (h : ByWith (side sheet a b first) (noted rest) A k o recs) → Inside sheet a b rest first A k o recs (h .count + one (h .filtered)) (o .idx + 1)
   by-with t h =
       let N = shift (noted rest) (o .base) in
-      let m = items-made N k (o .left) (h .items) (o .idx + 1) (h .held-items) (h .below-items) in
+      let m = items-made N first k (o .left) (h .items) (o .idx + 1) (h .held-items) (h .below-items) in
       let p : HeldOf sheet a b (h .predicate) (o .left) (carriedEnd (m .list)) = rw (m .stop-is) (h .held-predicate) in
-      alone _ t (joined N k (o .left) m (exprs-made N k (o .left) (h .predicate) (carriedEnd (m .list)) p (h .below-predicate))) (h .is)
+      alone _ t (joined N first k (o .left) m (exprs-made N first k (o .left) (h .predicate) (carriedEnd (m .list)) p (h .below-predicate))) (h .is)
 
-  by-call : Roomy a b → o .kind ≡ procedureCallKind → (h : ByCall (side sheet a b 0) (noted rest) A k o recs) → Inside sheet a b rest A k o recs (h .fields .1 .0) (o .idx + 1)
+  by-call : Roomy a b → o .kind ≡ procedureCallKind → (h : ByCall (side sheet a b first) (noted rest) A k o recs) → Inside sheet a b rest first A k o recs (h .fields .1 .0) (o .idx + 1)
   unfolding fieldsOf fieldOf
   by-call room e h =
       let N = shift (noted rest) (o .base) in
-      let m = exprs-made N k (o .left) (h .args) (o .idx + 1) (h .held-args) (h .below) in
+      let m = exprs-made N first k (o .left) (h .args) (o .idx + 1) (h .held-args) (h .below) in
       let p : HeldOf sheet a b (h .yields) (o .left) (carriedEnd (m .list)) = rw (m .stop-is) (h .held-yields) in
       let y = yields-made sheet a b N A (o .left) (h .yields) (carriedEnd (m .list)) p in
       let c : h .fields .1 .1 .0 ≡ cell a b (o .idx) callYieldsAt = ap (λ (f : Fields (forms clause Clause.Call)). f .1 .1 .0) (shown room (h .at) .fields) in
       behind-made _ (yieldsRecs N (y .yields)) m (yields-tail e c (y .yields)) (rw (← y .recs-are) at (h .is))
 
-  by-labels : o .kind ≡ sourceKind → ByLabels (side sheet a b 0) (noted rest) A k o recs → Inside sheet a b rest A k o recs 0 (o .idx + 1)
+  by-labels : o .kind ≡ sourceKind → ByLabels (side sheet a b first) (noted rest) A k o recs → Inside sheet a b rest first A k o recs 0 (o .idx + 1)
   unfolding source
   by-labels e h =
       let m = names-made (shift (noted rest) (o .base)) A (o .left) (h .labels) (o .idx + 1) (h .held) in
       bare (o .idx + 1) _ (namesRecs (m .names)) (labels-tail e (h .counted) (m .names)) (rw (← m .recs-are) at (h .is))
 
-  by-path : o .kind ≡ bindPathKind → (h : ByPath (side sheet a b 0) (noted rest) A k o recs) → Inside sheet a b rest A k o recs 0 (o .idx + 1)
+  by-path : o .kind ≡ bindPathKind → (h : ByPath (side sheet a b first) (noted rest) A k o recs) → Inside sheet a b rest first A k o recs 0 (o .idx + 1)
   by-path e h = bare (o .idx + 1) _ _ (path-tail e (h .counted) (record { depth = o .left; trees = h .elements; held = h .held })) (h .is)
 
   -- all kinds but those that are written in ways of their own
-  pub inside : Roomy a b → Others (o .kind) ownWays → Shows (side sheet a b 0) (noted rest) A k o recs → Inside sheet a b rest A k o recs (manyOf a b o) (firstOf o)
+  pub inside : Roomy a b → Others (o .kind) ownWays → Shows (side sheet a b first) (noted rest) A k o recs → Inside sheet a b rest first A k o recs (manyOf a b o) (firstOf o)
   unfolding manyBy firstBy source fieldsOf fieldOf
   inside room z (shows-all q r) = by-words (rw q) (rw q) (bare (o .idx + 1) _ [] (no-tail sourceAllKind q refl refl refl (o .idx + 1)) r)
   inside room z (shows-source q r) = by-words (rw q) (rw q) (by-labels q r)
@@ -297,11 +297,11 @@ module _ {sheet : Bytes} {a b rest : List ℕ} {A : Ops} {k : ℕ} {o : Op} {rec
   inside room z (shows-expand q r) = absurd (z .0 .0 .0 .1 q)
   inside room z (shows-short q r) = absurd (z .0 .0 .1 q)
   inside room z (shows-path q r) = by-words (rw q) (rw q) (by-path q r)
-  inside room z (shows-optional q first l r) = absurd (z .0 .1 q)
+  inside room z (shows-optional q f l r) = absurd (z .0 .1 q)
   inside room z (shows-with q r) = by-words (rw (q, r .counted, r .flagged)) (rw q) (by-with (no-tail withKind q refl refl refl) r)
-  inside room z (shows-project q r) = by-words (rw (q, r .counted)) (rw q) (alone _ (no-tail projectKind q refl refl refl) (items-made (shift (noted rest) (o .base)) k (o .left) (r .items) (o .idx + 1) (r .held) (r .below)) (r .is))
+  inside room z (shows-project q r) = by-words (rw (q, r .counted)) (rw q) (alone _ (no-tail projectKind q refl refl refl) (items-made (shift (noted rest) (o .base)) first k (o .left) (r .items) (o .idx + 1) (r .held) (r .below)) (r .is))
   inside room z (shows-aggregate q r) = absurd (z .1 q)
-  inside room z (shows-order q r) = by-words (rw q) (rw q) (alone _ (no-tail orderByKind q refl refl refl) (keys-made (shift (noted rest) (o .base)) k (o .left) (r .keys) (o .idx) (r .held) (r .below)) (r .is))
+  inside room z (shows-order q r) = by-words (rw q) (rw q) (alone _ (no-tail orderByKind q refl refl refl) (keys-made (shift (noted rest) (o .base)) first k (o .left) (r .keys) (o .idx) (r .held) (r .below)) (r .is))
   inside room z (shows-skip q r) = by-words (rw q) (rw q) (over-expr (no-tail skipKind q refl refl refl) r)
   inside room z (shows-limit q r) = by-words (rw q) (rw q) (over-expr (no-tail limitKind q refl refl refl) r)
   inside room z (shows-distinct q r) = by-words (rw q) (rw q) (bare (o .idx + 1) _ [] (no-tail distinctKind q refl refl refl (o .idx + 1)) r)
@@ -313,21 +313,21 @@ module _ {sheet : Bytes} {a b rest : List ℕ} {A : Ops} {k : ℕ} {o : Op} {rec
 
 -- ── a whole operator ──
 
-module _ (k : ℕ) {sheet : Bytes} {a b os rest : List ℕ} {A : Ops} {o : Op} (p : Planned sheet a b os rest (k + 1) A) (e : o ≡ opAt os k) (room : Roomy a b) (z : Others (o .kind) ownWays) {n i : ℕ} (count : n ≡ manyOf a b o) (place : i ≡ firstOf o) where
-  inside-at : Inside sheet a b rest A k o (A k) n i
+module _ (k : ℕ) {sheet : Bytes} {a b os rest : List ℕ} {o : Op} (p : SomePlan sheet a b os rest k (k + 1)) (e : o ≡ opAt os k) (room : Roomy a b) (z : Others (o .kind) ownWays) {n i : ℕ} (count : n ≡ manyOf a b o) (place : i ≡ firstOf o) where
+  inside-at : Inside sheet a b rest (p .first) (p .ops) k o (p .ops k) n i
   inside-at = rw (count, place) (inside room z (here k p e))
 
   pub exprs-there : Many sheet a b os rest k (o .base) (o .left) n i
-  exprs-there = record { ops = A; planned = planned-below k p e; list = inside-at .list }
+  exprs-there = record { first = p .first; ops = p .ops; planned = planned-below k p e; list = inside-at .list }
 
   pub tail-there : {next : ℕ} {g g′ : Page} → WroteMany sheet a b os rest k (o .base) (o .left) n i g next g′ → SomeTail sheet a b rest o next
   unfolding exprs-there
   tail-there v = record { recs = inside-at .tail; tail = rw (v exprs-there .0) (inside-at .tail-is) }
 
-  pub inside-wrote : {next : ℕ} {g g′ g″ g‴ : Page} → WroteFirst sheet a b rest o g g′ → WroteMany sheet a b os rest k (o .base) (o .left) n i g′ next g″ → WroteTail sheet a b rest o next g″ g‴ → Puts (spellRecs (A k)) g g‴
+  pub inside-wrote : {next : ℕ} {g g′ g″ g‴ : Page} → WroteFirst sheet a b rest o g g′ → WroteMany sheet a b os rest k (o .base) (o .left) n i g′ next g″ → WroteTail sheet a b rest o next g″ g‴ → Puts (spellRecs (p .ops k)) g g‴
   unfolding exprs-there shown-at
   inside-wrote {next} first v u =
       let h = inside-at in
       let m = v exprs-there in
       let t : Tail sheet a b rest o next (h .tail) = rw (m .0) (h .tail-is) in
-      rw (first-more (h .recs-are)) (first (shown-at k p e) ⨾ rw (spell-append (carriedRecs A (h .list)) (h .tail)) (m .1 ⨾ u (h .tail) t))
+      rw (first-more (h .recs-are)) (first (shown-at k p e) ⨾ rw (spell-append (carriedRecs (p .ops) (h .list)) (h .tail)) (m .1 ⨾ u (h .tail) t))

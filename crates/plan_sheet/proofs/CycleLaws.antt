@@ -20,7 +20,7 @@ use Rattle.lower.specs.Render.{render, specRec}
 use Rattle.lower.specs.Shows.{shift}
 use Rattle.words.specs.Count.{countAt, Starts, Ends}
 use Rattle.model.specs.Lower.{exprHead}
-use Rattle.plan_sheet.specs.Due.{noted, Near, Planned, SomePlan, ExprAt, isLeaf, ElementAt, One, oneText, Many, Element, elementText, Names, namesRecs, Line, carriedRecs, carriedEnd, WroteOne, WroteMany, WroteOp}
+use Rattle.plan_sheet.specs.Due.{noted, Near, SomePlan, ExprAt, isLeaf, ElementAt, One, oneText, Many, Element, elementText, Names, namesRecs, Line, carriedRecs, carriedEnd, WroteOne, WroteMany, WroteOp}
 use Rattle.plan_sheet.specs.Due
 use Rattle.plan_sheet.proofs.DueLaws.{expr-of, planned-less, spell-append, none-wrote}
 use Rattle.plan_sheet.proofs.PartLaws.{Parts, parts, Copy, copied, deep, propsAt, ElementParts, element-parts}
@@ -46,7 +46,7 @@ module _ {sheet : Bytes} {a b os rest : List ℕ} {below base left i : ℕ} wher
 
   -- one that has no line before it, as the first of one
   pub alone : One sheet a b os rest below base left i → Many sheet a b os rest below base left 1 i
-  alone h = record { ops = h .ops; planned = h .planned; list = Due.more [] i (Line.bare (one-at h)) (h .tree) (h .held) (h .under) Due.none }
+  alone h = record { first = h .first; ops = h .ops; planned = h .planned; list = Due.more [] i (Line.bare (one-at h)) (h .tree) (h .held) (h .under) Due.none }
 
   pub alone-wrote : {next : ℕ} {p q : Page} → WroteMany sheet a b os rest below base left 1 i p next q → WroteOne sheet a b os rest below base left i p next q
   unfolding alone carriedRecs carriedEnd
@@ -54,33 +54,30 @@ module _ {sheet : Bytes} {a b os rest : List ℕ} {below base left i : ℕ} wher
 
   -- a pattern: the operator that it copies
   module _ (room : Roomy a b) {n : ℕ} (e : cell a b i kindAt ≡ patKind) (noted-is : n ≡ noteOf rest base i) (h : One sheet a b os rest below base left i) where
-    copy-of : Copy (shift (noted rest) base) below i (h .tree) (one-at h)
+    copy-of : Copy (shift (noted rest) base) (h .first) below i (h .tree) (one-at h)
     unfolding one-at
-    copy-of = copied (shift (noted rest) base) below left i room (h .tree) (h .held) (h .under) e
+    copy-of = copied (shift (noted rest) base) (h .first) below left i room (h .tree) (h .held) (h .under) e
 
     pub copy-low : n < below
     copy-low = rw (← noted-is) at (copy-of .low)
 
-    copy-planned : Planned sheet a b os rest (n + 1) (h .ops)
-    copy-planned = planned-less (omega (arith, copy-low)) (h .planned)
-
-    pub copy-plan : SomePlan sheet a b os rest (n + 1)
-    copy-plan = record { ops = h .ops; planned = copy-planned }
+    pub copy-plan : SomePlan sheet a b os rest n (n + 1)
+    copy-plan = record { first = h .first; ops = h .ops; planned = planned-less (omega (arith, copy-low)) (h .planned); inside = rw (← noted-is) at (copy-of .from) }
 
     pub copy-wrote : {p q r : Page} {next : ℕ} → ((x : ExprAt sheet a b i) → Puts (spellRec (exprHead n (x .kind) (x .fields))) p q) → WroteOp sheet a b os rest n q r → Ends a b i next → (next ≡ i + size (h .tree)) × Puts (oneText h) p r
-    unfolding spellRecs
+    unfolding copy-plan spellRecs
     copy-wrote {p} {q} {r} {next} head op ends =
         let recs : render (shift (noted rest) base) (h .ops) (h .tree) ≡ exprHead n (one-at h .kind) (one-at h .fields) ∷ h .ops n = rw (← noted-is) at (copy-of .recs (h .ops)) in
-        (ends .each sheet expr left (h .tree) tt (h .held), rw recs (head (one-at h) ⨾ op (h .ops) copy-planned))
+        (ends .each sheet expr left (h .tree) tt (h .held), rw recs (head (one-at h) ⨾ op copy-plan))
 
   -- any other: what is below it
   module _ (room : Roomy a b) {m : ℕ} (count : m ≡ countAt a b i) (z : cell a b i kindAt ≡ patKind → ⊥) (h : One sheet a b os rest below base left i) where
-    kid-parts : Parts sheet a b (shift (noted rest) base) below left i m (h .tree) (one-at h)
+    kid-parts : Parts sheet a b (shift (noted rest) base) (h .first) below left i m (h .tree) (one-at h)
     unfolding one-at
-    kid-parts = parts (shift (noted rest) base) below left i m room count (h .tree) (h .held) (h .under) z
+    kid-parts = parts (shift (noted rest) base) (h .first) below left i m room count (h .tree) (h .held) (h .under) z
 
     pub kids : Many sheet a b os rest below base (left - 1) m (i + 1)
-    kids = record { ops = h .ops; planned = h .planned; list = kid-parts .list }
+    kids = record { first = h .first; ops = h .ops; planned = h .planned; list = kid-parts .list }
 
     pub kids-wrote : {n : ℕ} {p q r : Page} {next : ℕ} → n ≡ noteOf rest base i → ((x : ExprAt sheet a b i) → Puts (spellRec (exprHead n (x .kind) (x .fields))) p q) → WroteMany sheet a b os rest below base (left - 1) m (i + 1) q next r → (next ≡ i + size (h .tree)) × Puts (oneText h) p r
     unfolding kids spellRecs
@@ -121,8 +118,8 @@ module _ {sheet : Bytes} {a b : List ℕ} {i : ℕ} (room : Roomy a b) {kind : �
 -- ── elements ──
 
 module _ {sheet : Bytes} {a b os rest : List ℕ} {below base left i : ℕ} (room : Roomy a b) (h : Element sheet a b os rest below base left i) where
-  pub element-is : ElementParts sheet a b (shift (noted rest) base) below left i (h .tree)
-  element-is = element-parts (shift (noted rest) base) below left i room (h .tree) (h .held) (h .under)
+  pub element-is : ElementParts sheet a b (shift (noted rest) base) (h .first) below left i (h .tree)
+  element-is = element-parts (shift (noted rest) base) (h .first) below left i room (h .tree) (h .held) (h .under)
 
   pub element-names : {n : ℕ} → n ≡ cell a b i nodeLabelsAt → Names sheet a b n (i + 1)
   element-names c = rw c (element-is .names)
@@ -133,11 +130,11 @@ module _ {sheet : Bytes} {a b os rest : List ℕ} {below base left i : ℕ} (roo
       names-put = let f : (x : Names sheet a b (cell a b i nodeLabelsAt) (i + 1)) → (next ≡ i + 1 + cell a b i nodeLabelsAt) × Puts (spellRecs (namesRecs x)) p q = rw c at names in f (element-is .names)
 
       pub element-props : Many sheet a b os rest below base (left - 1) props next
-      element-props = rw (names-put .0, e, k) (record { ops = h .ops; planned = h .planned; list = element-is .list })
+      element-props = rw (names-put .0, e, k) (record { first = h .first; ops = h .ops; planned = h .planned; list = element-is .list })
 
       pub element-wrote : {start r : Page} {last : ℕ} → ((x : ElementAt sheet a b i) → Puts (spellRec (specRec (x .kind) (x .fields))) start p) → WroteMany sheet a b os rest below base (left - 1) props next q last r → Puts (elementText h) start r
       unfolding spellRecs
       element-wrote {start} {r} {last} head many =
           let m : WroteMany sheet a b os rest below base (left - 1) (propsAt a b i) (i + 1 + cell a b i nodeLabelsAt) q last r = rw (e, k, names-put .0) at many in
-          let w = m (record { ops = h .ops; planned = h .planned; list = element-is .list }) in
+          let w = m (record { first = h .first; ops = h .ops; planned = h .planned; list = element-is .list }) in
           rw (element-is .recs (h .ops)) (head (element-is .at) ⨾ rw (spell-append (namesRecs (element-is .names)) (carriedRecs (h .ops) (element-is .list))) (names-put .1 ⨾ w .1))

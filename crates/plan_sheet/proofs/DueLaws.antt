@@ -26,10 +26,10 @@ unfolding spellRecs
 spell-append [] ss = refl
 spell-append (r ∷ rs) ss = ap (λ (t : Bytes). spellRec r ++ t) (spell-append rs ss) ∙ sym (append-assoc (spellRec r) (spellRecs rs) (spellRecs ss))
 
-pub planned-less : {sheet : Bytes} {a b os rest : List ℕ} {n k : ℕ} {A : Ops} → k ≤ n → Planned sheet a b os rest n A → Planned sheet a b os rest k A
-planned-less h p = record { few = omega (arith, p .few); stored = λ j l. p .stored j (omega arith) }
+pub planned-less : {sheet : Bytes} {a b os rest : List ℕ} {first n k : ℕ} {A : Ops} → k ≤ n → Planned sheet a b os rest first n A → Planned sheet a b os rest first k A
+planned-less h p = record { few = omega (arith, p .few); stored = λ j f l. p .stored j f (omega arith) }
 
-none-list : {sheet : Bytes} {a b : List ℕ} {N : Notes} {below left : ℕ} (A : Ops) (n i : ℕ) → n ≡ 0 → (c : Carried sheet a b N below left n i) → (i ≡ carriedEnd c) × (carriedRecs A c ≡ [])
+none-list : {sheet : Bytes} {a b : List ℕ} {N : Notes} {first below left : ℕ} (A : Ops) (n i : ℕ) → n ≡ 0 → (c : Carried sheet a b N first below left n i) → (i ≡ carriedEnd c) × (carriedRecs A c ≡ [])
 unfolding carriedRecs carriedEnd
 none-list A zero i z Due.none = (refl, refl)
 none-list A (suc n) i z c = let e : suc n ≡ 0 = z in absurd (omega arith)
@@ -47,8 +47,8 @@ pub record Going (sheet : Bytes) (a b os rest : List ℕ) (below base left n i :
   pub long : length (p .bytes) ≡ length (start .bytes)
 
 -- expressions made of a group of trees
-pub record Made (sheet : Bytes) (a b : List ℕ) (N : Notes) (below left n i : ℕ) (recs : Ops → Recs) (stop : ℕ) : Type 0 where
-  pub list : Carried sheet a b N below left n i
+pub record Made (sheet : Bytes) (a b : List ℕ) (N : Notes) (first below left n i : ℕ) (recs : Ops → Recs) (stop : ℕ) : Type 0 where
+  pub list : Carried sheet a b N first below left n i
   pub recs-are : (A : Ops) → carriedRecs A list ≡ recs A
   pub stop-is : carriedEnd list ≡ stop
 
@@ -65,12 +65,12 @@ module _ {sheet : Bytes} {a b os rest : List ℕ} {below base left : ℕ} where
     pub line : Line sheet a b i recs j
     pub tree : Tree expr
     pub held : Held sheet a b tree left j
-    pub under : Below (shift (noted rest) base) 0 below tree
-    pub others : Carried sheet a b (shift (noted rest) base) below left m (j + size tree)
+    pub under : Below (shift (noted rest) base) (h .first) below tree
+    pub others : Carried sheet a b (shift (noted rest) base) (h .first) below left m (j + size tree)
     pub stop : carriedEnd others ≡ carriedEnd (h .list)
     pub text : manyText h ≡ spellRecs recs ++ (spellRecs (render (shift (noted rest) base) (h .ops) tree) ++ spellRecs (carriedRecs (h .ops) others))
 
-  split-list : (A : Ops) (p : Planned sheet a b os rest below A) (n i : ℕ) → (n ≡ 0 → ⊥) → (c : Carried sheet a b (shift (noted rest) base) below left n i) → Split (record { ops = A; planned = p; list = c }) (n - 1)
+  split-list : {first : ℕ} (A : Ops) (p : Planned sheet a b os rest first below A) (n i : ℕ) → (n ≡ 0 → ⊥) → (c : Carried sheet a b (shift (noted rest) base) first below left n i) → Split (record { first = first; ops = A; planned = p; list = c }) (n - 1)
   unfolding carriedRecs carriedEnd
   split-list A p zero i z c = absurd (z refl)
   split-list A p (suc n) i z (Due.more recs j l t h u c) =
@@ -103,7 +103,7 @@ module _ {sheet : Bytes} {a b os rest : List ℕ} {below base left : ℕ} where
   one-there {n} {i} {next} z h w =
       let s = split z h in
       let e : next ≡ s .j = w (s .recs) (s .j) (s .line) .0 in
-      record { ops = h .ops; planned = h .planned; tree = s .tree; held = rw e (s .held); under = s .under }
+      record { first = h .first; ops = h .ops; planned = h .planned; tree = s .tree; held = rw e (s .held); under = s .under }
 
   pub first-line : {i : ℕ} → Many sheet a b os rest below base left 1 i → SomeLine sheet a b i
   first-line h = some-line one-of h
@@ -127,7 +127,7 @@ module _ {sheet : Bytes} {a b os rest : List ℕ} {below base left : ℕ} where
 
   -- the first of some, alone
   first-list : {n i : ℕ} (h : Many sheet a b os rest below base left n i) {m : ℕ} → Split h m → Many sheet a b os rest below base left 1 i
-  first-list h s = record { ops = h .ops; planned = h .planned; list = Due.more (s .recs) (s .j) (s .line) (s .tree) (s .held) (s .under) Due.none }
+  first-list h s = record { first = h .first; ops = h .ops; planned = h .planned; list = Due.more (s .recs) (s .j) (s .line) (s .tree) (s .held) (s .under) Due.none }
 
   pub first-one : {n i : ℕ} → (n ≡ 0 → ⊥) → Many sheet a b os rest below base left n i → Many sheet a b os rest below base left 1 i
   first-one z h = first-list h (split z h)
@@ -142,7 +142,7 @@ module _ {sheet : Bytes} {a b os rest : List ℕ} {below base left : ℕ} where
       let put : Puts (spellRecs (s .recs) ++ spellRecs (render N A (s .tree))) p q = rw (append-nil (render N A (s .tree)), spell-append (s .recs) (render N A (s .tree))) at (o .1) in
       let all = s .text ∙ sym (append-assoc (spellRecs (s .recs)) (spellRecs (render N A (s .tree))) (spellRecs (carriedRecs A (s .others)))) in
       rw (o .0) (record {
-        others = record { ops = A; planned = g .others .planned; list = s .others };
+        others = record { first = g .others .first; ops = A; planned = g .others .planned; list = s .others };
         stop = s .stop ∙ g .stop;
         text = λ q r. g .text q (rw all (put ⨾ r));
       })
@@ -208,8 +208,8 @@ name-by sheet a b left (node expr line Expr.ListPredicate f kids) i h = refl
 name-by sheet a b left (node expr line Expr.Unresolved f kids) i h = refl
 name-by sheet a b left (node expr line Expr.Undesugared f kids) i h = refl
 
-module _ {sheet : Bytes} {a b : List ℕ} (N : Notes) (below left : ℕ) where
-  pub exprs-made : {n : ℕ} (ts : Trees expr n) (i : ℕ) → HeldOf sheet a b ts left i → BelowOf N 0 below ts → Made sheet a b N below left n i (λ A. renderOf N A ts) (i + sizeOf ts)
+module _ {sheet : Bytes} {a b : List ℕ} (N : Notes) (first below left : ℕ) where
+  pub exprs-made : {n : ℕ} (ts : Trees expr n) (i : ℕ) → HeldOf sheet a b ts left i → BelowOf N first below ts → Made sheet a b N first below left n i (λ A. renderOf N A ts) (i + sizeOf ts)
   unfolding HeldOf BelowOf renderOf sizeOf carriedRecs carriedEnd
   exprs-made []ᵗ i h u = record { list = Due.none; recs-are = λ A. refl; stop-is = sym (add-zero i) }
   exprs-made (t ∷ᵗ ts) i h u =
@@ -220,7 +220,7 @@ module _ {sheet : Bytes} {a b : List ℕ} (N : Notes) (below left : ℕ) where
         stop-is = m .stop-is ∙ add-assoc i (size t) (sizeOf ts);
       }
 
-  pub entries-made : {n : ℕ} (ts : Trees entry n) (i : ℕ) → HeldOf sheet a b ts left i → BelowOf N 0 below ts → Made sheet a b N below left n i (λ A. renderOf N A ts) (i + sizeOf ts)
+  pub entries-made : {n : ℕ} (ts : Trees entry n) (i : ℕ) → HeldOf sheet a b ts left i → BelowOf N first below ts → Made sheet a b N first below left n i (λ A. renderOf N A ts) (i + sizeOf ts)
   unfolding Held Below render size belowIn recsOver carriedRecs carriedEnd
   entries-made []ᵗ i h u = record { list = Due.none; recs-are = λ A. refl; stop-is = sym (add-zero i) }
   entries-made (node entry line k f (e ∷ᵗ []ᵗ ▸ end) ∷ᵗ ts) i h u =
@@ -232,7 +232,7 @@ module _ {sheet : Bytes} {a b : List ℕ} (N : Notes) (below left : ℕ) where
         stop-is = m .stop-is ∙ omega arith;
       }
 
-  pub keys-made : {n : ℕ} (ts : Trees orderItem n) (i : ℕ) → HeldOf sheet a b ts left i → BelowOf N 0 below ts → Made sheet a b N below left n i (λ A. renderOf N A ts) (i + sizeOf ts)
+  pub keys-made : {n : ℕ} (ts : Trees orderItem n) (i : ℕ) → HeldOf sheet a b ts left i → BelowOf N first below ts → Made sheet a b N first below left n i (λ A. renderOf N A ts) (i + sizeOf ts)
   unfolding Held Below render size belowIn recsOver carriedRecs carriedEnd
   keys-made []ᵗ i h u = record { list = Due.none; recs-are = λ A. refl; stop-is = sym (add-zero i) }
   keys-made (node orderItem line k f (e ∷ᵗ []ᵗ ▸ end) ∷ᵗ ts) i h u =
@@ -244,7 +244,7 @@ module _ {sheet : Bytes} {a b : List ℕ} (N : Notes) (below left : ℕ) where
         stop-is = m .stop-is ∙ omega arith;
       }
 
-  pub items-made : {n : ℕ} (ts : Trees projection n) (i : ℕ) → HeldOf sheet a b ts left i → BelowOf N 0 below ts → Made sheet a b N below left n i (λ A. renderOf N A ts) (i + sizeOf ts)
+  pub items-made : {n : ℕ} (ts : Trees projection n) (i : ℕ) → HeldOf sheet a b ts left i → BelowOf N first below ts → Made sheet a b N first below left n i (λ A. renderOf N A ts) (i + sizeOf ts)
   unfolding Held Below render size belowIn recsOver item nameOf carriedRecs carriedEnd
   items-made []ᵗ i h u = record { list = Due.none; recs-are = λ A. refl; stop-is = sym (add-zero i) }
   items-made (node projection line k f (e ∷ᵗ []ᵗ ▸ end) ∷ᵗ ts) i h u =
@@ -259,7 +259,7 @@ module _ {sheet : Bytes} {a b : List ℕ} (N : Notes) (below left : ℕ) where
       }
 
   -- one group behind another
-  join-list : {n i : ℕ} (c : Carried sheet a b N below left n i) {m : ℕ} (d : Carried sheet a b N below left m (carriedEnd c)) → Made sheet a b N below left (n + m) i (λ A. carriedRecs A c ++ carriedRecs A d) (carriedEnd d)
+  join-list : {n i : ℕ} (c : Carried sheet a b N first below left n i) {m : ℕ} (d : Carried sheet a b N first below left m (carriedEnd c)) → Made sheet a b N first below left (n + m) i (λ A. carriedRecs A c ++ carriedRecs A d) (carriedEnd d)
   unfolding carriedRecs carriedEnd
   join-list Due.none {m} d = let e : 0 + m ≡ m = omega arith in rw e (record { list = d; recs-are = λ A. refl; stop-is = refl })
   join-list (Due.more {n = n} recs j l t h u c) {m} d =
@@ -271,5 +271,5 @@ module _ {sheet : Bytes} {a b : List ℕ} (N : Notes) (below left : ℕ) where
         stop-is = r .stop-is;
       })
 
-  pub joined : {n m i mid stop : ℕ} {R S : Ops → Recs} (r : Made sheet a b N below left n i R mid) → Made sheet a b N below left m (carriedEnd (r .list)) S stop → Made sheet a b N below left (n + m) i (λ A. R A ++ S A) stop
+  pub joined : {n m i mid stop : ℕ} {R S : Ops → Recs} (r : Made sheet a b N first below left n i R mid) → Made sheet a b N first below left m (carriedEnd (r .list)) S stop → Made sheet a b N first below left (n + m) i (λ A. R A ++ S A) stop
   joined r s = let j = join-list (r .list) (s .list) in record { list = j .list; recs-are = λ A. j .recs-are A ∙ rw (r .recs-are A, s .recs-are A); stop-is = j .stop-is ∙ s .stop-is }

@@ -20,9 +20,9 @@ use Rattle.words.specs.Cells.{shown}
 use Rattle.context.specs.Tables.{opAt}
 use Rattle.context.specs.Read.{noteOf}
 use Rattle.context.specs.declared.op.Op.{Op}
-use Rattle.lower.specs.Side.{side}
+use Rattle.lower.specs.Side.{Side, side}
 use Rattle.lower.specs.Render.{Notes, Ops, specRecs}
-use Rattle.lower.specs.Shows.{shift, InBounds, Shows, OverExpr, ByLabels, ByRel, ByShortest, ByPath, ByWith, ByItems, ByParted, ByKeys, ByCall, shows-all, shows-source, shows-filter, shows-expand, shows-short, shows-path, shows-optional, shows-with, shows-project, shows-aggregate, shows-order, shows-skip, shows-limit, shows-distinct, shows-unwind, shows-union, shows-call}
+use Rattle.lower.specs.Shows.{shift, InBounds, Shows, Stored, OverExpr, ByLabels, ByRel, ByShortest, ByPath, ByWith, ByItems, ByParted, ByKeys, ByCall, shows-all, shows-source, shows-filter, shows-expand, shows-short, shows-path, shows-optional, shows-with, shows-project, shows-aggregate, shows-order, shows-skip, shows-limit, shows-distinct, shows-unwind, shows-union, shows-call}
 use Rattle.plan_line.specs.Keywords.{word, letters, sourceWord, filterWord, expandWord, shortWord, pathWord, optionalWord, withWord, projectWord, aggWord, orderWord, skipWord, limitWord, distinctWord, unwindWord, unionWord, callWord}
 use Rattle.plan_line.specs.Row.{numbersText, rowText, callText}
 use Rattle.plan_sheet.specs.Due.{noted, Planned, SomePlan, OpShown, WroteFirst, Element, WroteElement, WroteOp, TextIn, allShortest, textAt}
@@ -56,53 +56,53 @@ typeAt (only t) n = t
 typeAt (t or ts) zero = t
 typeAt (t or ts) (suc n) = typeAt ts n
 
-module _ (sheet : Bytes) (a b : List ℕ) (N : Notes) (A : Ops) (k : ℕ) (o : Op) (recs : Recs) where
+module _ (S : Side) (N : Notes) (A : Ops) (k : ℕ) (o : Op) (recs : Recs) where
   -- what an operator of kind n stands for
   abbrev pub byKind : Types
   byKind =
       (recs ≡ source (o .x) []) or
-      (ByLabels (side sheet a b 0) N A k o recs) or
-      (OverExpr (side sheet a b 0) N A k o (op ReadOp.Filter (o .input, tt)) recs) or
-      (ByRel (side sheet a b 0) N A k o recs) or
-      (ByShortest (side sheet a b 0) N A k o recs) or
-      (ByPath (side sheet a b 0) N A k o recs) or
-      ((o .x < k) × (recs ≡ op ReadOp.OptionalJoin (o .input, tt) ∷ A (o .x))) or
-      (ByWith (side sheet a b 0) N A k o recs) or
-      (ByItems (side sheet a b 0) N A k o recs) or
-      (ByParted (side sheet a b 0) N A k o recs) or
-      (ByKeys (side sheet a b 0) N A k o recs) or
-      (OverExpr (side sheet a b 0) N A k o (op ReadOp.Skip (o .input, tt)) recs) or
-      (OverExpr (side sheet a b 0) N A k o (op ReadOp.Limit (o .input, tt)) recs) or
+      (ByLabels S N A k o recs) or
+      (OverExpr S N A k o (op ReadOp.Filter (o .input, tt)) recs) or
+      (ByRel S N A k o recs) or
+      (ByShortest S N A k o recs) or
+      (ByPath S N A k o recs) or
+      ((S .first ≤ o .x) × (o .x < k) × (recs ≡ op ReadOp.OptionalJoin (o .input, tt) ∷ A (o .x))) or
+      (ByWith S N A k o recs) or
+      (ByItems S N A k o recs) or
+      (ByParted S N A k o recs) or
+      (ByKeys S N A k o recs) or
+      (OverExpr S N A k o (op ReadOp.Skip (o .input, tt)) recs) or
+      (OverExpr S N A k o (op ReadOp.Limit (o .input, tt)) recs) or
       (recs ≡ op ReadOp.Distinct (o .input, tt) ∷ []) or
-      (OverExpr (side sheet a b 0) N A k o (op ReadOp.Unwind (o .input, (o .x, tt))) recs) or
+      (OverExpr S N A k o (op ReadOp.Unwind (o .input, (o .x, tt))) recs) or
       (recs ≡ op ReadOp.Union (o .input, (o .x, (eqb (o .y) 1, tt))) ∷ []) or
-      only (ByCall (side sheet a b 0) N A k o recs)
+      only (ByCall S N A k o recs)
 
-module _ {sheet : Bytes} {a b : List ℕ} {N : Notes} {A : Ops} {k : ℕ} {o : Op} {recs : Recs} where
-  told : Shows (side sheet a b 0) N A k o recs → typeAt (byKind sheet a b N A k o recs) (o .kind)
-  told (shows-all q r) = subst (λ (n : ℕ). typeAt (byKind sheet a b N A k o recs) n) (sym q) r
-  told (shows-source q r) = subst (λ (n : ℕ). typeAt (byKind sheet a b N A k o recs) n) (sym q) r
-  told (shows-filter q r) = subst (λ (n : ℕ). typeAt (byKind sheet a b N A k o recs) n) (sym q) r
-  told (shows-expand q r) = subst (λ (n : ℕ). typeAt (byKind sheet a b N A k o recs) n) (sym q) r
-  told (shows-short q r) = subst (λ (n : ℕ). typeAt (byKind sheet a b N A k o recs) n) (sym q) r
-  told (shows-path q r) = subst (λ (n : ℕ). typeAt (byKind sheet a b N A k o recs) n) (sym q) r
-  told (shows-optional q f l r) = subst (λ (n : ℕ). typeAt (byKind sheet a b N A k o recs) n) (sym q) (l, r)
-  told (shows-with q r) = subst (λ (n : ℕ). typeAt (byKind sheet a b N A k o recs) n) (sym q) r
-  told (shows-project q r) = subst (λ (n : ℕ). typeAt (byKind sheet a b N A k o recs) n) (sym q) r
-  told (shows-aggregate q r) = subst (λ (n : ℕ). typeAt (byKind sheet a b N A k o recs) n) (sym q) r
-  told (shows-order q r) = subst (λ (n : ℕ). typeAt (byKind sheet a b N A k o recs) n) (sym q) r
-  told (shows-skip q r) = subst (λ (n : ℕ). typeAt (byKind sheet a b N A k o recs) n) (sym q) r
-  told (shows-limit q r) = subst (λ (n : ℕ). typeAt (byKind sheet a b N A k o recs) n) (sym q) r
-  told (shows-distinct q r) = subst (λ (n : ℕ). typeAt (byKind sheet a b N A k o recs) n) (sym q) r
-  told (shows-unwind q r) = subst (λ (n : ℕ). typeAt (byKind sheet a b N A k o recs) n) (sym q) r
-  told (shows-union q r) = subst (λ (n : ℕ). typeAt (byKind sheet a b N A k o recs) n) (sym q) r
-  told (shows-call q r) = subst (λ (n : ℕ). typeAt (byKind sheet a b N A k o recs) n) (sym q) r
+module _ {S : Side} {N : Notes} {A : Ops} {k : ℕ} {o : Op} {recs : Recs} where
+  told : Shows S N A k o recs → typeAt (byKind S N A k o recs) (o .kind)
+  told (shows-all q r) = subst (λ (n : ℕ). typeAt (byKind S N A k o recs) n) (sym q) r
+  told (shows-source q r) = subst (λ (n : ℕ). typeAt (byKind S N A k o recs) n) (sym q) r
+  told (shows-filter q r) = subst (λ (n : ℕ). typeAt (byKind S N A k o recs) n) (sym q) r
+  told (shows-expand q r) = subst (λ (n : ℕ). typeAt (byKind S N A k o recs) n) (sym q) r
+  told (shows-short q r) = subst (λ (n : ℕ). typeAt (byKind S N A k o recs) n) (sym q) r
+  told (shows-path q r) = subst (λ (n : ℕ). typeAt (byKind S N A k o recs) n) (sym q) r
+  told (shows-optional q f l r) = subst (λ (n : ℕ). typeAt (byKind S N A k o recs) n) (sym q) (f, l, r)
+  told (shows-with q r) = subst (λ (n : ℕ). typeAt (byKind S N A k o recs) n) (sym q) r
+  told (shows-project q r) = subst (λ (n : ℕ). typeAt (byKind S N A k o recs) n) (sym q) r
+  told (shows-aggregate q r) = subst (λ (n : ℕ). typeAt (byKind S N A k o recs) n) (sym q) r
+  told (shows-order q r) = subst (λ (n : ℕ). typeAt (byKind S N A k o recs) n) (sym q) r
+  told (shows-skip q r) = subst (λ (n : ℕ). typeAt (byKind S N A k o recs) n) (sym q) r
+  told (shows-limit q r) = subst (λ (n : ℕ). typeAt (byKind S N A k o recs) n) (sym q) r
+  told (shows-distinct q r) = subst (λ (n : ℕ). typeAt (byKind S N A k o recs) n) (sym q) r
+  told (shows-unwind q r) = subst (λ (n : ℕ). typeAt (byKind S N A k o recs) n) (sym q) r
+  told (shows-union q r) = subst (λ (n : ℕ). typeAt (byKind S N A k o recs) n) (sym q) r
+  told (shows-call q r) = subst (λ (n : ℕ). typeAt (byKind S N A k o recs) n) (sym q) r
 
-  pub of-kind : (n : ℕ) → o .kind ≡ n → Shows (side sheet a b 0) N A k o recs → typeAt (byKind sheet a b N A k o recs) n
-  of-kind n e h = subst (λ (x : ℕ). typeAt (byKind sheet a b N A k o recs) x) e (told h)
+  pub of-kind : (n : ℕ) → o .kind ≡ n → Shows S N A k o recs → typeAt (byKind S N A k o recs) n
+  of-kind n e h = subst (λ (x : ℕ). typeAt (byKind S N A k o recs) x) e (told h)
 
   -- the last kind
-  last-kind : Shows (side sheet a b 0) N A k o recs → bindPathKind < o .kind → Others (o .kind) clauseOps → o .kind ≡ procedureCallKind
+  last-kind : Shows S N A k o recs → bindPathKind < o .kind → Others (o .kind) clauseOps → o .kind ≡ procedureCallKind
   last-kind (shows-all q r) l z = absurd (omega arith)
   last-kind (shows-source q r) l z = absurd (omega arith)
   last-kind (shows-filter q r) l z = absurd (omega arith)
@@ -187,7 +187,7 @@ module _ {sheet : Bytes} {a b rest : List ℕ} {o : Op} (h : OpShown sheet a b r
 
   pub optional-line : o .kind ≡ optionalJoinKind → spellRecs (take 1 (h .recs)) ≡ rowText optionalWord (o .input ∷ [])
   unfolding keyword planKeyword opKeyword word letters bytes bytesFrom spellFields spell
-  optional-line e = first-rec (of-kind optionalJoinKind e (h .stored .shows) .1) ∙ row-rec _ optionalWord (o .input ∷ []) refl refl
+  optional-line e = first-rec (of-kind optionalJoinKind e (h .stored .shows) .2) ∙ row-rec _ optionalWord (o .input ∷ []) refl refl
 
   pub with-line : o .kind ≡ withKind → spellRecs (take 1 (h .recs)) ≡ rowText withWord (o .input ∷ cell a b (o .idx) itemsAt ∷ cell a b (o .idx) withFilterAt ∷ [])
   unfolding keyword planKeyword opKeyword word letters bytes bytesFrom spellFields spell
@@ -260,53 +260,53 @@ module _ {sheet : Bytes} {a b rest : List ℕ} {o : Op} (room : Roomy a b) (h : 
 
 -- ── a whole operator ──
 
-module _ (k : ℕ) {sheet : Bytes} {a b os rest : List ℕ} {A : Ops} {o : Op} (p : Planned sheet a b os rest (k + 1) A) (e : o ≡ opAt os k) where
+module _ (k : ℕ) {sheet : Bytes} {a b os rest : List ℕ} {o : Op} (p : SomePlan sheet a b os rest k (k + 1)) (e : o ≡ opAt os k) where
+  pub stored-at : Stored (side sheet a b (p .first)) (noted rest) (p .ops) k (opAt os k) (p .ops k)
+  stored-at = p .planned .stored k (p .inside) (omega arith)
+
   unfoldable pub shown-at : OpShown sheet a b rest o
-  shown-at = record { ops = A; number = k; recs = A k; stored = rw e (p .stored k (omega arith)) }
+  shown-at = record { first = p .first; ops = p .ops; number = k; recs = p .ops k; stored = rw e stored-at }
 
   pub bounded-at : InBounds o
-  bounded-at = rw e (p .stored k (omega arith) .bounded)
+  bounded-at = rw e (stored-at .bounded)
 
-  pub here : Shows (side sheet a b 0) (noted rest) A k o (A k)
-  here = rw e (p .stored k (omega arith) .shows)
+  pub here : Shows (side sheet a b (p .first)) (noted rest) (p .ops) k o (p .ops k)
+  here = rw e (stored-at .shows)
 
-  pub planned-below : Planned sheet a b os rest k A
-  planned-below = planned-less (omega arith) p
+  pub planned-below : Planned sheet a b os rest (p .first) k (p .ops)
+  planned-below = planned-less (omega arith) (p .planned)
 
   -- an expand
   module _ (c : o .kind ≡ expandKind) where
     pub rel-of : Element sheet a b os rest k (o .base) (o .left) (o .idx)
-    rel-of = let s = of-kind expandKind c here in record { ops = A; planned = planned-below; tree = s .rel; held = s .held-rel; under = s .below-rel }
+    rel-of = let s = of-kind expandKind c here in record { first = p .first; ops = p .ops; planned = planned-below; tree = s .rel; held = s .held-rel; under = s .below-rel }
 
     pub far-of : Element sheet a b os rest k (o .base) (o .left) (o .y)
-    far-of = let s = of-kind expandKind c here in record { ops = A; planned = planned-below; tree = s .far; held = s .held-far; under = s .below-far }
+    far-of = let s = of-kind expandKind c here in record { first = p .first; ops = p .ops; planned = planned-below; tree = s .far; held = s .held-far; under = s .below-far }
 
-    pub expand-wrote : {g g′ g″ g‴ : Page} → WroteFirst sheet a b rest o g g′ → WroteElement sheet a b os rest k (o .base) (o .left) (o .idx) g′ g″ → WroteElement sheet a b os rest k (o .base) (o .left) (o .y) g″ g‴ → Puts (spellRecs (A k)) g g‴
+    pub expand-wrote : {g g′ g″ g‴ : Page} → WroteFirst sheet a b rest o g g′ → WroteElement sheet a b os rest k (o .base) (o .left) (o .idx) g′ g″ → WroteElement sheet a b os rest k (o .base) (o .left) (o .y) g″ g‴ → Puts (spellRecs (p .ops k)) g g‴
     unfolding shown-at rel-of far-of
     expand-wrote w v u =
         let s = of-kind expandKind c here in
-        rw (first-more (s .is)) (w shown-at ⨾ rw (spell-append (specRecs (shift (noted rest) (o .base)) A (s .rel)) (specRecs (shift (noted rest) (o .base)) A (s .far))) (v rel-of ⨾ u far-of))
+        rw (first-more (s .is)) (w shown-at ⨾ rw (spell-append (specRecs (shift (noted rest) (o .base)) (p .ops) (s .rel)) (specRecs (shift (noted rest) (o .base)) (p .ops) (s .far))) (v rel-of ⨾ u far-of))
 
   -- a shortest part
   module _ (c : o .kind ≡ shortestPathKind) where
     pub short-rel : Element sheet a b os rest k (o .base) (o .left) (o .x)
-    short-rel = let s = of-kind shortestPathKind c here in record { ops = A; planned = planned-below; tree = s .rel; held = s .held-rel; under = s .below-rel }
+    short-rel = let s = of-kind shortestPathKind c here in record { first = p .first; ops = p .ops; planned = planned-below; tree = s .rel; held = s .held-rel; under = s .below-rel }
 
-    pub short-wrote : {g g′ g″ : Page} → WroteFirst sheet a b rest o g g′ → WroteElement sheet a b os rest k (o .base) (o .left) (o .x) g′ g″ → Puts (spellRecs (A k)) g g″
+    pub short-wrote : {g g′ g″ : Page} → WroteFirst sheet a b rest o g g′ → WroteElement sheet a b os rest k (o .base) (o .left) (o .x) g′ g″ → Puts (spellRecs (p .ops k)) g g″
     unfolding shown-at short-rel
     short-wrote w v = rw (first-more (of-kind shortestPathKind c here .is)) (w shown-at ⨾ v short-rel)
 
   -- an optional, which copies an operator below it
   module _ (c : o .kind ≡ optionalJoinKind) where
     pub optional-low : o .x < k
-    optional-low = of-kind optionalJoinKind c here .0
+    optional-low = of-kind optionalJoinKind c here .1
 
-    optional-planned : Planned sheet a b os rest (o .x + 1) A
-    optional-planned = planned-less (omega (arith, optional-low)) p
+    pub optional-plan : SomePlan sheet a b os rest (o .x) (o .x + 1)
+    optional-plan = record { first = p .first; ops = p .ops; planned = planned-less (omega (arith, optional-low)) (p .planned); inside = of-kind optionalJoinKind c here .0 }
 
-    pub optional-plan : SomePlan sheet a b os rest (o .x + 1)
-    optional-plan = record { ops = A; planned = optional-planned }
-
-    pub optional-wrote : {g g′ g″ : Page} → WroteFirst sheet a b rest o g g′ → WroteOp sheet a b os rest (o .x) g′ g″ → Puts (spellRecs (A k)) g g″
-    unfolding shown-at
-    optional-wrote w v = rw (first-more (of-kind optionalJoinKind c here .1)) (w shown-at ⨾ v A optional-planned)
+    pub optional-wrote : {g g′ g″ : Page} → WroteFirst sheet a b rest o g g′ → WroteOp sheet a b os rest (o .x) g′ g″ → Puts (spellRecs (p .ops k)) g g″
+    unfolding shown-at optional-plan
+    optional-wrote w v = rw (first-more (of-kind optionalJoinKind c here .2)) (w shown-at ⨾ v optional-plan)

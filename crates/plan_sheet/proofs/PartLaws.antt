@@ -1,6 +1,6 @@
 -- What a record that is held has below it, as the writers take it. Assumes nothing: every law is proved.
 use mathlib.Core.Path.{_≡_, refl, sym, ap, _∙_}
-use Prim.Native.Nat.{ℕ, suc, _+_, _-_, _<_}
+use Prim.Native.Nat.{ℕ, suc, _+_, _-_, _≤_, _<_}
 use native.Mathlib.Nat.{add-zero}
 use native.Mathlib.Omega.{arith}
 use mathlib.Core.Bool.{cond}
@@ -30,57 +30,58 @@ use Rattle.plan_sheet.proofs.NameLaws.{NamesMade, names-made, names-ali
 -- ── expressions ──
 
 -- an expression as its first record and n expressions below it
-pub record Parts (sheet : Bytes) (a b : List ℕ) (N : Notes) (below left i n : ℕ) (t : Tree expr) (at : ExprAt sheet a b i) : Type 0 where
-  pub list : Carried sheet a b N below (left - 1) n (i + 1)
+pub record Parts (sheet : Bytes) (a b : List ℕ) (N : Notes) (first below left i n : ℕ) (t : Tree expr) (at : ExprAt sheet a b i) : Type 0 where
+  pub list : Carried sheet a b N first below (left - 1) n (i + 1)
   pub recs : (A : Ops) → render N A t ≡ exprHead (N (suc i)) (at .kind) (at .fields) ∷ carriedRecs A list
   pub stop : carriedEnd list ≡ i + size t
 
 -- a group of as many as are due
-grouped : {sheet : Bytes} {a b : List ℕ} {N : Notes} {below d j m n stop : ℕ} {R : Ops → Recs} → n ≡ m → Made sheet a b N below d m j R stop → Made sheet a b N below d n j R stop
+grouped : {sheet : Bytes} {a b : List ℕ} {N : Notes} {first below d j m n stop : ℕ} {R : Ops → Recs} → n ≡ m → Made sheet a b N first below d m j R stop → Made sheet a b N first below d n j R stop
 grouped e m = rw e m
 
-bare : {sheet : Bytes} {a b : List ℕ} (N : Notes) (below d j : ℕ) {n : ℕ} → n ≡ 0 → Made sheet a b N below d n j (λ A. []) j
+bare : {sheet : Bytes} {a b : List ℕ} (N : Notes) (first below d j : ℕ) {n : ℕ} → n ≡ 0 → Made sheet a b N first below d n j (λ A. []) j
 unfolding carriedRecs carriedEnd
-bare N below d j e = rw e (record { list = Due.none; recs-are = λ A. refl; stop-is = refl })
+bare N first below d j e = rw e (record { list = Due.none; recs-are = λ A. refl; stop-is = refl })
 
-module _ {sheet : Bytes} {a b : List ℕ} (N : Notes) (below left i n : ℕ) where
-  pub parts : Roomy a b → n ≡ countAt a b i → (t : Tree expr) (h : Held sheet a b t left i) → Below N 0 below t → (cell a b i kindAt ≡ patKind → ⊥) → Parts sheet a b N below left i n t (expr-of left t i h)
+module _ {sheet : Bytes} {a b : List ℕ} (N : Notes) (first below left i n : ℕ) where
+  pub parts : Roomy a b → n ≡ countAt a b i → (t : Tree expr) (h : Held sheet a b t left i) → Below N first below t → (cell a b i kindAt ≡ patKind → ⊥) → Parts sheet a b N first below left i n t (expr-of left t i h)
   unfolding Held Below render size belowIn copiesBelow recsOver exprRecs exprRest expr-of exprNumber
   parts room e (node expr line (Expr.Over o) f (ts ▸ end)) h u z =
-      let m = grouped (e ∙ counted room tt (h .1) ∙ add-zero (arity o f)) (exprs-made N below (left - 1) ts (i + 1) (h .3 .0) (u .0)) in
+      let m = grouped (e ∙ counted room tt (h .1) ∙ add-zero (arity o f)) (exprs-made N first below (left - 1) ts (i + 1) (h .3 .0) (u .0)) in
       record { list = m .list; recs = λ A. rw (m .recs-are A, append-nil (renderOf N A ts)); stop = m .stop-is ∙ omega arith }
   parts room e (node expr line Expr.Var f end) h u z =
-      let m = bare N below (left - 1) (i + 1) (e ∙ counted room tt (h .1)) in
+      let m = bare N first below (left - 1) (i + 1) (e ∙ counted room tt (h .1)) in
       record { list = m .list; recs = λ A. rw (m .recs-are A, h .0); stop = m .stop-is ∙ omega arith }
   parts room e (node expr line Expr.Map f (ts ▸ end)) h u z =
-      let m = grouped (e ∙ counted room tt (h .1) ∙ add-zero (f .0)) (entries-made N below (left - 1) ts (i + 1) (h .3 .0) (u .0)) in
+      let m = grouped (e ∙ counted room tt (h .1) ∙ add-zero (f .0)) (entries-made N first below (left - 1) ts (i + 1) (h .3 .0) (u .0)) in
       record { list = m .list; recs = λ A. rw (m .recs-are A, append-nil (renderOf N A ts)); stop = m .stop-is ∙ omega arith }
   parts room e (node expr line Expr.Call f (ts ▸ end)) h u z =
-      let m = grouped (e ∙ counted room tt (h .1) ∙ add-zero (f .1 .0)) (exprs-made N below (left - 1) ts (i + 1) (h .3 .0) (u .0)) in
+      let m = grouped (e ∙ counted room tt (h .1) ∙ add-zero (f .1 .0)) (exprs-made N first below (left - 1) ts (i + 1) (h .3 .0) (u .0)) in
       record { list = m .list; recs = λ A. rw (m .recs-are A, append-nil (renderOf N A ts)); stop = m .stop-is ∙ omega arith }
   parts room e (node expr line Expr.PatternPredicate f (ts ▸ end)) h u z = absurd (z (number-is room (record { kind = Expr.PatternPredicate; fields = f; at = h .1 })))
   parts room e (node expr line Expr.ListPredicate f (ts ▸ end)) h u z =
-      let m = grouped (e ∙ counted room tt (h .1) ∙ add-zero (suc (one (f .1 .1 .0)))) (exprs-made N below (left - 1) ts (i + 1) (h .3 .0) (u .0)) in
+      let m = grouped (e ∙ counted room tt (h .1) ∙ add-zero (suc (one (f .1 .1 .0)))) (exprs-made N first below (left - 1) ts (i + 1) (h .3 .0) (u .0)) in
       record { list = m .list; recs = λ A. rw (m .recs-are A, append-nil (renderOf N A ts), h .0); stop = m .stop-is ∙ omega arith }
   parts room e (node expr line Expr.Unresolved f end) h u z =
-      let m = bare N below (left - 1) (i + 1) (e ∙ counted room tt (h .1)) in
+      let m = bare N first below (left - 1) (i + 1) (e ∙ counted room tt (h .1)) in
       record { list = m .list; recs = λ A. rw (m .recs-are A); stop = m .stop-is ∙ omega arith }
   parts room e (node expr line Expr.Undesugared f end) h u z =
-      let m = bare N below (left - 1) (i + 1) (e ∙ counted room tt (h .1)) in
+      let m = bare N first below (left - 1) (i + 1) (e ∙ counted room tt (h .1)) in
       record { list = m .list; recs = λ A. rw (m .recs-are A); stop = m .stop-is ∙ omega arith }
 
 -- a pattern as its first record and the operator that it copies
-pub record Copy (N : Notes) (below i : ℕ) {sheet : Bytes} {a b : List ℕ} (t : Tree expr) (at : ExprAt sheet a b i) : Type 0 where
+pub record Copy (N : Notes) (first below i : ℕ) {sheet : Bytes} {a b : List ℕ} (t : Tree expr) (at : ExprAt sheet a b i) : Type 0 where
+  pub from : first ≤ N (suc i)
   pub low : N (suc i) < below
   pub recs : (A : Ops) → render N A t ≡ exprHead (N (suc i)) (at .kind) (at .fields) ∷ A (N (suc i))
 
-module _ {sheet : Bytes} {a b : List ℕ} (N : Notes) (below left i : ℕ) where
-  pub copied : Roomy a b → (t : Tree expr) (h : Held sheet a b t left i) → Below N 0 below t → cell a b i kindAt ≡ patKind → Copy N below i t (expr-of left t i h)
+module _ {sheet : Bytes} {a b : List ℕ} (N : Notes) (first below left i : ℕ) where
+  pub copied : Roomy a b → (t : Tree expr) (h : Held sheet a b t left i) → Below N first below t → cell a b i kindAt ≡ patKind → Copy N first below i t (expr-of left t i h)
   unfolding Held Below render belowIn copiesBelow recsOver exprRecs exprRest expr-of kindOf firstKind nth kinds sames
   copied room (node expr line k f kids) h u e =
-      at-kind Expr.PatternPredicate k (λ k f. (kids : Forest (children expr k f)) (h : Held sheet a b (node expr line k f kids) left i) → Below N 0 below (node expr line k f kids) → Copy N below i (node expr line k f kids) (expr-of left (node expr line k f kids) i h))
+      at-kind Expr.PatternPredicate k (λ k f. (kids : Forest (children expr k f)) (h : Held sheet a b (node expr line k f kids) left i) → Below N first below (node expr line k f kids) → Copy N first below i (node expr line k f kids) (expr-of left (node expr line k f kids) i h))
       (kind-is room (record { kind = k; fields = f; at = h .1 }) patKind Expr.PatternPredicate e refl)
-      (λ f kids h u. record { low = rw (h .0) at (u .1); recs = λ A. rw (h .0) })
+      (λ f kids h u. record { from = rw (h .0) at (u .0); low = rw (h .0) at (u .1); recs = λ A. rw (h .0) })
       f kids h u
 
 pub deep : (sheet : Bytes) (a b : List ℕ) (left i : ℕ) (t : Tree expr) → Held sheet a b t left i → 0 < left
@@ -92,30 +93,30 @@ deep sheet a b left i (node expr line k f kids) h = h .2
 abbrev pub propsAt : List ℕ → List ℕ → ℕ → ℕ
 propsAt a b i = cond (eqb (cell a b i kindAt) nodeKind) (cell a b i nodePropsAt) (cell a b i relPropsAt)
 
-pub record ElementParts (sheet : Bytes) (a b : List ℕ) (N : Notes) (below left i : ℕ) (t : Tree patternElement) : Type 0 where
+pub record ElementParts (sheet : Bytes) (a b : List ℕ) (N : Notes) (first below left i : ℕ) (t : Tree patternElement) : Type 0 where
   pub at : ElementAt sheet a b i
   pub deep : 0 < left
   pub names : Names sheet a b (cell a b i nodeLabelsAt) (i + 1)
-  pub list : Carried sheet a b N below (left - 1) (propsAt a b i) (i + 1 + cell a b i nodeLabelsAt)
+  pub list : Carried sheet a b N first below (left - 1) (propsAt a b i) (i + 1 + cell a b i nodeLabelsAt)
   pub recs : (A : Ops) → specRecs N A t ≡ specRec (at .kind) (at .fields) ∷ (namesRecs names ++ carriedRecs A list)
 
 -- names and so many props, and the records that they come to
-abbrev ElementMade : (sheet : Bytes) (a b : List ℕ) (N : Notes) (below left i props : ℕ) → (Ops → Recs) → Type 0
-ElementMade sheet a b N below left i props R = (names : Names sheet a b (cell a b i nodeLabelsAt) (i + 1)) × (list : Carried sheet a b N below (left - 1) props (i + 1 + cell a b i nodeLabelsAt)) × ((A : Ops) → R A ≡ namesRecs names ++ carriedRecs A list)
+abbrev ElementMade : (sheet : Bytes) (a b : List ℕ) (N : Notes) (first below left i props : ℕ) → (Ops → Recs) → Type 0
+ElementMade sheet a b N first below left i props R = (names : Names sheet a b (cell a b i nodeLabelsAt) (i + 1)) × (list : Carried sheet a b N first below (left - 1) props (i + 1 + cell a b i nodeLabelsAt)) × ((A : Ops) → R A ≡ namesRecs names ++ carriedRecs A list)
 
-module _ {sheet : Bytes} {a b : List ℕ} (N : Notes) (below left i : ℕ) where
+module _ {sheet : Bytes} {a b : List ℕ} (N : Notes) (first below left i : ℕ) where
   -- counted by the words
-  element-made : {n p props : ℕ} (labels : Trees name n) (ps : Trees expr p) → n ≡ cell a b i nodeLabelsAt → p ≡ props → HeldOf sheet a b labels (left - 1) (i + 1) → HeldOf sheet a b ps (left - 1) (i + 1 + sizeOf labels) → BelowOf N 0 below ps → ElementMade sheet a b N below left i props (λ A. renderOf N A labels ++ (renderOf N A ps ++ []))
+  element-made : {n p props : ℕ} (labels : Trees name n) (ps : Trees expr p) → n ≡ cell a b i nodeLabelsAt → p ≡ props → HeldOf sheet a b labels (left - 1) (i + 1) → HeldOf sheet a b ps (left - 1) (i + 1 + sizeOf labels) → BelowOf N first below ps → ElementMade sheet a b N first below left i props (λ A. renderOf N A labels ++ (renderOf N A ps ++ []))
   element-made {n} {p} {props} labels ps e q hl hp u =
       let m : NamesMade sheet a b n (i + 1) (renderOf N (λ k. []) labels) (i + 1 + sizeOf labels) = names-made N (λ k. []) (left - 1) labels (i + 1) hl in
       let hp′ : HeldOf sheet a b ps (left - 1) (i + 1 + n) = rw (m .stop-is) hp in
-      let l : Made sheet a b N below (left - 1) p (i + 1 + n) (λ A. renderOf N A ps) (i + 1 + n + sizeOf ps) = exprs-made N below (left - 1) ps (i + 1 + n) hp′ u in
+      let l : Made sheet a b N first below (left - 1) p (i + 1 + n) (λ A. renderOf N A ps) (i + 1 + n + sizeOf ps) = exprs-made N first below (left - 1) ps (i + 1 + n) hp′ u in
       rw (← e, ← q) (m .names, l .list, λ A. rw (l .recs-are A, append-nil (renderOf N A ps)) (ap (λ (r : Recs). r ++ renderOf N A ps) (same-names A m)))
     where
       same-names : (A : Ops) (m : NamesMade sheet a b n (i + 1) (renderOf N (λ k. []) labels) (i + 1 + sizeOf labels)) → renderOf N A labels ≡ namesRecs (m .names)
       same-names A m = names-alike N A (λ k. []) labels ∙ sym (m .recs-are)
 
-  pub element-parts : Roomy a b → (t : Tree patternElement) → Held sheet a b t left i → KidsBelow N 0 below t → ElementParts sheet a b N below left i t
+  pub element-parts : Roomy a b → (t : Tree patternElement) → Held sheet a b t left i → KidsBelow N first below t → ElementParts sheet a b N first below left i t
   unfolding Held KidsBelow BelowIn renderIn specRecs fieldsOf fieldOf elementNumber
   element-parts room (node patternElement line PatternElement.Node f (labels ▸ ps ▸ end)) h u =
       let at : ElementAt sheet a b i = record { kind = PatternElement.Node; fields = f; at = h .1 } in

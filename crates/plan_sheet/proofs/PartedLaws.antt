@@ -23,7 +23,7 @@ use Rattle.lower.specs.Shows.{shift}
 use Rattle.words.specs.Count.{Ends}
 use Rattle.aggregate.specs.Names.{SomeExpr}
 use Rattle.plan_line.specs.Keywords.{word, letters, aggFnWord}
-use Rattle.plan_sheet.specs.Due.{noted, Planned, One, Carried, carriedRecs, carriedEnd, Many, WroteOne, WroteMany, WroteFirst, TextIn, textAt}
+use Rattle.plan_sheet.specs.Due.{noted, SomePlan, One, Carried, carriedRecs, carriedEnd, Many, WroteOne, WroteMany, WroteFirst, TextIn, textAt}
 use Rattle.plan_sheet.specs.Parted.{aggText, partRecs, partsRecs, Items, WrotePart, WroteParts, WroteItems}
 use Rattle.plan_line.proofs.RowLaws.{flag-decimal, named-rec, place-escape}
 use Rattle.plan_sheet.proofs.HeadLaws.{texts-at}
@@ -35,11 +35,11 @@ use Rattle.words.specs.Places.{fnArgsAt, fnDistinctAt, itemsAt, nameAt}
 -- ── an aggregate ──
 
 -- its line, and its arguments as expressions
-pub record Agg (sheet : Bytes) (a b : List ℕ) (N : Notes) (below left i : ℕ) (t : Tree expr) : Type 0 where
+pub record Agg (sheet : Bytes) (a b : List ℕ) (N : Notes) (first below left i : ℕ) (t : Tree expr) : Type 0 where
   pub low : i < maxRecords
   pub deep : 0 < left
   pub place : PlaceAt text sheet (cell a b i nameAt) (cell a b i (nameAt + 1))
-  pub list : Carried sheet a b N below (left - 1) (cell a b i fnArgsAt) (i + 1)
+  pub list : Carried sheet a b N first below (left - 1) (cell a b i fnArgsAt) (i + 1)
   pub stop : carriedEnd list ≡ i + size t
   pub text : (A : Ops) → spellRecs (aggOf N A t) ≡ aggText sheet a b i ++ spellRecs (carriedRecs A list)
 
@@ -52,18 +52,18 @@ call-agg sheet a b i room f at =
 not-true : {X : Type 0} → false ≡ true → X
 not-true e = let z : _≡_ {A = ℕ} 0 1 = cc in absurd (omega arith)
 
-module _ (sheet : Bytes) (a b : List ℕ) (N : Notes) (below left i : ℕ) (room : Roomy a b) where
-  counted-as : {n : ℕ} {stop : ℕ} {R : Ops → Recs} → n ≡ cell a b i fnArgsAt → Made sheet a b N below (left - 1) n (i + 1) R stop → Made sheet a b N below (left - 1) (cell a b i fnArgsAt) (i + 1) R stop
+module _ (sheet : Bytes) (a b : List ℕ) (N : Notes) (first below left i : ℕ) (room : Roomy a b) where
+  counted-as : {n : ℕ} {stop : ℕ} {R : Ops → Recs} → n ≡ cell a b i fnArgsAt → Made sheet a b N first below (left - 1) n (i + 1) R stop → Made sheet a b N first below (left - 1) (cell a b i fnArgsAt) (i + 1) R stop
   counted-as e m = rw (← e) m
 
-  pub agg : (t : Tree expr) → Held sheet a b t left i → Below N 0 below t → isAggregate t ≡ true → Agg sheet a b N below left i t
+  pub agg : (t : Tree expr) → Held sheet a b t left i → Below N first below t → isAggregate t ≡ true → Agg sheet a b N first below left i t
   unfolding Held Below belowIn copiesBelow size isAggregate aggOf spellRecs fieldsOf fieldOf
   agg (node expr line (Expr.Over h) f kids) d u e = not-true e
   agg (node expr line Expr.Var f kids) d u e = not-true e
   agg (node expr line Expr.Map f kids) d u e = not-true e
   agg (node expr line Expr.Call f (args ▸ end)) d u e =
       let n : f .1 .0 ≡ cell a b i fnArgsAt = ap (λ (x : Fields (exprForms Expr.Call)). x .1 .0) (shown room (d .1) .fields) in
-      let m = counted-as n (exprs-made N below (left - 1) args (i + 1) (d .3 .0) (u .0)) in
+      let m = counted-as n (exprs-made N first below (left - 1) args (i + 1) (d .3 .0) (u .0)) in
       record {
         low = d .1 .low;
         deep = d .2;
@@ -122,20 +122,20 @@ module _ {sheet : Bytes} {a b os rest : List ℕ} {below base left i : ℕ} wher
 
   -- it is an aggregate
   module _ (room : Roomy a b) {is : Bool} (told : Told sheet a b i is) (e : is ≡ true) (h : One sheet a b os rest below base left i) where
-    pub agg-is : Agg sheet a b (shift (noted rest) base) below left i (h .tree)
-    agg-is = agg sheet a b (shift (noted rest) base) below left i room (h .tree) (h .held) (h .under) (sym (told left (h .tree) (h .held)) ∙ e)
+    pub agg-is : Agg sheet a b (shift (noted rest) base) (h .first) below left i (h .tree)
+    agg-is = agg sheet a b (shift (noted rest) base) (h .first) below left i room (h .tree) (h .held) (h .under) (sym (told left (h .tree) (h .held)) ∙ e)
 
     pub agg-in : TextIn sheet a b i nameAt
     agg-in = (agg-is .place .from, agg-is .place .to)
 
     pub args : {n : ℕ} → n ≡ cell a b i fnArgsAt → Many sheet a b os rest below base (left - 1) n (i + 1)
-    args q = rw q (record { ops = h .ops; planned = h .planned; list = agg-is .list })
+    args q = rw q (record { first = h .first; ops = h .ops; planned = h .planned; list = agg-is .list })
 
     pub agg-wrote : (aggs : Bool) {n next : ℕ} {p q r : Page} → not (Bool·beq is aggs) ≡ false → n ≡ cell a b i fnArgsAt → Puts (aggText sheet a b i) p q → WroteMany sheet a b os rest below base (left - 1) n (i + 1) q next r → (next ≡ i + size (h .tree)) × Puts (spellRecs (partRecs (shift (noted rest) base) (h .ops) aggs (h .tree))) p r
     unfolding partRecs
     agg-wrote aggs {n} {next} {p} {q} {r} same c line many =
         let m : WroteMany sheet a b os rest below base (left - 1) (cell a b i fnArgsAt) (i + 1) q next r = rw c at many in
-        let w = m (record { ops = h .ops; planned = h .planned; list = agg-is .list }) in
+        let w = m (record { first = h .first; ops = h .ops; planned = h .planned; list = agg-is .list }) in
         let y : isAggregate (h .tree) ≡ true = sym (told left (h .tree) (h .held)) ∙ e in
         (w .0 ∙ agg-is .stop, rw (← alike is aggs same, e, y, agg-is .text (h .ops)) (line ⨾ w .1))
 
@@ -163,17 +163,17 @@ parts-none N A false z []ᵗ = refl
 parts-none N A aggs {m = suc m} z (p ∷ᵗ ps) = let e : suc m ≡ 0 = z in absurd (omega arith)
 
 -- the first of some, and the others
-record Apart (sheet : Bytes) (a b os rest : List ℕ) (below base left at m : ℕ) (A : Ops) (aggs : Bool) (all : Recs) : Type 0 where
+record Apart (sheet : Bytes) (a b os rest : List ℕ) (first below base left at m : ℕ) (A : Ops) (aggs : Bool) (all : Recs) : Type 0 where
   tree : Tree expr
   held : Held sheet a b tree left (at + 1)
-  under : Below (shift (noted rest) base) 0 below tree
+  under : Below (shift (noted rest) base) first below tree
   items : Trees projection m
   others : HeldOf sheet a b items left (at + 1 + size tree)
-  below-others : BelowOf (shift (noted rest) base) 0 below items
+  below-others : BelowOf (shift (noted rest) base) first below items
   text : all ≡ partRecs (shift (noted rest) base) A aggs tree ++ partsRecs (shift (noted rest) base) A aggs items
 
 module _ {sheet : Bytes} {a b os rest : List ℕ} {below base left : ℕ} where
-  apart : (A : Ops) (aggs : Bool) (m at : ℕ) → (m ≡ 0 → ⊥) → (ps : Trees projection m) → HeldOf sheet a b ps left at → BelowOf (shift (noted rest) base) 0 below ps → Apart sheet a b os rest below base left at (m - 1) A aggs (partsRecs (shift (noted rest) base) A aggs ps)
+  apart : {first : ℕ} (A : Ops) (aggs : Bool) (m at : ℕ) → (m ≡ 0 → ⊥) → (ps : Trees projection m) → HeldOf sheet a b ps left at → BelowOf (shift (noted rest) base) first below ps → Apart sheet a b os rest first below base left at (m - 1) A aggs (partsRecs (shift (noted rest) base) A aggs ps)
   unfolding Held Below belowIn size
   apart A aggs zero at z []ᵗ h u = absurd (z refl)
   apart A aggs (suc m) at z (node projection line k f ((e ∷ᵗ []ᵗ) ▸ end) ∷ᵗ ps) h u =
@@ -189,19 +189,19 @@ module _ {sheet : Bytes} {a b os rest : List ℕ} {below base left : ℕ} where
         text = parts-more (shift (noted rest) base) A aggs (node projection line k f ((e ∷ᵗ []ᵗ) ▸ end)) ps;
       })
 
-  split : {m at : ℕ} (aggs : Bool) → (m ≡ 0 → ⊥) → (h : Items sheet a b os rest below base left m at) → Apart sheet a b os rest below base left at (m - 1) (h .ops) aggs (partsRecs (shift (noted rest) base) (h .ops) aggs (h .items))
+  split : {m at : ℕ} (aggs : Bool) → (m ≡ 0 → ⊥) → (h : Items sheet a b os rest below base left m at) → Apart sheet a b os rest (h .first) below base left at (m - 1) (h .ops) aggs (partsRecs (shift (noted rest) base) (h .ops) aggs (h .items))
   split {m} {at} aggs z h = apart (h .ops) aggs m at z (h .items) (h .held) (h .under)
 
   pub item-one : {m at : ℕ} → (m ≡ 0 → ⊥) → Items sheet a b os rest below base left m at → One sheet a b os rest below base left (at + 1)
-  item-one z h = let s = split true z h in record { ops = h .ops; planned = h .planned; tree = s .tree; held = s .held; under = s .under }
+  item-one z h = let s = split true z h in record { first = h .first; ops = h .ops; planned = h .planned; tree = s .tree; held = s .held; under = s .under }
 
   part-step : {n i m at next : ℕ} {aggs : Bool} {start p q : Page} → (m ≡ 0 → ⊥) → (h : Items sheet a b os rest below base left n i) → PartsStill aggs h start m at p → WrotePart sheet a b os rest below base left (at + 1) aggs p next q → PartsStill aggs h start (m - 1) next q
   part-step {next = next} {aggs = aggs} z h g w =
       let o = g .others in
       let s = split aggs z o in
-      let v = w (record { ops = o .ops; planned = o .planned; tree = s .tree; held = s .held; under = s .under }) in
+      let v = w (record { first = o .first; ops = o .ops; planned = o .planned; tree = s .tree; held = s .held; under = s .under }) in
       rw (v .0) (record {
-        others = record { ops = o .ops; planned = o .planned; items = s .items; held = s .others; under = s .below-others };
+        others = record { first = o .first; ops = o .ops; planned = o .planned; items = s .items; held = s .others; under = s .below-others };
         text = λ q r. g .text q (rw (s .text, spell-append (partRecs (shift (noted rest) base) (o .ops) aggs (s .tree)) (partsRecs (shift (noted rest) base) (o .ops) aggs (s .items))) (v .1 ⨾ r));
       })
 
@@ -229,14 +229,14 @@ items-wrote {rest = rest} {base = base} ks gs h = rw (spell-append (keyRecs (shi
 
 -- ── a whole operator ──
 
-module _ (k : ℕ) {sheet : Bytes} {a b os rest : List ℕ} {A : Ops} {o : Op} (p : Planned sheet a b os rest (k + 1) A) (e : o ≡ opAt os k) (c : o .kind ≡ aggregateKind) {n : ℕ} (count : n ≡ cell a b (o .idx) itemsAt) where
+module _ (k : ℕ) {sheet : Bytes} {a b os rest : List ℕ} {o : Op} (p : SomePlan sheet a b os rest k (k + 1)) (e : o ≡ opAt os k) (c : o .kind ≡ aggregateKind) {n : ℕ} (count : n ≡ cell a b (o .idx) itemsAt) where
   pub items-of : Items sheet a b os rest k (o .base) (o .left) n (o .idx + 1)
-  items-of = let s = of-kind aggregateKind c (here k p e) in rw (count ∙ sym (s .counted)) (record { ops = A; planned = planned-below k p e; items = s .items; held = s .held; under = s .below })
+  items-of = let s = of-kind aggregateKind c (here k p e) in rw (count ∙ sym (s .counted)) (record { first = p .first; ops = p .ops; planned = planned-below k p e; items = s .items; held = s .held; under = s .below })
 
-  pub parted-wrote : {g g′ g″ : Page} → WroteFirst sheet a b rest o g g′ → WroteItems sheet a b os rest k (o .base) (o .left) n (o .idx + 1) g′ g″ → Puts (spellRecs (A k)) g g″
+  pub parted-wrote : {g g′ g″ : Page} → WroteFirst sheet a b rest o g g′ → WroteItems sheet a b os rest k (o .base) (o .left) n (o .idx + 1) g′ g″ → Puts (spellRecs (p .ops k)) g g″
   unfolding shown-at
   parted-wrote {g} {g′} {g″} first items =
       let s = of-kind aggregateKind c (here k p e) in
-      let h : Items sheet a b os rest k (o .base) (o .left) (s .count) (o .idx + 1) = record { ops = A; planned = planned-below k p e; items = s .items; held = s .held; under = s .below } in
+      let h : Items sheet a b os rest k (o .base) (o .left) (s .count) (o .idx + 1) = record { first = p .first; ops = p .ops; planned = planned-below k p e; items = s .items; held = s .held; under = s .below } in
       let v : WroteItems sheet a b os rest k (o .base) (o .left) (s .count) (o .idx + 1) g′ g″ = rw (count ∙ sym (s .counted)) at items in
       rw (first-more (s .is)) (first (shown-at k p e) ⨾ v h)

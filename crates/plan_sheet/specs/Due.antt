@@ -44,10 +44,10 @@ pub record NotesIn (rest : List ℕ) (o : Op) : Type 0 where
   pub near : o .base ≤ secondPass
   pub low : o .idx < maxRecords
 
--- A has the operators below n, as the tables show them
-pub record Planned (sheet : Bytes) (a b os rest : List ℕ) (n : ℕ) (A : Ops) : Type 0 where
+-- A has the operators from the first one on and below n, as the tables show them
+pub record Planned (sheet : Bytes) (a b os rest : List ℕ) (first n : ℕ) (A : Ops) : Type 0 where
   pub few : n ≤ maxStored
-  pub stored : (k : ℕ) → k < n → Stored (side sheet a b 0) (noted rest) A k (opAt os k) (A k)
+  pub stored : (k : ℕ) → first ≤ k → k < n → Stored (side sheet a b first) (noted rest) A k (opAt os k) (A k)
 
 -- the text whose place stands in word c of record i and in the next one, and that it is inside the sheet
 abbrev pub textAt : Bytes → List ℕ → List ℕ → (i c : ℕ) → Bytes
@@ -96,32 +96,34 @@ pub record SomeLine (sheet : Bytes) (a b : List ℕ) (i : ℕ) : Type 0 where
 
 -- one expression
 pub record One (sheet : Bytes) (a b os rest : List ℕ) (below base left i : ℕ) : Type 0 where
+  pub first : ℕ
   pub ops : Ops
-  pub planned : Planned sheet a b os rest below ops
+  pub planned : Planned sheet a b os rest first below ops
   pub tree : Tree expr
   pub held : Held sheet a b tree left i
-  pub under : Below (shift (noted rest) base) 0 below tree
+  pub under : Below (shift (noted rest) base) first below tree
 
 abbrev pub oneText : {sheet : Bytes} {a b os rest : List ℕ} {below base left i : ℕ} → One sheet a b os rest below base left i → Bytes
 oneText {rest = rest} {base = base} h = spellRecs (render (shift (noted rest) base) (h .ops) (h .tree))
 
 -- n expressions one after another, from record i on
-pub data Carried (sheet : Bytes) (a b : List ℕ) (N : Notes) (below left : ℕ) : ℕ → ℕ → Type 0 where
-  none : {i : ℕ} → Carried sheet a b N below left zero i
-  more : {n i : ℕ} (recs : Recs) (j : ℕ) → Line sheet a b i recs j → (t : Tree expr) → Held sheet a b t left j → Below N 0 below t → Carried sheet a b N below left n (j + size t) → Carried sheet a b N below left (suc n) i
+pub data Carried (sheet : Bytes) (a b : List ℕ) (N : Notes) (first below left : ℕ) : ℕ → ℕ → Type 0 where
+  none : {i : ℕ} → Carried sheet a b N first below left zero i
+  more : {n i : ℕ} (recs : Recs) (j : ℕ) → Line sheet a b i recs j → (t : Tree expr) → Held sheet a b t left j → Below N first below t → Carried sheet a b N first below left n (j + size t) → Carried sheet a b N first below left (suc n) i
 
-unfoldable pub carriedRecs : {sheet : Bytes} {a b : List ℕ} {N : Notes} {below left n i : ℕ} → Ops → Carried sheet a b N below left n i → Recs
+unfoldable pub carriedRecs : {sheet : Bytes} {a b : List ℕ} {N : Notes} {first below left n i : ℕ} → Ops → Carried sheet a b N first below left n i → Recs
 carriedRecs A none = []
 carriedRecs {N = N} A (more recs j l t h u c) = recs ++ (render N A t ++ carriedRecs A c)
 
-unfoldable pub carriedEnd : {sheet : Bytes} {a b : List ℕ} {N : Notes} {below left n i : ℕ} → Carried sheet a b N below left n i → ℕ
+unfoldable pub carriedEnd : {sheet : Bytes} {a b : List ℕ} {N : Notes} {first below left n i : ℕ} → Carried sheet a b N first below left n i → ℕ
 carriedEnd {i = i} none = i
 carriedEnd (more recs j l t h u c) = carriedEnd c
 
 pub record Many (sheet : Bytes) (a b os rest : List ℕ) (below base left n i : ℕ) : Type 0 where
+  pub first : ℕ
   pub ops : Ops
-  pub planned : Planned sheet a b os rest below ops
-  pub list : Carried sheet a b (shift (noted rest) base) below left n i
+  pub planned : Planned sheet a b os rest first below ops
+  pub list : Carried sheet a b (shift (noted rest) base) first below left n i
 
 abbrev pub manyText : {sheet : Bytes} {a b os rest : List ℕ} {below base left n i : ℕ} → Many sheet a b os rest below base left n i → Bytes
 manyText h = spellRecs (carriedRecs (h .ops) (h .list))
@@ -137,11 +139,12 @@ namesRecs (name-more f h c) = rec name tt f ∷ namesRecs c
 
 -- an element of a pattern, without its variable and its span
 pub record Element (sheet : Bytes) (a b os rest : List ℕ) (below base left i : ℕ) : Type 0 where
+  pub first : ℕ
   pub ops : Ops
-  pub planned : Planned sheet a b os rest below ops
+  pub planned : Planned sheet a b os rest first below ops
   pub tree : Tree patternElement
   pub held : Held sheet a b tree left i
-  pub under : KidsBelow (shift (noted rest) base) 0 below tree
+  pub under : KidsBelow (shift (noted rest) base) first below tree
 
 abbrev pub elementText : {sheet : Bytes} {a b os rest : List ℕ} {below base left i : ℕ} → Element sheet a b os rest below base left i → Bytes
 elementText {rest = rest} {base = base} h = spellRecs (specRecs (shift (noted rest) base) (h .ops) (h .tree))
@@ -151,17 +154,20 @@ pub record ElementAt (sheet : Bytes) (a b : List ℕ) (i : ℕ) : Type 0 where
   pub fields : Fields (elementForms kind)
   pub at : RecordAt sheet a b i patternElement kind fields
 
--- operators that can be written
-pub record SomePlan (sheet : Bytes) (a b os rest : List ℕ) (n : ℕ) : Type 0 where
+-- the operators from number `from` on and below n can be written: the tables hold them, and what they copy
+pub record SomePlan (sheet : Bytes) (a b os rest : List ℕ) (from n : ℕ) : Type 0 where
+  pub first : ℕ
   pub ops : Ops
-  pub planned : Planned sheet a b os rest n ops
+  pub planned : Planned sheet a b os rest first n ops
+  pub inside : first ≤ from
 
 -- what a stored operator comes to
 pub record OpShown (sheet : Bytes) (a b rest : List ℕ) (o : Op) : Type 0 where
+  pub first : ℕ
   pub ops : Ops
   pub number : ℕ
   pub recs : Recs
-  pub stored : Stored (side sheet a b 0) (noted rest) ops number o recs
+  pub stored : Stored (side sheet a b first) (noted rest) ops number o recs
 
 -- its first line is written
 abbrev pub WroteFirst : (sheet : Bytes) (a b rest : List ℕ) → Op → Page → Page → Type 0
@@ -182,4 +188,4 @@ abbrev pub WroteElement : (sheet : Bytes) (a b os rest : List ℕ) (below base l
 WroteElement sheet a b os rest below base left i p q = (h : Element sheet a b os rest below base left i) → Puts (elementText h) p q
 
 abbrev pub WroteOp : (sheet : Bytes) (a b os rest : List ℕ) (k : ℕ) → Page → Page → Type 0
-WroteOp sheet a b os rest k p q = (A : Ops) → Planned sheet a b os rest (k + 1) A → Puts (spellRecs (A k)) p q
+WroteOp sheet a b os rest k p q = (h : SomePlan sheet a b os rest k (k + 1)) → Puts (spellRecs (h .ops k)) p q

@@ -33,11 +33,12 @@ partsRecs N A false ps = keyRecs N A ps
 
 -- n items from record i on
 pub record Items (sheet : Bytes) (a b os rest : List ℕ) (below base left n i : ℕ) : Type 0 where
+  pub first : ℕ
   pub ops : Ops
-  pub planned : Planned sheet a b os rest below ops
+  pub planned : Planned sheet a b os rest first below ops
   pub items : Trees projection n
   pub held : HeldOf sheet a b items left i
-  pub under : BelowOf (shift (noted rest) base) 0 below items
+  pub under : BelowOf (shift (noted rest) base) first below items
 
 abbrev pub WrotePart : (sheet : Bytes) (a b os rest : List ℕ) (below base left i : ℕ) (aggs : Bool) → Page → ℕ → Page → Type 0
 WrotePart sheet a b os rest below base left i aggs p next q = (h : One sheet a b os rest below base left i) → (next ≡ i + size (h .tree)) × Puts (spellRecs (partRecs (shift (noted rest) base) (h .ops) aggs (h .tree))) p q

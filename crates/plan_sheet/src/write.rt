@@ -274,7 +274,7 @@ pub fn write_op(
     k: usize,
 ) -> usize
     requires { ⌜ Room (now a) (now b) (now ops) (now rest) ⌝ }
-    requires { ⌜ SomePlan (now sheet) (now a) (now b) (now ops) (now rest) (k + 1) ⌝ }
+    requires { ⌜ SomePlan (now sheet) (now a) (now b) (now ops) (now rest) k (k + 1) ⌝ }
     ensures { λ r. ⌜ WroteOp (now (sheet .entry)) (now (a .entry)) (now (b .entry)) (now (ops .entry)) (now (rest .entry)) k (on (now (plan .entry)) out) (on (now (plan .exit)) r) ⌝ }
 {
     let w = op::read_op(ops, k);

@@ -54,7 +54,7 @@ module _ {sheet : Bytes} {a b os rest : List ℕ} {n : ℕ} {start : Page} where
   one-more {k} l w v e =
       rw (add-one k) (record {
         low = l;
-        wrote = λ A h. rw (spell-append (upTo k A) (A k)) (w .wrote A h ⨾ v A (planned-less (omega arith) h));
+        wrote = λ A h. rw (spell-append (upTo k A) (A k)) (w .wrote A h ⨾ v (record { first = 0; ops = A; planned = planned-less (omega arith) h; inside = omega arith }));
         long = e ∙ w .long;
       })
 

@@ -27,7 +27,7 @@ fn write_ops(
     n: usize,
 ) -> usize
     requires { ⌜ Room (now a) (now b) (now ops) (now rest) ⌝ }
-    requires { ⌜ SomePlan (now sheet) (now a) (now b) (now ops) (now rest) n ⌝ }
+    requires { ⌜ SomePlan (now sheet) (now a) (now b) (now ops) (now rest) 0 n ⌝ }
     ensures { λ r. ⌜ WroteOps (now (sheet .entry)) (now (a .entry)) (now (b .entry)) (now (ops .entry)) (now (rest .entry)) n n (on (now (plan .entry)) out) (on (now (plan .exit)) r) ⌝ }
 {
     let mut k = 0;

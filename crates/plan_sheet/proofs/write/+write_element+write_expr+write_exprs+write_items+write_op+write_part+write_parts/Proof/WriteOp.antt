@@ -79,52 +79,52 @@ module _ (t : ℕ) where
   put-op-requires c κs =
       let w : here lts.After-read-op = search ways depth 9 in
       let s : here lts.Start = search ways depth 9 in
-      (s .pre .1 .0 .records, (s .pre .1 .0 .in-rest, OpLaws.shown-at _ (s .pre .1 .1 .planned) (w .read-op .ensures)))
+      (s .pre .1 .0 .records, (s .pre .1 .0 .in-rest, OpLaws.shown-at _ (s .pre .1 .1) (w .read-op .ensures)))
 
   write-element-requires : here lts.Need-write-element-requires
   write-element-requires c κs =
       let arm : here lts.At-match-keys1 = search ways depth 9 in
       let w : here lts.After-read-op = search ways depth 9 in
       let s : here lts.Start = search ways depth 9 in
-      let v = OpLaws.bounded-at _ (s .pre .1 .1 .planned) (w .read-op .ensures) in
-      (omega (arith, s .pre .0, v .shallow), record { room = s .pre .1 .0; near = record { near = v .near; shallow = v .shallow }; due = OpLaws.rel-of _ (s .pre .1 .1 .planned) (w .read-op .ensures) (arm .match .keys1) })
+      let v = OpLaws.bounded-at _ (s .pre .1 .1) (w .read-op .ensures) in
+      (omega (arith, s .pre .0, v .shallow), record { room = s .pre .1 .0; near = record { near = v .near; shallow = v .shallow }; due = OpLaws.rel-of _ (s .pre .1 .1) (w .read-op .ensures) (arm .match .keys1) })
 
   write-element-requires-2 : here lts.Need-write-element-requires-2
   write-element-requires-2 c κs =
       let arm : here lts.At-match-keys1 = search ways depth 9 in
       let w : here lts.After-read-op = search ways depth 9 in
       let s : here lts.Start = search ways depth 9 in
-      let v = OpLaws.bounded-at _ (s .pre .1 .1 .planned) (w .read-op .ensures) in
-      (omega (arith, s .pre .0, v .shallow), record { room = s .pre .1 .0; near = record { near = v .near; shallow = v .shallow }; due = OpLaws.far-of _ (s .pre .1 .1 .planned) (w .read-op .ensures) (arm .match .keys1) })
+      let v = OpLaws.bounded-at _ (s .pre .1 .1) (w .read-op .ensures) in
+      (omega (arith, s .pre .0, v .shallow), record { room = s .pre .1 .0; near = record { near = v .near; shallow = v .shallow }; due = OpLaws.far-of _ (s .pre .1 .1) (w .read-op .ensures) (arm .match .keys1) })
 
   write-element-requires-3 : here lts.Need-write-element-requires-3
   write-element-requires-3 c κs =
       let arm : here lts.At-match-keys2 = search ways depth 9 in
       let w : here lts.After-read-op = search ways depth 9 in
       let s : here lts.Start = search ways depth 9 in
-      let v = OpLaws.bounded-at _ (s .pre .1 .1 .planned) (w .read-op .ensures) in
-      (omega (arith, s .pre .0, v .shallow), record { room = s .pre .1 .0; near = record { near = v .near; shallow = v .shallow }; due = OpLaws.short-rel _ (s .pre .1 .1 .planned) (w .read-op .ensures) (arm .match .keys2) })
+      let v = OpLaws.bounded-at _ (s .pre .1 .1) (w .read-op .ensures) in
+      (omega (arith, s .pre .0, v .shallow), record { room = s .pre .1 .0; near = record { near = v .near; shallow = v .shallow }; due = OpLaws.short-rel _ (s .pre .1 .1) (w .read-op .ensures) (arm .match .keys2) })
 
   write-op-requires : here lts.Need-write-op-requires
   write-op-requires c κs =
       let arm : here lts.At-match-keys3 = search ways depth 9 in
       let w : here lts.After-read-op = search ways depth 9 in
       let s : here lts.Start = search ways depth 9 in (
-        omega (arith, s .pre .0, OpLaws.optional-low _ (s .pre .1 .1 .planned) (w .read-op .ensures) (arm .match .keys3)),
-        (s .pre .1 .0, OpLaws.optional-plan _ (s .pre .1 .1 .planned) (w .read-op .ensures) (arm .match .keys3)),
+        omega (arith, s .pre .0, OpLaws.optional-low _ (s .pre .1 .1) (w .read-op .ensures) (arm .match .keys3)),
+        (s .pre .1 .0, OpLaws.optional-plan _ (s .pre .1 .1) (w .read-op .ensures) (arm .match .keys3)),
       )
 
   count-requires : here lts.Need-count-requires
   count-requires c κs =
       let w : here lts.After-read-op = search ways depth 9 in
       let s : here lts.Start = search ways depth 9 in
-      (OpLaws.bounded-at _ (s .pre .1 .1 .planned) (w .read-op .ensures) .low, (omega arith, s .pre .1 .0 .records))
+      (OpLaws.bounded-at _ (s .pre .1 .1) (w .read-op .ensures) .low, (omega arith, s .pre .1 .0 .records))
 
   add-first : here lts.Need-add-first
   add-first c =
       let w : here lts.After-read-op = search ways depth 9 in
       let s : here lts.Start = search ways depth 9 in
-      omega (arith, OpLaws.bounded-at _ (s .pre .1 .1 .planned) (w .read-op .ensures) .low)
+      omega (arith, OpLaws.bounded-at _ (s .pre .1 .1) (w .read-op .ensures) .low)
 
   write-items-requires : here lts.Need-write-items-requires
   write-items-requires c κs =
@@ -132,20 +132,20 @@ module _ (t : ℕ) where
       let arm : here lts.At-match-keys4 = search ways depth 9 in
       let w : here lts.After-read-op = search ways depth 9 in
       let s : here lts.Start = search ways depth 9 in
-      let v = OpLaws.bounded-at _ (s .pre .1 .1 .planned) (w .read-op .ensures) in
-      (omega (arith, s .pre .0, v .shallow), record { room = s .pre .1 .0; near = record { near = v .near; shallow = v .shallow }; due = PartedLaws.items-of _ (s .pre .1 .1 .planned) (w .read-op .ensures) (arm .match .keys4) (count .count .ensures .0) })
+      let v = OpLaws.bounded-at _ (s .pre .1 .1) (w .read-op .ensures) in
+      (omega (arith, s .pre .0, v .shallow), record { room = s .pre .1 .0; near = record { near = v .near; shallow = v .shallow }; due = PartedLaws.items-of _ (s .pre .1 .1) (w .read-op .ensures) (arm .match .keys4) (count .count .ensures .0) })
 
   first-of-requires : here lts.Need-first-of-requires
   first-of-requires c κs =
       let w : here lts.After-read-op = search ways depth 9 in
       let s : here lts.Start = search ways depth 9 in
-      OpLaws.bounded-at _ (s .pre .1 .1 .planned) (w .read-op .ensures) .low
+      OpLaws.bounded-at _ (s .pre .1 .1) (w .read-op .ensures) .low
 
   many-of-requires : here lts.Need-many-of-requires
   many-of-requires c κs =
       let w : here lts.After-read-op = search ways depth 9 in
       let s : here lts.Start = search ways depth 9 in
-      (s .pre .1 .0 .records, OpLaws.bounded-at _ (s .pre .1 .1 .planned) (w .read-op .ensures) .low)
+      (s .pre .1 .0 .records, OpLaws.bounded-at _ (s .pre .1 .1) (w .read-op .ensures) .low)
 
   write-exprs-requires : here lts.Need-write-exprs-requires
   write-exprs-requires c κs =
@@ -154,14 +154,14 @@ module _ (t : ℕ) where
       let arm : here lts.At-match-rest = search ways depth 9 in
       let w : here lts.After-read-op = search ways depth 9 in
       let s : here lts.Start = search ways depth 9 in
-      let v = OpLaws.bounded-at _ (s .pre .1 .1 .planned) (w .read-op .ensures) in (
+      let v = OpLaws.bounded-at _ (s .pre .1 .1) (w .read-op .ensures) in (
         omega (arith, s .pre .0, v .shallow),
         record {
           room = s .pre .1 .0;
           near = record { near = v .near; shallow = v .shallow };
           due = BehindLaws.exprs-there
               _
-              (s .pre .1 .1 .planned)
+              (s .pre .1 .1)
               (w .read-op .ensures)
               (s .pre .1 .0 .records)
               (arm .match .rest)
@@ -178,13 +178,13 @@ module _ (t : ℕ) where
       let arm : here lts.At-match-rest = search ways depth 9 in
       let w : here lts.After-read-op = search ways depth 9 in
       let s : here lts.Start = search ways depth 9 in
-      let v = OpLaws.bounded-at _ (s .pre .1 .1 .planned) (w .read-op .ensures) in (
+      let v = OpLaws.bounded-at _ (s .pre .1 .1) (w .read-op .ensures) in (
         s .pre .1 .0 .records,
         (
           record { in-rest = s .pre .1 .0 .in-rest; near = v .near; low = v .low },
           BehindLaws.tail-there
               _
-              (s .pre .1 .1 .planned)
+              (s .pre .1 .1)
               (w .read-op .ensures)
               (s .pre .1 .0 .records)
               (arm .match .rest)
@@ -201,7 +201,7 @@ module _ (t : ℕ) where
       let arm : here lts.At-match-keys1 = search ways depth 9 in
       let line : here lts.After-put-op = search ways depth 9 in
       let w : here lts.After-read-op = search ways depth 9 in
-      λ A p.
+      λ p.
       OpLaws.expand-wrote
       _
       p
@@ -217,7 +217,7 @@ module _ (t : ℕ) where
       let arm : here lts.At-match-keys2 = search ways depth 9 in
       let line : here lts.After-put-op = search ways depth 9 in
       let w : here lts.After-read-op = search ways depth 9 in
-      λ A p. OpLaws.short-wrote _ p (w .read-op .ensures) (arm .match .keys2) (line .put-op .ensures) (rel .write-element3 .ensures)
+      λ p. OpLaws.short-wrote _ p (w .read-op .ensures) (arm .match .keys2) (line .put-op .ensures) (rel .write-element3 .ensures)
 
   returns-3 : here lts.Need-returns-3
   returns-3 c =
@@ -225,7 +225,7 @@ module _ (t : ℕ) where
       let arm : here lts.At-match-keys3 = search ways depth 9 in
       let line : here lts.After-put-op = search ways depth 9 in
       let w : here lts.After-read-op = search ways depth 9 in
-      λ A p. OpLaws.optional-wrote _ p (w .read-op .ensures) (arm .match .keys3) (line .put-op .ensures) (copy .write-op .ensures)
+      λ p. OpLaws.optional-wrote _ p (w .read-op .ensures) (arm .match .keys3) (line .put-op .ensures) (copy .write-op .ensures)
 
   returns-4 : here lts.Need-returns-4
   returns-4 c =
@@ -234,7 +234,7 @@ module _ (t : ℕ) where
       let arm : here lts.At-match-keys4 = search ways depth 9 in
       let line : here lts.After-put-op = search ways depth 9 in
       let w : here lts.After-read-op = search ways depth 9 in
-      λ A p.
+      λ p.
       PartedLaws.parted-wrote
       _
       p
@@ -254,7 +254,7 @@ module _ (t : ℕ) where
       let line : here lts.After-put-op = search ways depth 9 in
       let w : here lts.After-read-op = search ways depth 9 in
       let s : here lts.Start = search ways depth 9 in
-      λ A p.
+      λ p.
       BehindLaws.inside-wrote
       _
       p
