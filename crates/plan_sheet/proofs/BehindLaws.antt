@@ -37,7 +37,7 @@ use Rattle.plan_line.proofs.RowLaws.{named-rec, place-escape}
 use Rattle.plan_sheet.proofs.HeadLaws.{texts-at}
 use Rattle.plan_sheet.proofs.DueLaws.{Made, exprs-made, keys-made, items-made, joined, spell-append}
 use Rattle.plan_sheet.proofs.NameLaws.{names-made}
-use Rattle.plan_sheet.proofs.OpLaws.{here, shown-at, planned-below, first-more}
+use Rattle.plan_sheet.proofs.OpLaws.{here, shown-at, tabled-below, first-more}
 use Rattle.context.specs.Ops.{aggregateKind, bindPathKind, expandKind, filterKind, limitKind, optionalJoinKind, orderByKind, procedureCallKind, projectKind, shortestPathKind, skipKind, sourceKind, unwindKind, withKind, sourceAllKind, distinctKind, unionKind}
 use Rattle.words.specs.Places.{callArgsAt, callYieldsAt, nodeLabelsAt, partElementsAt, yieldNameAt}
 use Rattle.words.specs.Numbers.{Others, among, other-than}
@@ -318,7 +318,7 @@ module _ (k : ℕ) {sheet : Bytes} {a b os rest : List ℕ} {o : Op} (p : SomePl
   inside-at = rw (count, place) (inside room z (here k p e))
 
   pub exprs-there : Many sheet a b os rest k (o .base) (o .left) n i
-  exprs-there = record { first = p .first; ops = p .ops; planned = planned-below k p e; list = inside-at .list }
+  exprs-there = record { first = p .first; ops = p .ops; tabled = tabled-below k p e; list = inside-at .list }
 
   pub tail-there : {next : ℕ} {g g′ : Page} → WroteMany sheet a b os rest k (o .base) (o .left) n i g next g′ → SomeTail sheet a b rest o next
   unfolding exprs-there

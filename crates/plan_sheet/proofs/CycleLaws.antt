@@ -22,7 +22,7 @@ use Rattle.words.specs.Count.{countAt, Starts, Ends}
 use Rattle.model.specs.Lower.{exprHead}
 use Rattle.plan_sheet.specs.Due.{noted, Near, SomePlan, ExprAt, isLeaf, ElementAt, One, oneText, Many, Element, elementText, Names, namesRecs, Line, carriedRecs, carriedEnd, WroteOne, WroteMany, WroteOp}
 use Rattle.plan_sheet.specs.Due
-use Rattle.plan_sheet.proofs.DueLaws.{expr-of, planned-less, spell-append, none-wrote}
+use Rattle.plan_sheet.proofs.DueLaws.{expr-of, tabled-less, spell-append, none-wrote}
 use Rattle.plan_sheet.proofs.PartLaws.{Parts, parts, Copy, copied, deep, propsAt, ElementParts, element-parts}
 
 -- one level down
@@ -46,7 +46,7 @@ module _ {sheet : Bytes} {a b os rest : List ℕ} {below base left i : ℕ} wher
 
   -- one that has no line before it, as the first of one
   pub alone : One sheet a b os rest below base left i → Many sheet a b os rest below base left 1 i
-  alone h = record { first = h .first; ops = h .ops; planned = h .planned; list = Due.more [] i (Line.bare (one-at h)) (h .tree) (h .held) (h .under) Due.none }
+  alone h = record { first = h .first; ops = h .ops; tabled = h .tabled; list = Due.more [] i (Line.bare (one-at h)) (h .tree) (h .held) (h .under) Due.none }
 
   pub alone-wrote : {next : ℕ} {p q : Page} → WroteMany sheet a b os rest below base left 1 i p next q → WroteOne sheet a b os rest below base left i p next q
   unfolding alone carriedRecs carriedEnd
@@ -62,7 +62,7 @@ module _ {sheet : Bytes} {a b os rest : List ℕ} {below base left i : ℕ} wher
     copy-low = rw (← noted-is) at (copy-of .low)
 
     pub copy-plan : SomePlan sheet a b os rest n (n + 1)
-    copy-plan = record { first = h .first; ops = h .ops; planned = planned-less (omega (arith, copy-low)) (h .planned); inside = rw (← noted-is) at (copy-of .from) }
+    copy-plan = record { first = h .first; ops = h .ops; tabled = tabled-less (omega (arith, copy-low)) (h .tabled); inside = rw (← noted-is) at (copy-of .from) }
 
     pub copy-wrote : {p q r : Page} {next : ℕ} → ((x : ExprAt sheet a b i) → Puts (spellRec (exprHead n (x .kind) (x .fields))) p q) → WroteOp sheet a b os rest n q r → Ends a b i next → (next ≡ i + size (h .tree)) × Puts (oneText h) p r
     unfolding copy-plan spellRecs
@@ -77,7 +77,7 @@ module _ {sheet : Bytes} {a b os rest : List ℕ} {below base left i : ℕ} wher
     kid-parts = parts (shift (noted rest) base) (h .first) below left i m room count (h .tree) (h .held) (h .under) z
 
     pub kids : Many sheet a b os rest below base (left - 1) m (i + 1)
-    kids = record { first = h .first; ops = h .ops; planned = h .planned; list = kid-parts .list }
+    kids = record { first = h .first; ops = h .ops; tabled = h .tabled; list = kid-parts .list }
 
     pub kids-wrote : {n : ℕ} {p q r : Page} {next : ℕ} → n ≡ noteOf rest base i → ((x : ExprAt sheet a b i) → Puts (spellRec (exprHead n (x .kind) (x .fields))) p q) → WroteMany sheet a b os rest below base (left - 1) m (i + 1) q next r → (next ≡ i + size (h .tree)) × Puts (oneText h) p r
     unfolding kids spellRecs
@@ -130,11 +130,11 @@ module _ {sheet : Bytes} {a b os rest : List ℕ} {below base left i : ℕ} (roo
       names-put = let f : (x : Names sheet a b (cell a b i nodeLabelsAt) (i + 1)) → (next ≡ i + 1 + cell a b i nodeLabelsAt) × Puts (spellRecs (namesRecs x)) p q = rw c at names in f (element-is .names)
 
       pub element-props : Many sheet a b os rest below base (left - 1) props next
-      element-props = rw (names-put .0, e, k) (record { first = h .first; ops = h .ops; planned = h .planned; list = element-is .list })
+      element-props = rw (names-put .0, e, k) (record { first = h .first; ops = h .ops; tabled = h .tabled; list = element-is .list })
 
       pub element-wrote : {start r : Page} {last : ℕ} → ((x : ElementAt sheet a b i) → Puts (spellRec (specRec (x .kind) (x .fields))) start p) → WroteMany sheet a b os rest below base (left - 1) props next q last r → Puts (elementText h) start r
       unfolding spellRecs
       element-wrote {start} {r} {last} head many =
           let m : WroteMany sheet a b os rest below base (left - 1) (propsAt a b i) (i + 1 + cell a b i nodeLabelsAt) q last r = rw (e, k, names-put .0) at many in
-          let w = m (record { first = h .first; ops = h .ops; planned = h .planned; list = element-is .list }) in
+          let w = m (record { first = h .first; ops = h .ops; tabled = h .tabled; list = element-is .list }) in
           rw (element-is .recs (h .ops)) (head (element-is .at) ⨾ rw (spell-append (namesRecs (element-is .names)) (carriedRecs (h .ops) (element-is .list))) (names-put .1 ⨾ w .1))

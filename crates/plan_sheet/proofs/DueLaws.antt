@@ -17,7 +17,7 @@ use Rattle.words.specs.Words.{maxRecords}
 use Rattle.words.specs.Held.{Held, HeldOf, HeldIn, size, sizeOf, roomIn}
 use Rattle.lower.specs.Render.{Notes, Ops, recsOver, render, renderOf, nameOf, Below, BelowOf, belowIn}
 use Rattle.lower.specs.Shows.{shift}
-use Rattle.plan_sheet.specs.Due.{Planned, noted, ExprAt, ItemAt, namedRec, itemName, Line, SomeLine, One, Carried, carriedRecs, carriedEnd, Many, manyText, WroteOne, WroteMany, WroteLine}
+use Rattle.plan_sheet.specs.Due.{Tabled, noted, ExprAt, ItemAt, namedRec, itemName, Line, SomeLine, One, Carried, carriedRecs, carriedEnd, Many, manyText, WroteOne, WroteMany, WroteLine}
 use Rattle.plan_sheet.specs.Due
 use Rattle.plan_sheet.proofs.HeadLaws.{line-low}
 
@@ -26,8 +26,8 @@ unfolding spellRecs
 spell-append [] ss = refl
 spell-append (r ∷ rs) ss = ap (λ (t : Bytes). spellRec r ++ t) (spell-append rs ss) ∙ sym (append-assoc (spellRec r) (spellRecs rs) (spellRecs ss))
 
-pub planned-less : {sheet : Bytes} {a b os rest : List ℕ} {first n k : ℕ} {A : Ops} → k ≤ n → Planned sheet a b os rest first n A → Planned sheet a b os rest first k A
-planned-less h p = record { few = omega (arith, p .few); stored = λ j f l. p .stored j f (omega arith) }
+pub tabled-less : {sheet : Bytes} {a b os rest : List ℕ} {first n k : ℕ} {A : Ops} → k ≤ n → Tabled sheet a b os rest first n A → Tabled sheet a b os rest first k A
+tabled-less h p = record { few = omega (arith, p .few); stored = λ j f l. p .stored j f (omega arith) }
 
 none-list : {sheet : Bytes} {a b : List ℕ} {N : Notes} {first below left : ℕ} (A : Ops) (n i : ℕ) → n ≡ 0 → (c : Carried sheet a b N first below left n i) → (i ≡ carriedEnd c) × (carriedRecs A c ≡ [])
 unfolding carriedRecs carriedEnd
@@ -70,7 +70,7 @@ module _ {sheet : Bytes} {a b os rest : List ℕ} {below base left : ℕ} where
     pub stop : carriedEnd others ≡ carriedEnd (h .list)
     pub text : manyText h ≡ spellRecs recs ++ (spellRecs (render (shift (noted rest) base) (h .ops) tree) ++ spellRecs (carriedRecs (h .ops) others))
 
-  split-list : {first : ℕ} (A : Ops) (p : Planned sheet a b os rest first below A) (n i : ℕ) → (n ≡ 0 → ⊥) → (c : Carried sheet a b (shift (noted rest) base) first below left n i) → Split (record { first = first; ops = A; planned = p; list = c }) (n - 1)
+  split-list : {first : ℕ} (A : Ops) (p : Tabled sheet a b os rest first below A) (n i : ℕ) → (n ≡ 0 → ⊥) → (c : Carried sheet a b (shift (noted rest) base) first below left n i) → Split (record { first = first; ops = A; tabled = p; list = c }) (n - 1)
   unfolding carriedRecs carriedEnd
   split-list A p zero i z c = absurd (z refl)
   split-list A p (suc n) i z (Due.more recs j l t h u c) =
@@ -88,7 +88,7 @@ module _ {sheet : Bytes} {a b os rest : List ℕ} {below base left : ℕ} where
       })
 
   pub split : {n i : ℕ} → (n ≡ 0 → ⊥) → (h : Many sheet a b os rest below base left n i) → Split h (n - 1)
-  split {n} {i} z h = split-list (h .ops) (h .planned) n i z (h .list)
+  split {n} {i} z h = split-list (h .ops) (h .tabled) n i z (h .list)
 
   -- ── the loop ──
 
@@ -103,7 +103,7 @@ module _ {sheet : Bytes} {a b os rest : List ℕ} {below base left : ℕ} where
   one-there {n} {i} {next} z h w =
       let s = split z h in
       let e : next ≡ s .j = w (s .recs) (s .j) (s .line) .0 in
-      record { first = h .first; ops = h .ops; planned = h .planned; tree = s .tree; held = rw e (s .held); under = s .under }
+      record { first = h .first; ops = h .ops; tabled = h .tabled; tree = s .tree; held = rw e (s .held); under = s .under }
 
   pub first-line : {i : ℕ} → Many sheet a b os rest below base left 1 i → SomeLine sheet a b i
   first-line h = some-line one-of h
@@ -127,7 +127,7 @@ module _ {sheet : Bytes} {a b os rest : List ℕ} {below base left : ℕ} where
 
   -- the first of some, alone
   first-list : {n i : ℕ} (h : Many sheet a b os rest below base left n i) {m : ℕ} → Split h m → Many sheet a b os rest below base left 1 i
-  first-list h s = record { first = h .first; ops = h .ops; planned = h .planned; list = Due.more (s .recs) (s .j) (s .line) (s .tree) (s .held) (s .under) Due.none }
+  first-list h s = record { first = h .first; ops = h .ops; tabled = h .tabled; list = Due.more (s .recs) (s .j) (s .line) (s .tree) (s .held) (s .under) Due.none }
 
   pub first-one : {n i : ℕ} → (n ≡ 0 → ⊥) → Many sheet a b os rest below base left n i → Many sheet a b os rest below base left 1 i
   first-one z h = first-list h (split z h)
@@ -142,7 +142,7 @@ module _ {sheet : Bytes} {a b os rest : List ℕ} {below base left : ℕ} where
       let put : Puts (spellRecs (s .recs) ++ spellRecs (render N A (s .tree))) p q = rw (append-nil (render N A (s .tree)), spell-append (s .recs) (render N A (s .tree))) at (o .1) in
       let all = s .text ∙ sym (append-assoc (spellRecs (s .recs)) (spellRecs (render N A (s .tree))) (spellRecs (carriedRecs A (s .others)))) in
       rw (o .0) (record {
-        others = record { first = g .others .first; ops = A; planned = g .others .planned; list = s .others };
+        others = record { first = g .others .first; ops = A; tabled = g .others .tabled; list = s .others };
         stop = s .stop ∙ g .stop;
         text = λ q r. g .text q (rw all (put ⨾ r));
       })

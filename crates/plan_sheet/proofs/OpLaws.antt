@@ -25,10 +25,10 @@ use Rattle.lower.specs.Render.{Notes, Ops, specRecs}
 use Rattle.lower.specs.Shows.{shift, InBounds, Shows, Stored, OverExpr, ByLabels, ByRel, ByShortest, ByPath, ByWith, ByItems, ByParted, ByKeys, ByCall, shows-all, shows-source, shows-filter, shows-expand, shows-short, shows-path, shows-optional, shows-with, shows-project, shows-aggregate, shows-order, shows-skip, shows-limit, shows-distinct, shows-unwind, shows-union, shows-call}
 use Rattle.plan_line.specs.Keywords.{word, letters, sourceWord, filterWord, expandWord, shortWord, pathWord, optionalWord, withWord, projectWord, aggWord, orderWord, skipWord, limitWord, distinctWord, unwindWord, unionWord, callWord}
 use Rattle.plan_line.specs.Row.{numbersText, rowText, callText}
-use Rattle.plan_sheet.specs.Due.{noted, Planned, SomePlan, OpShown, WroteFirst, Element, WroteElement, WroteOp, TextIn, allShortest, textAt}
+use Rattle.plan_sheet.specs.Due.{noted, Tabled, SomePlan, OpShown, WroteFirst, Element, WroteElement, WroteOp, TextIn, allShortest, textAt}
 use Rattle.plan_line.proofs.RowLaws.{flag-decimal, record-line, row-rec, place-escape}
 use Rattle.plan_sheet.proofs.HeadLaws.{texts-at}
-use Rattle.plan_sheet.proofs.DueLaws.{planned-less, spell-append}
+use Rattle.plan_sheet.proofs.DueLaws.{tabled-less, spell-append}
 use Rattle.plan_sheet.proofs.NameLaws.{names-made}
 use Rattle.context.specs.Ops.{aggregateKind, bindPathKind, distinctKind, expandKind, filterKind, limitKind, optionalJoinKind, orderByKind, procedureCallKind, projectKind, shortestPathKind, skipKind, sourceAllKind, sourceKind, unionKind, unwindKind, withKind}
 use Rattle.words.specs.Places.{callArgsAt, callNameAt, callOptionalAt, callYieldsAt, itemsAt, nodeLabelsAt, partShortestAt, withFilterAt}
@@ -262,7 +262,7 @@ module _ {sheet : Bytes} {a b rest : List ℕ} {o : Op} (room : Roomy a b) (h : 
 
 module _ (k : ℕ) {sheet : Bytes} {a b os rest : List ℕ} {o : Op} (p : SomePlan sheet a b os rest k (k + 1)) (e : o ≡ opAt os k) where
   pub stored-at : Stored (side sheet a b (p .first)) (noted rest) (p .ops) k (opAt os k) (p .ops k)
-  stored-at = p .planned .stored k (p .inside) (omega arith)
+  stored-at = p .tabled .stored k (p .inside) (omega arith)
 
   unfoldable pub shown-at : OpShown sheet a b rest o
   shown-at = record { first = p .first; ops = p .ops; number = k; recs = p .ops k; stored = rw e stored-at }
@@ -273,16 +273,16 @@ module _ (k : ℕ) {sheet : Bytes} {a b os rest : List ℕ} {o : Op} (p : SomePl
   pub here : Shows (side sheet a b (p .first)) (noted rest) (p .ops) k o (p .ops k)
   here = rw e (stored-at .shows)
 
-  pub planned-below : Planned sheet a b os rest (p .first) k (p .ops)
-  planned-below = planned-less (omega arith) (p .planned)
+  pub tabled-below : Tabled sheet a b os rest (p .first) k (p .ops)
+  tabled-below = tabled-less (omega arith) (p .tabled)
 
   -- an expand
   module _ (c : o .kind ≡ expandKind) where
     pub rel-of : Element sheet a b os rest k (o .base) (o .left) (o .idx)
-    rel-of = let s = of-kind expandKind c here in record { first = p .first; ops = p .ops; planned = planned-below; tree = s .rel; held = s .held-rel; under = s .below-rel }
+    rel-of = let s = of-kind expandKind c here in record { first = p .first; ops = p .ops; tabled = tabled-below; tree = s .rel; held = s .held-rel; under = s .below-rel }
 
     pub far-of : Element sheet a b os rest k (o .base) (o .left) (o .y)
-    far-of = let s = of-kind expandKind c here in record { first = p .first; ops = p .ops; planned = planned-below; tree = s .far; held = s .held-far; under = s .below-far }
+    far-of = let s = of-kind expandKind c here in record { first = p .first; ops = p .ops; tabled = tabled-below; tree = s .far; held = s .held-far; under = s .below-far }
 
     pub expand-wrote : {g g′ g″ g‴ : Page} → WroteFirst sheet a b rest o g g′ → WroteElement sheet a b os rest k (o .base) (o .left) (o .idx) g′ g″ → WroteElement sheet a b os rest k (o .base) (o .left) (o .y) g″ g‴ → Puts (spellRecs (p .ops k)) g g‴
     unfolding shown-at rel-of far-of
@@ -293,7 +293,7 @@ module _ (k : ℕ) {sheet : Bytes} {a b os rest : List ℕ} {o : Op} (p : SomePl
   -- a shortest part
   module _ (c : o .kind ≡ shortestPathKind) where
     pub short-rel : Element sheet a b os rest k (o .base) (o .left) (o .x)
-    short-rel = let s = of-kind shortestPathKind c here in record { first = p .first; ops = p .ops; planned = planned-below; tree = s .rel; held = s .held-rel; under = s .below-rel }
+    short-rel = let s = of-kind shortestPathKind c here in record { first = p .first; ops = p .ops; tabled = tabled-below; tree = s .rel; held = s .held-rel; under = s .below-rel }
 
     pub short-wrote : {g g′ g″ : Page} → WroteFirst sheet a b rest o g g′ → WroteElement sheet a b os rest k (o .base) (o .left) (o .x) g′ g″ → Puts (spellRecs (p .ops k)) g g″
     unfolding shown-at short-rel
@@ -305,7 +305,7 @@ module _ (k : ℕ) {sheet : Bytes} {a b os rest : List ℕ} {o : Op} (p : SomePl
     optional-low = of-kind optionalJoinKind c here .1
 
     pub optional-plan : SomePlan sheet a b os rest (o .x) (o .x + 1)
-    optional-plan = record { first = p .first; ops = p .ops; planned = planned-less (omega (arith, optional-low)) (p .planned); inside = of-kind optionalJoinKind c here .0 }
+    optional-plan = record { first = p .first; ops = p .ops; tabled = tabled-less (omega (arith, optional-low)) (p .tabled); inside = of-kind optionalJoinKind c here .0 }
 
     pub optional-wrote : {g g′ g″ : Page} → WroteFirst sheet a b rest o g g′ → WroteOp sheet a b os rest (o .x) g′ g″ → Puts (spellRecs (p .ops k)) g g″
     unfolding shown-at optional-plan

@@ -28,7 +28,7 @@ use Rattle.plan_sheet.specs.Parted.{aggText, partRecs, partsRecs, Items,
 use Rattle.plan_line.proofs.RowLaws.{flag-decimal, named-rec, place-escape}
 use Rattle.plan_sheet.proofs.HeadLaws.{texts-at}
 use Rattle.plan_sheet.proofs.DueLaws.{Made, exprs-made, deeper, spell-append}
-use Rattle.plan_sheet.proofs.OpLaws.{of-kind, here, shown-at, planned-below, first-more}
+use Rattle.plan_sheet.proofs.OpLaws.{of-kind, here, shown-at, tabled-below, first-more}
 use Rattle.context.specs.Ops.{aggregateKind}
 use Rattle.words.specs.Places.{fnArgsAt, fnDistinctAt, itemsAt, nameAt}
 
@@ -129,13 +129,13 @@ module _ {sheet : Bytes} {a b os rest : List ℕ} {below base left i : ℕ} wher
     agg-in = (agg-is .place .from, agg-is .place .to)
 
     pub args : {n : ℕ} → n ≡ cell a b i fnArgsAt → Many sheet a b os rest below base (left - 1) n (i + 1)
-    args q = rw q (record { first = h .first; ops = h .ops; planned = h .planned; list = agg-is .list })
+    args q = rw q (record { first = h .first; ops = h .ops; tabled = h .tabled; list = agg-is .list })
 
     pub agg-wrote : (aggs : Bool) {n next : ℕ} {p q r : Page} → not (Bool·beq is aggs) ≡ false → n ≡ cell a b i fnArgsAt → Puts (aggText sheet a b i) p q → WroteMany sheet a b os rest below base (left - 1) n (i + 1) q next r → (next ≡ i + size (h .tree)) × Puts (spellRecs (partRecs (shift (noted rest) base) (h .ops) aggs (h .tree))) p r
     unfolding partRecs
     agg-wrote aggs {n} {next} {p} {q} {r} same c line many =
         let m : WroteMany sheet a b os rest below base (left - 1) (cell a b i fnArgsAt) (i + 1) q next r = rw c at many in
-        let w = m (record { first = h .first; ops = h .ops; planned = h .planned; list = agg-is .list }) in
+        let w = m (record { first = h .first; ops = h .ops; tabled = h .tabled; list = agg-is .list }) in
         let y : isAggregate (h .tree) ≡ true = sym (told left (h .tree) (h .held)) ∙ e in
         (w .0 ∙ agg-is .stop, rw (← alike is aggs same, e, y, agg-is .text (h .ops)) (line ⨾ w .1))
 
@@ -193,15 +193,15 @@ module _ {sheet : Bytes} {a b os rest : List ℕ} {below base left : ℕ} where
   split {m} {at} aggs z h = apart (h .ops) aggs m at z (h .items) (h .held) (h .under)
 
   pub item-one : {m at : ℕ} → (m ≡ 0 → ⊥) → Items sheet a b os rest below base left m at → One sheet a b os rest below base left (at + 1)
-  item-one z h = let s = split true z h in record { first = h .first; ops = h .ops; planned = h .planned; tree = s .tree; held = s .held; under = s .under }
+  item-one z h = let s = split true z h in record { first = h .first; ops = h .ops; tabled = h .tabled; tree = s .tree; held = s .held; under = s .under }
 
   part-step : {n i m at next : ℕ} {aggs : Bool} {start p q : Page} → (m ≡ 0 → ⊥) → (h : Items sheet a b os rest below base left n i) → PartsStill aggs h start m at p → WrotePart sheet a b os rest below base left (at + 1) aggs p next q → PartsStill aggs h start (m - 1) next q
   part-step {next = next} {aggs = aggs} z h g w =
       let o = g .others in
       let s = split aggs z o in
-      let v = w (record { first = o .first; ops = o .ops; planned = o .planned; tree = s .tree; held = s .held; under = s .under }) in
+      let v = w (record { first = o .first; ops = o .ops; tabled = o .tabled; tree = s .tree; held = s .held; under = s .under }) in
       rw (v .0) (record {
-        others = record { first = o .first; ops = o .ops; planned = o .planned; items = s .items; held = s .others; under = s .below-others };
+        others = record { first = o .first; ops = o .ops; tabled = o .tabled; items = s .items; held = s .others; under = s .below-others };
         text = λ q r. g .text q (rw (s .text, spell-append (partRecs (shift (noted rest) base) (o .ops) aggs (s .tree)) (partsRecs (shift (noted rest) base) (o .ops) aggs (s .items))) (v .1 ⨾ r));
       })
 
@@ -231,12 +231,12 @@ items-wrote {rest = rest} {base = base} ks gs h = rw (spell-append (keyRecs (shi
 
 module _ (k : ℕ) {sheet : Bytes} {a b os rest : List ℕ} {o : Op} (p : SomePlan sheet a b os rest k (k + 1)) (e : o ≡ opAt os k) (c : o .kind ≡ aggregateKind) {n : ℕ} (count : n ≡ cell a b (o .idx) itemsAt) where
   pub items-of : Items sheet a b os rest k (o .base) (o .left) n (o .idx + 1)
-  items-of = let s = of-kind aggregateKind c (here k p e) in rw (count ∙ sym (s .counted)) (record { first = p .first; ops = p .ops; planned = planned-below k p e; items = s .items; held = s .held; under = s .below })
+  items-of = let s = of-kind aggregateKind c (here k p e) in rw (count ∙ sym (s .counted)) (record { first = p .first; ops = p .ops; tabled = tabled-below k p e; items = s .items; held = s .held; under = s .below })
 
   pub parted-wrote : {g g′ g″ : Page} → WroteFirst sheet a b rest o g g′ → WroteItems sheet a b os rest k (o .base) (o .left) n (o .idx + 1) g′ g″ → Puts (spellRecs (p .ops k)) g g″
   unfolding shown-at
   parted-wrote {g} {g′} {g″} first items =
       let s = of-kind aggregateKind c (here k p e) in
-      let h : Items sheet a b os rest k (o .base) (o .left) (s .count) (o .idx + 1) = record { first = p .first; ops = p .ops; planned = planned-below k p e; items = s .items; held = s .held; under = s .below } in
+      let h : Items sheet a b os rest k (o .base) (o .left) (s .count) (o .idx + 1) = record { first = p .first; ops = p .ops; tabled = tabled-below k p e; items = s .items; held = s .held; under = s .below } in
       let v : WroteItems sheet a b os rest k (o .base) (o .left) (s .count) (o .idx + 1) g′ g″ = rw (count ∙ sym (s .counted)) at items in
       rw (first-more (s .is)) (first (shown-at k p e) ⨾ v h)

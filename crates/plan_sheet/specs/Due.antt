@@ -45,7 +45,7 @@ pub record NotesIn (rest : List ℕ) (o : Op) : Type 0 where
   pub low : o .idx < maxRecords
 
 -- A has the operators from the first one on and below n, as the tables show them
-pub record Planned (sheet : Bytes) (a b os rest : List ℕ) (first n : ℕ) (A : Ops) : Type 0 where
+pub record Tabled (sheet : Bytes) (a b os rest : List ℕ) (first n : ℕ) (A : Ops) : Type 0 where
   pub few : n ≤ maxStored
   pub stored : (k : ℕ) → first ≤ k → k < n → Stored (side sheet a b first) (noted rest) A k (opAt os k) (A k)
 
@@ -98,7 +98,7 @@ pub record SomeLine (sheet : Bytes) (a b : List ℕ) (i : ℕ) : Type 0 where
 pub record One (sheet : Bytes) (a b os rest : List ℕ) (below base left i : ℕ) : Type 0 where
   pub first : ℕ
   pub ops : Ops
-  pub planned : Planned sheet a b os rest first below ops
+  pub tabled : Tabled sheet a b os rest first below ops
   pub tree : Tree expr
   pub held : Held sheet a b tree left i
   pub under : Below (shift (noted rest) base) first below tree
@@ -122,7 +122,7 @@ carriedEnd (more recs j l t h u c) = carriedEnd c
 pub record Many (sheet : Bytes) (a b os rest : List ℕ) (below base left n i : ℕ) : Type 0 where
   pub first : ℕ
   pub ops : Ops
-  pub planned : Planned sheet a b os rest first below ops
+  pub tabled : Tabled sheet a b os rest first below ops
   pub list : Carried sheet a b (shift (noted rest) base) first below left n i
 
 abbrev pub manyText : {sheet : Bytes} {a b os rest : List ℕ} {below base left n i : ℕ} → Many sheet a b os rest below base left n i → Bytes
@@ -141,7 +141,7 @@ namesRecs (name-more f h c) = rec name tt f ∷ namesRecs c
 pub record Element (sheet : Bytes) (a b os rest : List ℕ) (below base left i : ℕ) : Type 0 where
   pub first : ℕ
   pub ops : Ops
-  pub planned : Planned sheet a b os rest first below ops
+  pub tabled : Tabled sheet a b os rest first below ops
   pub tree : Tree patternElement
   pub held : Held sheet a b tree left i
   pub under : KidsBelow (shift (noted rest) base) first below tree
@@ -158,7 +158,7 @@ pub record ElementAt (sheet : Bytes) (a b : List ℕ) (i : ℕ) : Type 0 where
 pub record SomePlan (sheet : Bytes) (a b os rest : List ℕ) (from n : ℕ) : Type 0 where
   pub first : ℕ
   pub ops : Ops
-  pub planned : Planned sheet a b os rest first n ops
+  pub tabled : Tabled sheet a b os rest first n ops
   pub inside : first ≤ from
 
 -- what a stored operator comes to

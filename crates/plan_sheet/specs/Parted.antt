@@ -16,7 +16,7 @@ use Rattle.lower.specs.Render.{Notes, Ops, render, BelowOf, isAggregate, aggOf,
 use Rattle.lower.specs.Shows.{shift}
 use Rattle.plan_line.specs.Keywords.{aggFnWord}
 use Rattle.plan_line.specs.Row.{namedText}
-use Rattle.plan_sheet.specs.Due.{noted, textAt, Planned, One}
+use Rattle.plan_sheet.specs.Due.{noted, textAt, Tabled, One}
 
 -- the line of the aggregate at record i
 abbrev pub aggText : Bytes → List ℕ → List ℕ → ℕ → Bytes
@@ -35,7 +35,7 @@ partsRecs N A false ps = keyRecs N A ps
 pub record Items (sheet : Bytes) (a b os rest : List ℕ) (below base left n i : ℕ) : Type 0 where
   pub first : ℕ
   pub ops : Ops
-  pub planned : Planned sheet a b os rest first below ops
+  pub tabled : Tabled sheet a b os rest first below ops
   pub items : Trees projection n
   pub held : HeldOf sheet a b items left i
   pub under : BelowOf (shift (noted rest) base) first below items

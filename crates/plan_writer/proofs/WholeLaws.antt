@@ -21,7 +21,7 @@ use Rattle.plan_line.specs.Row.{rowText}
 use Rattle.plan_sheet.specs.Due.{WroteOp}
 use Rattle.plan_writer.specs.Whole.{upTo, WroteOps, WroteVars, WroteSheet}
 use Rattle.plan_line.proofs.RowLaws.{row-rec}
-use Rattle.plan_sheet.proofs.DueLaws.{planned-less, spell-append}
+use Rattle.plan_sheet.proofs.DueLaws.{tabled-less, spell-append}
 
 -- ── operators ──
 
@@ -54,7 +54,7 @@ module _ {sheet : Bytes} {a b os rest : List ℕ} {n : ℕ} {start : Page} where
   one-more {k} l w v e =
       rw (add-one k) (record {
         low = l;
-        wrote = λ A h. rw (spell-append (upTo k A) (A k)) (w .wrote A h ⨾ v (record { first = 0; ops = A; planned = planned-less (omega arith) h; inside = omega arith }));
+        wrote = λ A h. rw (spell-append (upTo k A) (A k)) (w .wrote A h ⨾ v (record { first = 0; ops = A; tabled = tabled-less (omega arith) h; inside = omega arith }));
         long = e ∙ w .long;
       })
 
@@ -106,4 +106,4 @@ unfolding planSheet planRecs firstRec spellRecs
 sheet-wrote {rest = rest} {n = n} {m = m} first ops vars s h =
     let mapped-are : length (s .scope .vars) ≡ m = ap length (sym (h .vars)) ∙ vars-count m (drop varsAt rest) in
     let ops-are : upTo n (λ k. at (s .ops) k) ≡ operatorRecs (s .ops) = rw (h .count) (in-order (s .ops)) in
-    rw (← h .count, mapped-are, first-line n m) (first ⨾ rw (spell-append (operatorRecs (s .ops)) (mappedRecs (s .scope .vars))) (rw ops-are at (ops (λ k. at (s .ops) k) (h .planned)) ⨾ rw (h .vars) at vars))
+    rw (← h .count, mapped-are, first-line n m) (first ⨾ rw (spell-append (operatorRecs (s .ops)) (mappedRecs (s .scope .vars))) (rw ops-are at (ops (λ k. at (s .ops) k) (h .tabled)) ⨾ rw (h .vars) at vars))

@@ -9,12 +9,12 @@ use Rattle.model.specs.Lower.{LowerCtx, at}
 use Rattle.context.specs.Tables.{maxStored, maxVars}
 use Rattle.lower.specs.Side.{side}
 use Rattle.lower.specs.Rep.{Mem, Written, Rep}
-use Rattle.plan_sheet.specs.Due.{Planned}
+use Rattle.plan_sheet.specs.Due.{Tabled}
 use Rattle.plan_writer.specs.Whole.{Tables}
 
 -- the operators that a table holds, from its first number on, of which all are stored
-pub planned-of : {sheet : Bytes} {a b : List ℕ} {first : ℕ} {W : Written} {s : LowerCtx} {m : Mem} → Rep (side sheet a b first) W s m → m .ctx .ops ≤ maxStored → Planned sheet a b (m .ops) (m .rest) first (m .ctx .ops) (λ k. at (s .ops) k)
-planned-of {s = s} {m = m} r few =
+pub tabled-of : {sheet : Bytes} {a b : List ℕ} {first : ℕ} {W : Written} {s : LowerCtx} {m : Mem} → Rep (side sheet a b first) W s m → m .ctx .ops ≤ maxStored → Tabled sheet a b (m .ops) (m .rest) first (m .ctx .ops) (λ k. at (s .ops) k)
+tabled-of {s = s} {m = m} r few =
     record {
       few = few;
       stored = λ k f l. r .shows k f l (omega arith) (λ q. getD (m .rest) q 0) (λ j. at (s .ops) j) (record { notes = record { at = λ q h i. refl }; ops = λ j h. refl });
@@ -25,7 +25,7 @@ pub tables-of : {sheet : Bytes} {a b : List ℕ} {W : Written} {s : LowerCtx} {m
 tables-of r few mapped-few =
     record {
       count = r .count;
-      planned = planned-of r few;
+      tabled = tabled-of r few;
       vars = ap (λ (x : LowerCtx). x .scope .vars) (r .state);
       few = mapped-few;
     }

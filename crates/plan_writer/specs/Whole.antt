@@ -12,13 +12,13 @@ use Rattle.model.specs.Call.{written}
 use Rattle.output.specs.Page.{Page, Puts}
 use Rattle.context.specs.Tables.{varsOf, varsAt, maxVars}
 use Rattle.lower.specs.Render.{Ops}
-use Rattle.plan_sheet.specs.Due.{Planned}
+use Rattle.plan_sheet.specs.Due.{Tabled}
 use Rattle.plan_writer.specs.declared.Plan.{Plan}
 
 -- the tables, with n operators from 0 on and so many named variables, stand for the state s
 pub record Tables (sheet : Bytes) (a b os rest : List ℕ) (n mapped : ℕ) (s : LowerCtx) : Type 0 where
   pub count : n ≡ length (s .ops)
-  pub planned : Planned sheet a b os rest 0 n (λ k. at (s .ops) k)
+  pub tabled : Tabled sheet a b os rest 0 n (λ k. at (s .ops) k)
   pub vars : varsOf mapped (drop varsAt rest) ≡ s .scope .vars
   pub few : mapped ≤ maxVars
 
@@ -38,7 +38,7 @@ answerOf (Plan.Written n) = accepted n
 
 -- k of n operators are written
 abbrev pub WroteOps : (sheet : Bytes) (a b os rest : List ℕ) (n k : ℕ) → Page → Page → Type 0
-WroteOps sheet a b os rest n k p q = (A : Ops) → Planned sheet a b os rest 0 n A → Puts (spellRecs (upTo k A)) p q
+WroteOps sheet a b os rest n k p q = (A : Ops) → Tabled sheet a b os rest 0 n A → Puts (spellRecs (upTo k A)) p q
 
 abbrev pub WroteVars : (rest : List ℕ) (n : ℕ) → Page → Page → Type 0
 WroteVars rest n p q = Puts (spellRecs (mappedRecs (varsOf n (drop varsAt rest)))) p q

@@ -1,6 +1,6 @@
 -- `write_ops` meets its contract. Assumes nothing.
 use Rattle.plan_writer.proofs.WholeLaws
-use Rattle.plan_sheet.proofs.DueLaws.{planned-less}
+use Rattle.plan_sheet.proofs.DueLaws.{tabled-less}
 use Rattle.output.specs.Page.{on}
 use native.Mathlib.Omega.{arith}
 use Prim.Native.Nat.{_-_}
@@ -25,7 +25,7 @@ write-op-requires : here tie.Need-write-op-requires
 write-op-requires c κs =
     let turn : here tie.In-loop = search in
     let s : here tie.Start = search in
-    (s .pre .0, record { first = s .pre .1 .first; ops = s .pre .1 .ops; planned = planned-less (omega (arith, turn .loop-test .taken)) (s .pre .1 .planned); inside = omega (arith, s .pre .1 .inside) })
+    (s .pre .0, record { first = s .pre .1 .first; ops = s .pre .1 .ops; tabled = tabled-less (omega (arith, turn .loop-test .taken)) (s .pre .1 .tabled); inside = omega (arith, s .pre .1 .inside) })
 
 loop-again : here tie.Need-loop-again
 loop-again c =

@@ -73,7 +73,7 @@ module _ (t : ℕ) where
   read-op-requires : here lts.Need-read-op-requires
   read-op-requires c κs =
       let s : here lts.Start = search ways depth 9 in
-      (omega (arith, s .pre .1 .1 .planned .few), s .pre .1 .0 .in-ops)
+      (omega (arith, s .pre .1 .1 .tabled .few), s .pre .1 .0 .in-ops)
 
   put-op-requires : here lts.Need-put-op-requires
   put-op-requires c κs =
