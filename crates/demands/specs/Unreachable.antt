@@ -1,6 +1,6 @@
 -- The places of the lowering that a checked tree never comes to: the Rust's `debug_assert!`, `panic!` and `unreachable!` places, and the defaults that the definitions have where the Rust has them. docs/DEMANDS.md lists the places beside the theorems. Whatever stands there, the lowering of a checked tree is the same. Assumes nothing: these are definitions, and theorems with their proofs.
 use mathlib.Core.Path.{_≡_, refl, _∙_, ap, ap₂, fun-ext}
-use Prim.Native.Nat.{ℕ, zero, suc, _≤_, _<_}
+use Prim.Native.Nat.{ℕ, zero, suc, _*_, _≤_, _<_}
 use native.Mathlib.Omega.{arith}
 use mathlib.Core.Bool.{Bool, true, false, cond}
 use mathlib.Core.List.{List, [], _∷_}
@@ -13,7 +13,7 @@ use Rattle.model.specs.Field.{Fields, Span}
 use Rattle.model.specs.Kind.{Sort, Kind, Clause, PatternElement, Expr, ReadOp, PlanExpr, statement, unionArm, clause, projection, orderItem, patternPart, patternElement, name, yieldItem, entry, expr, inPlan}
 use Rattle.model.specs.Record.{Group, forms, exprForms, children, exprChildren}
 use Rattle.model.specs.Tree.{Tree, Trees, Forest, node, []ᵗ, _∷ᵗ_, end, _▸_, toList, Results, fold, foldOf, foldIn}
-use Rattle.model.specs.Sheet.{isWrite, writeIn, writeInArms, firstWrite}
+use Rattle.model.specs.Sheet.{maxLines, isWrite, writeIn, writeInArms, firstWrite}
 use Rattle.model.specs.Check.{fine, spanIn, ofPart, ofRecord, check, checkOf, checkIn}
 use Rattle.model.specs.Lower.{Recs, LowerCtx, Lowering, _>>=_, ret, push, at, copy, endpointVar, op, planExprRec}
 use Rattle.model.specs.Lower.{NodeStep, RelStep, Step, ofNode, ofRel, Chain, startNode, expandTo, reach, lowerElement, lowerElements, orSourceAll, rootOf, bindPath, lowerChain, lowerShortestPathPart, Shape}
@@ -367,8 +367,8 @@ any-write (node statement line k f (cs ▸ arms ▸ end)) r d =
 -- ── the Rust's counters of 32 bits do not overflow ──
 
 pub record Counts (c : LowerCtx) : Type 0 where
-  pub numbers : c .scope .nextVar ≤ 4096
-  pub operators : length (c .ops) ≤ 8192
+  pub numbers : c .scope .nextVar ≤ 2 * maxLines
+  pub operators : length (c .ops) ≤ 4 * maxLines
 
 pub counts-small : (sheet : Bytes) (t : Tree statement) → WellFormed sheet t → Counts (lowerStatement t)
 unfolding recordCount

@@ -53,7 +53,7 @@ module _ (n : ℕ) (w : Bytes) (x end k : ℕ) where
 
     step : (h : k < end) → cond (same w (keyword (sortOf n) (at h .kind))) (some (at h .kind)) (kindNamed (sortOf n) w (drop (suc (k - firstKind (sortOf n))) (kinds (sortOf n)))) ≡ kindNamed (sortOf n) w (kinds (sortOf n))
     unfolding kindNamed
-    step h = rw (at h .rest) at (l .remains)
+    step h = rw (at h .onward) at (l .remains)
 
     look-here : k < end → getD keys k 0 ≡ x → Named (sortOf n) w (Is k)
     look-here h e =

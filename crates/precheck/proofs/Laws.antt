@@ -33,7 +33,7 @@ module _ {P : Stage} {Q : ℕ → Stage} where
     rest-of {k} g {v} {e} h =
         let w : Ends (Go k) (h .verdict) (h .next) = rw g at (walks .each _ _ (h .first)) in
         let z : v ≡ h .later = h .both ∙ rw (w .0) in
-        rw (z, w .1) (h .rest)
+        rw (z, w .1) (h .second)
 
     -- a walk that is stopped has the verdict of both
     pub stopped : {x : PlanLowerError} → r ≡ Refused x → {v : Verdict} {e : ℕ} → Then P Q v e → Ends (Refused x) v e
@@ -57,7 +57,7 @@ some-none {i = i} = record { verdict = fine; next = i; is = no-more }
 
 -- other stages in their places
 pub map-then : {P P′ : Stage} {Q Q′ : ℕ → Stage} {v : Verdict} {e : ℕ} → ((w : Verdict) (j : ℕ) → P w j → P′ w j) → ((j : ℕ) (w : Verdict) → Q j w e → Q′ j w e) → Then P Q v e → Then P′ Q′ v e
-map-then f g h = record { verdict = h .verdict; next = h .next; first = f _ _ (h .first); later = h .later; rest = g _ _ (h .rest); both = h .both }
+map-then f g h = record { verdict = h .verdict; next = h .next; first = f _ _ (h .first); later = h .later; second = g _ _ (h .second); both = h .both }
 
 -- nothing is left
 abbrev pub End : ℕ → Stage
@@ -65,8 +65,8 @@ End i v e = (v ≡ fine) × (i ≡ e)
 
 pub last-of : {P : Stage} {v : Verdict} {e : ℕ} → Then P End v e → P v e
 last-of {v = v} h =
-    let z : v ≡ h .verdict = h .both ∙ rw (h .rest .0) (none-after (h .verdict)) in
-    rw (z, ← h .rest .1) (h .first)
+    let z : v ≡ h .verdict = h .both ∙ rw (h .second .0) (none-after (h .verdict)) in
+    rw (z, ← h .second .1) (h .first)
 
 pub just : {P : ℕ → Stage} {i : ℕ} {v : Verdict} {e : ℕ} → Run P 1 i v e → P i v e
 just (one-more {u = u} p no-more b) = rw (b ∙ none-after u) p
@@ -77,7 +77,7 @@ run-none h = rw (h .0, ← h .1) no-more
 -- none of a kind may be thought in between
 pub with-none : {P : ℕ → Stage} {Q : ℕ → Stage} (j : ℕ) (v : Verdict) (e : ℕ) → Q j v e → Then (Run P 0 j) Q v e
 unfolding andThen
-with-none j v e h = record { verdict = fine; next = j; first = no-more; later = v; rest = h; both = refl }
+with-none j v e h = record { verdict = fine; next = j; first = no-more; later = v; second = h; both = refl }
 
 -- ── loops over runs ──
 
@@ -88,7 +88,7 @@ pub record Left (P : ℕ → Stage) (n i m at : ℕ) : Type 0 where
 module _ {P : ℕ → Stage} where
   pub opened : {m i : ℕ} {v : Verdict} {e : ℕ} → ((m ≡ 0) → ⊥) → Run P m i v e → Then (P i) (Run P (m - 1)) v e
   opened h no-more = absurd (h refl)
-  opened h (one-more {n = n} {u = u} {w = w} {j = j} p ps b) = rw sub-one (record { verdict = u; next = j; first = p; later = w; rest = ps; both = b })
+  opened h (one-more {n = n} {u = u} {w = w} {j = j} p ps b) = rw sub-one (record { verdict = u; next = j; first = p; later = w; second = ps; both = b })
 
   pub closed : {m i : ℕ} {v : Verdict} {e : ℕ} → m ≡ 0 → Run P m i v e → Ends (Go i) v e
   closed h no-more = (refl, refl)

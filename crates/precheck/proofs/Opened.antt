@@ -43,7 +43,7 @@ module _ (a b : List ℕ) (d : ℕ) (span : Span) where
         next = i + sizeOf ts;
         first = trees sheet ts i (h .0);
         later = checkIn f span;
-        rest = groups sheet f (i + sizeOf ts) (h .1);
+        second = groups sheet f (i + sizeOf ts) (h .1);
         both = refl;
       })
 

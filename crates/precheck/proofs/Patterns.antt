@@ -41,7 +41,7 @@ unfolding andThen
 past {n = n} {i = i} {v = v} h t =
     let f : End (i + n) (t .verdict) (t .next) = passed h (t .first) in
     let z : v ≡ t .later = t .both ∙ rw (f .0) in
-    rw (z, f .1) (t .rest)
+    rw (z, f .1) (t .second)
 
 module _ {a b : List ℕ} (room : Roomy a b) {d : ℕ} {span : Span} where
   pub of-name : (i : ℕ) (v : Verdict) (e : ℕ) → At a b name d span i v e → End (i + 1) v e

@@ -33,7 +33,7 @@ pub record Then (P : Stage) (Q : ℕ → Stage) (v : Verdict) (e : ℕ) : Type 0
   pub next : ℕ
   pub first : P verdict next
   pub later : Verdict
-  pub rest : Q next later e
+  pub second : Q next later e
   pub both : v ≡ firstOf verdict later
 
 -- n of a kind, one after another from record i on

@@ -71,9 +71,13 @@ alike-split s d st a b n e = rw e (split-at s d st b a)
 
 -- ── room ──
 
--- so many groups may be due down to one with room d: eleven for each level above
+-- each level has room for so many groups
+abbrev pub levelGroups : ℕ
+levelGroups = 11
+
+-- so many groups may be due down to one with room d
 abbrev pub allowed : ℕ → ℕ
-allowed d = 11 * (maxDepth + 1 - d)
+allowed d = levelGroups * (maxDepth + 1 - d)
 
 -- a map's key leaves place for the expression beside it
 abbrev pub entrySlack : ℕ

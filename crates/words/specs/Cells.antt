@@ -14,7 +14,7 @@ use Rattle.model.specs.Text.{Bytes}
 use Rattle.model.specs.Field.{Fields}
 use Rattle.model.specs.Kind.{Sort, Kind}
 use Rattle.model.specs.Record.{one, RecOf, forms, kinds}
-use Rattle.words.specs.Words.{Roomy, cell, part, firstKind, nth, kindOf, recOf, decode, fieldsOf, maxRecords}
+use Rattle.words.specs.Words.{Roomy, cell, part, firstKind, nth, kindOf, recOf, decode, fieldsOf, maxRecords, recordWords, firstRecords}
 use Rattle.words.specs.Held.{RecordAt, Flags}
 
 -- ── the words ──
@@ -26,7 +26,7 @@ upto (suc n) c w = w c ∷ upto n (suc c) w
 
 -- the sixteen words of a record, word by word
 abbrev pub cells : List ℕ → List ℕ → ℕ → List ℕ
-cells a b i = upto 16 0 (λ c. cell a b i c)
+cells a b i = upto recordWords 0 (λ c. cell a b i c)
 
 slice-upto : (l : List ℕ) (f n c : ℕ) → f + c + n ≤ length l → slice (f + c) (f + c + n) l ≡ upto n c (λ x. getD l (f + x) 0)
 slice-upto l f zero c h = rw add-zero (slice-empty (f + c) l)
@@ -36,19 +36,19 @@ slice-upto l f (suc n) c h =
     slice-cons (f + c) (f + c + suc n) l 0 (omega arith) h ∙ rw (e, e′) (ap (λ t. getD l (f + c) 0 ∷ t) (slice-upto l f n (suc c) (omega arith)))
 
 -- the words of a record that begins at word f
-words-from : (l : List ℕ) (f : ℕ) → f + 16 ≤ length l → slice f (f + 16) l ≡ upto 16 0 (λ c. getD l (f + c) 0)
-words-from l f h = subst (λ (x : ℕ). slice x (x + 16) l ≡ upto 16 0 (λ c. getD l (f + c) 0)) (add-zero f) (slice-upto l f 16 0 (rw add-zero h))
+words-from : (l : List ℕ) (f : ℕ) → f + recordWords ≤ length l → slice f (f + recordWords) l ≡ upto recordWords 0 (λ c. getD l (f + c) 0)
+words-from l f h = subst (λ (x : ℕ). slice x (x + recordWords) l ≡ upto recordWords 0 (λ c. getD l (f + c) 0)) (add-zero f) (slice-upto l f recordWords 0 (rw add-zero h))
 
-in-half : (t : Bool) (a b : List ℕ) (x y : ℕ) → (t ≡ true → x + 16 ≤ length a) → (t ≡ false → y + 16 ≤ length b) → cond t (slice x (x + 16) a) (slice y (y + 16) b) ≡ upto 16 0 (λ c. cond t (getD a (x + c) 0) (getD b (y + c) 0))
+in-half : (t : Bool) (a b : List ℕ) (x y : ℕ) → (t ≡ true → x + recordWords ≤ length a) → (t ≡ false → y + recordWords ≤ length b) → cond t (slice x (x + recordWords) a) (slice y (y + recordWords) b) ≡ upto recordWords 0 (λ c. cond t (getD a (x + c) 0) (getD b (y + c) 0))
 in-half true a b x y ha hb = words-from a x (ha refl)
 in-half false a b x y ha hb = words-from b y (hb refl)
 
 pub part-cells : (a b : List ℕ) (i : ℕ) → Roomy a b → i < maxRecords → part a b i ≡ cells a b i
 unfolding part
 part-cells a b i room low =
-    in-half (ltb i 1024) a b (i * 16) ((i - 1024) * 16)
-    (λ h. let l : i < 1024 = ltb-true i 1024 h in omega arith)
-    (λ h. let l : 1024 ≤ i = ltb-false i 1024 h in omega arith)
+    in-half (ltb i firstRecords) a b (i * recordWords) ((i - firstRecords) * recordWords)
+    (λ h. let l : i < firstRecords = ltb-true i firstRecords h in omega arith)
+    (λ h. let l : firstRecords ≤ i = ltb-false i firstRecords h in omega arith)
 
 -- ── the record ──
 

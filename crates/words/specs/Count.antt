@@ -31,7 +31,20 @@ abbrev pub total : List Group → ℕ
 total [] = 0
 total (g ∷ gs) = g .1 + total gs
 
--- by the number of the kind and the first words of the fields
+-- the first words of the first three fields and of the fifth
+abbrev pub firstFieldAt : ℕ
+firstFieldAt = 2
+
+abbrev pub secondFieldAt : ℕ
+secondFieldAt = 4
+
+abbrev pub thirdFieldAt : ℕ
+thirdFieldAt = 6
+
+abbrev pub fifthFieldAt : ℕ
+fifthFieldAt = 10
+
+-- by the number of the kind and those words
 unfoldable pub countBy : (kind x y z u : ℕ) → ℕ
 countBy kind x y z u =
     cond (eqb kind partKind) z
@@ -53,7 +66,7 @@ countBy kind x y z u =
     (cond (eqb kind listPredicateKind) (1 + z) 0))))))))))))))))
 
 abbrev pub countAt : (a b : List ℕ) (i : ℕ) → ℕ
-countAt a b i = countBy (cell a b i kindAt) (cell a b i 2) (cell a b i 4) (cell a b i 6) (cell a b i 10)
+countAt a b i = countBy (cell a b i kindAt) (cell a b i firstFieldAt) (cell a b i secondFieldAt) (cell a b i thirdFieldAt) (cell a b i fifthFieldAt)
 
 -- no record has as many children
 abbrev pub countLimit : ℕ

@@ -10,11 +10,11 @@ use borrow.Author.Tests.{ltb-true, le-ltb, eqb-true}
 use lib.Dec.{eqb, ltb}
 use lib.Seq.{slice, getD-take, getD-drop}
 use lib.ListN.{getD, take, replicate, replicate-append-replicate}
-use Rattle.words.specs.Places.{kindCount, sortCount}
+use Rattle.words.specs.Places.{kindCount, sortCount, withKind, returnKind, nodeKind, relKind, sliceKind, caseKind, listPredicateKind}
 use Rattle.model.specs.Text.{Bytes}
 use Rattle.model.specs.Kind.{Sort, Kind, Clause, PatternElement, Same, Expr, clause, patternElement, expr}
 use Rattle.model.specs.Record.{Group, one, forms, kinds, sames, children}
-use Rattle.words.specs.Words.{part, cell, firstKind, kindOf, fieldOf, fieldsOf, recordWords}
+use Rattle.words.specs.Words.{part, cell, firstKind, kindOf, fieldOf, fieldsOf, recordWords, firstRecords}
 use Rattle.words.specs.Held.{Flags}
 use Rattle.words.specs.Table.{groupCount, groupNumbers, sorts, sortOf, groupSort, groupSource, groupsFrom, groupsOf}
 use Rattle.words.specs.TableLaws.{and-left, and-right, passesTo, passes-at, Rows, done, _▸_, kind-row}
@@ -30,7 +30,7 @@ unfolding entryTest passesTo
 entries-low n g h k =
     let over : (n * 5 + g) / 5 ≡ n = mul-add-div-right (omega arith) n g ∙ rw (div-eq-of-lt k) (add-zero n) in
     let left : (n * 5 + g) % 5 ≡ g = mul-add-mod-self-right n 5 g ∙ mod-eq-of-lt k in
-    let test : (ltb (groupSort n g) sortCount && ltb (groupSource n g) 8) ≡ true = rw (over, left) at (passes-at entryTest 195 refl (n * 5 + g) (omega arith)) in
+    let test : (ltb (groupSort n g) sortCount && ltb (groupSource n g) 8) ≡ true = rw (over, left) at (passes-at entryTest (kindCount * groupCount) refl (n * 5 + g) (omega arith)) in
     (ltb-true (groupSort n g) sortCount (and-left _ _ test), ltb-true (groupSource n g) 8 (and-right (ltb (groupSort n g) sortCount) _ test))
 
 -- kind by kind, the groups behind its last are groups of none
@@ -42,7 +42,7 @@ unfolding behindTest passesTo
 none-behind n g h b k =
     let over : (n * 5 + g) / 5 ≡ n = mul-add-div-right (omega arith) n g ∙ rw (div-eq-of-lt k) (add-zero n) in
     let left : (n * 5 + g) % 5 ≡ g = mul-add-mod-self-right n 5 g ∙ mod-eq-of-lt k in
-    let test : cond (ltb g (getD groupNumbers n 0)) true (eqb (groupSource n g) 0) ≡ true = rw (over, left) at (passes-at behindTest 195 refl (n * 5 + g) (omega arith)) in
+    let test : cond (ltb g (getD groupNumbers n 0)) true (eqb (groupSource n g) 0) ≡ true = rw (over, left) at (passes-at behindTest (kindCount * groupCount) refl (n * 5 + g) (omega arith)) in
     eqb-true (groupSource n g) 0 (rw (le-ltb g (getD groupNumbers n 0) b) at test)
 
 numberTest : ℕ → Bool
@@ -55,14 +55,14 @@ groups-few n h = let low : getD groupNumbers n 0 < 6 = ltb-true _ 6 (passes-at n
 -- word c of a record's sixteen
 pub part-cell : (a b : List ℕ) (i c : ℕ) → c < recordWords → getD (part a b i) c 0 ≡ cell a b i c
 unfolding part
-part-cell a b i c h = go (ltb i 1024)
+part-cell a b i c h = go (ltb i firstRecords)
   where
-    words-at : (k : ℕ) (l : List ℕ) → getD (slice k (k + 16) l) c 0 ≡ getD l (k + c) 0
-    words-at k l = getD-drop k (take (k + 16) l) c 0 ∙ getD-take (k + 16) l (k + c) 0 (omega arith)
+    words-at : (k : ℕ) (l : List ℕ) → getD (slice k (k + recordWords) l) c 0 ≡ getD l (k + c) 0
+    words-at k l = getD-drop k (take (k + recordWords) l) c 0 ∙ getD-take (k + recordWords) l (k + c) 0 (omega arith)
 
-    go : (t : Bool) → getD (cond t (slice (i * 16) (i * 16 + 16) a) (slice ((i - 1024) * 16) ((i - 1024) * 16 + 16) b)) c 0 ≡ cond t (getD a (i * 16 + c) 0) (getD b ((i - 1024) * 16 + c) 0)
-    go true = words-at (i * 16) a
-    go false = words-at ((i - 1024) * 16) b
+    go : (t : Bool) → getD (cond t (slice (i * recordWords) (i * recordWords + recordWords) a) (slice ((i - firstRecords) * recordWords) ((i - firstRecords) * recordWords + recordWords) b)) c 0 ≡ cond t (getD a (i * recordWords + c) 0) (getD b ((i - firstRecords) * recordWords + c) 0)
+    go true = words-at (i * recordWords) a
+    go false = words-at ((i - firstRecords) * recordWords) b
 
 -- ── what the groups ask for ──
 
@@ -89,37 +89,37 @@ added m n s l = rw (← replicate-append-replicate) (append-assoc (replicate m s
 
 -- ── the kinds that have flags among their counts ──
 
-with-groups : GroupRow clause 4 Clause.With
+with-groups : GroupRow clause withKind Clause.With
 unfolding sortOf groupsOf groupsFrom sortsOf fieldsOf fieldOf
 with-groups sheet ws h = rw (one-flag _ (h .1 .0), one-flag _ (h .1 .1 .1 .0), one-flag _ (h .1 .1 .1 .1 .0))
 
-return-groups : GroupRow clause 5 Clause.Return
+return-groups : GroupRow clause returnKind Clause.Return
 unfolding sortOf groupsOf groupsFrom sortsOf fieldsOf fieldOf
 return-groups sheet ws h = rw (one-flag _ (h .1 .1 .1 .0), one-flag _ (h .1 .1 .1 .1 .0))
 
-node-groups : GroupRow patternElement 12 PatternElement.Node
+node-groups : GroupRow patternElement nodeKind PatternElement.Node
 unfolding sortOf groupsOf groupsFrom sortsOf fieldsOf fieldOf
 node-groups sheet ws h = rw (one-flag _ (h .1 .1 .0))
 
-rel-groups : GroupRow patternElement 13 PatternElement.Rel
+rel-groups : GroupRow patternElement relKind PatternElement.Rel
 unfolding sortOf groupsOf groupsFrom sortsOf fieldsOf fieldOf
 rel-groups sheet ws h = rw (one-flag _ (h .1 .1 .1 .1 .0))
 
-slice-groups : GroupRow expr 25 (Expr.Over Same.Slice)
+slice-groups : GroupRow expr sliceKind (Expr.Over Same.Slice)
 unfolding sortOf groupsOf groupsFrom sortsOf fieldsOf fieldOf
 slice-groups sheet ws h = rw (one-flag _ (h .0), one-flag _ (h .1 .0), added, added)
 
-case-groups : GroupRow expr 29 (Expr.Over Same.Case)
+case-groups : GroupRow expr caseKind (Expr.Over Same.Case)
 unfolding sortOf groupsOf groupsFrom sortsOf fieldsOf fieldOf
 case-groups sheet ws h = rw (one-flag _ (h .0), one-flag _ (h .1 .1 .0), twice, added, added, added)
 
-listp-groups : GroupRow expr 36 Expr.ListPredicate
+listp-groups : GroupRow expr listPredicateKind Expr.ListPredicate
 unfolding sortOf groupsOf groupsFrom sortsOf fieldsOf fieldOf
 listp-groups sheet ws h = rw (one-flag _ (h .1 .1 .0))
 
 -- ── all kinds ──
 
-group-rows : (m : ℕ) → m < 11 → Rows (sortOf m) (λ n k. GroupRow (sortOf m) n k) (firstKind (sortOf m)) (kinds (sortOf m))
+group-rows : (m : ℕ) → m < sortCount → Rows (sortOf m) (λ n k. GroupRow (sortOf m) n k) (firstKind (sortOf m)) (kinds (sortOf m))
 unfolding sorts sortOf firstKind kinds sames groupsOf groupsFrom sortsOf fieldsOf fieldOf
 group-rows zero l = (λ sheet ws h. refl) ▸ done
 group-rows (suc zero) l = (λ sheet ws h. refl) ▸ done
@@ -139,5 +139,5 @@ group-rows (suc (suc (suc (suc (suc (suc (suc (suc (suc (suc zero)))))))))) l =
 group-rows (suc (suc (suc (suc (suc (suc (suc (suc (suc (suc (suc n))))))))))) l = absurd (omega arith)
 
 -- the groups of a kind by its number
-pub groups-are : (m : ℕ) → m < 11 → (n : ℕ) (k : Kind (sortOf m)) → kindOf (sortOf m) n ≡ some k → GroupRow (sortOf m) n k
+pub groups-are : (m : ℕ) → m < sortCount → (n : ℕ) (k : Kind (sortOf m)) → kindOf (sortOf m) n ≡ some k → GroupRow (sortOf m) n k
 groups-are m h n k e = kind-row (sortOf m) (λ n k. GroupRow (sortOf m) n k) (group-rows m h) n k e

@@ -128,16 +128,16 @@ code-row n h =
 pub record Nth (s : Sort) (P : ℕ → Kind s → Type 0) (n : ℕ) (ks : List (Kind s)) (j : ℕ) : Type 0 where
   pub kind : Kind s
   pub is : nth ks j ≡ some kind
-  pub rest : drop j ks ≡ kind ∷ drop (suc j) ks
+  pub onward : drop j ks ≡ kind ∷ drop (suc j) ks
   pub row : P (n + j) kind
 
 pub nth-row : {s : Sort} {P : ℕ → Kind s → Type 0} {n : ℕ} {ks : List (Kind s)} → Rows s P n ks → (j : ℕ) → j < length ks → Nth s P n ks j
 unfolding nth
 nth-row done j h = absurd (omega arith)
-nth-row {s} {P} {n} (_▸_ {k = k} r rs) zero h = record { kind = k; is = refl; rest = refl; row = rw add-zero r }
+nth-row {s} {P} {n} (_▸_ {k = k} r rs) zero h = record { kind = k; is = refl; onward = refl; row = rw add-zero r }
 nth-row {s} {P} {n} (_▸_ {k = k} r rs) (suc j) h =
     let t = nth-row rs j (omega arith) in
-    record { kind = t .kind; is = t .is; rest = t .rest; row = rw (add-suc, ← suc-add) (t .row) }
+    record { kind = t .kind; is = t .is; onward = t .onward; row = rw (add-suc, ← suc-add) (t .row) }
 
 nth-low : {A : Type 0} (l : List A) (j : ℕ) (a : A) → nth l j ≡ some a → j < length l
 unfolding nth
