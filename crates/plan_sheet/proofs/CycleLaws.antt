@@ -1,8 +1,8 @@
 -- How the writers of expressions and elements call each other. Assumes nothing: every law is proved.
-use mathlib.Core.Path.{_≡_, refl, sym, ap, _∙_}
+use mathlib.Core.Path.{_≡_, refl, _∙_}
 use Prim.Native.Nat.{ℕ, _+_, _-_, _<_}
 use native.Mathlib.Omega.{arith}
-use mathlib.Core.Bool.{Bool, true, false, cond, false≢true}
+use mathlib.Core.Bool.{true, cond}
 use mathlib.Core.List.{List, [], _∷_, append-nil}
 use lib.Dec.{eqb}
 use Rattle.model.specs.Text.{Bytes}
@@ -12,15 +12,14 @@ use Rattle.output.specs.Page.{Page, Puts}
 use Rattle.output.specs.Writes.{_⨾_}
 use Rattle.words.specs.Words.{Roomy, cell, maxRecords}
 use Rattle.words.specs.Held.{size}
-use Rattle.words.specs.Numbers.{Others, other-than}
-use Rattle.words.specs.Places.{kindAt, partKind, nodeKind, relKind, entryKind, propKind, indexKind, sliceKind, listKind, binKind, unKind, caseKind, isNullKind, inKind, mapKind, fnKind, patKind, listPredicateKind, nodeLabelsAt, nodePropsAt, relPropsAt}
-use Rattle.words.proofs.Counting.{none-left}
+use Rattle.words.specs.Places.{kindAt, nodeKind, patKind, nodeLabelsAt, nodePropsAt, relPropsAt}
+use Rattle.words.proofs.Counting.{leaf-not, leaf-count}
 use Rattle.context.specs.Read.{noteOf}
 use Rattle.lower.specs.Render.{render, specRec}
 use Rattle.lower.specs.Shows.{shift}
-use Rattle.words.specs.Count.{countAt, Starts, Ends}
+use Rattle.words.specs.Count.{countAt, isLeaf, Starts, Ends}
 use Rattle.model.specs.Lower.{exprHead}
-use Rattle.plan_sheet.specs.Due.{noted, Near, SomePlan, ExprAt, isLeaf, ElementAt, One, oneText, Many, Element, elementText, Names, namesRecs, Line, carriedRecs, carriedEnd, WroteOne, WroteMany, WroteOp}
+use Rattle.plan_sheet.specs.Due.{noted, Near, SomePlan, ExprAt, ElementAt, One, oneText, Many, Element, elementText, Names, namesRecs, Line, carriedRecs, carriedEnd, WroteOne, WroteMany, WroteOp}
 use Rattle.plan_sheet.specs.Due
 use Rattle.plan_sheet.proofs.DueLaws.{expr-of, tabled-less, spell-append, none-wrote}
 use Rattle.plan_sheet.proofs.PartLaws.{Parts, parts, Copy, copied, deep, propsAt, ElementParts, element-parts}
@@ -89,31 +88,11 @@ module _ {sheet : Bytes} {a b os rest : List ℕ} {below base left i : ℕ} wher
 
 -- ── expressions of one line ──
 
-abbrev noLeaf : List ℕ → Bool
-noLeaf [] = true
-noLeaf (k ∷ ks) = cond (isLeaf k) false (noLeaf ks)
-
-leaf-other : (c : ℕ) → isLeaf c ≡ true → (ks : List ℕ) → noLeaf ks ≡ true → Others c ks
-leaf-other c e [] h = tt
-leaf-other c e (k ∷ ks) h = go (λ q. leaf-other c e ks q) (isLeaf k) refl h
-  where
-    go : (noLeaf ks ≡ true → Others c ks) → (t : Bool) → isLeaf k ≡ t → cond t false (noLeaf ks) ≡ true → Others c ks × (c ≡ k → ⊥)
-    go later true p q = absurd (false≢true q)
-    go later false p q = (later q, λ x. false≢true (sym p ∙ ap isLeaf (sym x) ∙ e))
-
--- the kinds that have something below them, as `words` lists them
-abbrev parents : List ℕ
-parents =
-    listPredicateKind ∷ patKind ∷ fnKind ∷ mapKind ∷ inKind ∷ isNullKind ∷ caseKind ∷ unKind ∷ binKind ∷ listKind
-    ∷ sliceKind ∷ indexKind ∷ propKind ∷ entryKind ∷ relKind ∷ nodeKind ∷ partKind ∷ []
-
 module _ {sheet : Bytes} {a b : List ℕ} {i : ℕ} (room : Roomy a b) {kind : ℕ} (k : kind ≡ cell a b i kindAt) (leaf : isLeaf kind ≡ true) where
   pub leaf-wrote : {os rest : List ℕ} {below base left n : ℕ} {p q : Page} → n ≡ noteOf rest base i → ((x : ExprAt sheet a b i) → Puts (spellRec (exprHead n (x .kind) (x .fields))) p q) → WroteOne sheet a b os rest below base left i p (i + 1) q
   unfolding isLeaf
   leaf-wrote noted-is head h =
-      let z : Others (cell a b i kindAt) parents = rw k at (leaf-other kind leaf parents refl) in
-      let count : 0 ≡ countAt a b i = none-left (cell a b i kindAt) _ _ _ _ z in
-      kids-wrote room count (other-than (cell a b i kindAt) patKind parents z refl) h noted-is head (none-wrote refl)
+      kids-wrote room (leaf-count a b i k leaf) (λ z. leaf-not kind patKind leaf refl (k ∙ z)) h noted-is head (none-wrote refl)
 
 -- ── elements ──
 

@@ -2,8 +2,6 @@
 use mathlib.Core.Path.{_≡_}
 use Prim.Native.Nat.{ℕ, zero, suc, _+_, _≤_, _<_}
 use mathlib.Core.List.{List, [], _∷_, _++_}
-use mathlib.Core.Bool.{Bool, true, false, cond}
-use lib.Dec.{eqb, ltb}
 use lib.ListN.{length, getD, take}
 use lib.Seq.{slice}
 use Rattle.model.specs.Text.{Bytes}
@@ -14,7 +12,6 @@ use Rattle.model.specs.Tree.{Tree}
 use Rattle.model.specs.Lower.{Recs, exprAlias, aliasOr}
 use Rattle.output.specs.Page.{Page, Puts}
 use Rattle.words.specs.Words.{Roomy, cell, maxRecords}
-use Rattle.words.specs.Places.{nullKind, propKind, varKind}
 use Rattle.words.specs.Held.{Held, RecordAt, size}
 use Rattle.context.specs.Tables.{opAt, maxStored, secondPass}
 use Rattle.context.specs.declared.op.Op.{Op}
@@ -65,10 +62,6 @@ pub record ExprAt (sheet : Bytes) (a b : List ℕ) (i : ℕ) : Type 0 where
   pub kind : Expr
   pub fields : Fields (exprForms kind)
   pub at : RecordAt sheet a b i expr kind fields
-
--- the kinds of expressions that have none below them, whatever their fields
-unfoldable pub isLeaf : ℕ → Bool
-isLeaf kind = cond (eqb kind varKind) true (cond (ltb kind nullKind) false (ltb kind propKind))
 
 -- an item begins at record i, with its expression behind it
 pub record ItemAt (sheet : Bytes) (a b : List ℕ) (i : ℕ) : Type 0 where

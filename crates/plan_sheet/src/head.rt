@@ -9,7 +9,7 @@ ghost use Rattle.words.specs.Places.{kindAt, fnArgsAt, listPredicateKindAt, lis
 ghost use Rattle.plan_line.specs.Keywords.{fnWord, listPredicateWord};
 ghost use Rattle.plan_line.specs.Row.{rowText, namedText};
 ghost use Rattle.model.specs.Lower.{exprHead};
-ghost use Rattle.plan_sheet.specs.Due.{ExprAt, isLeaf, SomeLine, WroteLine, TextIn, textAt};
+ghost use Rattle.plan_sheet.specs.Due.{ExprAt, SomeLine, WroteLine, TextIn, textAt};
 use plan_line::copy::put_copied;
 use plan_line::field::put_int;
 use plan_line::row;
@@ -45,19 +45,6 @@ fn put_any(plan: &mut [u8], out: usize, a: &[u32], b: &[u32], i: usize, n: u32) 
     let x = words::word(a, b, i, field::LIST_PREDICATE_KIND);
     let z = words::word(a, b, i, field::LIST_PREDICATE_PRED);
     row::put_row3(plan, out, word::LIST_PREDICATE, x, n, z)
-}
-
-// Whether an expression of this kind has none below it, whatever its fields.
-pub fn is_leaf(kind: u32) -> bool
-    ensures { λ r. ⌜ r ≡ isLeaf kind ⌝ }
-{
-    if kind == kind::VAR {
-        return true;
-    }
-    if kind < kind::NULL {
-        return false;
-    }
-    kind < kind::PROP
 }
 
 // The first line of the expression at record i, at which the number n is noted.

@@ -67,7 +67,7 @@ fn write_expr(
     let kind = words::word(a, b, i, field::KIND);
     let n = note_of(rest, at.base, i);
     let o = crate::head::put_expr(plan, line.out, sheet, a, b, i, kind, n);
-    if crate::head::is_leaf(kind) {
+    if kind::is_leaf(kind) {
         let next = i + 1;
         return Wrote { next, out: o };
     }

@@ -2,7 +2,7 @@
 use mathlib.Core.Path.{_≡_, refl, sym, ap, _∙_}
 use Prim.Native.Nat.{ℕ, zero, suc, _+_, _-_, _≤_, _<_}
 use native.Mathlib.Omega.{arith}
-use mathlib.Core.Bool.{Bool}
+use mathlib.Core.Bool.{Bool, true, false, cond, false≢true}
 use mathlib.Core.List.{List, [], _∷_}
 use mathlib.Core.Option.{some}
 use lib.Dec.{eqb}
@@ -16,7 +16,7 @@ use Rattle.words.specs.Words.{maxRecords, Roomy, cell, kindOf, firstKind
 use Rattle.words.specs.Held.{Held, HeldOf, HeldIn, RecordAt, Flags, size, sizeOf, sizeIn, roomIn}
 use Rattle.words.specs.Cells.{cells, Shown, shown, numbered, number-of}
 use Rattle.words.specs.Fits.{tree-fits}
-use Rattle.words.specs.Count.{Inner, total, countBy, countAt, Due, none-due, one-due, Starts, Ends}
+use Rattle.words.specs.Count.{Inner, total, countBy, countAt, isLeaf, Due, none-due, one-due, Starts, Ends}
 use Rattle.words.specs.Numbers.{Others, other-than, sameNumber, exprNumber, elementNumber}
 use Rattle.words.specs.Places.{kindAt, nameKind, partKind, nodeKind, relKind, entryKind, propKind, indexKind, sliceKind, listKind, binKind, unKind, caseKind, isNullKind, inKind, mapKind, fnKind, patKind, listPredicateKind}
 
@@ -58,6 +58,26 @@ none-left c x y z u h =
       ne-eqb c patKind (other-than c patKind parents h refl),
       ne-eqb c listPredicateKind (other-than c listPredicateKind parents h refl),
     )
+
+-- an expression that has none, whatever its fields, is of no kind that may have one
+pub leaf-not : (c k : ℕ) → isLeaf c ≡ true → isLeaf k ≡ false → c ≡ k → ⊥
+leaf-not c k e f q = false≢true (sym f ∙ ap isLeaf (sym q) ∙ e)
+
+abbrev noLeaf : List ℕ → Bool
+noLeaf [] = true
+noLeaf (k ∷ ks) = cond (isLeaf k) false (noLeaf ks)
+
+leaf-other : (c : ℕ) → isLeaf c ≡ true → (ks : List ℕ) → noLeaf ks ≡ true → Others c ks
+leaf-other c e [] h = tt
+leaf-other c e (k ∷ ks) h = go (λ q. leaf-other c e ks q) (isLeaf k) refl h
+  where
+    go : (noLeaf ks ≡ true → Others c ks) → (t : Bool) → isLeaf k ≡ t → cond t false (noLeaf ks) ≡ true → Others c ks × (c ≡ k → ⊥)
+    go later true p q = absurd (false≢true q)
+    go later false p q = (later q, leaf-not c k e p)
+
+pub leaf-count : (a b : List ℕ) (i : ℕ) {kind : ℕ} → kind ≡ cell a b i kindAt → isLeaf kind ≡ true → 0 ≡ countAt a b i
+unfolding isLeaf
+leaf-count a b i {kind} k e = none-left (cell a b i kindAt) _ _ _ _ (rw k at (leaf-other kind e parents refl))
 
 -- ── by the kind ──
 

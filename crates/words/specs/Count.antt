@@ -1,15 +1,15 @@
 -- How many children a record has, by its words; and records one after another, as many as are due. Assumes nothing: these are definitions.
 use mathlib.Core.Path.{_≡_}
 use Prim.Native.Nat.{ℕ, zero, suc, _+_, _*_}
-use mathlib.Core.Bool.{cond}
+use mathlib.Core.Bool.{Bool, true, false, cond}
 use mathlib.Core.List.{List, [], _∷_}
-use lib.Dec.{eqb}
+use lib.Dec.{eqb, ltb}
 use Rattle.model.specs.Text.{Bytes}
 use Rattle.model.specs.Kind.{Sort, statement, unionArm, clause, projection, orderItem, patternPart, patternElement, name, yieldItem, entry, expr, inPlan}
 use Rattle.model.specs.Record.{Group}
 use Rattle.model.specs.Tree.{Tree}
 use Rattle.words.specs.Words.{cell}
-use Rattle.words.specs.Places.{kindAt, partKind, nodeKind, relKind, entryKind, propKind, indexKind, sliceKind, listKind, binKind, unKind, caseKind, isNullKind, inKind, mapKind, fnKind, patKind, listPredicateKind}
+use Rattle.words.specs.Places.{kindAt, partKind, nodeKind, relKind, entryKind, nullKind, propKind, indexKind, sliceKind, listKind, binKind, unKind, caseKind, isNullKind, inKind, varKind, mapKind, fnKind, patKind, listPredicateKind}
 use Rattle.words.specs.Held.{Held, size}
 
 -- the sorts of what stands in a pattern or an expression
@@ -67,6 +67,10 @@ countBy kind x y z u =
 
 abbrev pub countAt : (a b : List ℕ) (i : ℕ) → ℕ
 countAt a b i = countBy (cell a b i kindAt) (cell a b i firstFieldAt) (cell a b i secondFieldAt) (cell a b i thirdFieldAt) (cell a b i fifthFieldAt)
+
+-- the kinds of expressions that have none below them, whatever their fields
+unfoldable pub isLeaf : ℕ → Bool
+isLeaf kind = cond (eqb kind varKind) true (cond (ltb kind nullKind) false (ltb kind propKind))
 
 -- no record has as many children
 abbrev pub countLimit : ℕ

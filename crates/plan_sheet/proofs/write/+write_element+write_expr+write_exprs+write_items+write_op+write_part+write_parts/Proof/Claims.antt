@@ -31,7 +31,7 @@ use Rattle.plan_sheet.proofs.behind.first_of.Reads as first-of-reads
 use Rattle.plan_sheet.proofs.behind.many_of.Reads as many-of-reads
 use Rattle.plan_sheet.proofs.behind.put_tail.Reads as put-tail-reads
 use Rattle.context.proofs.read.note_of.Reads as note-of-reads
-use Rattle.plan_sheet.proofs.head.is_leaf.Reads as is-leaf-reads
+use Rattle.words.proofs.kind.is_leaf.Reads as is-leaf-reads
 use Rattle.plan_sheet.proofs.head.put_before.Reads as put-before-reads
 use Rattle.plan_sheet.proofs.head.put_expr.Reads as put-expr-reads
 use Rattle.plan_sheet.proofs.item.put_agg.Reads as put-agg-reads
