@@ -1,18 +1,77 @@
--- How many records a group has, from its source in the table. Assumes nothing.
-use mathlib.Core.Path.{_≡_}
-use Prim.Native.Nat.{ℕ, _+_, _-_, _<_, _≤_}
+-- How many records a group has, from its source in the table, and all groups of a record together. Assumes nothing.
+use mathlib.Core.Path.{_≡_, refl, sym, ap, _∙_}
+use Prim.Native.Nat.{ℕ, zero, suc, _+_, _*_, _-_, _%_, _<_, _≤_}
+use mathlib.Core.Bool.{Bool, true, false, cond}
 use mathlib.Core.List.{List}
+use native.Mathlib.Numerals.{add-one}
 use native.Mathlib.Omega.{arith}
-use borrow.Author.Tests.{lt-ltb, le-ltb}
-use Rattle.words.specs.Words.{part, cell, recordWords}
-use Rattle.words.specs.Table.{countOf}
-use Rattle.words.specs.GroupLaws.{part-cell}
+use borrow.Author.Tests.{lt-ltb, le-ltb, ltb-false}
+use lib.Dec.{ltb}
+use lib.ListN.{getD}
+use Rattle.words.specs.Words.{part, cell, recordWords, two32}
+use Rattle.words.specs.Places.{kindCount}
+use Rattle.words.specs.Held.{total}
+use Rattle.words.specs.Table.{countOf, groupCount, groupNumbers, groupSource, groupAt, groupsFrom, groupsOf}
+use Rattle.words.specs.GroupLaws.{part-cell, entries-low, groups-few, none-counted}
+use Rattle.line.specs.LineRead.{Alike}
 
-module _ (a b : List ℕ) (i c s : ℕ) (e : c ≡ s) where
-  pub count-fixed : c < 3 → c ≡ countOf (part a b i) s
+module _ (ws : List ℕ) (c s : ℕ) (e : c ≡ s) where
+  pub count-fixed : c < 3 → c ≡ countOf ws s
   count-fixed h = rw (← e, lt-ltb c 3 h)
 
-  pub count-word : 3 ≤ c → c < 8 → (r : ℕ) → r ≡ cell a b i (c + c - 4) → r ≡ countOf (part a b i) s
-  count-word h k r q =
-      let low : c + c - 4 < recordWords = omega arith in
-      rw (← e, le-ltb c 3 h, part-cell a b i (c + c - 4) low) q
+  pub count-word : 3 ≤ c → (r : ℕ) → r ≡ getD ws (c + c - 4) 0 → r ≡ countOf ws s
+  count-word h r q = rw (← e, le-ltb c 3 h) q
+
+-- the same of a record of two slices
+pub count-cell : (a b : List ℕ) (i c s : ℕ) → c ≡ s → 3 ≤ c → c < 8 → (r : ℕ) → r ≡ cell a b i (c + c - 4) → r ≡ countOf (part a b i) s
+count-cell a b i c s e h k r q = count-word (part a b i) c s e h r (q ∙ sym (part-cell a b i (c + c - 4) (omega arith)))
+
+-- ── all groups ──
+
+-- what the first g groups count, and what the others do, is all
+pub record Adding (n : ℕ) (ws : List ℕ) (g sum : ℕ) : Type 0 where
+  pub low : g ≤ getD groupNumbers n 0
+  pub few : sum ≤ g * two32
+  pub all : sum + total (groupsFrom n ws g (groupCount - g)) ≡ total (groupsOf n ws)
+
+module _ (n : ℕ) (ws : List ℕ) (known : n < kindCount) where
+  pub add-none : Adding n ws 0 0
+  unfolding groupsOf
+  add-none = record { low = omega arith; few = omega arith; all = omega arith }
+
+  in-table : (g : ℕ) → g < getD groupNumbers n 0 → g < groupCount
+  in-table g h = omega (arith, groups-few n known)
+
+  one-group : (g k : ℕ) → groupCount - g ≡ suc k → total (groupsFrom n ws g (groupCount - g)) ≡ countOf ws (groupSource n g) + total (groupsFrom n ws (suc g) k)
+  unfolding groupsFrom
+  one-group g k e = rw e
+
+  pub add-one-group : (g sum c : ℕ) → g < getD groupNumbers n 0 → (c ≡ countOf ws (groupSource n g)) × (c < two32) → Adding n ws g sum → Adding n ws (g + 1) (sum + c)
+  add-one-group g sum c h q a =
+      let l : g < groupCount = in-table g h in
+      let e : groupCount - g ≡ suc (groupCount - (g + 1)) = omega arith in
+      let s : total (groupsFrom n ws g (groupCount - g)) ≡ countOf ws (groupSource n g) + total (groupsFrom n ws (g + 1) (groupCount - (g + 1))) = rw (add-one g) (one-group g (groupCount - suc g) (omega arith)) in
+      record { low = omega arith; few = omega (arith, a .few, q .1); all = omega (arith, a .all, s, q .0) }
+
+  pub add-all : (g sum : ℕ) → getD groupNumbers n 0 ≤ g → Adding n ws g sum → sum ≡ total (groupsOf n ws)
+  add-all g sum h a =
+      let l : g ≤ groupCount = omega (arith, a .low, groups-few n known) in
+      let z : total (groupsFrom n ws g (groupCount - g)) ≡ 0 = none-counted n ws known g (groupCount - g) h (omega arith) in
+      omega (arith, a .all, z)
+
+  -- words that differ behind the fields alone count the same
+  same-group : (g : ℕ) (vs : List ℕ) → Alike ws vs → g < groupCount → countOf vs (groupSource n g) ≡ countOf ws (groupSource n g)
+  same-group g vs al l = go (ltb (groupSource n g) 3) refl
+    where
+      go : (t : Bool) → ltb (groupSource n g) 3 ≡ t → cond t (groupSource n g) (getD vs (groupSource n g + groupSource n g - 4) 0) ≡ cond t (groupSource n g) (getD ws (groupSource n g + groupSource n g - 4) 0)
+      go true q = refl
+      go false q = al (groupSource n g + groupSource n g - 4) (omega (arith, entries-low n g known l .1))
+
+  same-groups : (vs : List ℕ) → Alike ws vs → (g k : ℕ) → g + k ≤ groupCount → total (groupsFrom n vs g k) ≡ total (groupsFrom n ws g k)
+  unfolding groupsFrom
+  same-groups vs al g zero l = refl
+  same-groups vs al g (suc k) l = rw (same-group g vs al (omega arith), same-groups vs al (suc g) k (omega arith))
+
+  pub same-total : (vs : List ℕ) → Alike ws vs → total (groupsOf n vs) ≡ total (groupsOf n ws)
+  unfolding groupsOf
+  same-total vs al = same-groups vs al 0 groupCount (omega arith)

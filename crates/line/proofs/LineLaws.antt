@@ -1,26 +1,28 @@
 -- A line from its keyword and its fields. Assumes nothing.
 use mathlib.Core.Path.{_≡_, sym, ap, _∙_}
-use Prim.Native.Nat.{ℕ, _+_, _<_}
+use Prim.Native.Nat.{ℕ, _+_, _%_, _<_}
 use mathlib.Core.List.{List, _∷_}
 use mathlib.Core.Option.{some}
 use native.Mathlib.Omega.{arith}
 use borrow.Author.Tests.{ltb-true}
 use lib.ListN.{length, getD, set, length-set}
 use lib.Seq.{slice, getD-set-same, getD-set-other}
-use Rattle.words.specs.Places.{kindCount, sortCount, kindAt, lineStartAt, lineEndAt}
+use Rattle.words.specs.Places.{kindCount, sortCount, kindAt, lineStartAt, childrenAt, lineEndAt}
 use Rattle.model.specs.Text.{Bytes, split, tab}
 use Rattle.model.specs.Kind.{Sort, Kind}
 use Rattle.model.specs.Record.{kinds, forms, kindNamed, withFields, readAs, readRec}
-use Rattle.words.specs.Words.{piecesOf, fieldsOf, kindOf, recOf, decode, recordWords}
-use Rattle.words.specs.Table.{sortOf}
+use Rattle.words.specs.Words.{piecesOf, fieldsOf, kindOf, recOf, decode, recordWords, two32}
+use Rattle.words.specs.Held.{total}
+use Rattle.words.specs.Table.{sortOf, groupsOf}
 use Rattle.words.specs.TableLaws.{Row, tabled, kind-row}
 use Rattle.record.specs.Place.{LineEnd, Fed, Ends}
 use Rattle.line.specs.Kinds.{Packed, KeywordAt, kindFound, Named}
 use Rattle.line.specs.Place.{piecesAt}
-use Rattle.line.specs.LineRead.{FieldsRead, FieldsHere, Got, LineHere}
+use Rattle.line.specs.LineRead.{Alike, FieldsRead, FieldsHere, Got, LineHere}
 use Rattle.line.specs.declared.kind.KindFound.{KindFound}
 use Rattle.line.specs.declared.read.FieldsTo.{FieldsTo}
 use Rattle.line.specs.declared.read.Line.{Line}
+use Rattle.line.proofs.CountLaws.{same-total}
 use Rattle.line.proofs.PlaceLaws.{piece-at, line-at, pieces-from, some-left}
 
 -- a line read by its pieces
@@ -85,36 +87,52 @@ module _ (sheet : Bytes) (p m r : ℕ) (low : m < sortCount) (word : ℕ) (key :
 
       -- ── a record ──
 
-      module _ (e₁ : ℕ) (o : t ≡ FieldsTo.End e₁) (e : ℕ) (l : LineEnd sheet p e) where
+      module _ (e₁ : ℕ) (o : t ≡ FieldsTo.End e₁) (many : ℕ) (counts : many ≡ total (groupsOf n ws₁) % two32) (e : ℕ) (l : LineEnd sheet p e) where
         read : FieldsRead n sheet r e (set (set ws lineStartAt p) kindAt n) ws₁ (FieldsTo.End e₁)
         read = rw o at (fields-here e l)
 
         at-end : e₁ ≡ e
         at-end = read .answer .0
 
+        -- the number of children, and behind it the end of the line
         abbrev ws₂ : List ℕ
-        ws₂ = set ws₁ lineEndAt (e₁ + 1)
+        ws₂ = set ws₁ childrenAt many
 
-        first-word : getD ws₂ kindAt 0 ≡ n
+        abbrev ws₃ : List ℕ
+        ws₃ = set ws₂ lineEndAt (e₁ + 1)
+
+        -- no other word has changed
+        others : (c : ℕ) → (c ≡ childrenAt → ⊥) → (c ≡ lineEndAt → ⊥) → getD ws₃ c 0 ≡ getD ws₁ c 0
+        others c h k = getD-set-other ws₂ lineEndAt c (e₁ + 1) 0 k ∙ getD-set-other ws₁ childrenAt c many 0 h
+
+        first-word : getD ws₃ kindAt 0 ≡ n
         first-word =
-            getD-set-other ws₁ lineEndAt kindAt (e₁ + 1) 0 (omega arith) ∙ read .kept kindAt (λ h. absurd (omega arith))
+            others kindAt (omega arith) (omega arith) ∙ read .kept kindAt (λ h. absurd (omega arith))
             ∙ getD-set-same (set ws lineStartAt p) kindAt n 0 (omega (arith, length-set ws lineStartAt p))
 
-        start-word : getD ws₂ lineStartAt 0 ≡ p
+        start-word : getD ws₃ lineStartAt 0 ≡ p
         start-word =
-            getD-set-other ws₁ lineEndAt lineStartAt (e₁ + 1) 0 (omega arith) ∙ read .kept lineStartAt (λ h. absurd (omega arith))
+            others lineStartAt (omega arith) (omega arith) ∙ read .kept lineStartAt (λ h. absurd (omega arith))
             ∙ getD-set-other (set ws lineStartAt p) kindAt lineStartAt n 0 (omega arith) ∙ getD-set-same ws lineStartAt p 0 (omega arith)
 
-        end-word : getD ws₂ lineEndAt 0 ≡ e + 1
-        end-word = getD-set-same ws₁ lineEndAt (e₁ + 1) 0 (omega (arith, read .long)) ∙ ap (λ x. x + 1) at-end
+        end-word : getD ws₃ lineEndAt 0 ≡ e + 1
+        end-word = getD-set-same ws₂ lineEndAt (e₁ + 1) 0 (omega (arith, length-set ws₁ childrenAt many, read .long)) ∙ ap (λ x. x + 1) at-end
 
-        got : Got (sortOf m) sheet p e ws₂ n
+        same-fields : Alike ws₁ ws₃
+        same-fields c h = others c (omega arith) (omega arith)
+
+        children-word : getD ws₃ childrenAt 0 ≡ total (groupsOf n ws₃) % two32
+        children-word =
+            getD-set-other ws₂ lineEndAt childrenAt (e₁ + 1) 0 (omega arith) ∙ getD-set-same ws₁ childrenAt many 0 (omega (arith, read .long))
+            ∙ counts ∙ ap (λ x. x % two32) (sym (same-total n ws₁ line-low ws₃ same-fields))
+
+        got : Got (sortOf m) sheet p e ws₃ n
         unfolding readAs withFields decode recOf
         got =
-            let yes = rw (table .fields) at (read .answer .1 ws₂ (λ c h. getD-set-other ws₁ lineEndAt c (e₁ + 1) 0 (omega arith))) in
+            let yes = rw (table .fields) at (read .answer .1 ws₃ same-fields) in
             record {
               kind = kind;
-              fields = fieldsOf (forms (sortOf m) kind) sheet ws₂ 0;
+              fields = fieldsOf (forms (sortOf m) kind) sheet ws₃ 0;
               read = fields-is e l ∙ ap (withFields (sortOf m) kind) (yes .0);
               held = rw (first-word, known);
               flags = yes .1;
@@ -122,9 +140,14 @@ module _ (sheet : Bytes) (p m r : ℕ) (low : m < sortCount) (word : ℕ) (key :
               number = first-word;
               start = start-word;
               end = end-word;
+              kids = children-word;
               named = known;
               low = line-low;
             }
 
-      pub line-got : (e₁ : ℕ) → t ≡ FieldsTo.End e₁ → LineHere (sortOf m) sheet p (set ws₁ lineEndAt (e₁ + 1)) (Line.Kind n (e₁ + 1))
-      line-got e₁ o e l = record { answer = (ap (λ x. x + 1) (at-end e₁ o e l), got e₁ o e l); long = length-set ws₁ lineEndAt (e₁ + 1) ∙ read e₁ o e l .long }
+      pub line-got : (e₁ : ℕ) → t ≡ FieldsTo.End e₁ → (many : ℕ) → many ≡ total (groupsOf n ws₁) % two32 → LineHere (sortOf m) sheet p (set (set ws₁ childrenAt many) lineEndAt (e₁ + 1)) (Line.Kind n (e₁ + 1))
+      line-got e₁ o many counts e l =
+          record {
+            answer = (ap (λ x. x + 1) (at-end e₁ o many counts e l), got e₁ o many counts e l);
+            long = length-set (set ws₁ childrenAt many) lineEndAt (e₁ + 1) ∙ length-set ws₁ childrenAt many ∙ read e₁ o many counts e l .long;
+          }

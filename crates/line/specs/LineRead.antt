@@ -1,6 +1,6 @@
 -- What reading a line gives: the words of its record. Assumes nothing: these are definitions.
 use mathlib.Core.Path.{_≡_}
-use Prim.Native.Nat.{ℕ, _+_, _<_, _≤_}
+use Prim.Native.Nat.{ℕ, _+_, _%_, _<_, _≤_}
 use mathlib.Core.List.{List}
 use mathlib.Core.Option.{none, some}
 use lib.ListN.{length, getD}
@@ -9,10 +9,10 @@ use Rattle.model.specs.Text.{Bytes}
 use Rattle.model.specs.Field.{Fields, readFields}
 use Rattle.model.specs.Kind.{Sort, Kind}
 use Rattle.model.specs.Record.{forms, readRec}
-use Rattle.words.specs.Words.{fieldsOf, kindOf, decode, part, maxRecords, recordWords}
-use Rattle.words.specs.Places.{lineStartAt, lineEndAt, kindAt, kindCount}
-use Rattle.words.specs.Held.{Flags, Texts}
-use Rattle.words.specs.Table.{formsAt}
+use Rattle.words.specs.Words.{fieldsOf, kindOf, decode, part, maxRecords, recordWords, two32}
+use Rattle.words.specs.Places.{lineStartAt, lineEndAt, kindAt, childrenAt, kindCount}
+use Rattle.words.specs.Held.{Flags, Texts, total}
+use Rattle.words.specs.Table.{formsAt, groupsOf}
 use Rattle.record.specs.Place.{LineEnd}
 use Rattle.line.specs.Place.{piecesAt}
 use Rattle.line.specs.declared.read.Line.{Line}
@@ -58,6 +58,7 @@ pub record Got (s : Sort) (sheet : Bytes) (p e : ℕ) (ws : List ℕ) (n : ℕ) 
   pub number : getD ws kindAt 0 ≡ n
   pub start : getD ws lineStartAt 0 ≡ p
   pub end : getD ws lineEndAt 0 ≡ e + 1
+  pub kids : getD ws childrenAt 0 ≡ total (groupsOf n ws) % two32
   pub named : kindOf s n ≡ some kind
   pub low : n < kindCount
 

@@ -1,10 +1,13 @@
-// The groups of children that follow a record, by its kind.
+// The groups of children that follow a record, by its kind, and how many children they are together.
 ghost use mathlib.Core.Path.{_≡_};
-ghost use Prim.Native.Nat.{_<_};
-ghost use Rattle.words.specs.Words.{Roomy, part, maxRecords};
+ghost use Prim.Native.Nat.{_%_, _<_};
+ghost use lib.ListN.{length};
+ghost use Rattle.words.specs.Words.{Roomy, part, maxRecords, recordWords, two32};
 ghost use Rattle.words.specs.Places.{kindCount, sortCount};
-ghost use Rattle.words.specs.Table.{groupSort, groupSource, countOf, groupCount};
+ghost use Rattle.words.specs.Held.{total};
+ghost use Rattle.words.specs.Table.{groupSort, groupSource, countOf, groupCount, groupsOf};
 use words::table::group_entry;
+use words::table::groups_of;
 
 // The sort of group g.
 pub fn group_sort(kind: u32, g: usize) -> u32
@@ -35,4 +38,41 @@ pub fn group_count(a: &[u32], b: &[u32], i: usize, kind: u32, g: usize) -> u32
     }
     let at = c as usize;
     words::word(a, b, i, at + at - 4)
+}
+
+// The same by the words of the record.
+fn count_in(part: &[u32], kind: u32, g: usize) -> u32
+    requires { ⌜ (kind < kindCount) × (g < groupCount) ⌝ }
+    requires { ⌜ length (now part) ≡ recordWords ⌝ }
+    ensures { λ r. ⌜ r ≡ countOf (now (part .entry)) (groupSource kind g) ⌝ }
+{
+    let c = group_source(kind, g);
+    if c < 3 {
+        return c;
+    }
+    let at = c as usize;
+    part[at + at - 4]
+}
+
+// A word as a number of 64 bits.
+fn wide(x: u32) -> u64
+    ensures { λ r. ⌜ (r ≡ x) × (r < two32) ⌝ }
+{
+    x as u64
+}
+
+// How many children a record of a kind has by its words, as far as a word holds it: no sheet that is read has more.
+pub fn children_of(part: &[u32], kind: u32) -> u32
+    requires { ⌜ (kind < kindCount) × (length (now part) ≡ recordWords) ⌝ }
+    ensures { λ r. ⌜ r ≡ total (groupsOf kind (now (part .entry))) % two32 ⌝ }
+{
+    let n = groups_of(kind);
+    let mut g = 0;
+    let mut sum: u64 = 0;
+    while g < n {
+        let c = wide(count_in(part, kind, g));
+        sum += c;
+        g += 1;
+    }
+    (sum % words::TWO_32) as u32
 }

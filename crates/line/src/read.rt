@@ -11,6 +11,7 @@ ghost use Rattle.words.specs.Places.{kindCount, sortCount};
 ghost use Rattle.words.specs.Table.{sortOf};
 use crate::field::FieldRead;
 use crate::form::read_form;
+use crate::group::children_of;
 use crate::kind::KindFound;
 use crate::kind::kind_named;
 use crate::kind::read_keyword;
@@ -80,6 +81,7 @@ pub fn read_line(sheet: &[u8], p: usize, sort: u32, part: &mut [u32]) -> Line
     let FieldsTo::End(e) = read_fields(sheet, key.end, k, part) else {
         return Line::Not;
     };
+    part[field::CHILDREN] = children_of(part, k);
     let behind = e + 1;
     part[field::LINE_END] = behind as u32;
     Line::Kind(k, behind)

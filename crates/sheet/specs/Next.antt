@@ -1,6 +1,6 @@
 -- What one line does to the reader's state. Assumes nothing.
 use mathlib.Core.Path.{_≡_, refl, sym, _∙_, ap}
-use Prim.Native.Nat.{ℕ, suc, _+_, _*_, _-_, _<_}
+use Prim.Native.Nat.{ℕ, suc, _+_, _*_, _-_, _%_, _<_}
 use native.Mathlib.Numerals.{add-one}
 use native.Mathlib.Omega.{arith}
 use mathlib.Core.Bool.{Bool, true, false}
@@ -11,16 +11,17 @@ use lib.Dec.{eqb}
 use lib.ListN.{drop, getD}
 use lib.Seq.{slice}
 use Rattle.sheet.specs.Stack.{dueWords, dueCountAt, dueRoomAt}
-use Rattle.words.specs.Places.{writeKind, kindCount, sortCount, lineStartAt, lineEndAt}
+use Rattle.words.specs.Places.{writeKind, kindCount, sortCount, lineStartAt, childrenAt, lineEndAt}
 use Rattle.model.specs.Text.{Bytes, lineFeed, split}
 use Rattle.model.specs.Field.{Fields}
 use Rattle.model.specs.Kind.{Sort, Kind}
-use Rattle.model.specs.Record.{Rec, rec, forms, readRec}
+use Rattle.model.specs.Record.{Rec, rec, forms, children, readRec}
 use Rattle.model.specs.Sheet.{refused, readLine, orElse}
 use Rattle.model.specs.Refusal.{Refusal}
 use Rattle.model.specs.Call.{refuse}
 use Rattle.words.specs.Table.{groupCount}
-use Rattle.words.specs.Words.{Roomy, part, decode, recOf, fieldsOf, maxRecords}
+use Rattle.words.specs.GroupLaws.{children-are}
+use Rattle.words.specs.Words.{Roomy, part, decode, recOf, fieldsOf, maxRecords, two32}
 use Rattle.record.specs.Place.{LineEnd}
 use Rattle.line.specs.LineRead.{Got, IntoRead}
 use Rattle.line.specs.declared.read.Line.{Line}
@@ -28,7 +29,7 @@ use Rattle.sheet.specs.declared.reader.Read.{Read}
 use Rattle.sheet.specs.declared.reader.Read.the-variants.{BadLine, BigTree}
 use Rattle.sheet.specs.declared.reader.Reached.{Reached}
 use Rattle.sheet.specs.declared.reader.Reached.the-variants.{More, Bad, Big}
-use Rattle.words.specs.Held.{LineAt}
+use Rattle.words.specs.Held.{LineAt, total}
 use Rattle.sheet.specs.LineLaws.{line-first, line-more, line-stands}
 use Rattle.sheet.specs.Due.{roomBelow, isZero}
 use Rattle.sheet.specs.Writes.{writes, writeAmong}
@@ -114,6 +115,10 @@ module _ (sheet : Bytes) (a b w : List ℕ) (i pos m wr : ℕ) (o : SoFar sheet 
         stands : LineAt (group w m .sort) (got-it .kind) fields sheet (getD (part a′ b′ i) lineStartAt 0) (getD (part a′ b′ i) lineEndAt 0)
         stands = rw (got-it .start, got-it .end) (line-stands sheet pos e line (group w m .sort) (got-it .kind) fields is-read)
 
+        kids : getD (part a′ b′ i) childrenAt 0 ≡ total (children (group w m .sort) (got-it .kind) fields) % two32
+        unfolding fields
+        kids = got-it .kids ∙ ap (λ x. x % two32) (children-are (getD w (m * dueWords) 0) top-sort n (got-it .kind) (got-it .named) sheet (part a′ b′ i) (got-it .flags))
+
         pub next-low : n < kindCount
         next-low = got-it .low
 
@@ -136,7 +141,7 @@ module _ (sheet : Bytes) (a b w : List ℕ) (i pos m wr : ℕ) (o : SoFar sheet 
               (well-formed sheet pos (suc i) (group w m .sort) (group w m .room) (e + 1) behind low deep-enough (got-it .kind, fields) (ap (readRec (group w m .sort)) (sym (line-first sheet pos e line)) ∙ is-read))
               low
               (omega (arith, line .to))
-              (record { low = low; is = decoded; flags = got-it .flags; texts = got-it .texts; line = stands })
+              (record { low = low; is = decoded; flags = got-it .flags; texts = got-it .texts; line = stands; kids = kids })
               (λ j h. into .others j (omega arith) (λ q. omega arith))
               (roomy-still (group w m .sort) e a′ b′ l into)
               (omega (arith, state .long, pop .same, groups .same))

@@ -141,7 +141,7 @@ module _ (sheet : Bytes) (a b w : List ℕ) (i pos wr : ℕ) (s : SoFar sheet a 
 -- ── a line ──
 
 record-same : (sheet : Bytes) (a b a′ b′ : List ℕ) (i : ℕ) (s : Sort) (k : Kind s) (f : Fields (forms s k)) → part a′ b′ i ≡ part a b i → RecordAt sheet a b i s k f → RecordAt sheet a′ b′ i s k f
-record-same sheet a b a′ b′ i s k f e r = record { low = r .low; is = rw e (r .is); flags = rw e (r .flags); texts = rw e (r .texts); line = rw e (r .line) }
+record-same sheet a b a′ b′ i s k f e r = record { low = r .low; is = rw e (r .is); flags = rw e (r .flags); texts = rw e (r .texts); line = rw e (r .line); kids = rw e (r .kids) }
 
 -- words of other records may change
 standing-same : (sheet : Bytes) (a b a′ b′ : List ℕ) (rs : List Rec) (i n : ℕ) → i + length rs ≤ n → ((j : ℕ) → j < n → part a′ b′ j ≡ part a b j) → Standing sheet a b i rs → Standing sheet a′ b′ i rs

@@ -1,83 +1,29 @@
 -- How many children a record has, and the record behind a tree. Assumes nothing.
 use mathlib.Core.Path.{_≡_, refl, sym, ap, _∙_}
 use Prim.Native.Nat.{ℕ, zero, suc, _+_, _-_, _≤_, _<_}
+use native.Mathlib.Nat.{mod-eq-of-lt}
 use native.Mathlib.Omega.{arith}
-use mathlib.Core.Bool.{Bool, true, false, cond, false≢true}
+use mathlib.Core.Bool.{true, false, false≢true}
 use mathlib.Core.List.{List, [], _∷_}
 use mathlib.Core.Option.{some}
 use lib.Dec.{eqb}
-use borrow.Author.Tests.{ne-eqb}
 use Rattle.model.specs.Text.{Bytes}
 use Rattle.model.specs.Field.{Fields}
 use Rattle.model.specs.Kind.{Sort, Kind, PatternElement, Same, Expr, patternPart, patternElement, name, entry, expr, statement, unionArm, clause, projection, orderItem, yieldItem, inPlan}
 use Rattle.model.specs.Record.{Group, one, forms, children, kinds, sames}
 use Rattle.model.specs.Tree.{Tree, Trees, Forest, node, []ᵗ, _∷ᵗ_, end, _▸_}
-use Rattle.words.specs.Words.{maxRecords, Roomy, cell, kindOf, firstKind, fieldsOf, fieldOf}
-use Rattle.words.specs.Held.{Held, HeldOf, HeldIn, RecordAt, Flags, size, sizeOf, sizeIn, roomIn}
-use Rattle.words.specs.Cells.{cells, Shown, shown, numbered, number-of}
-use Rattle.words.specs.Fits.{tree-fits}
-use Rattle.words.specs.Count.{Inner, total, countBy, countAt, isLeaf, Due, none-due, one-due, Starts, Ends}
-use Rattle.words.specs.Numbers.{Others, other-than, sameNumber, exprNumber, elementNumber}
-use Rattle.words.specs.Places.{kindAt, nameKind, partKind, nodeKind, relKind, entryKind, propKind, indexKind, sliceKind, listKind, binKind, unKind, caseKind, isNullKind, inKind, mapKind, fnKind, patKind, listPredicateKind}
-
--- ── by the words ──
-
--- an arm of the code: its kind has as many by the words that it reads
-pub arm : (a b : List ℕ) (i kind r k : ℕ) → kind ≡ cell a b i kindAt → kind ≡ k → r ≡ countBy k (cell a b i 2) (cell a b i 4) (cell a b i 6) (cell a b i 10) → r ≡ countAt a b i
-arm a b i kind r k e h q = q ∙ rw (← h, e)
-
--- the kinds that have children, the code's last arm first
-abbrev parents : List ℕ
-parents =
-    listPredicateKind ∷ patKind ∷ fnKind ∷ mapKind ∷ inKind ∷ isNullKind ∷ caseKind ∷ unKind ∷ binKind ∷ listKind
-    ∷ sliceKind ∷ indexKind ∷ propKind ∷ entryKind ∷ relKind ∷ nodeKind ∷ partKind ∷ []
-
--- a kind that has none
-abbrev pub Childless : ℕ → Type 0
-Childless c = Others c parents
-
-pub none-left : (c x y z u : ℕ) → Childless c → 0 ≡ countBy c x y z u
-unfolding countBy
-none-left c x y z u h =
-    rw (
-      ne-eqb c partKind (other-than c partKind parents h refl),
-      ne-eqb c nodeKind (other-than c nodeKind parents h refl),
-      ne-eqb c relKind (other-than c relKind parents h refl),
-      ne-eqb c entryKind (other-than c entryKind parents h refl),
-      ne-eqb c propKind (other-than c propKind parents h refl),
-      ne-eqb c indexKind (other-than c indexKind parents h refl),
-      ne-eqb c sliceKind (other-than c sliceKind parents h refl),
-      ne-eqb c listKind (other-than c listKind parents h refl),
-      ne-eqb c binKind (other-than c binKind parents h refl),
-      ne-eqb c unKind (other-than c unKind parents h refl),
-      ne-eqb c caseKind (other-than c caseKind parents h refl),
-      ne-eqb c isNullKind (other-than c isNullKind parents h refl),
-      ne-eqb c inKind (other-than c inKind parents h refl),
-      ne-eqb c mapKind (other-than c mapKind parents h refl),
-      ne-eqb c fnKind (other-than c fnKind parents h refl),
-      ne-eqb c patKind (other-than c patKind parents h refl),
-      ne-eqb c listPredicateKind (other-than c listPredicateKind parents h refl),
-    )
+use Rattle.words.specs.Words.{maxRecords, Roomy, cell, kindOf, firstKind}
+use Rattle.words.specs.Held.{RecordAt, Held, HeldOf, HeldIn, size, sizeOf, sizeIn, roomIn, total}
+use Rattle.words.specs.Cells.{shown, numbered, number-of}
+use Rattle.words.specs.Fits.{tree-fits, forest-fits}
+use Rattle.words.specs.GroupLaws.{part-cell}
+use Rattle.words.specs.Count.{Inner, countAt, isLeaf, Due, none-due, one-due, Starts, Ends}
+use Rattle.words.specs.Numbers.{sameNumber, exprNumber, elementNumber, expr-number}
+use Rattle.words.specs.Places.{kindAt, childrenAt, nameKind, partKind, entryKind}
 
 -- an expression that has none, whatever its fields, is of no kind that may have one
 pub leaf-not : (c k : ℕ) → isLeaf c ≡ true → isLeaf k ≡ false → c ≡ k → ⊥
 leaf-not c k e f q = false≢true (sym f ∙ ap isLeaf (sym q) ∙ e)
-
-abbrev noLeaf : List ℕ → Bool
-noLeaf [] = true
-noLeaf (k ∷ ks) = cond (isLeaf k) false (noLeaf ks)
-
-leaf-other : (c : ℕ) → isLeaf c ≡ true → (ks : List ℕ) → noLeaf ks ≡ true → Others c ks
-leaf-other c e [] h = tt
-leaf-other c e (k ∷ ks) h = go (λ q. leaf-other c e ks q) (isLeaf k) refl h
-  where
-    go : (noLeaf ks ≡ true → Others c ks) → (t : Bool) → isLeaf k ≡ t → cond t false (noLeaf ks) ≡ true → Others c ks × (c ≡ k → ⊥)
-    go later true p q = absurd (false≢true q)
-    go later false p q = (later q, leaf-not c k e p)
-
-pub leaf-count : (a b : List ℕ) (i : ℕ) {kind : ℕ} → kind ≡ cell a b i kindAt → isLeaf kind ≡ true → 0 ≡ countAt a b i
-unfolding isLeaf
-leaf-count a b i {kind} k e = none-left (cell a b i kindAt) _ _ _ _ (rw k at (leaf-other kind e parents refl))
 
 -- ── by the kind ──
 
@@ -116,64 +62,49 @@ flag-one zero h = refl
 flag-one (suc zero) h = refl
 flag-one (suc (suc n)) h = absurd (omega arith)
 
-module _ (sheet : Bytes) (w₀ w₁ x w₃ y w₅ z w₇ w₈ w₉ u : ℕ) (more : List ℕ) where
-  abbrev theWords : List ℕ
-  theWords = w₀ ∷ w₁ ∷ x ∷ w₃ ∷ y ∷ w₅ ∷ z ∷ w₇ ∷ w₈ ∷ w₉ ∷ u ∷ more
+-- ── by the record's word ──
 
-  same-count : (h : Same) → Flags (forms expr (Expr.Over h)) theWords 0 → countBy (sameNumber h) x y z u ≡ total (children expr (Expr.Over h) (fieldsOf (forms expr (Expr.Over h)) sheet theWords 0))
-  unfolding countBy sameNumber fieldsOf fieldOf
-  same-count Same.Null f = refl
-  same-count Same.Bool f = refl
-  same-count Same.Int f = refl
-  same-count Same.Float f = refl
-  same-count Same.String f = refl
-  same-count Same.Param f = refl
-  same-count Same.Prop f = refl
-  same-count Same.Index f = refl
-  same-count Same.Slice f = rw (flag-one x (f .0), flag-one y (f .1 .0)) (omega arith)
-  same-count Same.List f = omega arith
-  same-count Same.BinOp f = refl
-  same-count Same.UnaryOp f = refl
-  same-count Same.Case f = rw (flag-one x (f .0), flag-one z (f .1 .1 .0)) (omega arith)
-  same-count Same.IsNull f = refl
-  same-count Same.InList f = refl
+-- a record whose children are held has as many as its word says: no more than a sheet has records, so that a word holds the number
+pub counted : {sheet : Bytes} {a b : List ℕ} {i : ℕ} {s : Sort} {k : Kind s} {f : Fields (forms s k)} → RecordAt sheet a b i s k f → (d : ℕ) (kids : Forest (children s k f)) → HeldIn sheet a b kids d (i + 1) → countAt a b i ≡ total (children s k f)
+counted {sheet} {a} {b} {i} r d kids h =
+    let few = forest-fits sheet a b kids d (i + 1) (omega (arith, r .low)) h in
+    sym (part-cell a b i childrenAt (omega arith)) ∙ r .kids ∙ mod-eq-of-lt (omega (arith, few .0, few .1))
 
-  count-of : (s : Sort) (k : Kind s) → Inner s → Flags (forms s k) theWords 0 → countBy (innerNumber s k) x y z u ≡ total (children s k (fieldsOf (forms s k) sheet theWords 0))
-  unfolding countBy innerNumber exprNumber elementNumber fieldsOf fieldOf
-  count-of statement k i f = absurd i
-  count-of unionArm k i f = absurd i
-  count-of clause k i f = absurd i
-  count-of projection k i f = absurd i
-  count-of orderItem k i f = absurd i
-  count-of patternPart k i f = omega arith
-  count-of patternElement PatternElement.Node i f = rw (flag-one z (f .1 .1 .0)) (omega arith)
-  count-of patternElement PatternElement.Rel i f = rw (flag-one u (f .1 .1 .1 .1 .0)) (omega arith)
-  count-of name k i f = refl
-  count-of yieldItem k i f = absurd i
-  count-of entry k i f = refl
-  count-of expr (Expr.Over h) i f = same-count h f
-  count-of expr Expr.Var i f = refl
-  count-of expr Expr.Map i f = omega arith
-  count-of expr Expr.Call i f = omega arith
-  count-of expr Expr.PatternPredicate i f = omega arith
-  count-of expr Expr.ListPredicate i f = rw (flag-one z (f .1 .1 .0)) (omega arith)
-  count-of expr Expr.Unresolved i f = refl
-  count-of expr Expr.Undesugared i f = refl
-  count-of (inPlan p) k i f = absurd i
+leaf-same : (h : Same) (f : Fields (forms expr (Expr.Over h))) → isLeaf (sameNumber h) ≡ true → total (children expr (Expr.Over h) f) ≡ 0
+unfolding isLeaf sameNumber
+leaf-same Same.Null f e = refl
+leaf-same Same.Bool f e = refl
+leaf-same Same.Int f e = refl
+leaf-same Same.Float f e = refl
+leaf-same Same.String f e = refl
+leaf-same Same.Param f e = refl
+leaf-same Same.Prop f e = absurd (false≢true e)
+leaf-same Same.Index f e = absurd (false≢true e)
+leaf-same Same.Slice f e = absurd (false≢true e)
+leaf-same Same.List f e = absurd (false≢true e)
+leaf-same Same.BinOp f e = absurd (false≢true e)
+leaf-same Same.UnaryOp f e = absurd (false≢true e)
+leaf-same Same.Case f e = absurd (false≢true e)
+leaf-same Same.IsNull f e = absurd (false≢true e)
+leaf-same Same.InList f e = absurd (false≢true e)
 
--- a record whose words are those of a kind has as many children as they say
-pub count-at : (sheet : Bytes) (a b : List ℕ) (i : ℕ) (s : Sort) (k : Kind s) → Inner s → kindOf s (cell a b i kindAt) ≡ some k → Flags (forms s k) (cells a b i) 0 → countAt a b i ≡ total (children s k (fieldsOf (forms s k) sheet (cells a b i) 0))
-count-at sheet a b i s k inner named flags =
-    let at : ℕ → ℕ = λ c. cell a b i c in
-    let n : cell a b i kindAt ≡ innerNumber s k = inner-number s inner (cell a b i kindAt) k named in
-    ap (λ (c : ℕ). countBy c (at 2) (at 4) (at 6) (at 10)) n
-    ∙ count-of sheet (at 0) (at 1) (at 2) (at 3) (at 4) (at 5) (at 6) (at 7) (at 8) (at 9) (at 10) (at 11 ∷ at 12 ∷ at 13 ∷ at 14 ∷ at 15 ∷ []) s k inner flags
+leaf-total : (k : Expr) (f : Fields (forms expr k)) → isLeaf (exprNumber k) ≡ true → total (children expr k f) ≡ 0
+unfolding isLeaf exprNumber
+leaf-total (Expr.Over h) f e = leaf-same h f e
+leaf-total Expr.Var f e = refl
+leaf-total Expr.Map f e = absurd (false≢true e)
+leaf-total Expr.Call f e = absurd (false≢true e)
+leaf-total Expr.PatternPredicate f e = absurd (false≢true e)
+leaf-total Expr.ListPredicate f e = absurd (false≢true e)
+leaf-total Expr.Unresolved f e = absurd (false≢true e)
+leaf-total Expr.Undesugared f e = absurd (false≢true e)
 
--- so has a record that is held
-pub counted : {sheet : Bytes} {a b : List ℕ} {i : ℕ} {s : Sort} {k : Kind s} {f : Fields (forms s k)} → Roomy a b → Inner s → RecordAt sheet a b i s k f → countAt a b i ≡ total (children s k f)
-counted {sheet} {a} {b} {i} {s} {k} {f} room inner h =
-    let w : Shown sheet a b i s k f = shown room h in
-    count-at sheet a b i s k inner (w .kind) (w .flags) ∙ ap (λ (g : Fields (forms s k)). total (children s k g)) (sym (w .fields))
+-- an expression of a kind that has none below it has no children
+pub leaf-count : (sheet : Bytes) (a b : List ℕ) (d i kind : ℕ) (t : Tree expr) → Roomy a b → Held sheet a b t d i → kind ≡ cell a b i kindAt → isLeaf kind ≡ true → 0 ≡ countAt a b i
+unfolding Held
+leaf-count sheet a b d i kind (node expr line k f kids) room h c e =
+    let n : cell a b i kindAt ≡ exprNumber k = expr-number (cell a b i kindAt) k (shown room (h .1) .kind) in
+    sym (counted (h .1) (d - 1) kids (h .3) ∙ leaf-total k f (ap isLeaf (sym (c ∙ n)) ∙ e))
 
 -- ── records that are due ──
 
@@ -221,7 +152,7 @@ module _ {sheet : Bytes} {a b : List ℕ} {e : ℕ} where
   step-tree : {s : Sort} (t : Tree s) (d m i : ℕ) → Roomy a b → Inner s → Held sheet a b t d i → Due sheet a b e m (i + size t) → (i < maxRecords) × Due sheet a b e (countAt a b i + m) (i + 1)
   unfolding Held size
   step-tree (node s line k f kids) d m i room inn h r =
-      (h .1 .low, rw (counted room inn (h .1)) (forest-due kids (roomIn s d) m (i + 1) (kids-inner s k f inn) (h .3) (due-at refl (omega arith) r)))
+      (h .1 .low, rw (counted (h .1) (roomIn s d) kids (h .3)) (forest-due kids (roomIn s d) m (i + 1) (kids-inner s k f inn) (h .3) (due-at refl (omega arith) r)))
 
   pub step : (n i : ℕ) → Roomy a b → ((n ≡ 0) → ⊥) → Due sheet a b e n i → (i < maxRecords) × Due sheet a b e (n - 1 + countAt a b i) (i + 1)
   step n i room h (none-due p) = absurd (h refl)

@@ -7,7 +7,7 @@ use Rattle.model.specs.Kind.{Sort}
 use Rattle.model.specs.Record.{Group}
 use Rattle.model.specs.Tree.{Tree, Trees, Forest, node, []ᵗ, _∷ᵗ_, end, _▸_}
 use Rattle.words.specs.Words.{maxRecords}
-use Rattle.words.specs.Held.{Held, HeldOf, HeldIn, size, sizeOf, sizeIn, roomIn}
+use Rattle.words.specs.Held.{Held, HeldOf, HeldIn, size, sizeOf, sizeIn, roomIn, total}
 
 module _ (sheet : Bytes) (a b : List ℕ) where
   mutual
@@ -26,12 +26,12 @@ module _ (sheet : Bytes) (a b : List ℕ) where
         let q = trees-fits ts d (i + size t) (p .1) (h .1) in
         (omega arith, omega arith)
 
-    pub forest-fits : {gs : List Group} (f : Forest gs) (d i : ℕ) → i ≤ maxRecords → HeldIn sheet a b f d i → i + sizeIn f ≤ maxRecords
-    forest-fits end d i l h = omega arith
+    pub forest-fits : {gs : List Group} (f : Forest gs) (d i : ℕ) → i ≤ maxRecords → HeldIn sheet a b f d i → (i + total gs ≤ i + sizeIn f) × (i + sizeIn f ≤ maxRecords)
+    forest-fits end d i l h = (omega arith, omega arith)
     forest-fits (ts ▸ f) d i l h =
         let p = trees-fits ts d i l (h .0) in
         let q = forest-fits f d (i + sizeOf ts) (p .1) (h .1) in
-        omega arith
+        (omega arith, omega arith)
 
   pub tree-low : {s : Sort} (t : Tree s) (d i : ℕ) → Held sheet a b t d i → i < maxRecords
   tree-low t d i h = let p = tree-fits t d i h in omega (arith, p .0, p .1)

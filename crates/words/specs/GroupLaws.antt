@@ -1,5 +1,5 @@
 -- The table of children: a record's groups of it are the definition's groups, but for groups of none and for neighbours of one sort, which add up. Assumes nothing.
-use mathlib.Core.Path.{_≡_, refl, _∙_}
+use mathlib.Core.Path.{_≡_, refl, sym, ap, _∙_}
 use Prim.Native.Nat.{ℕ, zero, suc, _+_, _*_, _-_, _/_, _%_, _<_, _≤_}
 use native.Mathlib.Nat.{add-zero, mul-add-div-right, mul-add-mod-self-right, mod-eq-of-lt, div-eq-of-lt}
 use mathlib.Core.Bool.{Bool, true, false, cond, _&&_}
@@ -9,13 +9,13 @@ use native.Mathlib.Omega.{arith}
 use borrow.Author.Tests.{ltb-true, le-ltb, eqb-true}
 use lib.Dec.{eqb, ltb}
 use lib.Seq.{slice, getD-take, getD-drop}
-use lib.ListN.{getD, take, replicate, replicate-append-replicate}
+use lib.ListN.{length, getD, take, replicate, length-append, length-replicate, replicate-append-replicate}
 use Rattle.words.specs.Places.{kindCount, sortCount, withKind, returnKind, nodeKind, relKind, sliceKind, caseKind, listPredicateKind}
 use Rattle.model.specs.Text.{Bytes}
 use Rattle.model.specs.Kind.{Sort, Kind, Clause, PatternElement, Same, Expr, clause, patternElement, expr}
 use Rattle.model.specs.Record.{Group, one, forms, kinds, sames, children}
 use Rattle.words.specs.Words.{part, cell, firstKind, kindOf, fieldOf, fieldsOf, recordWords, firstRecords}
-use Rattle.words.specs.Held.{Flags}
+use Rattle.words.specs.Held.{Flags, total}
 use Rattle.words.specs.Table.{groupCount, groupNumbers, sorts, sortOf, groupSort, groupSource, groupsFrom, groupsOf}
 use Rattle.words.specs.TableLaws.{and-left, and-right, passesTo, passes-at, Rows, done, _▸_, kind-row}
 
@@ -70,6 +70,12 @@ part-cell a b i c h = go (ltb i firstRecords)
 unfoldable pub sortsOf : List Group → List Sort
 sortsOf [] = []
 sortsOf (g ∷ gs) = replicate (g .1) (g .0) ++ sortsOf gs
+
+-- they are as many as the groups count
+sorts-total : (gs : List Group) → length (sortsOf gs) ≡ total gs
+unfolding sortsOf
+sorts-total [] = refl
+sorts-total (g ∷ gs) = length-append (replicate (g .1) (g .0)) (sortsOf gs) ∙ rw (length-replicate (g .1) (g .0), sorts-total gs)
 
 one-flag : (x : ℕ) → x ≤ 1 → one (eqb x 1) ≡ x
 one-flag zero h = refl
@@ -141,3 +147,16 @@ group-rows (suc (suc (suc (suc (suc (suc (suc (suc (suc (suc (suc n))))))))))) l
 -- the groups of a kind by its number
 pub groups-are : (m : ℕ) → m < sortCount → (n : ℕ) (k : Kind (sortOf m)) → kindOf (sortOf m) n ≡ some k → GroupRow (sortOf m) n k
 groups-are m h n k e = kind-row (sortOf m) (λ n k. GroupRow (sortOf m) n k) (group-rows m h) n k e
+
+-- and how many children they count
+pub children-are : (m : ℕ) → m < sortCount → (n : ℕ) (k : Kind (sortOf m)) → kindOf (sortOf m) n ≡ some k → (sheet : Bytes) (ws : List ℕ) → Flags (forms (sortOf m) k) ws 0 → total (groupsOf n ws) ≡ total (children (sortOf m) k (fieldsOf (forms (sortOf m) k) sheet ws 0))
+children-are m h n k e sheet ws flags = sym (sorts-total (groupsOf n ws)) ∙ ap length (groups-are m h n k e sheet ws flags) ∙ sorts-total _
+
+-- the groups behind a kind's last count none
+pub none-counted : (n : ℕ) (ws : List ℕ) → n < kindCount → (g k : ℕ) → getD groupNumbers n 0 ≤ g → g + k ≤ groupCount → total (groupsFrom n ws g k) ≡ 0
+unfolding groupsFrom
+none-counted n ws h g zero b l = refl
+none-counted n ws h g (suc k) b l =
+    let none : groupSource n g ≡ 0 = none-behind n g h b (omega arith) in
+    let later : total (groupsFrom n ws (suc g) k) ≡ 0 = none-counted n ws h (suc g) k (omega arith) (omega arith) in
+    rw (none, later)

@@ -1,6 +1,6 @@
 -- The reader's promise: a tree's records stand in the words from a record on, one after another in sheet order, within a depth. The crates above rest on this alone. Assumes nothing: these are definitions.
 use mathlib.Core.Path.{_≡_}
-use Prim.Native.Nat.{ℕ, suc, _+_, _-_, _<_, _≤_}
+use Prim.Native.Nat.{ℕ, suc, _+_, _-_, _%_, _<_, _≤_}
 use mathlib.Core.Bool.{cond}
 use mathlib.Core.List.{List, [], _∷_}
 use mathlib.Core.Option.{some}
@@ -10,11 +10,11 @@ use Rattle.model.specs.Text.{Bytes}
 use Rattle.model.specs.Field.{Form, Fields, num, flag, var, varOrAbsent, numOrAbsent, number, numberOrAbsent, int, float, text, alias, span, spell}
 use Rattle.model.specs.Field
 use Rattle.model.specs.Kind.{Sort, Kind}
-use Rattle.model.specs.Record.{Group, rec, forms, beside, spellRec}
+use Rattle.model.specs.Record.{Group, rec, forms, children, beside, spellRec}
 use Rattle.model.specs.Tree.{Tree, Trees, Forest, node, []ᵗ, _∷ᵗ_, end, _▸_}
 unfoldable pub use Rattle.model.specs.Tree.{size, sizeOf, sizeIn}
-use Rattle.words.specs.Places.{lineStartAt, lineEndAt}
-use Rattle.words.specs.Words.{part, decode, fieldOf, piecesOf, maxRecords}
+use Rattle.words.specs.Places.{lineStartAt, childrenAt, lineEndAt}
+use Rattle.words.specs.Words.{part, decode, fieldOf, piecesOf, maxRecords, two32}
 
 -- a flag's word is 0 or 1
 abbrev pub Flag : Form → ℕ → Type 0
@@ -74,13 +74,19 @@ pub record LineAt (s : Sort) (k : Kind s) (f : Fields (forms s k)) (sheet : Byte
   pub to : y ≤ length sheet
   pub spelled : slice x y sheet ≡ spellRec (rec s k f)
 
--- record i is one of the first 2,048, and its words are those of a kind, its fields and its line
+-- how many children some groups ask for
+abbrev pub total : List Group → ℕ
+total [] = 0
+total (g ∷ gs) = g .1 + total gs
+
+-- record i is one of the first 2,048, and its words are those of a kind, its fields, its line and, as far as a word holds it, the number of its children
 pub record RecordAt (sheet : Bytes) (a b : List ℕ) (i : ℕ) (s : Sort) (k : Kind s) (f : Fields (forms s k)) : Type 0 where
   pub low : i < maxRecords
   pub is : decode s sheet (part a b i) ≡ some (k, f)
   pub flags : Flags (forms s k) (part a b i) 0
   pub texts : Texts (forms s k) sheet (part a b i) 0
   pub line : LineAt s k f sheet (getD (part a b i) lineStartAt 0) (getD (part a b i) lineEndAt 0)
+  pub kids : getD (part a b i) childrenAt 0 ≡ total (children s k f) % two32
 
 -- `Held d i t`: the tree t, at most d deep, has the records from i on; its lines are one more than those
 module _ (sheet : Bytes) (a b : List ℕ) where

@@ -214,6 +214,9 @@ kindAt = 0
 abbrev pub lineStartAt : ℕ
 lineStartAt = 1
 
+abbrev pub childrenAt : ℕ
+childrenAt = 14
+
 abbrev pub lineEndAt : ℕ
 lineEndAt = 15
 

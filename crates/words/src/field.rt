@@ -1,9 +1,11 @@
 // Where a record's fields stand among its words: field g is words 2g + 2 and 2g + 3. A text's second word is its end, that of a span too; a variable that may be absent has a flag first.
 
-// of every record: its kind, and where its line begins in the sheet and where it ends, behind its line feed
+// of every record: its kind, where its line begins in the sheet and where it ends, behind its line feed, and how many children it has
 pub const KIND: usize = 0;
 
 pub const LINE_START: usize = 1;
+
+pub const CHILDREN: usize = 14;
 
 pub const LINE_END: usize = 15;
 

@@ -8,6 +8,9 @@ use Rattle.line.proofs.read.read_line.Statement.{statement}
 use Rattle.line.proofs.read.read_line.Tie as tie
 
 -- the ways back, from place to place
+abbrev back-children-of : tie.After-children-of → tie.After-e
+back-children-of c = search
+
 abbrev back-e : tie.After-e → tie.After-read-fields
 back-e c = search
 
@@ -23,7 +26,7 @@ back-kind-named c = search
 abbrev back-read-keyword : tie.After-read-keyword → tie.Start
 back-read-keyword c = search
 
-ruleset ways = (back-e, back-read-fields, back-k, back-kind-named, back-read-keyword)
+ruleset ways = (back-children-of, back-e, back-read-fields, back-k, back-kind-named, back-read-keyword)
 
 read-fields-requires : tie.Need-read-fields-requires
 read-fields-requires c κs =
@@ -67,6 +70,22 @@ cast-part-2 c =
     let e : tie.After-e = search ways in
     record { fits = omega (arith, s .pre .0 .short, fields-end _ _ _ _ (s .pre .0 .fed) (k .read-keyword .ensures .ends) _ _ _ (f .read-fields .ensures) _ (e .e .given .1)) }
 
+children-of-requires : tie.Need-children-of-requires
+children-of-requires c κs =
+    let f : tie.After-read-fields = search ways in
+    let a : tie.After-k = search ways in
+    let n : tie.After-kind-named = search ways in
+    let k : tie.After-read-keyword = search ways in
+    let s : tie.Start = search ways in
+    (line-low _ _ _ _ (s .pre .1 .0) _ (k .read-keyword .ensures) _ (n .kind-named .ensures) _ (a .k .given .1), fields-long _ _ _ _ (s .pre .0 .fed) (k .read-keyword .ensures .ends) _ _ _ (f .read-fields .ensures))
+
+slice-write-part-4 : tie.Need-slice-write-part-4
+slice-write-part-4 c =
+    let f : tie.After-read-fields = search ways in
+    let k : tie.After-read-keyword = search ways in
+    let s : tie.Start = search ways in
+    rw length-set (omega (arith, fields-long _ _ _ _ (s .pre .0 .fed) (k .read-keyword .ensures .ends) _ _ _ (f .read-fields .ensures)))
+
 slice-write-part-3 : tie.Need-slice-write-part-3
 slice-write-part-3 c =
     let f : tie.After-read-fields = search ways in
@@ -79,7 +98,7 @@ same-length-2 c =
     let f : tie.After-read-fields = search ways in
     let k : tie.After-read-keyword = search ways in
     let s : tie.Start = search ways in
-    rw length-set (omega (arith, s .pre .1 .1, fields-long _ _ _ _ (s .pre .0 .fed) (k .read-keyword .ensures .ends) _ _ _ (f .read-fields .ensures)))
+    rw (length-set, length-set) (omega (arith, s .pre .1 .1, fields-long _ _ _ _ (s .pre .0 .fed) (k .read-keyword .ensures .ends) _ _ _ (f .read-fields .ensures)))
 
 returns-3 : tie.Need-returns-3
 returns-3 c =
@@ -89,7 +108,8 @@ returns-3 c =
     let n : tie.After-kind-named = search ways in
     let k : tie.After-read-keyword = search ways in
     let s : tie.Start = search ways in
-    line-got _ _ _ _ (s .pre .1 .0) _ (k .read-keyword .ensures) _ (n .kind-named .ensures) _ (a .k .given .1) (s .args .part .now) _ (s .pre .1 .1) _ (f .read-fields .ensures) _ (e .e .given .1)
+    let m : tie.After-children-of = search ways in
+    line-got _ _ _ _ (s .pre .1 .0) _ (k .read-keyword .ensures) _ (n .kind-named .ensures) _ (a .k .given .1) (s .args .part .now) _ (s .pre .1 .1) _ (f .read-fields .ensures) _ (e .e .given .1) _ (m .children-of .ensures)
 
 pub read-line-spec : {M : Type 1} → statement M
 read-line-spec =
@@ -108,8 +128,10 @@ read-line-spec =
     (λ c. search needs)
     same-length
     returns-2
+    children-of-requires
+    slice-write-part-3
     add-behind
     cast-part-2
-    slice-write-part-3
+    slice-write-part-4
     same-length-2
     returns-3)
