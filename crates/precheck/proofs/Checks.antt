@@ -1,5 +1,5 @@
 -- The steps of the cycle: what each arm of the check of an expression, and each pass of a loop over parts or elements, has to do with the whole. Assumes nothing.
-use mathlib.Core.Path.{_≡_, _∙_}
+use mathlib.Core.Path.{_≡_, refl, sym, _∙_}
 use Prim.Native.Nat.{ℕ, _+_, _-_}
 use native.Mathlib.Numerals.{add-one}
 use native.Mathlib.Omega.{arith}
@@ -8,23 +8,26 @@ use mathlib.Core.List.{List, [], _∷_}
 use Rattle.words.specs.Places.{mapKind, patKind, unresKind, undesKind, kindAt, partElementsAt, undesKindAt}
 use Rattle.model.specs.Field.{Span}
 use Rattle.model.specs.Kind.{Sort, expr, patternPart, patternElement}
-use Rattle.model.specs.Check.{Verdict, fine, noSpan, andThen}
-use Rattle.words.specs.Words.{Roomy, cell}
+use Rattle.model.specs.Check.{Verdict, fine, noSpan}
+use Rattle.words.specs.Words.{Roomy, cell, fieldsOf, fieldOf}
 use Rattle.precheck.specs.Answer.{spanOf, Found}
 use Rattle.precheck.specs.Steps.{Stage, Some, Ends, Walks, Run}
 use Rattle.words.specs.Numbers.{Others, expr-number}
-use Rattle.words.specs.Count.{countAt}
-use Rattle.precheck.specs.Stands.{At, Standing, SomeAt, Exprs, Begins, Inside}
+use Rattle.words.specs.Count.{countAt, isLeaf}
+use Rattle.words.proofs.Counting.{leaf-not, leaf-count}
+use Rattle.precheck.specs.Stands.{At, Standing, SomeAt, Exprs, ownVerdict, verdictBelow, Own, Begins, Inside}
+use Rattle.precheck.specs.declared.Checked.{Checked}
+use Rattle.precheck.specs.declared.Checked.the-variants as Checked
 use Rattle.precheck.specs.declared.HirSpan.{HirSpan}
 use Rattle.precheck.specs.declared.PlanLowerError.{PlanLowerError}
 use Rattle.precheck.specs.declared.PlanLowerError.the-variants.{UnresolvedName, UndesugaredExpr, EmptyPatternPart}
 use Rattle.precheck.specs.declared.Props.{Props}
 use Rattle.precheck.specs.declared.Walk.{Walk}
 use Rattle.precheck.specs.declared.Walk.the-variants.{Go, Refused}
-use Rattle.precheck.proofs.Laws.{map-run}
-use Rattle.precheck.proofs.Opened.{open-at}
+use Rattle.precheck.proofs.Laws.{first-met, closed, last-of, map-run}
+use Rattle.precheck.proofs.Opened.{Opened, in-turn, kids-of, open-at, open-held}
 use Rattle.precheck.proofs.Counting.{counts}
-use Rattle.precheck.proofs.Expressions.{Seen, plain, entries, pattern, unresolved, undesugared, see, of-entry}
+use Rattle.precheck.proofs.Expressions.{Seen, plain, entries, pattern, see, of-entry, in-expr}
 use Rattle.precheck.proofs.Patterns.{at-once, any-span}
 
 -- ── one stage for another ──
@@ -54,74 +57,83 @@ module _ {P : ℕ → Stage} {n m i : ℕ} (e : n ≡ m) where
   pub walks-counted : {r : Walk} → Walks r (Run P n i) → Walks r (Run P m i)
   walks-counted h = rw e at h
 
+-- ── the verdict at a record ──
+
+module _ {a b : List ℕ} {s : Sort} {d : ℕ} {span : Span} {i : ℕ} {r : Checked} (own : Own a b s i span r) where
+  -- what a record is refused for by itself, its tree is refused for
+  pub own-refused : {x : PlanLowerError} → r ≡ Checked.Refused x → Walks (Refused x) (At a b s d span i)
+  own-refused {x} g = record { each = λ v e h. first-met (verdictBelow (h .tree) span) (h .verdict ∙ in-turn (h .tree) span) (rw g at (own .each (h .sheet) d (h .tree) (h .held))) }
+
+  own-fine : r ≡ Checked.Fine → {v : Verdict} {e : ℕ} (h : At a b s d span i v e) → ownVerdict (h .tree) span ≡ fine
+  own-fine g h = rw g at (own .each (h .sheet) d (h .tree) (h .held))
+
+module _ {a b : List ℕ} (room : Roomy a b) {i c : ℕ} (kind : c ≡ cell a b i kindAt) {span : HirSpan} where
+  pub own-unresolved : c ≡ unresKind → Own a b expr i (spanOf span) (Checked.Refused (UnresolvedName (i + 1) span))
+  own-unresolved k = record { each = λ sheet d t h. let q = in-expr (open-held room sheet d t (spanOf span) h) .unresolved (sym kind ∙ k) in record { unresolved = q .0; is = rw add-one (q .1) } }
+
+  pub own-undesugared : {x : ℕ} → x ≡ cell a b i undesKindAt → c ≡ undesKind → Own a b expr i (spanOf span) (Checked.Refused (UndesugaredExpr (i + 1) span x))
+  own-undesugared q k = record { each = λ sheet d t h. record { unresolved = []; is = rw (add-one, q) (in-expr (open-held room sheet d t (spanOf span) h) .undesugared (sym kind ∙ k)) } }
+
+  pub own-other : Others c (undesKind ∷ unresKind ∷ []) → Own a b expr i (spanOf span) Checked.Fine
+  own-other k = record { each = λ sheet d t h. in-expr (open-held room sheet d t (spanOf span) h) .other (λ z. k .0 .1 (kind ∙ z)) (λ z. k .1 (kind ∙ z)) }
+
+module _ {a b : List ℕ} {i : ℕ} {t : Bool} {span : HirSpan} (h : Begins a b i t) where
+  pub own-empty : t ≡ false → Own a b patternPart i (spanOf span) (Checked.Refused (EmptyPatternPart (i + 1) span))
+  own-empty e = record { each = λ sheet d p q. record { unresolved = []; is = rw add-one (rw e at (h .each sheet d p (spanOf span) q)) } }
+
+  pub own-begins : t ≡ true → Own a b patternPart i (spanOf span) Checked.Fine
+  own-begins e = record { each = λ sheet d p q. rw e at (h .each sheet d p (spanOf span) q) }
+
 -- ── an expression ──
 
 module _ {a b : List ℕ} (room : Roomy a b) {i c n : ℕ} (kind : c ≡ cell a b i kindAt) (count : n ≡ countAt a b i) {d : ℕ} {span : Span} where
-  seen : (v : Verdict) (e : ℕ) → At a b expr d span i v e → Seen a b (d - 1) span i c n v e
-  seen v e h =
-      let o = open-at room h in
-      rw (counts (o .sheet) a b i n (o .kind) count (o .number) (o .flags)) (see (o .sheet) c (o .kind) (kind ∙ expr-number _ _ (o .number)) (o .body))
+  seen : {u v : Verdict} {e : ℕ} → Opened a b expr d span i u v e → u ≡ fine → Seen a b (d - 1) span i c n v e
+  seen o own =
+      rw (counts (o .sheet) a b i n (o .kind) count (o .number) (o .flags)) (see (o .sheet) c (o .kind) (kind ∙ expr-number _ _ (o .number)) (o .body) (sym (o .own) ∙ own))
 
-  pub as-entries : c ≡ mapKind → Turns (At a b expr d span i) (Exprs a b 1 (d - 1) span n (i + 1))
-  as-entries k = record { to = λ v e h. go (seen v e h) }
-    where
-      go : {v : Verdict} {e : ℕ} → Seen a b (d - 1) span i c n v e → Exprs a b 1 (d - 1) span n (i + 1) v e
-      go (plain p r) = absurd (p .map k)
-      go (entries p r) = map-run (of-entry room) r
-      go (pattern p r) = absurd (omega arith)
-      go (unresolved x p r) = absurd (omega arith)
-      go (undesugared p r) = absurd (omega arith)
+  module _ {r : Checked} (own : Own a b expr i span r) (is-fine : r ≡ Checked.Fine) where
+    pub as-entries : c ≡ mapKind → Turns (At a b expr d span i) (Exprs a b 1 (d - 1) span n (i + 1))
+    as-entries k = record { to = λ v e h. go (seen (open-at room h) (own-fine own is-fine h)) }
+      where
+        go : {v : Verdict} {e : ℕ} → Seen a b (d - 1) span i c n v e → Exprs a b 1 (d - 1) span n (i + 1) v e
+        go (plain p r) = absurd (p .map k)
+        go (entries p r) = map-run (of-entry room) r
+        go (pattern p r) = absurd (omega arith)
 
-  pub as-pattern : c ≡ patKind → Turns (At a b expr d span i) (Run (At a b patternPart (d - 1) span) n (i + 1))
-  as-pattern k = record { to = λ v e h. go (seen v e h) }
-    where
-      go : {v : Verdict} {e : ℕ} → Seen a b (d - 1) span i c n v e → Run (At a b patternPart (d - 1) span) n (i + 1) v e
-      go (plain p r) = absurd (p .pattern k)
-      go (entries p r) = absurd (omega arith)
-      go (pattern p r) = r
-      go (unresolved x p r) = absurd (omega arith)
-      go (undesugared p r) = absurd (omega arith)
+    pub as-pattern : c ≡ patKind → Turns (At a b expr d span i) (Run (At a b patternPart (d - 1) span) n (i + 1))
+    as-pattern k = record { to = λ v e h. go (seen (open-at room h) (own-fine own is-fine h)) }
+      where
+        go : {v : Verdict} {e : ℕ} → Seen a b (d - 1) span i c n v e → Run (At a b patternPart (d - 1) span) n (i + 1) v e
+        go (plain p r) = absurd (p .pattern k)
+        go (entries p r) = absurd (omega arith)
+        go (pattern p r) = r
 
-  pub as-plain : Others c (undesKind ∷ unresKind ∷ patKind ∷ mapKind ∷ []) → Turns (At a b expr d span i) (Exprs a b 0 (d - 1) span n (i + 1))
-  as-plain k = record { to = λ v e h. go (seen v e h) }
-    where
-      go : {v : Verdict} {e : ℕ} → Seen a b (d - 1) span i c n v e → Exprs a b 0 (d - 1) span n (i + 1) v e
-      go (plain p r) = at-once r
-      go (entries p r) = absurd (k .0 .0 .0 .1 p)
-      go (pattern p r) = absurd (k .0 .0 .1 p)
-      go (unresolved x p r) = absurd (k .0 .1 p)
-      go (undesugared p r) = absurd (k .1 p)
+    pub as-plain : Others c (patKind ∷ mapKind ∷ []) → Turns (At a b expr d span i) (Exprs a b 0 (d - 1) span n (i + 1))
+    as-plain k = record { to = λ v e h. go (seen (open-at room h) (own-fine own is-fine h)) }
+      where
+        go : {v : Verdict} {e : ℕ} → Seen a b (d - 1) span i c n v e → Exprs a b 0 (d - 1) span n (i + 1) v e
+        go (plain p r) = at-once r
+        go (entries p r) = absurd (k .0 .1 p)
+        go (pattern p r) = absurd (k .1 p)
 
-module _ {a b : List ℕ} (room : Roomy a b) {i c n : ℕ} (kind : c ≡ cell a b i kindAt) (count : n ≡ countAt a b i) {d : ℕ} {span : HirSpan} where
-  pub as-unresolved : c ≡ unresKind → Walks (Refused (UnresolvedName (i + 1) span)) (At a b expr d (spanOf span) i)
-  as-unresolved k = record { each = λ v e h. go (seen room kind count v e h) }
-    where
-      go : {v : Verdict} {e : ℕ} → Seen a b (d - 1) (spanOf span) i c n v e → Ends (Refused (UnresolvedName (i + 1) span)) v e
-      go (plain p r) = absurd (p .unresolved k)
-      go (entries p r) = absurd (omega arith)
-      go (pattern p r) = absurd (omega arith)
-      go (unresolved x p r) = record { unresolved = x; is = rw add-one r }
-      go (undesugared p r) = absurd (omega arith)
+-- an expression that has none below it, whatever its fields
+pub as-leaf : {a b : List ℕ} {i c : ℕ} {d : ℕ} {span : Span} → Roomy a b → c ≡ cell a b i kindAt → isLeaf c ≡ true → Walks (Go (i + 1)) (At a b expr d span i)
+unfolding isLeaf
+as-leaf {a} {b} {i} {c} {d} {span} room kind leaf = record { each = λ v e h. let o = open-at room h in go (seen room kind (leaf-count a b i kind leaf) o (in-expr o .other (λ z. not unresKind refl (kind ∙ z)) (λ z. not undesKind refl (kind ∙ z)))) }
+  where
+    not : (k : ℕ) → isLeaf k ≡ false → c ≡ k → ⊥
+    not k = leaf-not c k leaf
 
-  pub as-undesugared : {x : ℕ} → x ≡ cell a b i undesKindAt → c ≡ undesKind → Walks (Refused (UndesugaredExpr (i + 1) span x)) (At a b expr d (spanOf span) i)
-  as-undesugared {x} q k = record { each = λ v e h. go (seen room kind count v e h) }
-    where
-      go : {v : Verdict} {e : ℕ} → Seen a b (d - 1) (spanOf span) i c n v e → Ends (Refused (UndesugaredExpr (i + 1) span x)) v e
-      go (plain p r) = absurd (p .undesugared k)
-      go (entries p r) = absurd (omega arith)
-      go (pattern p r) = absurd (omega arith)
-      go (unresolved x p r) = absurd (omega arith)
-      go (undesugared p r) = record { unresolved = []; is = rw (add-one, q) r }
+    go : {v : Verdict} {e : ℕ} → Seen a b (d - 1) span i c 0 v e → Ends (Go (i + 1)) v e
+    go (plain p r) = closed refl r
+    go (entries p r) = absurd (not mapKind refl p)
+    go (pattern p r) = absurd (not patKind refl p)
 
 -- ── a part ──
 
-pub as-empty : {a b : List ℕ} {i : ℕ} {t : Bool} {d : ℕ} {span : HirSpan} → Begins a b i t → t ≡ false → Walks (Refused (EmptyPatternPart (i + 1) span)) (At a b patternPart d (spanOf span) i)
-unfolding andThen
-as-empty {i = i} {t} {d} {span} h t′ = record { each = λ v e p. (let q = rw t′ at h .each d (spanOf span) v e p in record { unresolved = []; is = rw add-one (q .both) }) }
-
-pub as-elements : {a b : List ℕ} {i n : ℕ} {t : Bool} {d : ℕ} {span : Span} → Begins a b i t → t ≡ true → n ≡ cell a b i partElementsAt → Turns (At a b patternPart d span i) (Run (At a b patternElement (d - 1) noSpan) n (i + 1))
-unfolding andThen
-as-elements {d = d} {span = span} h t e = record { to = λ v x p. (let q = rw t at h .each d span v x p in rw (e, q .both) (map-run any-span (q .elements))) }
+pub as-elements : {a b : List ℕ} {i n : ℕ} {r : Checked} {d : ℕ} {span : Span} → Roomy a b → Own a b patternPart i span r → r ≡ Checked.Fine → n ≡ cell a b i partElementsAt → Turns (At a b patternPart d span i) (Run (At a b patternElement (d - 1) noSpan) n (i + 1))
+unfolding fieldsOf fieldOf
+as-elements room own is-fine e = record { to = λ v x p. let o = open-at room p in rw e (map-run any-span (last-of (kids-of (o .body) (sym (o .own) ∙ own-fine own is-fine p)))) }
 
 pub as-props : {a b : List ℕ} {i : ℕ} {p : Props} {d : ℕ} {span : Span} → Inside a b i p → Turns (At a b patternElement d span i) (Exprs a b 0 (d - 1) (spanOf (p .span)) (p .n) (p .first))
 as-props {d = d} {span = span} h = record { to = λ v e q. h .each d span v e q }

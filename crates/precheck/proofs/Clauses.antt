@@ -45,7 +45,7 @@ span-is : {a b : List ℕ} {i c w k : ℕ} {s : HirSpan} → Spans a b i w s →
 span-is {a} {b} {i} h e k = span-read h ∙ rw (e, k)
 
 module _ {a b : List ℕ} (room : Roomy a b) {i c w n : ℕ} {s : HirSpan} (kind : c ≡ cell a b i kindAt) (word4 : n ≡ cell a b i matchPartsAt) (spans : Spans a b i w s) (at : w ≡ spanWord c) {d : ℕ} where
-  clause-as : {v : Verdict} {e : ℕ} (o : Opened a b clause d noSpan i v e) (k : Clause) → kindOf clause c ≡ some k → As (o .sheet) a b clause d noSpan i v e k
+  clause-as : {u v : Verdict} {e : ℕ} (o : Opened a b clause d noSpan i u v e) (k : Clause) → kindOf clause c ≡ some k → As (o .sheet) a b clause d noSpan i v e k
   clause-as o k z = open-as o k (rw kind at z)
 
   pub as-match : c ≡ matchKind → Turns (At a b clause d noSpan i) (Run (At a b patternPart (d - 1) (spanOf s)) n (i + 1))

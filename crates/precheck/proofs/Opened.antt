@@ -16,8 +16,15 @@ use Rattle.words.specs.Places.{kindAt}
 use Rattle.words.specs.Held.{Held, HeldOf, HeldIn, Flags, size, sizeOf, sizeIn, roomIn}
 use Rattle.precheck.specs.Steps.{Then, Run, no-more, one-more}
 use Rattle.words.specs.Cells.{cells, Shown, shown}
-use Rattle.precheck.specs.Stands.{At}
+use Rattle.precheck.specs.Stands.{At, ownVerdict, inTurn}
 use Rattle.precheck.proofs.Laws.{End}
+
+-- ── a tree ──
+
+-- a tree is refused for its own record, and then for what is below it
+pub in-turn : {s : Sort} (t : Tree s) (span : Span) → check t span ≡ inTurn t span
+unfolding check
+in-turn (node s line k f kids) span = refl
 
 -- ── groups of children ──
 
@@ -63,7 +70,8 @@ kids-of {sheet} {a} {b} {s} {d} {span} {i} {v} {e} {k} {f} o own =
     let z : v ≡ checkIn (o .forest) (spanIn s k f span) = o .verdict ∙ rw own in
     rw (z, o .next) (groups a b (roomIn s d) (spanIn s k f span) sheet (o .forest) (i + 1) (o .held))
 
-pub record Opened (a b : List ℕ) (s : Sort) (d : ℕ) (span : Span) (i : ℕ) (v : Verdict) (e : ℕ) : Type 0 where
+-- a record of which the tree's own verdict is u
+pub record Opened (a b : List ℕ) (s : Sort) (d : ℕ) (span : Span) (i : ℕ) (u v : Verdict) (e : ℕ) : Type 0 where
   pub sheet : Bytes
   pub kind : Kind s
   pub low : i < maxRecords
@@ -71,13 +79,17 @@ pub record Opened (a b : List ℕ) (s : Sort) (d : ℕ) (span : Span) (i : ℕ) 
   pub number : kindOf s (cell a b i kindAt) ≡ some kind
   pub flags : Flags (forms s kind) (cells a b i) 0
   pub body : Body sheet a b s d span i v e kind (fieldsOf (forms s kind) sheet (cells a b i) 0)
+  pub own : u ≡ ofRecord s (suc i) kind (fieldsOf (forms s kind) sheet (cells a b i) 0) (body .forest) span
 
-open-tree : {a b : List ℕ} {d : ℕ} {span : Span} {i : ℕ} {v : Verdict} {e : ℕ} → Roomy a b → (sheet : Bytes) {s : Sort} (t : Tree s) → Held sheet a b t d i → v ≡ check t span → e ≡ i + size t → Opened a b s d span i v e
+open-tree : {a b : List ℕ} {d : ℕ} {span : Span} {i : ℕ} {v : Verdict} {e : ℕ} → Roomy a b → (sheet : Bytes) {s : Sort} (t : Tree s) → Held sheet a b t d i → v ≡ check t span → e ≡ i + size t → Opened a b s d span i (ownVerdict t span) v e
 unfolding Held check size
 open-tree {a} {b} {d} {span} {i} {v} {e} room sheet (node s line k f kids) h hv he =
     let w : Shown sheet a b i s k f = shown room (h .1) in
     let body : Body sheet a b s d span i v e k f =
     record { forest = kids; held = h .3; verdict = hv ∙ rw (h .0) refl; next = omega arith }
+    in
+    let read : (x : Body sheet a b s d span i v e k (fieldsOf (forms s k) sheet (cells a b i) 0)) × (ofRecord s line k f kids span ≡ ofRecord s (suc i) k (fieldsOf (forms s k) sheet (cells a b i) 0) (x .forest) span) =
+    subst (λ (g : Fields (forms s k)). (x : Body sheet a b s d span i v e k g) × (ofRecord s line k f kids span ≡ ofRecord s (suc i) k g (x .forest) span)) (w .fields) (body, rw (h .0) refl)
     in
     record {
       sheet = sheet;
@@ -86,10 +98,14 @@ open-tree {a} {b} {d} {span} {i} {v} {e} room sheet (node s line k f kids) h hv 
       deep = h .2;
       number = w .kind;
       flags = w .flags;
-      body = subst (λ (g : Fields (forms s k)). Body sheet a b s d span i v e k g) (w .fields) body;
+      body = read .0;
+      own = read .1;
     }
 
-pub open-at : {a b : List ℕ} {s : Sort} {d : ℕ} {span : Span} {i : ℕ} {v : Verdict} {e : ℕ} → Roomy a b → At a b s d span i v e → Opened a b s d span i v e
+pub open-held : {a b : List ℕ} {s : Sort} {i : ℕ} → Roomy a b → (sheet : Bytes) (d : ℕ) (t : Tree s) (span : Span) → Held sheet a b t d i → Opened a b s d span i (ownVerdict t span) (check t span) (i + size t)
+open-held room sheet d t span h = open-tree room sheet t h refl refl
+
+pub open-at : {a b : List ℕ} {s : Sort} {d : ℕ} {span : Span} {i : ℕ} {v : Verdict} {e : ℕ} → Roomy a b → (h : At a b s d span i v e) → Opened a b s d span i (ownVerdict (h .tree) span) v e
 open-at room h = open-tree room (h .sheet) (h .tree) (h .held) (h .verdict) (h .next)
 
 -- ── a record of a kind that is known ──
@@ -98,8 +114,8 @@ pub record As (sheet : Bytes) (a b : List ℕ) (s : Sort) (d : ℕ) (span : Span
   pub flags : Flags (forms s k) (cells a b i) 0
   pub body : Body sheet a b s d span i v e k (fieldsOf (forms s k) sheet (cells a b i) 0)
 
-pub open-as : {a b : List ℕ} {s : Sort} {d : ℕ} {span : Span} {i : ℕ} {v : Verdict} {e : ℕ} (o : Opened a b s d span i v e) (k : Kind s) → kindOf s (cell a b i kindAt) ≡ some k → As (o .sheet) a b s d span i v e k
-open-as {a} {b} {s} {d} {span} {i} {v} {e} o k h =
+pub open-as : {a b : List ℕ} {s : Sort} {d : ℕ} {span : Span} {i : ℕ} {u v : Verdict} {e : ℕ} (o : Opened a b s d span i u v e) (k : Kind s) → kindOf s (cell a b i kindAt) ≡ some k → As (o .sheet) a b s d span i v e k
+open-as {a} {b} {s} {d} {span} {i} {u} {v} {e} o k h =
     let p : o .kind ≡ k = cc (o .number) in
     subst (λ (x : Kind s). As (o .sheet) a b s d span i v e x) p (record { flags = o .flags; body = o .body })
 

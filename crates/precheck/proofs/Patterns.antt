@@ -12,19 +12,18 @@ use Rattle.model.specs.Field.{Span}
 use Rattle.model.specs.Kind.{PatternElement, expr, name, yieldItem, patternPart, patternElement}
 use Rattle.model.specs.Record.{one, elementForms}
 use Rattle.model.specs.Tree.{Tree, Trees, Forest, node, []ᵗ, _∷ᵗ_, end, _▸_}
-use Rattle.model.specs.Refusal.{Refusal}
-use Rattle.model.specs.Check.{Verdict, fine, violated, andThen, check, checkOf, checkIn, ofRecord, ofPart, ofElements}
+use Rattle.model.specs.Check.{Verdict, fine, andThen, check, ofRecord, ofPart, ofElements}
 use Rattle.words.specs.Words.{Roomy, maxRecords, cell, fieldsOf, fieldOf}
 use Rattle.words.specs.Places.{nodeKind, relKind, kindAt, partElementsAt, nodeLabelsAt, nodePropsAt, nodeSpanAt, relTypesAt, relPropsAt, relSpanAt}
-use Rattle.words.specs.Held.{Held, HeldOf, HeldIn, Flags, size, sizeOf, sizeIn}
+use Rattle.words.specs.Held.{Held, HeldOf, HeldIn, Flags}
 use Rattle.precheck.specs.Answer.{spanOf}
-use Rattle.precheck.specs.Steps.{firstOf, Stage, Then, Run, no-more, one-more}
+use Rattle.precheck.specs.Steps.{Stage, Then, Run, no-more, one-more}
 use Rattle.words.specs.Cells.{flag-word, cells, shown}
 use Rattle.words.specs.Numbers.{elementNumber, element-number}
-use Rattle.precheck.specs.Stands.{At, Exprs, SomeAt, Spans, Inside, ownVerdict, Begins, spanIn}
+use Rattle.precheck.specs.Stands.{At, Exprs, SomeAt, Spans, Inside, partVerdict, Begins, spanIn}
 use Rattle.precheck.specs.declared.HirSpan.{HirSpan}
 use Rattle.precheck.proofs.Laws.{End, none-after, last-of, map-run}
-use Rattle.precheck.proofs.Opened.{kids-of, trees, Body, open-at}
+use Rattle.precheck.proofs.Opened.{kids-of, Body, Opened, open-at, open-held}
 
 -- ── records with no children ──
 
@@ -100,61 +99,50 @@ any-span {s = s} {t = t} i v e h = record { sheet = h .sheet; tree = h .tree; he
 
 -- ── parts ──
 
--- what the check sees of a part with n elements
-pub record InPart (a b : List ℕ) (d : ℕ) (span : Span) (i n : ℕ) (v : Verdict) (e : ℕ) : Type 0 where
-  pub inner : Verdict
-  pub elements : Run (At a b patternElement (d - 1) span) n (i + 1) inner e
+-- the verdict at a part with n elements, by the first one's kind
+pub record InPart (a b : List ℕ) (span : Span) (i n : ℕ) (u : Verdict) : Type 0 where
   pub low : (n ≡ 0 → ⊥) → i + 1 < maxRecords
-  pub empty : n ≡ 0 → v ≡ firstOf (ownVerdict false i span) inner
-  pub node : (n ≡ 0 → ⊥) → cell a b (i + 1) kindAt ≡ nodeKind → v ≡ firstOf (ownVerdict true i span) inner
-  pub rel : (n ≡ 0 → ⊥) → (cell a b (i + 1) kindAt ≡ nodeKind → ⊥) → v ≡ firstOf (ownVerdict false i span) inner
+  pub empty : n ≡ 0 → u ≡ partVerdict false i span
+  pub node : (n ≡ 0 → ⊥) → cell a b (i + 1) kindAt ≡ nodeKind → u ≡ partVerdict true i span
+  pub rel : (n ≡ 0 → ⊥) → (cell a b (i + 1) kindAt ≡ nodeKind → ⊥) → u ≡ partVerdict false i span
 
--- a part that has a verdict of its own is refused for that, whatever its elements have
-own-first : (i : ℕ) (span : Span) (v w : Verdict) → v ≡ violated (Refusal.EmptyPatternPart (suc i) span) → v ≡ firstOf (ownVerdict false i span) w
-unfolding andThen
-own-first i span v w h = h
-
-module _ {a b : List ℕ} (room : Roomy a b) {d : ℕ} {span : Span} {i : ℕ} {v : Verdict} {e : ℕ} where
-  by-elements : (sheet : Bytes) (n : ℕ) (ts : Trees patternElement n) → HeldOf sheet a b ts (d - 1) (i + 1) → v ≡ andThen (ofElements (suc i) ts span) (checkOf ts span) → e ≡ i + 1 + sizeOf ts → InPart a b d span i n v e
-  unfolding ofElements andThen Held elementNumber
-  by-elements sheet n []ᵗ h hv he = record { inner = checkOf {s = patternElement} []ᵗ span; elements = rw he (trees a b (d - 1) span sheet []ᵗ (i + 1) h); empty = λ z. own-first i span v (checkOf {s = patternElement} []ᵗ span) hv; low = λ z. absurd (z refl); node = λ z. absurd (z refl); rel = λ z. absurd (z refl) }
-  by-elements sheet n (_∷ᵗ_ {n = m} (node patternElement line PatternElement.Node f kids) ts) h hv he =
+module _ {a b : List ℕ} (room : Roomy a b) {span : Span} {i : ℕ} {u : Verdict} where
+  by-elements : (sheet : Bytes) (d n : ℕ) (ts : Trees patternElement n) → HeldOf sheet a b ts d (i + 1) → u ≡ ofElements (suc i) ts span → InPart a b span i n u
+  unfolding ofElements Held elementNumber
+  by-elements sheet d n []ᵗ h o = record { empty = λ z. o; low = λ z. absurd (z refl); node = λ z. absurd (z refl); rel = λ z. absurd (z refl) }
+  by-elements sheet d n (_∷ᵗ_ {n = m} (node patternElement line PatternElement.Node f kids) ts) h o =
       record {
-        inner = checkOf (node patternElement line PatternElement.Node f kids ∷ᵗ ts) span;
-        elements = rw he (trees a b (d - 1) span sheet (node patternElement line PatternElement.Node f kids ∷ᵗ ts) (i + 1) h);
         empty = λ z. absurd (omega arith);
         low = λ z. h .0 .1 .low;
-        node = λ z c. hv;
+        node = λ z c. o;
         rel = λ z c. absurd (c (element-number _ _ (shown room (h .0 .1) .kind)));
       }
-  by-elements sheet n (_∷ᵗ_ {n = m} (node patternElement line PatternElement.Rel f kids) ts) h hv he =
+  by-elements sheet d n (_∷ᵗ_ {n = m} (node patternElement line PatternElement.Rel f kids) ts) h o =
       record {
-        inner = checkOf (node patternElement line PatternElement.Rel f kids ∷ᵗ ts) span;
-        elements = rw he (trees a b (d - 1) span sheet (node patternElement line PatternElement.Rel f kids ∷ᵗ ts) (i + 1) h);
         empty = λ z. absurd (omega arith);
         low = λ z. h .0 .1 .low;
         node = λ z c. let k : cell a b (i + 1) kindAt ≡ relKind = element-number _ _ (shown room (h .0 .1) .kind) in absurd (omega arith);
-        rel = λ z c. own-first i span v (checkOf (node patternElement line PatternElement.Rel f kids ∷ᵗ ts) span) hv;
+        rel = λ z c. o;
       }
 
-  by-forest : (sheet : Bytes) (n : ℕ) (f : Forest ((patternElement, n) ∷ [])) → HeldIn sheet a b f (d - 1) (i + 1) → v ≡ andThen (ofPart (suc i) f span) (checkIn f span) → e ≡ i + 1 + sizeIn f → InPart a b d span i n v e
-  unfolding ofPart Held check size
-  by-forest sheet n (ts ▸ end) h hv he = by-elements sheet n ts (h .0) (hv ∙ rw none-after) (he ∙ rw add-zero)
+  by-forest : (sheet : Bytes) (d n : ℕ) (f : Forest ((patternElement, n) ∷ [])) → HeldIn sheet a b f d (i + 1) → u ≡ ofPart (suc i) f span → InPart a b span i n u
+  unfolding ofPart Held
+  by-forest sheet d n (ts ▸ end) h o = by-elements sheet d n ts (h .0) o
 
-  pub in-part : At a b patternPart d span i v e → InPart a b d span i (cell a b i partElementsAt) v e
+  pub in-part : {d : ℕ} {v : Verdict} {e : ℕ} → Opened a b patternPart d span i u v e → InPart a b span i (cell a b i partElementsAt) u
   unfolding ofRecord fieldsOf fieldOf
-  in-part h = let o = open-at room h in by-forest (o .sheet) (cell a b i partElementsAt) (o .body .forest) (o .body .held) (o .body .verdict) (o .body .next)
+  in-part {d} o = by-forest (o .sheet) (d - 1) (cell a b i partElementsAt) (o .body .forest) (o .body .held) (o .own)
 
 module _ {a b : List ℕ} (room : Roomy a b) {i n : ℕ} (elements : n ≡ cell a b i partElementsAt) where
   module _ (some : (n ≡ 0) → ⊥) where
     pub begins-rel : {c : ℕ} → c ≡ cell a b (i + 1) kindAt → (c ≡ nodeKind → ⊥) → Begins a b i false
-    begins-rel kind h = record { each = λ d span v e p. record { inner = in-part room p .inner; elements = in-part room p .elements; both = in-part room p .rel (λ z. some (elements ∙ z)) (λ z. h (kind ∙ z)) } }
+    begins-rel kind h = record { each = λ sheet d t span p. in-part room (open-held room sheet d t span p) .rel (λ z. some (elements ∙ z)) (λ z. h (kind ∙ z)) }
 
     pub begins-low : SomeAt a b patternPart i → i + 1 < maxRecords
-    begins-low h = in-part room (h .is) .low (λ z. some (elements ∙ z))
+    begins-low h = in-part room (open-at room (h .is)) .low (λ z. some (elements ∙ z))
 
     pub begins-node : {c : ℕ} → c ≡ cell a b (i + 1) kindAt → c ≡ nodeKind → Begins a b i true
-    begins-node kind h = record { each = λ d span v e p. record { inner = in-part room p .inner; elements = in-part room p .elements; both = in-part room p .node (λ z. some (elements ∙ z)) (sym kind ∙ h) } }
+    begins-node kind h = record { each = λ sheet d t span p. in-part room (open-held room sheet d t span p) .node (λ z. some (elements ∙ z)) (sym kind ∙ h) }
 
   pub begins-not : n ≡ 0 → Begins a b i false
-  begins-not h = record { each = λ d span v e p. record { inner = in-part room p .inner; elements = in-part room p .elements; both = in-part room p .empty (sym elements ∙ h) } }
+  begins-not h = record { each = λ sheet d t span p. in-part room (open-held room sheet d t span p) .empty (sym elements ∙ h) }

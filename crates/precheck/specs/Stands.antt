@@ -9,14 +9,16 @@ use Rattle.model.specs.Text.{Bytes}
 use Rattle.model.specs.Field.{Span}
 use Rattle.model.specs.Kind.{Sort, expr, patternPart, patternElement}
 use Rattle.model.specs.Record.{Group}
-use Rattle.model.specs.Tree.{Tree}
+use Rattle.model.specs.Tree.{Tree, node}
 use Rattle.model.specs.Refusal.{Refusal}
-use Rattle.model.specs.Check.{Verdict, fine, violated, check}
+use Rattle.model.specs.Check.{Verdict, fine, violated, check, checkIn, ofRecord}
+use Rattle.model.specs.Check
 use Rattle.words.specs.Words.{cell, maxRecords}
-use Rattle.words.specs.Places.{matchKind, matchSpanAt, whereKind, whereSpanAt, unwindKind, unwindSpanAt, callKind, callSpanAt, callArgsAt, callYieldsAt, writeKind, writeSpanAt, projectionSpanAt, itemsAt, keysAt, skipAt, limitAt, partElementsAt}
+use Rattle.words.specs.Places.{matchKind, matchSpanAt, whereKind, whereSpanAt, unwindKind, unwindSpanAt, callKind, callSpanAt, callArgsAt, callYieldsAt, writeKind, writeSpanAt, projectionSpanAt, itemsAt, keysAt, skipAt, limitAt}
 use Rattle.words.specs.Held.{Held, size}
-use Rattle.precheck.specs.Answer.{spanOf}
+use Rattle.precheck.specs.Answer.{spanOf, Says}
 use Rattle.precheck.specs.Steps.{Stage, Some, firstOf, Then, Run}
+use Rattle.precheck.specs.declared.Checked.{Checked}
 use Rattle.precheck.specs.declared.HirSpan.{HirSpan}
 use Rattle.precheck.specs.declared.Props.{Props}
 
@@ -65,19 +67,30 @@ pub record SomeAt (a b : List ℕ) (s : Sort) (i : ℕ) : Type 0 where
 pub record Inside (a b : List ℕ) (i : ℕ) (p : Props) : Type 0 where
   pub each : (d : ℕ) (around : Span) (v : Verdict) (e : ℕ) → At a b patternElement d around i v e → Exprs a b 0 (d - 1) (spanOf (p .span)) (p .n) (p .first) v e
 
+-- ── the verdict at a record ──
+
+-- what a tree is refused for at its own record, and what at the records below it
+abbrev pub ownVerdict : {s : Sort} → Tree s → Span → Verdict
+ownVerdict (node s line k f kids) span = ofRecord s line k f kids span
+
+abbrev pub verdictBelow : {s : Sort} → Tree s → Span → Verdict
+verdictBelow (node s line k f kids) span = checkIn kids (Check.spanIn s k f span)
+
+-- its own record counts first
+abbrev pub inTurn : {s : Sort} → Tree s → Span → Verdict
+inTurn t span = firstOf (ownVerdict t span) (verdictBelow t span)
+
+-- an answer is what any tree of a sort that stands at record i is refused for at its own record
+pub record Own (a b : List ℕ) (s : Sort) (i : ℕ) (span : Span) (r : Checked) : Type 0 where
+  pub each : (sheet : Bytes) (d : ℕ) (t : Tree s) → Held sheet a b t d i → Says r (ownVerdict t span)
+
 -- what a part is refused for itself, whether it begins with a node or not
-abbrev pub ownVerdict : Bool → ℕ → Span → Verdict
-ownVerdict true i span = fine
-ownVerdict false i span = violated (Refusal.EmptyPatternPart (suc i) span)
+abbrev pub partVerdict : Bool → ℕ → Span → Verdict
+partVerdict true i span = fine
+partVerdict false i span = violated (Refusal.EmptyPatternPart (suc i) span)
 
--- a part is refused for itself, and behind that for its elements
-pub record BeginsAs (t : Bool) (a b : List ℕ) (i d : ℕ) (span : Span) (v : Verdict) (e : ℕ) : Type 0 where
-  pub inner : Verdict
-  pub elements : Run (At a b patternElement (d - 1) span) (cell a b i partElementsAt) (i + 1) inner e
-  pub both : v ≡ firstOf (ownVerdict t i span) inner
-
-pub record Begins (a b : List ℕ) (i : ℕ) (t : Bool) : Type 0 where
-  pub each : (d : ℕ) (span : Span) (v : Verdict) (e : ℕ) → At a b patternPart d span i v e → BeginsAs t a b i d span v e
+pub record Begins (a b : List ℕ) (i : ℕ) (begins : Bool) : Type 0 where
+  pub each : (sheet : Bytes) (d : ℕ) (t : Tree patternPart) (span : Span) → Held sheet a b t d i → ownVerdict t span ≡ partVerdict begins i span
 
 -- ── clauses ──
 

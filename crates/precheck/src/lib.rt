@@ -6,12 +6,12 @@ ghost use Rattle.model.specs.Check.{Verdict, noSpan, precheckStatement};
 ghost use Rattle.model.specs.Text.{Bytes};
 ghost use Rattle.model.specs.Tree.{Tree};
 ghost use Rattle.words.specs.Held.{Held, HeldSome};
-ghost use Rattle.words.specs.Places.{lineEndAt};
-ghost use Rattle.words.specs.Words.{Roomy, maxRecords};
+ghost use Rattle.words.specs.Places.{kindAt, lineEndAt};
+ghost use Rattle.words.specs.Words.{Roomy, cell, maxRecords};
 ghost use Rattle.model.specs.Call.{maxDepth};
 ghost use Rattle.precheck.specs.Answer.{spanOf, Says};
 ghost use Rattle.precheck.specs.Steps.{Some, Ends, Walks, Run};
-ghost use Rattle.precheck.specs.Stands.{At, Standing, Exprs, Spans, SomeAt, Inside, Begins, spanWord, Trailers, Projected, Called};
+ghost use Rattle.precheck.specs.Stands.{At, Standing, Exprs, Spans, SomeAt, Inside, Begins, Own, spanWord, Trailers, Projected, Called};
 use words::field;
 use words::kind;
 use words::records::children_of;
@@ -103,6 +103,42 @@ fn begins_with_node(a: &[u32], b: &[u32], i: usize) -> bool
     false
 }
 
+// ── the verdict at a record ──
+
+// What the expression at record i is refused for by itself.
+fn expr_verdict(a: &[u32], b: &[u32], i: usize, kind: u32, span: HirSpan) -> Checked
+    requires { ⌜ Roomy (now a) (now b) ⌝ }
+    requires { ⌜ (i < maxRecords) × (kind ≡ cell (now a) (now b) i kindAt) ⌝ }
+    ensures { λ r. ⌜ Own (now (a .entry)) (now (b .entry)) expr i (spanOf span) r ⌝ }
+{
+    let line = (i + 1) as u32;
+    match kind {
+        kind::UNRES => Checked::Refused(PlanLowerError::UnresolvedName { line, span }),
+        kind::UNDES => {
+            let x = words::word(a, b, i, field::UNDES_KIND);
+            Checked::Refused(PlanLowerError::UndesugaredExpr {
+                line,
+                span,
+                kind: x,
+            })
+        }
+        _ => Checked::Fine,
+    }
+}
+
+// What the part at record i is refused for by itself: it has to begin with a node.
+fn part_verdict(a: &[u32], b: &[u32], i: usize, span: HirSpan) -> Checked
+    requires { ⌜ Roomy (now a) (now b) ⌝ }
+    requires { ⌜ SomeAt (now a) (now b) patternPart i ⌝ }
+    ensures { λ r. ⌜ Own (now (a .entry)) (now (b .entry)) patternPart i (spanOf span) r ⌝ }
+{
+    if begins_with_node(a, b, i) {
+        return Checked::Fine;
+    }
+    let line = (i + 1) as u32;
+    Checked::Refused(PlanLowerError::EmptyPatternPart { line, span })
+}
+
 // ── the check of an expression and that of a pattern ──
 
 // The expression at record i, at most left deep.
@@ -112,21 +148,20 @@ fn check_expr(a: &[u32], b: &[u32], i: usize, left: usize, span: HirSpan) -> Wal
     ensures { λ r. ⌜ Walks r (At (now (a .entry)) (now (b .entry)) expr left (spanOf span) i) ⌝ }
 {
     let kind = words::word(a, b, i, field::KIND);
-    let x = words::word(a, b, i, field::UNDES_KIND);
-    let n = children_of(a, b, i, kind);
     let first = i + 1;
-    let line = first as u32;
+    if kind::is_leaf(kind) {
+        return Walk::Go(first);
+    }
+    let own = expr_verdict(a, b, i, kind, span);
+    if let Checked::Refused(x) = own {
+        return Walk::Refused(x);
+    }
+    let n = children_of(a, b, i, kind);
     let less = left - 1;
     match kind {
         // each expression behind its name
         kind::MAP => check_exprs(a, b, first, n, 1, less, span),
         kind::PAT => check_pattern(a, b, first, n, less, span),
-        kind::UNRES => Walk::Refused(PlanLowerError::UnresolvedName { line, span }),
-        kind::UNDES => Walk::Refused(PlanLowerError::UndesugaredExpr {
-            line,
-            span,
-            kind: x,
-        }),
         // every other has expressions for children, or none
         _ => check_exprs(a, b, first, n, 0, less, span),
     }
@@ -173,9 +208,9 @@ fn check_pattern(a: &[u32], b: &[u32], i: usize, n: usize, left: usize, span: Hi
     let mut m = n;
     while m != 0 {
         let first = at + 1;
-        if !begins_with_node(a, b, at) {
-            let line = first as u32;
-            return Walk::Refused(PlanLowerError::EmptyPatternPart { line, span });
+        let own = part_verdict(a, b, at, span);
+        if let Checked::Refused(x) = own {
+            return Walk::Refused(x);
         }
         let elements = count(a, b, at, field::PART_ELEMENTS);
         match check_elements(a, b, first, elements, left - 1) {

@@ -15,7 +15,9 @@ use Rattle.precheck.proofs.+check_elements+check_expr+check_exprs+check
 use Rattle.precheck.proofs.check_pattern.Reads as check-pattern
 use Rattle.precheck.proofs.check_pattern.Kinds as check-pattern-kinds
 use Rattle.precheck.proofs.+check_elements+check_expr+check_exprs+check_pattern.Lts-check_pattern as check-pattern-lts
-use Rattle.precheck.proofs.begins_with_node.Reads as begins-with-node-reads
+use Rattle.precheck.proofs.expr_verdict.Reads as expr-verdict-reads
+use Rattle.precheck.proofs.part_verdict.Reads as part-verdict-reads
+use Rattle.words.proofs.kind.is_leaf.Reads as is-leaf-reads
 use Rattle.words.proofs.records.children_of.Reads as children-of-reads
 use Rattle.words.proofs.records.count.Reads as count-reads
 use Rattle.precheck.proofs.props_of.Reads as props-of-reads
@@ -81,10 +83,10 @@ abbrev pub check-elements-calls : ℕ → check-elements-lts.Claims
 check-elements-calls t = (props-of-reads.Asked, props-of-reads.Learnt, check-exprs-below t, check-exprs.Post)
 
 abbrev pub check-expr-calls : ℕ → check-expr-lts.Claims
-check-expr-calls t = (word-reads.Asked, word-reads.Learnt, children-of-reads.Asked, children-of-reads.Learnt, check-exprs-below t, check-exprs.Post, check-pattern-below t, check-pattern.Post)
+check-expr-calls t = (word-reads.Asked, word-reads.Learnt, is-leaf-reads.Asked, is-leaf-reads.Learnt, expr-verdict-reads.Asked, expr-verdict-reads.Learnt, children-of-reads.Asked, children-of-reads.Learnt, check-exprs-below t, check-exprs.Post, check-pattern-below t, check-pattern.Post)
 
 abbrev pub check-exprs-calls : ℕ → check-exprs-lts.Claims
 check-exprs-calls t = (check-expr-below t, check-expr.Post)
 
 abbrev pub check-pattern-calls : ℕ → check-pattern-lts.Claims
-check-pattern-calls t = (begins-with-node-reads.Asked, begins-with-node-reads.Learnt, count-reads.Asked, count-reads.Learnt, check-elements-below t, check-elements.Post)
+check-pattern-calls t = (part-verdict-reads.Asked, part-verdict-reads.Learnt, count-reads.Asked, count-reads.Learnt, check-elements-below t, check-elements.Post)

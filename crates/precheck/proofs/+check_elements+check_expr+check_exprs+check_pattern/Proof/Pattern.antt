@@ -4,11 +4,10 @@ use Prim.Native.Nat.{ℕ}
 use native.Mathlib.Omega.{arith}
 use denote.Ref.{now}
 use borrow.Author.Needs.{needs}
-use borrow.Author.Tests.{not-true, not-false}
 use Rattle.model.specs.Kind.{patternPart}
 use Rattle.precheck.specs.Stands.{At, Standing}
 use Rattle.precheck.specs.Answer.{spanOf}
-use Rattle.precheck.proofs.Checks.{some-turned, walks-turned, standing, some-at, as-empty, as-elements}
+use Rattle.precheck.proofs.Checks.{some-turned, walks-turned, standing, some-at, own-refused, as-elements}
 use Rattle.precheck.proofs.Laws
 use borrow.Fn.Kinds.{In, Out}
 use Rattle.precheck.proofs.check_pattern.Reads as reads
@@ -40,21 +39,17 @@ module _ (t : ℕ) where
   add-first : here lts.Need-add-first
   add-first c = omega (arith, part c .low)
 
-  begins-with-node-requires : here lts.Need-begins-with-node-requires
-  begins-with-node-requires c κs =
+  part-verdict-requires : here lts.Need-part-verdict-requires
+  part-verdict-requires c κs =
       let s : here lts.Start = search in
       (s .pre .1 .0, some-at (s .pre .1 .0) (part c .some))
 
-  cast-line : here lts.Need-cast-line
-  cast-line c =
-      let l : here lts.In-loop = search in
-      omega (arith, part l .low)
-
   returns : here lts.Need-returns
   returns c =
-      let n : here lts.After-begins-with-node = search in
+      let o : here lts.After-own = search in
+      let v : here lts.After-part-verdict = search in
       let l : here lts.In-loop = search in
-      Laws.stop (to-loop l .loop .inv) (l .loop-test .taken) (as-empty (n .begins-with-node .ensures) (not-true _ (c .if1 .taken))) refl
+      Laws.stop (to-loop l .loop .inv) (l .loop-test .taken) (own-refused (v .part-verdict .ensures) (o .own .given .1)) refl
 
   count-requires : here lts.Need-count-requires
   count-requires c κs =
@@ -69,11 +64,33 @@ module _ (t : ℕ) where
   check-elements-requires : here lts.Need-check-elements-requires
   check-elements-requires c κs =
       let k : here lts.After-count = search in
-      let e : here lts.Else1 = search in
-      let n : here lts.After-begins-with-node = search in
+      let f : here lts.After-enum-told = search in
+      let v : here lts.After-part-verdict = search in
       let l : here lts.In-loop = search in
-      let elements = as-elements (n .begins-with-node .ensures) (not-false _ (e .if1 .left)) (k .count .ensures .0) in
+      let elements = as-elements (to-start l .pre .1 .0) (v .part-verdict .ensures) (f .enum-told .given .1) (k .count .ensures .0) in
       (omega (arith, part l .deep), (to-start l .pre .1 .0, some-turned elements (part l .some)))
+
+  returns-2 : here lts.Need-returns-2
+  returns-2 c =
+      let x : here lts.After-x = search in
+      let e : here lts.After-check-elements = search in
+      let k : here lts.After-count = search in
+      let f : here lts.After-enum-told = search in
+      let v : here lts.After-part-verdict = search in
+      let l : here lts.In-loop = search in
+      let elements = as-elements (to-start l .pre .1 .0) (v .part-verdict .ensures) (f .enum-told .given .1) (k .count .ensures .0) in
+      Laws.stop (to-loop l .loop .inv) (l .loop-test .taken) (walks-turned elements (e .check-elements .ensures)) (x .x .given .1)
+
+  loop-again : here lts.Need-loop-again
+  loop-again c =
+      let n : here lts.After-next = search in
+      let e : here lts.After-check-elements = search in
+      let k : here lts.After-count = search in
+      let f : here lts.After-enum-told = search in
+      let v : here lts.After-part-verdict = search in
+      let l : here lts.In-loop = search in
+      let elements = as-elements (to-start l .pre .1 .0) (v .part-verdict .ensures) (f .enum-told .given .1) (k .count .ensures .0) in
+      Laws.again (to-loop l .loop .inv) (l .loop-test .taken) (walks-turned elements (e .check-elements .ensures)) (n .next .given .1)
 
   pub meets : {M : Type 1} → lts.Closed (check-pattern-calls t) (check-pattern-at t) reads.Post M
   meets =
@@ -85,16 +102,17 @@ module _ (t : ℕ) where
       μ-loop
       (λ c. Laws.whole)
       add-first
-      begins-with-node-requires
-      cast-line
+      part-verdict-requires
+      (λ c. search needs)
       returns
+      (λ c. search needs)
       count-requires
       sub-check-elements
       check-elements-requires
       (λ c. search needs)
       (λ c. search needs)
-      (λ c. search (Laws.stop, walks-turned, as-elements, not-false, needs))
+      returns-2
       (λ c. search needs)
       (λ c. search needs)
-      (λ c. search (Laws.again, walks-turned, as-elements, not-false, needs))
+      loop-again
       (λ c. search (Laws.done, needs))

@@ -1,0 +1,32 @@
+-- `expr_verdict` meets its contract: a case for each kind that is refused. Assumes nothing.
+use borrow.Author.Needs.{needs}
+use Rattle.precheck.proofs.Checks.{own-unresolved, own-undesugared, own-other}
+use Rattle.precheck.proofs.expr_verdict.Statement.{statement}
+use Rattle.precheck.proofs.expr_verdict.Tie as tie
+
+returns : tie.Need-returns
+returns c =
+    let s : tie.Start = search in
+    own-unresolved (s .pre .0) (s .pre .1 .1) (c .match .keys1)
+
+returns-2 : tie.Need-returns-2
+returns-2 c =
+    let s : tie.Start = search in
+    let m : tie.At-match-keys2 = search in
+    own-undesugared (s .pre .0) (s .pre .1 .1) (c .word .ensures) (m .match .keys2)
+
+returns-3 : tie.Need-returns-3
+returns-3 c =
+    let s : tie.Start = search in
+    own-other (s .pre .0) (s .pre .1 .1) (c .match .rest)
+
+pub expr-verdict-spec : {M : Type 1} → statement M
+expr-verdict-spec =
+    tie.close
+    (tie.spec
+    (λ c. search needs)
+    (λ c. search needs)
+    (λ c κs. search needs)
+    returns
+    returns-2
+    returns-3)
