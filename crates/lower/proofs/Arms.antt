@@ -54,7 +54,7 @@ module _ {sheet : Bytes} {a b : List ℕ} {d i : ℕ} (room : Roomy a b) where
   plainly (node expr line (Expr.Over h) f (ts ▸ end)) hd no-var no-map no-pat no-predicate = record {
     n = _;
     list = plainC ts;
-    total = counted room tt (hd .1) ∙ (omega arith);
+    total = counted (hd .1) (d - 1) (ts ▸ end) (hd .3) ∙ (omega arith);
     held = plain-held sheet a b ts (d - 1) (i + 1) (hd .3 .0);
     sized = let e = plain-size ts in omega arith;
     head = planExprRec (PlanExpr.Over h) f;
@@ -67,7 +67,7 @@ module _ {sheet : Bytes} {a b : List ℕ} {d i : ℕ} (room : Roomy a b) where
   plainly (node expr line Expr.Call (func, (n, (distinct, t))) (ts ▸ end)) hd no-var no-map no-pat no-predicate = record {
     n = n;
     list = plainC ts;
-    total = counted room tt (hd .1) ∙ (omega arith);
+    total = counted (hd .1) (d - 1) (ts ▸ end) (hd .3) ∙ (omega arith);
     held = plain-held sheet a b ts (d - 1) (i + 1) (hd .3 .0);
     sized = let e = plain-size ts in omega arith;
     head = planExprRec PlanExpr.Call (func, (n, tt));
@@ -77,15 +77,15 @@ module _ {sheet : Bytes} {a b : List ℕ} {d i : ℕ} (room : Roomy a b) where
   }
   plainly (node expr line Expr.PatternPredicate f kids) hd no-var no-map no-pat no-predicate = absurd (no-pat (number-at room (hd .1)))
   plainly (node expr line Expr.ListPredicate f kids) hd no-var no-map no-pat no-predicate = absurd (no-predicate (number-at room (hd .1)))
-  plainly (node expr line Expr.Unresolved f end) hd no-var no-map no-pat no-predicate = record { n = 0; list = []ᶜ; total = counted room tt (hd .1); held = tt; sized = refl; head = planExprRec (PlanExpr.Over Same.Null) tt; lower = λ s. refl; shown = λ N A. refl; below = λ N lo k b. tt }
-  plainly (node expr line Expr.Undesugared f end) hd no-var no-map no-pat no-predicate = record { n = 0; list = []ᶜ; total = counted room tt (hd .1); held = tt; sized = refl; head = planExprRec (PlanExpr.Over Same.Null) tt; lower = λ s. refl; shown = λ N A. refl; below = λ N lo k b. tt }
+  plainly (node expr line Expr.Unresolved f end) hd no-var no-map no-pat no-predicate = record { n = 0; list = []ᶜ; total = counted (hd .1) (d - 1) end (hd .3); held = tt; sized = refl; head = planExprRec (PlanExpr.Over Same.Null) tt; lower = λ s. refl; shown = λ N A. refl; below = λ N lo k b. tt }
+  plainly (node expr line Expr.Undesugared f end) hd no-var no-map no-pat no-predicate = record { n = 0; list = []ᶜ; total = counted (hd .1) (d - 1) end (hd .3); held = tt; sized = refl; head = planExprRec (PlanExpr.Over Same.Null) tt; lower = λ s. refl; shown = λ N A. refl; below = λ N lo k b. tt }
 
   mapped-of : Opens sheet a b d i expr (λ t. Headed sheet a b 1 d i t) Expr.Map
   unfolding Held size lowerExpr fold made exprStep over _>>=_ ret render recsOver exprRecs exprRest Below belowIn copiesBelow
   mapped-of line (n, t) (ts ▸ end) hd = record {
     n = n;
     list = entriesC ts;
-    total = counted room tt (hd .1) ∙ (omega arith);
+    total = counted (hd .1) (d - 1) (ts ▸ end) (hd .3) ∙ (omega arith);
     held = entries-held sheet a b ts (d - 1) (i + 1) (hd .3 .0);
     sized = let e = entries-size ts in omega arith;
     head = planExprRec PlanExpr.Map (n, tt);

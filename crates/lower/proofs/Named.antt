@@ -18,7 +18,7 @@ use Rattle.context.specs.Tables.{Numbers, NoteWritten, secondPass}
 use Rattle.context.specs.declared.LowerCtx.{LowerCtx}
 use Rattle.context.specs.declared.Numbered.{Numbered}
 use Rattle.words.specs.Cells.{shown}
-use Rattle.words.specs.Count.{countAt, countBy}
+use Rattle.words.specs.Count.{countAt, isLeaf}
 use Rattle.lower.specs.Side.{side}
 use Rattle.lower.specs.Render.{Ops, render, renderOf, recsOver, exprRecs, exprRest, Below, belowIn, copiesBelow}
 use Rattle.lower.specs.Render
@@ -28,7 +28,7 @@ use Rattle.lower.specs.Pieces.{exprPiece, Carried, []ᶜ, lowerC, render
 use Rattle.lower.specs.Patterns.{partsL, SomeTrees, LowersParts}
 use Rattle.lower.specs.State.{sub-more, sub-within, blank-within, blank-before, blank-behind, back, to-then, to-wider, Given, number-to, note-to}
 use Rattle.words.specs.Numbers.{exprNumber}
-use Rattle.words.proofs.Counting.{counted}
+use Rattle.words.proofs.Counting.{counted, leaf-count}
 use Rattle.lower.specs.Exprs.{narrow}
 use Rattle.lower.specs.Carry.{plainC, plain-lower, plain-size, plain-held, plain-render, plain-below}
 use Rattle.words.specs.Kinds.{Opens, by-expr}
@@ -52,7 +52,7 @@ module _ {sheet : Bytes} {a b : List ℕ} {d i : ℕ} (room : Roomy a b) where
   unfolding Held size lowerExpr fold made exprStep _>>=_ ret render recsOver exprRecs exprRest Below belowIn copiesBelow lowerC renderC sizeC HeldC fieldsOf fieldOf
   variable-of line (id, t) end hd =
       let ei : id ≡ cell a b i varIdAt = ap (λ (x : Fields (exprForms Expr.Var)). x .0) (shown room (hd .1) .fields) in
-      record { n = 0; list = []ᶜ; total = counted room tt (hd .1); held = tt; sized = refl; head = λ x. planExprRec PlanExpr.Var (x, tt); lower = λ s. rw ei; shown = λ N A. rw (hd .0); below = λ N lo k b. tt }
+      record { n = 0; list = []ᶜ; total = counted (hd .1) (d - 1) end (hd .3); held = tt; sized = refl; head = λ x. planExprRec PlanExpr.Var (x, tt); lower = λ s. rw ei; shown = λ N A. rw (hd .0); below = λ N lo k b. tt }
 
   pub variable : (t : Tree expr) → Held sheet a b t d i → cell a b i kindAt ≡ varKind → Naming sheet a b d i (cell a b i varIdAt) t
   unfolding exprNumber
@@ -65,7 +65,7 @@ module _ {sheet : Bytes} {a b : List ℕ} {d i : ℕ} (room : Roomy a b) where
       record {
         n = _;
         list = plainC ts;
-        total = counted room tt (hd .1) ∙ (omega arith);
+        total = counted (hd .1) (d - 1) (ts ▸ end) (hd .3) ∙ (omega arith);
         held = plain-held sheet a b ts (d - 1) (i + 1) (hd .3 .0);
         sized = let e = plain-size ts in omega arith;
         head = λ x. planExprRec PlanExpr.ListPredicate (kind, (x, (pred, tt)));
@@ -127,7 +127,7 @@ naming-some see en x = let o = see (x .sheet) (x .tree) (x .held) in rw (en ∙ 
 pub record Matched (sheet : Bytes) (a b : List ℕ) (d i : ℕ) (t : Tree expr) : Type 0 where
   pub n : ℕ
   pub parts : Trees patternPart n
-  pub total : cell a b i patPartsAt ≡ n
+  pub total : countAt a b i ≡ n
   pub held : HeldOf sheet a b parts (d - 1) (i + 1)
   pub sized : size t ≡ suc (sizeOf parts)
   pub lower : (s : State) → lowerExpr t s ≡ (planExprRec PlanExpr.Exists tt ∷ at (partsL parts s .1 .ops) (partsL parts s .0), partsL parts s .1)
@@ -140,7 +140,7 @@ module _ {sheet : Bytes} {a b : List ℕ} {d i : ℕ} (room : Roomy a b) where
   pattern-of line (n, t) (ts ▸ end) hd = record {
     n = n;
     parts = ts;
-    total = sym (ap (λ (x : Fields (exprForms Expr.PatternPredicate)). x .0) (shown room (hd .1) .fields));
+    total = counted (hd .1) (d - 1) (ts ▸ end) (hd .3) ∙ (omega arith);
     held = hd .3 .0;
     sized = omega arith;
     lower = λ s. refl;
@@ -153,7 +153,7 @@ module _ {sheet : Bytes} {a b : List ℕ} {d i : ℕ} (room : Roomy a b) where
   pattern t hd e = by-expr sheet d i room (λ t. Matched sheet a b d i t) Expr.PatternPredicate pattern-of t hd e
 
 module _ {a b : List ℕ} {n d base i e k place : ℕ} {rest′ : List ℕ} {m m₁ : Mem} (see : (sheet : Bytes) (t : Tree expr) → Held sheet a b t d i → Matched sheet a b d i t)
-    (en : n ≡ cell a b i patPartsAt) (lb : base ≤ secondPass) (li : i < maxRecords) (ep : place ≡ base + (i + 1)) (p : LowersParts a b n (d - 1) base i e k m m₁)
+    (en : n ≡ countAt a b i) (lb : base ≤ secondPass) (li : i < maxRecords) (ep : place ≡ base + (i + 1)) (p : LowersParts a b n (d - 1) base i e k m m₁)
     (nt : NoteWritten place k (m₁ .rest) rest′) (lr : length rest′ ≡ length (m₁ .rest)) where
   pattern-next : (sheet : Bytes) (t : Tree expr) → Held sheet a b t d i → e ≡ i + size t
   pattern-next sheet t hd =
@@ -190,13 +190,10 @@ module _ {a b : List ℕ} {n d base i e k place : ℕ} {rest′ : List ℕ} {m m
     run = pattern-run;
   }
 
-pub pattern-some : {a b : List ℕ} {n d i : ℕ} → ((sheet : Bytes) (t : Tree expr) → Held sheet a b t d i → Matched sheet a b d i t) → n ≡ cell a b i patPartsAt → SomeTree a b expr d i → SomeTrees a b patternPart n (d - 1) (i + 1)
+pub pattern-some : {a b : List ℕ} {n d i : ℕ} → ((sheet : Bytes) (t : Tree expr) → Held sheet a b t d i → Matched sheet a b d i t) → n ≡ countAt a b i → SomeTree a b expr d i → SomeTrees a b patternPart n (d - 1) (i + 1)
 pattern-some see en x = let o = see (x .sheet) (x .tree) (x .held) in rw (en ∙ o .total) (record { sheet = x .sheet; trees = o .parts; held = o .held })
 
-pub count-none : (a b : List ℕ) (i : ℕ) → cell a b i kindAt ≡ varKind → 0 ≡ countAt a b i
-unfolding countBy
-count-none a b i e = rw e
-
-pub count-parts : (a b : List ℕ) (i : ℕ) → cell a b i kindAt ≡ patKind → countAt a b i ≡ cell a b i patPartsAt
-unfolding countBy
-count-parts a b i e = rw e
+-- a variable has no expressions behind it
+pub count-none : {a b : List ℕ} {d i : ℕ} → Roomy a b → SomeTree a b expr d i → cell a b i kindAt ≡ varKind → 0 ≡ countAt a b i
+unfolding isLeaf
+count-none {a} {b} {d} {i} room x e = leaf-count (x .sheet) a b d i (cell a b i kindAt) (x .tree) room (x .held) refl (ap (λ (k : ℕ). isLeaf k) e)

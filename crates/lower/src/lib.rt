@@ -190,7 +190,7 @@ pub fn lower_expr(
 {
     let i = at.i;
     let kind = words::word(a, b, i, field::KIND);
-    let n = records::children_of(a, b, i, kind);
+    let n = records::children(a, b, i);
     let base = at.base;
     let kid = i + 1;
     let place = base + kid;

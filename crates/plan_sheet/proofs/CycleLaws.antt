@@ -92,7 +92,7 @@ module _ {sheet : Bytes} {a b : List ℕ} {i : ℕ} (room : Roomy a b) {kind : �
   pub leaf-wrote : {os rest : List ℕ} {below base left n : ℕ} {p q : Page} → n ≡ noteOf rest base i → ((x : ExprAt sheet a b i) → Puts (spellRec (exprHead n (x .kind) (x .fields))) p q) → WroteOne sheet a b os rest below base left i p (i + 1) q
   unfolding isLeaf
   leaf-wrote noted-is head h =
-      kids-wrote room (leaf-count a b i k leaf) (λ z. leaf-not kind patKind leaf refl (k ∙ z)) h noted-is head (none-wrote refl)
+      kids-wrote room (leaf-count sheet a b _ i kind (h .tree) room (h .held) k leaf) (λ z. leaf-not kind patKind leaf refl (k ∙ z)) h noted-is head (none-wrote refl)
 
 -- ── elements ──
 

@@ -47,26 +47,26 @@ module _ {sheet : Bytes} {a b : List ℕ} (N : Notes) (first below left i n : �
   pub parts : Roomy a b → n ≡ countAt a b i → (t : Tree expr) (h : Held sheet a b t left i) → Below N first below t → (cell a b i kindAt ≡ patKind → ⊥) → Parts sheet a b N first below left i n t (expr-of left t i h)
   unfolding Held Below render size belowIn copiesBelow recsOver exprRecs exprRest expr-of exprNumber
   parts room e (node expr line (Expr.Over o) f (ts ▸ end)) h u z =
-      let m = grouped (e ∙ counted room tt (h .1) ∙ add-zero (arity o f)) (exprs-made N first below (left - 1) ts (i + 1) (h .3 .0) (u .0)) in
+      let m = grouped (e ∙ counted (h .1) (left - 1) (ts ▸ end) (h .3) ∙ add-zero (arity o f)) (exprs-made N first below (left - 1) ts (i + 1) (h .3 .0) (u .0)) in
       record { list = m .list; recs = λ A. rw (m .recs-are A, append-nil (renderOf N A ts)); stop = m .stop-is ∙ omega arith }
   parts room e (node expr line Expr.Var f end) h u z =
-      let m = bare N first below (left - 1) (i + 1) (e ∙ counted room tt (h .1)) in
+      let m = bare N first below (left - 1) (i + 1) (e ∙ counted (h .1) (left - 1) end (h .3)) in
       record { list = m .list; recs = λ A. rw (m .recs-are A, h .0); stop = m .stop-is ∙ omega arith }
   parts room e (node expr line Expr.Map f (ts ▸ end)) h u z =
-      let m = grouped (e ∙ counted room tt (h .1) ∙ add-zero (f .0)) (entries-made N first below (left - 1) ts (i + 1) (h .3 .0) (u .0)) in
+      let m = grouped (e ∙ counted (h .1) (left - 1) (ts ▸ end) (h .3) ∙ add-zero (f .0)) (entries-made N first below (left - 1) ts (i + 1) (h .3 .0) (u .0)) in
       record { list = m .list; recs = λ A. rw (m .recs-are A, append-nil (renderOf N A ts)); stop = m .stop-is ∙ omega arith }
   parts room e (node expr line Expr.Call f (ts ▸ end)) h u z =
-      let m = grouped (e ∙ counted room tt (h .1) ∙ add-zero (f .1 .0)) (exprs-made N first below (left - 1) ts (i + 1) (h .3 .0) (u .0)) in
+      let m = grouped (e ∙ counted (h .1) (left - 1) (ts ▸ end) (h .3) ∙ add-zero (f .1 .0)) (exprs-made N first below (left - 1) ts (i + 1) (h .3 .0) (u .0)) in
       record { list = m .list; recs = λ A. rw (m .recs-are A, append-nil (renderOf N A ts)); stop = m .stop-is ∙ omega arith }
   parts room e (node expr line Expr.PatternPredicate f (ts ▸ end)) h u z = absurd (z (number-is room (record { kind = Expr.PatternPredicate; fields = f; at = h .1 })))
   parts room e (node expr line Expr.ListPredicate f (ts ▸ end)) h u z =
-      let m = grouped (e ∙ counted room tt (h .1) ∙ add-zero (suc (one (f .1 .1 .0)))) (exprs-made N first below (left - 1) ts (i + 1) (h .3 .0) (u .0)) in
+      let m = grouped (e ∙ counted (h .1) (left - 1) (ts ▸ end) (h .3) ∙ add-zero (suc (one (f .1 .1 .0)))) (exprs-made N first below (left - 1) ts (i + 1) (h .3 .0) (u .0)) in
       record { list = m .list; recs = λ A. rw (m .recs-are A, append-nil (renderOf N A ts), h .0); stop = m .stop-is ∙ omega arith }
   parts room e (node expr line Expr.Unresolved f end) h u z =
-      let m = bare N first below (left - 1) (i + 1) (e ∙ counted room tt (h .1)) in
+      let m = bare N first below (left - 1) (i + 1) (e ∙ counted (h .1) (left - 1) end (h .3)) in
       record { list = m .list; recs = λ A. rw (m .recs-are A); stop = m .stop-is ∙ omega arith }
   parts room e (node expr line Expr.Undesugared f end) h u z =
-      let m = bare N first below (left - 1) (i + 1) (e ∙ counted room tt (h .1)) in
+      let m = bare N first below (left - 1) (i + 1) (e ∙ counted (h .1) (left - 1) end (h .3)) in
       record { list = m .list; recs = λ A. rw (m .recs-are A); stop = m .stop-is ∙ omega arith }
 
 -- a pattern as its first record and the operator that it copies

@@ -26,7 +26,7 @@ use Rattle.precheck.specs.declared.Walk.{Walk}
 use Rattle.precheck.specs.declared.Walk.the-variants.{Go, Refused}
 use Rattle.precheck.proofs.Laws.{first-met, closed, last-of, map-run}
 use Rattle.precheck.proofs.Opened.{Opened, in-turn, kids-of, open-at, open-held}
-use Rattle.precheck.proofs.Counting.{counts}
+use Rattle.precheck.proofs.Counting.{one-group}
 use Rattle.precheck.proofs.Expressions.{Seen, plain, entries, pattern, see, of-entry, in-expr}
 use Rattle.precheck.proofs.Patterns.{at-once, any-span}
 
@@ -89,7 +89,7 @@ module _ {a b : List ℕ} {i : ℕ} {t : Bool} {span : HirSpan} (h : Begins a b 
 module _ {a b : List ℕ} (room : Roomy a b) {i c n : ℕ} (kind : c ≡ cell a b i kindAt) (count : n ≡ countAt a b i) {d : ℕ} {span : Span} where
   seen : {u v : Verdict} {e : ℕ} → Opened a b expr d span i u v e → u ≡ fine → Seen a b (d - 1) span i c n v e
   seen o own =
-      rw (counts (o .sheet) a b i n (o .kind) count (o .number) (o .flags)) (see (o .sheet) c (o .kind) (kind ∙ expr-number _ _ (o .number)) (o .body) (sym (o .own) ∙ own))
+      rw (count ∙ o .count ∙ one-group (o .kind) _) (see (o .sheet) c (o .kind) (kind ∙ expr-number _ _ (o .number)) (o .body) (sym (o .own) ∙ own))
 
   module _ {r : Checked} (own : Own a b expr i span r) (is-fine : r ≡ Checked.Fine) where
     pub as-entries : c ≡ mapKind → Turns (At a b expr d span i) (Exprs a b 1 (d - 1) span n (i + 1))
@@ -119,7 +119,7 @@ module _ {a b : List ℕ} (room : Roomy a b) {i c n : ℕ} (kind : c ≡ cell a 
 -- an expression that has none below it, whatever its fields
 pub as-leaf : {a b : List ℕ} {i c : ℕ} {d : ℕ} {span : Span} → Roomy a b → c ≡ cell a b i kindAt → isLeaf c ≡ true → Walks (Go (i + 1)) (At a b expr d span i)
 unfolding isLeaf
-as-leaf {a} {b} {i} {c} {d} {span} room kind leaf = record { each = λ v e h. let o = open-at room h in go (seen room kind (leaf-count a b i kind leaf) o (in-expr o .other (λ z. not unresKind refl (kind ∙ z)) (λ z. not undesKind refl (kind ∙ z)))) }
+as-leaf {a} {b} {i} {c} {d} {span} room kind leaf = record { each = λ v e h. let o = open-at room h in go (seen room kind (leaf-count (h .sheet) a b d i c (h .tree) room (h .held) kind leaf) o (in-expr o .other (λ z. not unresKind refl (kind ∙ z)) (λ z. not undesKind refl (kind ∙ z)))) }
   where
     not : (k : ℕ) → isLeaf k ≡ false → c ≡ k → ⊥
     not k = leaf-not c k leaf

@@ -1,5 +1,5 @@
 -- What stands at a record is opened: the number of its kind, its fields as the words have them, and its children, group by group. Assumes nothing.
-use mathlib.Core.Path.{_≡_, refl, sym, subst, _∙_}
+use mathlib.Core.Path.{_≡_, refl, sym, ap, subst, _∙_}
 use Prim.Native.Nat.{ℕ, suc, _+_, _<_, _≤_}
 use native.Mathlib.Nat.{add-assoc, add-zero}
 use native.Mathlib.Omega.{arith}
@@ -13,7 +13,9 @@ use Rattle.model.specs.Tree.{Tree, Trees, Forest, node, []ᵗ, _∷ᵗ_, end, _
 use Rattle.model.specs.Check.{Verdict, fine, andThen, check, checkOf, checkIn, ofRecord, spanIn}
 use Rattle.words.specs.Words.{Roomy, cell, kindOf, fieldsOf, maxRecords}
 use Rattle.words.specs.Places.{kindAt}
-use Rattle.words.specs.Held.{Held, HeldOf, HeldIn, Flags, size, sizeOf, sizeIn, roomIn}
+use Rattle.words.specs.Held.{Held, HeldOf, HeldIn, Flags, size, sizeOf, sizeIn, roomIn, total}
+use Rattle.words.specs.Count.{countAt}
+use Rattle.words.proofs.Counting.{counted}
 use Rattle.precheck.specs.Steps.{Then, Run, no-more, one-more}
 use Rattle.words.specs.Cells.{cells, Shown, shown}
 use Rattle.precheck.specs.Stands.{At, ownVerdict, inTurn}
@@ -78,6 +80,7 @@ pub record Opened (a b : List ℕ) (s : Sort) (d : ℕ) (span : Span) (i : ℕ) 
   pub deep : 0 < d
   pub number : kindOf s (cell a b i kindAt) ≡ some kind
   pub flags : Flags (forms s kind) (cells a b i) 0
+  pub count : countAt a b i ≡ total (children s kind (fieldsOf (forms s kind) sheet (cells a b i) 0))
   pub body : Body sheet a b s d span i v e kind (fieldsOf (forms s kind) sheet (cells a b i) 0)
   pub own : u ≡ ofRecord s (suc i) kind (fieldsOf (forms s kind) sheet (cells a b i) 0) (body .forest) span
 
@@ -98,6 +101,7 @@ open-tree {a} {b} {d} {span} {i} {v} {e} room sheet (node s line k f kids) h hv 
       deep = h .2;
       number = w .kind;
       flags = w .flags;
+      count = counted (h .1) (roomIn s d) kids (h .3) ∙ ap (λ (g : Fields (forms s k)). total (children s k g)) (w .fields);
       body = read .0;
       own = read .1;
     }

@@ -37,6 +37,7 @@ promise-met =
           flags = (tt, (tt, tt));
           texts = (tt, (tt, tt));
           line = record { from = omega arith; to = omega arith; spelled = refl };
+          kids = refl;
         },
         omega arith,
         (tt, (tt, tt)),

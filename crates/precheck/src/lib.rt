@@ -14,7 +14,7 @@ ghost use Rattle.precheck.specs.Steps.{Some, Ends, Walks, Run};
 ghost use Rattle.precheck.specs.Stands.{At, Standing, Exprs, Spans, SomeAt, Inside, Begins, Own, spanWord, Trailers, Projected, Called};
 use words::field;
 use words::kind;
-use words::records::children_of;
+use words::records::children;
 use words::records::count;
 
 // How deep a clause and an arm may be: they stand below the statement.
@@ -156,7 +156,7 @@ fn check_expr(a: &[u32], b: &[u32], i: usize, left: usize, span: HirSpan) -> Wal
     if let Checked::Refused(x) = own {
         return Walk::Refused(x);
     }
-    let n = children_of(a, b, i, kind);
+    let n = children(a, b, i);
     let less = left - 1;
     match kind {
         // each expression behind its name

@@ -52,7 +52,7 @@ use Rattle.lower.proofs.or_source_all.Reads as or-source-all-reads
 use Rattle.lower.proofs.root_of.Reads as root-of-reads
 use Rattle.lower.proofs.read_element.Reads as read-element-reads
 use Rattle.lower.proofs.read_bind.Reads as read-bind-reads
-use Rattle.words.proofs.records.children_of.Reads as children-of-reads
+use Rattle.words.proofs.records.children.Reads as children-reads
 use Rattle.words.proofs.records.count.Reads as count-reads
 use Rattle.words.proofs.records.skip.Reads as skip-reads
 use Rattle.words.proofs.word.Reads as word-reads
@@ -278,8 +278,8 @@ abbrev pub lower-expr-calls : ℕ → lower-expr-lts.Claims
 lower-expr-calls t = (
   word-reads.Asked,
   word-reads.Learnt,
-  children-of-reads.Asked,
-  children-of-reads.Learnt,
+  children-reads.Asked,
+  children-reads.Learnt,
   number-reads.Asked,
   number-reads.Learnt,
   lower-exprs-below t,

@@ -46,23 +46,23 @@ module _ (t : ℕ) where
   abbrev back-word2 : here lts.After-word2 → here lts.At-match-keys1
   back-word2 c = search
 
-  abbrev back-at-match-rest : here lts.At-match-rest → here lts.After-children-of
+  abbrev back-at-match-rest : here lts.At-match-rest → here lts.After-children
   back-at-match-rest c = search
 
-  abbrev back-at-match-keys4 : here lts.At-match-keys4 → here lts.After-children-of
+  abbrev back-at-match-keys4 : here lts.At-match-keys4 → here lts.After-children
   back-at-match-keys4 c = search
 
-  abbrev back-at-match-keys3 : here lts.At-match-keys3 → here lts.After-children-of
+  abbrev back-at-match-keys3 : here lts.At-match-keys3 → here lts.After-children
   back-at-match-keys3 c = search
 
-  abbrev back-at-match-keys2 : here lts.At-match-keys2 → here lts.After-children-of
+  abbrev back-at-match-keys2 : here lts.At-match-keys2 → here lts.After-children
   back-at-match-keys2 c = search
 
-  abbrev back-at-match-keys1 : here lts.At-match-keys1 → here lts.After-children-of
+  abbrev back-at-match-keys1 : here lts.At-match-keys1 → here lts.After-children
   back-at-match-keys1 c = search
 
-  abbrev back-children-of : here lts.After-children-of → here lts.After-word
-  back-children-of c = search
+  abbrev back-children : here lts.After-children → here lts.After-word
+  back-children c = search
 
   abbrev back-word : here lts.After-word → here lts.Start
   back-word c = search
@@ -82,7 +82,7 @@ module _ (t : ℕ) where
     back-at-match-keys3,
     back-at-match-keys2,
     back-at-match-keys1,
-    back-children-of,
+    back-children,
     back-word,
   )
 
@@ -91,11 +91,10 @@ module _ (t : ℕ) where
       let start : here lts.Start = search ways depth 8 in
       (Room.low (start .pre .1 .tree), (omega arith, start .pre .1 .words))
 
-  children-of-requires : here lts.Need-children-of-requires
-  children-of-requires c κs =
-      let after-word : here lts.After-word = search ways depth 8 in
+  children-requires : here lts.Need-children-requires
+  children-requires c κs =
       let start : here lts.Start = search ways depth 8 in
-      (Room.low (start .pre .1 .tree), (start .pre .1 .words, after-word .word .ensures))
+      (Room.low (start .pre .1 .tree), start .pre .1 .words)
 
   add-kid : here lts.Need-add-kid
   add-kid c =
@@ -126,7 +125,7 @@ module _ (t : ℕ) where
   lower-exprs-requires : here lts.Need-lower-exprs-requires
   lower-exprs-requires c κs =
       let at-match-keys2 : here lts.At-match-keys2 = search ways depth 8 in
-      let after-children-of : here lts.After-children-of = search ways depth 8 in
+      let after-children : here lts.After-children = search ways depth 8 in
       let after-word : here lts.After-word = search ways depth 8 in
       let start : here lts.Start = search ways depth 8 in
       let l = Room.bounds (start .pre .1) in (
@@ -135,7 +134,7 @@ module _ (t : ℕ) where
             (
             Arms.headed-some
             (λ sheet t hd. Arms.mapped (start .pre .1 .words) t hd (sym (after-word .word .ensures) ∙ (at-match-keys2 .match .keys2)))
-            (after-children-of .children-of .ensures .0)
+            (after-children .children .ensures .0)
             (start .pre .1 .tree))
             (Exprs.good-from (omega arith) (omega arith) (omega arith) (start .pre .1 .room)),
       )
@@ -143,7 +142,7 @@ module _ (t : ℕ) where
   lower-parts-requires : here lts.Need-lower-parts-requires
   lower-parts-requires c κs =
       let at-match-keys3 : here lts.At-match-keys3 = search ways depth 8 in
-      let after-children-of : here lts.After-children-of = search ways depth 8 in
+      let after-children : here lts.After-children = search ways depth 8 in
       let after-word : here lts.After-word = search ways depth 8 in
       let start : here lts.Start = search ways depth 8 in
       let l = Room.bounds (start .pre .1) in
@@ -155,7 +154,7 @@ module _ (t : ℕ) where
               trees =
                   Named.pattern-some
                   (λ sheet t hd. Named.pattern (start .pre .1 .words) t hd k)
-                  ((after-children-of .children-of .ensures .0) ∙ Named.count-parts (start .args .a .now) (start .args .b .now) (start .args .at .i) k)
+                  (after-children .children .ensures .0)
                   (start .pre .1 .tree);
             })
             (Exprs.good-from (omega arith) (omega arith) (omega arith) (start .pre .1 .room)),
@@ -193,7 +192,7 @@ module _ (t : ℕ) where
   lower-exprs-requires-2 c κs =
       let after-number2 : here lts.After-number2 = search ways depth 8 in
       let at-match-keys4 : here lts.At-match-keys4 = search ways depth 8 in
-      let after-children-of : here lts.After-children-of = search ways depth 8 in
+      let after-children : here lts.After-children = search ways depth 8 in
       let after-word : here lts.After-word = search ways depth 8 in
       let start : here lts.Start = search ways depth 8 in
       let l = Room.bounds (start .pre .1) in (
@@ -202,7 +201,7 @@ module _ (t : ℕ) where
             (
             Named.naming-some
             (λ sheet t hd. Named.predicate (start .pre .1 .words) t hd (sym (after-word .word .ensures) ∙ (at-match-keys4 .match .keys4)))
-            (after-children-of .children-of .ensures .0)
+            (after-children .children .ensures .0)
             (start .pre .1 .tree))
             (
             Room.numbered-on
@@ -219,7 +218,7 @@ module _ (t : ℕ) where
   lower-exprs-requires-3 : here lts.Need-lower-exprs-requires-3
   lower-exprs-requires-3 c κs =
       let at-match-rest : here lts.At-match-rest = search ways depth 8 in
-      let after-children-of : here lts.After-children-of = search ways depth 8 in
+      let after-children : here lts.After-children = search ways depth 8 in
       let after-word : here lts.After-word = search ways depth 8 in
       let start : here lts.Start = search ways depth 8 in
       let l = Room.bounds (start .pre .1) in (
@@ -235,7 +234,7 @@ module _ (t : ℕ) where
             (λ e. (at-match-rest .match .rest .0 .0 .1) ((after-word .word .ensures) ∙ e))
             (λ e. (at-match-rest .match .rest .0 .1) ((after-word .word .ensures) ∙ e))
             (λ e. (at-match-rest .match .rest .1) ((after-word .word .ensures) ∙ e)))
-            (after-children-of .children-of .ensures .0)
+            (after-children .children .ensures .0)
             (start .pre .1 .tree))
             (Exprs.good-from (omega arith) (omega arith) (omega arith) (start .pre .1 .room)),
       )
@@ -255,7 +254,7 @@ module _ (t : ℕ) where
       let l = Room.bounds (start .pre .1) in
       Named.naming-law
       (λ sheet t hd. Named.variable (start .pre .1 .words) t hd (sym (after-word .word .ensures) ∙ (at-match-keys1 .match .keys1)))
-      (Named.count-none (start .args .a .now) (start .args .b .now) (start .args .at .i) (sym (after-word .word .ensures) ∙ (at-match-keys1 .match .keys1)))
+      (Named.count-none (start .pre .1 .words) (start .pre .1 .tree) (sym (after-word .word .ensures) ∙ (at-match-keys1 .match .keys1)))
       (start .pre .1 .pass)
       (Room.low (start .pre .1 .tree))
       refl
@@ -277,13 +276,13 @@ module _ (t : ℕ) where
   returns-2 c =
       let after-lower-exprs : here lts.After-lower-exprs = search ways depth 8 in
       let at-match-keys2 : here lts.At-match-keys2 = search ways depth 8 in
-      let after-children-of : here lts.After-children-of = search ways depth 8 in
+      let after-children : here lts.After-children = search ways depth 8 in
       let after-word : here lts.After-word = search ways depth 8 in
       let start : here lts.Start = search ways depth 8 in
       let l = Room.bounds (start .pre .1) in
       Arms.headed-law
       (λ sheet t hd. Arms.mapped (start .pre .1 .words) t hd (sym (after-word .word .ensures) ∙ (at-match-keys2 .match .keys2)))
-      (after-children-of .children-of .ensures .0)
+      (after-children .children .ensures .0)
       (omega arith)
       (after-lower-exprs .lower-exprs .ensures)
 
@@ -302,13 +301,13 @@ module _ (t : ℕ) where
   returns-3 c =
       let after-note : here lts.After-note = search ways depth 8 in
       let after-lower-parts : here lts.After-lower-parts = search ways depth 8 in
-      let after-children-of : here lts.After-children-of = search ways depth 8 in
+      let after-children : here lts.After-children = search ways depth 8 in
       let at-match-keys3 : here lts.At-match-keys3 = search ways depth 8 in
       let after-word : here lts.After-word = search ways depth 8 in
       let start : here lts.Start = search ways depth 8 in
       Named.pattern-law
       (λ sheet t hd. Named.pattern (start .pre .1 .words) t hd (sym (after-word .word .ensures) ∙ (at-match-keys3 .match .keys3)))
-      ((after-children-of .children-of .ensures .0) ∙ Named.count-parts (start .args .a .now) (start .args .b .now) (start .args .at .i) (sym (after-word .word .ensures) ∙ (at-match-keys3 .match .keys3)))
+      (after-children .children .ensures .0)
       (start .pre .1 .pass)
       (Room.low (start .pre .1 .tree))
       refl
@@ -333,12 +332,12 @@ module _ (t : ℕ) where
       let after-number2 : here lts.After-number2 = search ways depth 8 in
       let after-word3 : here lts.After-word3 = search ways depth 8 in
       let at-match-keys4 : here lts.At-match-keys4 = search ways depth 8 in
-      let after-children-of : here lts.After-children-of = search ways depth 8 in
+      let after-children : here lts.After-children = search ways depth 8 in
       let after-word : here lts.After-word = search ways depth 8 in
       let start : here lts.Start = search ways depth 8 in
       Named.naming-law
       (λ sheet t hd. Named.predicate (start .pre .1 .words) t hd (sym (after-word .word .ensures) ∙ (at-match-keys4 .match .keys4)))
-      (after-children-of .children-of .ensures .0)
+      (after-children .children .ensures .0)
       (start .pre .1 .pass)
       (Room.low (start .pre .1 .tree))
       refl
@@ -360,7 +359,7 @@ module _ (t : ℕ) where
   returns-5 c =
       let after-lower-exprs3 : here lts.After-lower-exprs3 = search ways depth 8 in
       let at-match-rest : here lts.At-match-rest = search ways depth 8 in
-      let after-children-of : here lts.After-children-of = search ways depth 8 in
+      let after-children : here lts.After-children = search ways depth 8 in
       let after-word : here lts.After-word = search ways depth 8 in
       let start : here lts.Start = search ways depth 8 in
       let l = Room.bounds (start .pre .1) in
@@ -374,7 +373,7 @@ module _ (t : ℕ) where
       (λ e. (at-match-rest .match .rest .0 .0 .1) ((after-word .word .ensures) ∙ e))
       (λ e. (at-match-rest .match .rest .0 .1) ((after-word .word .ensures) ∙ e))
       (λ e. (at-match-rest .match .rest .1) ((after-word .word .ensures) ∙ e)))
-      (after-children-of .children-of .ensures .0)
+      (after-children .children .ensures .0)
       (omega arith)
       (after-lower-exprs3 .lower-exprs3 .ensures)
 
@@ -385,7 +384,7 @@ module _ (t : ℕ) where
       (lower-expr-at t)
       reads.Post
       word-requires
-      children-of-requires
+      children-requires
       add-kid
       add-place
       sub-left

@@ -18,7 +18,7 @@ use Rattle.precheck.proofs.+check_elements+check_expr+check_exprs+check
 use Rattle.precheck.proofs.expr_verdict.Reads as expr-verdict-reads
 use Rattle.precheck.proofs.part_verdict.Reads as part-verdict-reads
 use Rattle.words.proofs.kind.is_leaf.Reads as is-leaf-reads
-use Rattle.words.proofs.records.children_of.Reads as children-of-reads
+use Rattle.words.proofs.records.children.Reads as children-reads
 use Rattle.words.proofs.records.count.Reads as count-reads
 use Rattle.precheck.proofs.props_of.Reads as props-of-reads
 
@@ -83,7 +83,7 @@ abbrev pub check-elements-calls : ℕ → check-elements-lts.Claims
 check-elements-calls t = (props-of-reads.Asked, props-of-reads.Learnt, check-exprs-below t, check-exprs.Post)
 
 abbrev pub check-expr-calls : ℕ → check-expr-lts.Claims
-check-expr-calls t = (word-reads.Asked, word-reads.Learnt, is-leaf-reads.Asked, is-leaf-reads.Learnt, expr-verdict-reads.Asked, expr-verdict-reads.Learnt, children-of-reads.Asked, children-of-reads.Learnt, check-exprs-below t, check-exprs.Post, check-pattern-below t, check-pattern.Post)
+check-expr-calls t = (word-reads.Asked, word-reads.Learnt, is-leaf-reads.Asked, is-leaf-reads.Learnt, expr-verdict-reads.Asked, expr-verdict-reads.Learnt, children-reads.Asked, children-reads.Learnt, check-exprs-below t, check-exprs.Post, check-pattern-below t, check-pattern.Post)
 
 abbrev pub check-exprs-calls : ℕ → check-exprs-lts.Claims
 check-exprs-calls t = (check-expr-below t, check-expr.Post)

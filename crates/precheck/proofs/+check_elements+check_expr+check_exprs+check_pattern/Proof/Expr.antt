@@ -36,63 +36,63 @@ module _ (t : ℕ) where
 
   check-exprs-requires : here lts.Need-check-exprs-requires
   check-exprs-requires c κs =
-      let n : here lts.After-children-of = search in
+      let n : here lts.After-children = search in
       let f : here lts.After-enum-told = search in
       let v : here lts.After-expr-verdict = search in
       let w : here lts.After-word = search in
       let s : here lts.Start = search in
-      let entries = as-entries (s .pre .1 .0) (w .word .ensures) (n .children-of .ensures .0) (v .expr-verdict .ensures) (f .enum-told .given .1) (c .match2 .keys1) in
+      let entries = as-entries (s .pre .1 .0) (w .word .ensures) (n .children .ensures .0) (v .expr-verdict .ensures) (f .enum-told .given .1) (c .match2 .keys1) in
       (omega arith, (s .pre .1 .0, some-turned entries (s .pre .1 .1 .some)))
 
   check-pattern-requires : here lts.Need-check-pattern-requires
   check-pattern-requires c κs =
-      let n : here lts.After-children-of = search in
+      let n : here lts.After-children = search in
       let f : here lts.After-enum-told = search in
       let v : here lts.After-expr-verdict = search in
       let w : here lts.After-word = search in
       let s : here lts.Start = search in
-      let pattern = as-pattern (s .pre .1 .0) (w .word .ensures) (n .children-of .ensures .0) (v .expr-verdict .ensures) (f .enum-told .given .1) (c .match2 .keys2) in
+      let pattern = as-pattern (s .pre .1 .0) (w .word .ensures) (n .children .ensures .0) (v .expr-verdict .ensures) (f .enum-told .given .1) (c .match2 .keys2) in
       (omega arith, (s .pre .1 .0, some-turned pattern (s .pre .1 .1 .some)))
 
   check-exprs-requires-2 : here lts.Need-check-exprs-requires-2
   check-exprs-requires-2 c κs =
-      let n : here lts.After-children-of = search in
+      let n : here lts.After-children = search in
       let f : here lts.After-enum-told = search in
       let v : here lts.After-expr-verdict = search in
       let w : here lts.After-word = search in
       let s : here lts.Start = search in
-      let plain = as-plain (s .pre .1 .0) (w .word .ensures) (n .children-of .ensures .0) (v .expr-verdict .ensures) (f .enum-told .given .1) (c .match2 .rest) in
+      let plain = as-plain (s .pre .1 .0) (w .word .ensures) (n .children .ensures .0) (v .expr-verdict .ensures) (f .enum-told .given .1) (c .match2 .rest) in
       (omega arith, (s .pre .1 .0, some-turned plain (s .pre .1 .1 .some)))
 
   returns-3 : here lts.Need-returns-3
   returns-3 c =
       let m : here lts.At-match2-keys1 = search in
-      let n : here lts.After-children-of = search in
+      let n : here lts.After-children = search in
       let f : here lts.After-enum-told = search in
       let v : here lts.After-expr-verdict = search in
       let w : here lts.After-word = search in
       let s : here lts.Start = search in
-      walks-turned (as-entries (s .pre .1 .0) (w .word .ensures) (n .children-of .ensures .0) (v .expr-verdict .ensures) (f .enum-told .given .1) (m .match2 .keys1)) (c .check-exprs .ensures)
+      walks-turned (as-entries (s .pre .1 .0) (w .word .ensures) (n .children .ensures .0) (v .expr-verdict .ensures) (f .enum-told .given .1) (m .match2 .keys1)) (c .check-exprs .ensures)
 
   returns-4 : here lts.Need-returns-4
   returns-4 c =
       let m : here lts.At-match2-keys2 = search in
-      let n : here lts.After-children-of = search in
+      let n : here lts.After-children = search in
       let f : here lts.After-enum-told = search in
       let v : here lts.After-expr-verdict = search in
       let w : here lts.After-word = search in
       let s : here lts.Start = search in
-      walks-turned (as-pattern (s .pre .1 .0) (w .word .ensures) (n .children-of .ensures .0) (v .expr-verdict .ensures) (f .enum-told .given .1) (m .match2 .keys2)) (c .check-pattern .ensures)
+      walks-turned (as-pattern (s .pre .1 .0) (w .word .ensures) (n .children .ensures .0) (v .expr-verdict .ensures) (f .enum-told .given .1) (m .match2 .keys2)) (c .check-pattern .ensures)
 
   returns-5 : here lts.Need-returns-5
   returns-5 c =
       let m : here lts.At-match2-rest = search in
-      let n : here lts.After-children-of = search in
+      let n : here lts.After-children = search in
       let f : here lts.After-enum-told = search in
       let v : here lts.After-expr-verdict = search in
       let w : here lts.After-word = search in
       let s : here lts.Start = search in
-      walks-turned (as-plain (s .pre .1 .0) (w .word .ensures) (n .children-of .ensures .0) (v .expr-verdict .ensures) (f .enum-told .given .1) (m .match2 .rest)) (c .check-exprs2 .ensures)
+      walks-turned (as-plain (s .pre .1 .0) (w .word .ensures) (n .children .ensures .0) (v .expr-verdict .ensures) (f .enum-told .given .1) (m .match2 .rest)) (c .check-exprs2 .ensures)
 
   pub meets : {M : Type 1} → lts.Closed (check-expr-calls t) (check-expr-at t) reads.Post M
   meets =
