@@ -26,7 +26,7 @@ fn show(label: &[u8], sheet: &[u8], a: &mut [u32], b: &mut [u32], stack: &mut [u
     requires { ⌜ Roomy (now a) (now b) ⌝ }
     requires { ⌜ workWords ≤ length (now stack) ⌝ }
 {
-    match read_sheet(sheet, a, b, stack) {
+    match read_sheet(sheet, a, b, stack, words::MAX_DEPTH) {
         Read::Records(n) => say(label, 0, n as u64),
         Read::BadLine(l) => say(label, 3, l as u64),
         Read::BigTree(l) => say(label, 4, l as u64),

@@ -13,7 +13,6 @@ use Rattle.words.specs.Places.{matchKind, whereKind, withKind, returnKind, unwi
 use Rattle.model.specs.Kind.{Clause, expr, clause, unionArm, statement, orderItem, patternPart}
 use Rattle.model.specs.Record.{one, kinds, clauseForms}
 use Rattle.model.specs.Check.{Verdict, noSpan, ofRecord, precheckStatement}
-use Rattle.model.specs.Call.{maxDepth}
 use Rattle.words.specs.Words.{Roomy, cell, kindOf, firstKind, nth, fieldsOf, fieldOf}
 use Rattle.precheck.specs.Answer.{spanOf}
 use Rattle.precheck.specs.Steps.{Some, Then, Walks, Run}
@@ -112,16 +111,16 @@ pub as-arm : {a b : List ℕ} {i n d : ℕ} → Roomy a b → n ≡ cell a b i a
 unfolding ofRecord fieldsOf fieldOf
 as-arm room h = record { to = λ v e p. rw h (last-of (kids-of (open-at room p .body) refl)) }
 
-pub as-statement : {a b : List ℕ} {m n : ℕ} → Roomy a b → m ≡ cell a b 0 stmtClausesAt → n ≡ cell a b 0 stmtArmsAt → Turns (At a b statement maxDepth noSpan 0) (Then (Run (At a b clause (maxDepth - 1) noSpan) m 1) (λ j. Run (At a b unionArm (maxDepth - 1) noSpan) n j))
+pub as-statement : {a b : List ℕ} {m n d : ℕ} → Roomy a b → m ≡ cell a b 0 stmtClausesAt → n ≡ cell a b 0 stmtArmsAt → Turns (At a b statement d noSpan 0) (Then (Run (At a b clause (d - 1) noSpan) m 1) (λ j. Run (At a b unionArm (d - 1) noSpan) n j))
 unfolding ofRecord fieldsOf fieldOf
 as-statement room hm hn = record { to = λ v e p. rw (hm, hn) (map-then (λ w j r. r) (λ j w r. last-of r) (kids-of (open-at room p .body) refl)) }
 
 -- a tree that is held stands there with its verdict
-pub held-at : {a b : List ℕ} (sheet : Bytes) (t : Tree statement) → Held sheet a b t maxDepth 0 → At a b statement maxDepth noSpan 0 (precheckStatement t) (0 + size t)
+pub held-at : {a b : List ℕ} {d : ℕ} (sheet : Bytes) (t : Tree statement) → Held sheet a b t d 0 → At a b statement d noSpan 0 (precheckStatement t) (0 + size t)
 unfolding precheckStatement
 held-at sheet t h = record { sheet = sheet; tree = t; held = h; verdict = refl; next = refl }
 
-pub some-held : {a b : List ℕ} → ((sheet : Bytes) × HeldSome sheet a b statement maxDepth 0) → Some (At a b statement maxDepth noSpan 0)
+pub some-held : {a b : List ℕ} {d : ℕ} → ((sheet : Bytes) × HeldSome sheet a b statement d 0) → Some (At a b statement d noSpan 0)
 some-held (sheet, h) = record { verdict = precheckStatement (h .tree); next = 0 + size (h .tree); is = held-at sheet (h .tree) (h .is) }
 
 -- the span of a clause that the code does not name stands where that of a `with` does

@@ -117,3 +117,9 @@ Projected a b i filters d span v e =
 abbrev pub Called : (a b : List ℕ) (i d : ℕ) → Span → Stage
 Called a b i d span v e =
     Then (Exprs a b 0 d span (cell a b i callArgsAt) (i + 1)) (λ j w x. (w ≡ fine) × (j + cell a b i callYieldsAt ≡ x) × (x ≤ maxRecords)) v e
+
+-- ── the statement ──
+
+-- The check steps down from a statement, an arm and a clause to an item, whether or not there is one.
+abbrev pub leastDepth : ℕ
+leastDepth = 4

@@ -1,6 +1,6 @@
 // The check of a resolved statement that the words hold: the first record, in sheet order, that the lowering does not take. It rests on the reader's promise alone.
 ghost use mathlib.Core.Path.{_≡_};
-ghost use Prim.Native.Nat.{ℕ, _<_};
+ghost use Prim.Native.Nat.{ℕ, _<_, _≤_};
 ghost use Rattle.model.specs.Kind.{statement, unionArm, clause, expr, patternPart, patternElement};
 ghost use Rattle.model.specs.Check.{Verdict, noSpan, precheckStatement};
 ghost use Rattle.model.specs.Text.{Bytes};
@@ -8,17 +8,13 @@ ghost use Rattle.model.specs.Tree.{Tree};
 ghost use Rattle.words.specs.Held.{Held, HeldSome};
 ghost use Rattle.words.specs.Places.{kindAt, lineEndAt};
 ghost use Rattle.words.specs.Words.{Roomy, cell, maxRecords};
-ghost use Rattle.model.specs.Call.{maxDepth};
 ghost use Rattle.precheck.specs.Answer.{spanOf, Says};
 ghost use Rattle.precheck.specs.Steps.{Some, Ends, Walks, Run};
-ghost use Rattle.precheck.specs.Stands.{At, Standing, Exprs, Spans, SomeAt, Inside, Begins, Own, spanWord, Trailers, Projected, Called};
+ghost use Rattle.precheck.specs.Stands.{At, Standing, Exprs, Spans, SomeAt, Inside, Begins, Own, spanWord, Trailers, Projected, Called, leastDepth};
 use words::field;
 use words::kind;
 use words::records::children;
 use words::records::count;
-
-// How deep a clause and an arm may be: they stand below the statement.
-const BELOW_STATEMENT: usize = words::MAX_DEPTH - 1;
 
 // A part of the source text.
 pub struct HirSpan {
@@ -419,19 +415,21 @@ fn check_arms(a: &[u32], b: &[u32], i: usize, n: usize, left: usize) -> Walk
 
 // ── the check of a statement ──
 
-// The first record, in sheet order, that the lowering does not take: clauses in order, then each arm's.
-pub fn precheck_statement(a: &[u32], b: &[u32]) -> Checked
+// The first record, in sheet order, that the lowering does not take, of a statement of at most a depth: clauses in order, then each arm's.
+pub fn precheck_statement(a: &[u32], b: &[u32], depth: usize) -> Checked
     requires { ⌜ Roomy (now a) (now b) ⌝ }
-    requires { ⌜ ((sheet : Bytes) × HeldSome sheet (now a) (now b) statement maxDepth 0) ⌝ }
-    ensures { λ r. ⌜ ((sheet : Bytes) (t : Tree statement) → Held sheet (now (a .entry)) (now (b .entry)) t maxDepth 0 → Says r (precheckStatement t)) ⌝ }
+    requires { ⌜ leastDepth ≤ depth ⌝ }
+    requires { ⌜ ((sheet : Bytes) × HeldSome sheet (now a) (now b) statement depth 0) ⌝ }
+    ensures { λ r. ⌜ ((sheet : Bytes) (t : Tree statement) → Held sheet (now (a .entry)) (now (b .entry)) t depth 0 → Says r (precheckStatement t)) ⌝ }
 {
     let clauses = count(a, b, 0, field::STMT_CLAUSES);
     let arms = count(a, b, 0, field::STMT_ARMS);
-    let head = check_clauses(a, b, 1, clauses, BELOW_STATEMENT);
+    let less = depth - 1;
+    let head = check_clauses(a, b, 1, clauses, less);
     let Walk::Go(at) = head else {
         return answer(head);
     };
-    answer(check_arms(a, b, at, arms, BELOW_STATEMENT))
+    answer(check_arms(a, b, at, arms, less))
 }
 
 // The answer that a walk over the whole statement has.

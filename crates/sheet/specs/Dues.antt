@@ -8,13 +8,13 @@ use borrow.Author.Tests.{eqb-true, eqb-false}
 use lib.Dec.{eqb}
 use lib.ListN.{length, getD, set, length-set}
 use lib.Seq.{getD-set-same, getD-set-other}
-use Rattle.model.specs.Call.{workWords, maxDepth}
+use Rattle.model.specs.Call.{workWords}
 use Rattle.words.specs.Places.{sortCount, kindCount}
 use Rattle.model.specs.Kind.{Sort}
 use Rattle.words.specs.GroupLaws.{none-behind}
 use Rattle.words.specs.Table.{groupNumbers, sortOf, groupSort, groupSource, countOf, groupsFrom, groupCount}
 use Rattle.sheet.specs.Due.{Due, due, dueOf}
-use Rattle.sheet.specs.Stack.{Alike, alike-refl, alike-sym, alike-trans, alike-under, alike-none, slack, Fit, dueWords, dueCountAt, dueRoomAt, allowed}
+use Rattle.sheet.specs.Stack.{Alike, alike-refl, alike-sym, alike-trans, alike-under, alike-none, slack, Fit, dueWords, dueCountAt, dueRoomAt, allowed, maxRoom}
 
 -- at most this many groups are ever due
 abbrev pub maxDue : ℕ
@@ -154,7 +154,7 @@ pub record Grouped (w w′ : List ℕ) (m s n d r : ℕ) : Type 0 where
   pub low : m ≤ r
   pub high : r ≤ suc m
   pub is : Alike (dues w′ r) (due (sortOf s) n d ∷ dues w m)
-  pub fit : Fit (dues w m) → d ≤ maxDepth → m + 1 + slack (sortOf s) ≤ allowed d → Fit (dues w′ r)
+  pub fit : Fit (dues w m) → d ≤ maxRoom → m + 1 + slack (sortOf s) ≤ allowed d → Fit (dues w′ r)
   pub sorted : Sorted w m → Sorted w′ r
 
 pub grouped-none : (w : List ℕ) (m s n d : ℕ) → n ≡ 0 → Grouped w w m s n d m
@@ -179,7 +179,7 @@ pub record Groups (w w′ : List ℕ) (n : ℕ) (ws : List ℕ) (g k m d r : ℕ
 pub record Space (w : List ℕ) (n m d : ℕ) : Type 0 where
   pub long : workWords ≤ length w
   pub few : m + groupCount ≤ maxDue
-  pub room : d ≤ maxDepth
+  pub room : d ≤ maxRoom
   pub each : (g : ℕ) → g < groupCount → m + groupCount + slack (sortOf (groupSort n g)) ≤ allowed d
   pub fit : Fit (dues w m)
   pub sorted : Sorted w m

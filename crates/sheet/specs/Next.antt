@@ -39,10 +39,10 @@ use Rattle.sheet.specs.Steps.{writes-kind, space, due-now}
 use Rattle.sheet.specs.Reader.{readOnly, Reads, Ends, SoFar, writeOf, rest-refused, top-is, advance, seen-more, seen-write}
 
 -- behind record i
-abbrev pub Next : Bytes → List ℕ → List ℕ → List ℕ → ℕ → Reached → Type 0
-Next sheet a b w i (More pos m wr) = SoFar sheet a b w (i + 1) pos m wr
-Next sheet a b w i Bad = readOnly sheet ≡ refuse (Refusal.BadLine (i + 1))
-Next sheet a b w i Big = readOnly sheet ≡ refuse (Refusal.BigTree (i + 1))
+abbrev pub Next : ℕ → Bytes → List ℕ → List ℕ → List ℕ → ℕ → Reached → Type 0
+Next depth sheet a b w i (More pos m wr) = SoFar depth sheet a b w (i + 1) pos m wr
+Next depth sheet a b w i Bad = readOnly depth sheet ≡ refuse (Refusal.BadLine (i + 1))
+Next depth sheet a b w i Big = readOnly depth sheet ≡ refuse (Refusal.BigTree (i + 1))
 
 -- the line of the first write, when record i has kind number n
 pub record Wrote (n wr i wr′ : ℕ) : Type 0 where
@@ -50,9 +50,9 @@ pub record Wrote (n wr i wr′ : ℕ) : Type 0 where
   pub old : n ≡ writeKind → (wr ≡ 0 → ⊥) → wr′ ≡ wr
   pub other : (n ≡ writeKind → ⊥) → wr′ ≡ wr
 
-module _ (sheet : Bytes) (a b w : List ℕ) (i pos m wr : ℕ) (o : SoFar sheet a b w i pos (m + 1) wr) where
+module _ {depth : ℕ} (sheet : Bytes) (a b w : List ℕ) (i pos m wr : ℕ) (o : SoFar depth sheet a b w i pos (m + 1) wr) where
   -- with the successor that definitions go by
-  state : SoFar sheet a b w i pos (suc m) wr
+  state : SoFar depth sheet a b w i pos (suc m) wr
   state = rw (add-one m) at o
 
   pub top-sort : getD w (m * dueWords) 0 < sortCount
@@ -69,21 +69,21 @@ module _ (sheet : Bytes) (a b w : List ℕ) (i pos m wr : ℕ) (o : SoFar sheet 
   pub roomy-still : (sort : Sort) (e : ℕ) (a′ b′ : List ℕ) (l : Line) → IntoRead sort sheet pos e i a b a′ b′ l → Roomy a′ b′
   roomy-still sort e a′ b′ l into = record { first = omega (arith, o .roomy .first, into .first); second = omega (arith, o .roomy .second, into .second) }
 
-  line-refuses : (x : ℕ → Refusal) → readLine (group w m .sort) (isZero (group w m .room)) (placeAt sheet pos (suc i)) ≡ refused (x (suc i)) → readOnly sheet ≡ refuse (x (i + 1))
+  line-refuses : (x : ℕ → Refusal) → readLine (group w m .sort) (isZero (group w m .room)) (placeAt sheet pos (suc i)) ≡ refused (x (suc i)) → readOnly depth sheet ≡ refuse (x (i + 1))
   line-refuses x e = rw (add-one i) (rest-refused sheet a b w i pos (suc m) wr state (x (suc i)) (ap (λ st. readRest st (placeAt sheet pos (suc i))) (top-is w m (state .fit)) ∙ line-refused (group w m .sort) (group w m .count - 1) (group w m .room) (dues w m) (placeAt sheet pos (suc i)) (x (suc i)) e))
 
   -- from pos on there is no line feed
-  pub next-unended : split lineFeed (drop pos sheet) .more ≡ [] → readOnly sheet ≡ refuse (Refusal.BadLine (i + 1))
+  pub next-unended : split lineFeed (drop pos sheet) .more ≡ [] → readOnly depth sheet ≡ refuse (Refusal.BadLine (i + 1))
   next-unended q = line-refuses (λ l. Refusal.BadLine l) (no-feed sheet pos (suc i) (group w m .sort) (group w m .room) q)
 
   module _ (e : ℕ) (line : LineEnd sheet pos e) where
     behind : split lineFeed (drop pos sheet) .more ≡ split lineFeed (drop (e + 1) sheet) .first ∷ split lineFeed (drop (e + 1) sheet) .more
     behind = line-more sheet pos e line
 
-    pub next-many : i ≡ maxRecords → readOnly sheet ≡ refuse (Refusal.BigTree (i + 1))
+    pub next-many : i ≡ maxRecords → readOnly depth sheet ≡ refuse (Refusal.BigTree (i + 1))
     next-many q = line-refuses (λ l. Refusal.BigTree l) (too-many sheet pos (suc i) (group w m .sort) (group w m .room) (e + 1) behind (omega arith))
 
-    pub next-deep : getD w (m * dueWords + dueRoomAt) 0 ≡ 0 → readOnly sheet ≡ refuse (Refusal.BigTree (i + 1))
+    pub next-deep : getD w (m * dueWords + dueRoomAt) 0 ≡ 0 → readOnly depth sheet ≡ refuse (Refusal.BigTree (i + 1))
     next-deep q = line-refuses (λ l. Refusal.BigTree l) (deep sheet pos (suc i) (group w m .sort) (group w m .room) (e + 1) behind q)
 
     module _ (few : i ≡ maxRecords → ⊥) (room : getD w (m * dueWords + dueRoomAt) 0 ≡ 0 → ⊥) where
@@ -93,7 +93,7 @@ module _ (sheet : Bytes) (a b w : List ℕ) (i pos m wr : ℕ) (o : SoFar sheet 
       deep-enough : 0 < getD w (m * dueWords + dueRoomAt) 0
       deep-enough = omega (arith, room)
 
-      pub next-unformed : (a′ b′ : List ℕ) (l : Line) → IntoRead (group w m .sort) sheet pos e i a b a′ b′ l → l ≡ Line.Not → readOnly sheet ≡ refuse (Refusal.BadLine (i + 1))
+      pub next-unformed : (a′ b′ : List ℕ) (l : Line) → IntoRead (group w m .sort) sheet pos e i a b a′ b′ l → l ≡ Line.Not → readOnly depth sheet ≡ refuse (Refusal.BadLine (i + 1))
       next-unformed a′ b′ l into z = let q = (rw z at into) .line .answer in line-refuses (λ l. Refusal.BadLine l) (unformed sheet pos (suc i) (group w m .sort) (group w m .room) (e + 1) behind low deep-enough (ap (readRec (group w m .sort)) (sym (line-first sheet pos e line)) ∙ q))
 
       -- ── a record ──
@@ -133,7 +133,7 @@ module _ (sheet : Bytes) (a b w : List ℕ) (i pos m wr : ℕ) (o : SoFar sheet 
           seen true q wrote = seen-write sheet a b w a′ b′ w″ i pos m wr state (e + 1) r″ wr′ (got-it .kind, fields) (writes-is ∙ q) (wrote .new (eqb-true n writeKind q)) (wrote .old (eqb-true n writeKind q))
           seen false q wrote = seen-more sheet a b w a′ b′ w″ i pos m wr state (e + 1) r″ wr′ (got-it .kind, fields) (writes-is ∙ q) (wrote .other (eqb-false n writeKind q))
 
-          pub next-more : Groups w′ w″ n (part a′ b′ i) 0 groupCount r d r″ → Wrote n wr i wr′ → Next sheet a′ b′ w″ i (More z r″ wr′)
+          pub next-more : Groups w′ w″ n (part a′ b′ i) 0 groupCount r d r″ → Wrote n wr i wr′ → Next depth sheet a′ b′ w″ i (More z r″ wr′)
           unfolding fields
           next-more groups wrote =
               rw (add-one i, (rw is at into) .line .answer .0)
@@ -152,19 +152,19 @@ module _ (sheet : Bytes) (a b w : List ℕ) (i pos m wr : ℕ) (o : SoFar sheet 
 
 -- ── the loop ──
 
-module _ (sheet : Bytes) (a b w : List ℕ) (i pos m wr : ℕ) (o : SoFar sheet a b w i pos m wr) where
-  pub loop-top : 0 < m → SoFar sheet a b w i pos (m - 1 + 1) wr
+module _ {depth : ℕ} (sheet : Bytes) (a b w : List ℕ) (i pos m wr : ℕ) (o : SoFar depth sheet a b w i pos m wr) where
+  pub loop-top : 0 < m → SoFar depth sheet a b w i pos (m - 1 + 1) wr
   loop-top h = let e : m - 1 + 1 ≡ m = omega arith in rw e o
 
-  pub loop-done : (m ≡ 0) → (r : Read) → Ends sheet i pos wr r → Reads sheet a b r
-  loop-done e r h = h .is a b w (rw e at o)
+  pub loop-done : (m ≡ 0) → (r : Read) → Ends sheet i pos wr r → Reads depth sheet a b r
+  loop-done e r h = h .is depth a b w (rw e at o)
 
 -- what a line answers, by cases
-pub next-more-is : (sheet : Bytes) (a b w : List ℕ) (i : ℕ) (s : Reached) (p n wr : ℕ) → s ≡ More p n wr → Next sheet a b w i s → SoFar sheet a b w (i + 1) p n wr
-next-more-is sheet a b w i s p n wr e h = rw e at h
+pub next-more-is : (depth : ℕ) (sheet : Bytes) (a b w : List ℕ) (i : ℕ) (s : Reached) (p n wr : ℕ) → s ≡ More p n wr → Next depth sheet a b w i s → SoFar depth sheet a b w (i + 1) p n wr
+next-more-is depth sheet a b w i s p n wr e h = rw e at h
 
-pub next-bad-is : (sheet : Bytes) (a b w : List ℕ) (i : ℕ) (s : Reached) → s ≡ Bad → Next sheet a b w i s → Reads sheet a b (BadLine (i + 1))
-next-bad-is sheet a b w i s e h = rw e at h
+pub next-bad-is : (depth : ℕ) (sheet : Bytes) (a b w : List ℕ) (i : ℕ) (s : Reached) → s ≡ Bad → Next depth sheet a b w i s → Reads depth sheet a b (BadLine (i + 1))
+next-bad-is depth sheet a b w i s e h = rw e at h
 
-pub next-big-is : (sheet : Bytes) (a b w : List ℕ) (i : ℕ) (s : Reached) → s ≡ Big → Next sheet a b w i s → Reads sheet a b (BigTree (i + 1))
-next-big-is sheet a b w i s e h = rw e at h
+pub next-big-is : (depth : ℕ) (sheet : Bytes) (a b w : List ℕ) (i : ℕ) (s : Reached) → s ≡ Big → Next depth sheet a b w i s → Reads depth sheet a b (BigTree (i + 1))
+next-big-is depth sheet a b w i s e h = rw e at h

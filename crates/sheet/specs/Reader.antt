@@ -14,7 +14,7 @@ use Rattle.model.specs.Kind.{Sort, Kind, statement}
 use Rattle.model.specs.Record.{Rec, rec, RecOf, forms, children}
 use Rattle.model.specs.Tree.{Tree, records}
 use Rattle.model.specs.Sheet.{Place, Reading, got, refused, readLine, readSheet, firstWrite, orElse}
-use Rattle.model.specs.Call.{Test, refuse, pass, then, testReading, testWrite, recordCount, workWords, maxDepth}
+use Rattle.model.specs.Call.{Test, refuse, pass, then, testReading, testWrite, recordCount, workWords}
 use Rattle.model.specs.Refusal.{Refusal}
 use Rattle.words.specs.Words.{Roomy, part, maxRecords}
 use Rattle.words.specs.Held.{RecordAt, Held}
@@ -26,19 +26,19 @@ use Rattle.sheet.specs.Due.{due, dueOf, mapped, mapped-mapped, mapped-ex
 use Rattle.sheet.specs.Standing.{Standing, standing-both, stands-held}
 use Rattle.sheet.specs.Writes.{writes, writeAmong, first-write, orElse-none}
 use Rattle.sheet.specs.Progress.{placeAt, readRest, whole, at-start, line-got, at-the-end, not-the-end}
-use Rattle.sheet.specs.Stack.{Alike, rest-alike, Fit}
+use Rattle.sheet.specs.Stack.{Alike, rest-alike, Fit, maxRoom}
 use Rattle.sheet.specs.Dues.{dues, group, Sorted, Pushed}
 
--- tests 3 to 5
-unfoldable pub readOnly : Bytes → Test (Tree statement)
-readOnly sheet = then (testReading (readSheet maxDepth sheet)) λ t. testWrite t (firstWrite t)
+-- tests 3 to 5, for trees of at most a depth
+unfoldable pub readOnly : ℕ → Bytes → Test (Tree statement)
+readOnly depth sheet = then (testReading (readSheet depth sheet)) λ t. testWrite t (firstWrite t)
 
 -- the promise: the words hold the tree, or the answer is the refusal
-abbrev pub Reads : Bytes → List ℕ → List ℕ → Read → Type 0
-Reads sheet a b (Records n) = (t : Tree statement) × (readOnly sheet ≡ pass t) × (recordCount t ≡ n) × Held sheet a b t maxDepth 0
-Reads sheet a b (BadLine l) = readOnly sheet ≡ refuse (Refusal.BadLine l)
-Reads sheet a b (BigTree l) = readOnly sheet ≡ refuse (Refusal.BigTree l)
-Reads sheet a b (WriteClause l) = readOnly sheet ≡ refuse (Refusal.WriteClause l)
+abbrev pub Reads : ℕ → Bytes → List ℕ → List ℕ → Read → Type 0
+Reads depth sheet a b (Records n) = (t : Tree statement) × (readOnly depth sheet ≡ pass t) × (recordCount t ≡ n) × Held sheet a b t depth 0
+Reads depth sheet a b (BadLine l) = readOnly depth sheet ≡ refuse (Refusal.BadLine l)
+Reads depth sheet a b (BigTree l) = readOnly depth sheet ≡ refuse (Refusal.BigTree l)
+Reads depth sheet a b (WriteClause l) = readOnly depth sheet ≡ refuse (Refusal.WriteClause l)
 
 -- the line of the first write so far, 0 for none
 unfoldable pub writeOf : ℕ → Option ℕ
@@ -46,7 +46,7 @@ writeOf zero = none
 writeOf (suc l) = some (suc l)
 
 -- i records are read, up to position pos; m groups are due
-pub record SoFar (sheet : Bytes) (a b w : List ℕ) (i pos m wr : ℕ) : Type 0 where
+pub record SoFar (depth : ℕ) (sheet : Bytes) (a b w : List ℕ) (i pos m wr : ℕ) : Type 0 where
   pub done : List Rec
   pub stands : Standing sheet a b 0 done
   pub many : length done ≡ i
@@ -56,7 +56,7 @@ pub record SoFar (sheet : Bytes) (a b w : List ℕ) (i pos m wr : ℕ) : Type 0 
   pub roomy : Roomy a b
   pub fit : Fit (dues w m)
   pub sorted : Sorted w m
-  pub remains : whole maxDepth sheet ≡ mapped (λ rs. done ++ rs) (readRest (dues w m) (placeAt sheet pos (suc i)))
+  pub remains : whole depth sheet ≡ mapped (λ rs. done ++ rs) (readRest (dues w m) (placeAt sheet pos (suc i)))
   pub wrote : (ss : List Rec) → writeAmong 1 (done ++ ss) ≡ orElse (writeOf wr) (writeAmong (suc i) ss)
 
 -- ── refusals ──
@@ -66,14 +66,14 @@ unfolding mapped
 mapped-refused f (got a p) x e = let z : _≡_ {A = ℕ} 0 1 = cc in absurd (omega arith)
 mapped-refused f (refused y) x e = let p : y ≡ x = cc in rw p
 
-refusal : (sheet : Bytes) (x : Refusal) → readSheet maxDepth sheet ≡ refused x → readOnly sheet ≡ refuse x
+refusal : (depth : ℕ) (sheet : Bytes) (x : Refusal) → readSheet depth sheet ≡ refused x → readOnly depth sheet ≡ refuse x
 unfolding readOnly then testReading
-refusal sheet x e = rw e
+refusal depth sheet x e = rw e
 
-module _ (sheet : Bytes) (a b w : List ℕ) (i pos m wr : ℕ) (s : SoFar sheet a b w i pos m wr) where
-  pub rest-refused : (x : Refusal) → readRest (dues w m) (placeAt sheet pos (suc i)) ≡ refused x → readOnly sheet ≡ refuse x
+module _ {depth : ℕ} (sheet : Bytes) (a b w : List ℕ) (i pos m wr : ℕ) (s : SoFar depth sheet a b w i pos m wr) where
+  pub rest-refused : (x : Refusal) → readRest (dues w m) (placeAt sheet pos (suc i)) ≡ refused x → readOnly depth sheet ≡ refuse x
   unfolding mapped whole
-  rest-refused x e = refusal sheet x (mapped-refused (λ t. records t) (readSheet maxDepth sheet) x (s .remains ∙ ap (mapped (λ rs. s .done ++ rs)) e))
+  rest-refused x e = refusal depth sheet x (mapped-refused (λ t. records t) (readSheet depth sheet) x (s .remains ∙ ap (mapped (λ rs. s .done ++ rs)) e))
 
 -- ── the end ──
 
@@ -88,13 +88,13 @@ mapped-got f (got a p) b q e = let z : p ≡ q = cc in record { value = a; is = 
 mapped-got f (refused y) b q e = let z : _≡_ {A = ℕ} 0 1 = cc in absurd (omega arith)
 
 -- a sheet that was read whole
-record Ended (sheet : Bytes) (a b : List ℕ) (i wr : ℕ) : Type 0 where
+record Ended (depth : ℕ) (sheet : Bytes) (a b : List ℕ) (i wr : ℕ) : Type 0 where
   tree : Tree statement
   place : Place
-  reads : readSheet maxDepth sheet ≡ got tree place
+  reads : readSheet depth sheet ≡ got tree place
   count : recordCount tree ≡ i
   write : firstWrite tree ≡ writeOf wr
-  is : Held sheet a b tree maxDepth 0
+  is : Held sheet a b tree depth 0
 
 passed : (t : Tree statement) (wr : ℕ) → wr ≡ 0 → testWrite t (writeOf wr) ≡ pass t
 unfolding testWrite writeOf
@@ -106,35 +106,35 @@ unfolding testWrite writeOf
 written t zero z = absurd (z refl)
 written t (suc l) z = refl
 
-module _ (sheet : Bytes) (a b w : List ℕ) (i pos wr : ℕ) (s : SoFar sheet a b w i pos 0 wr) (e : pos ≡ length sheet) where
-  ended-whole : whole maxDepth sheet ≡ got (s .done) (placeAt sheet (length sheet) (suc i))
+module _ {depth : ℕ} (sheet : Bytes) (a b w : List ℕ) (i pos wr : ℕ) (s : SoFar depth sheet a b w i pos 0 wr) (e : pos ≡ length sheet) where
+  ended-whole : whole depth sheet ≡ got (s .done) (placeAt sheet (length sheet) (suc i))
   unfolding mapped dues
   ended-whole = s .remains ∙ rw (e, at-the-end sheet (suc i)) (ap (λ l. got l (placeAt sheet (length sheet) (suc i))) (append-nil (s .done)))
 
-  ended-tree : (t : Tree statement) (q : Place) → readSheet maxDepth sheet ≡ got t q → records t ≡ s .done → Ended sheet a b i wr
+  ended-tree : (t : Tree statement) (q : Place) → readSheet depth sheet ≡ got t q → records t ≡ s .done → Ended depth sheet a b i wr
   unfolding recordCount writeAmong
   ended-tree t q g d =
-      let wf = sheet-sound maxDepth sheet t q g .0 in
+      let wf = sheet-sound depth sheet t q g .0 in
       record {
         tree = t;
         place = q;
         reads = g;
         count = ap length d ∙ s .many;
         write = ap firstWrite (sym (wf .numbers)) ∙ first-write t ∙ ap (writeAmong 1) (d ∙ sym (append-nil (s .done))) ∙ s .wrote [] ∙ orElse-none (writeOf wr);
-        is = subst (λ u. Held sheet a b u maxDepth 0) (wf .numbers) (stands-held sheet a b t maxDepth 0 (wf .deep) (subst (λ l. Standing sheet a b 0 l) (sym d) (s .stands)));
+        is = subst (λ u. Held sheet a b u depth 0) (wf .numbers) (stands-held sheet a b t depth 0 (wf .deep) (subst (λ l. Standing sheet a b 0 l) (sym d) (s .stands)));
       }
 
-  ended : Ended sheet a b i wr
+  ended : Ended depth sheet a b i wr
   unfolding whole
   ended =
-      let g = mapped-got (λ t. records t) (readSheet maxDepth sheet) (s .done) (placeAt sheet (length sheet) (suc i)) ended-whole in
+      let g = mapped-got (λ t. records t) (readSheet depth sheet) (s .done) (placeAt sheet (length sheet) (suc i)) ended-whole in
       ended-tree (g .value) (placeAt sheet (length sheet) (suc i)) (g .is) (g .result)
 
-  pub all-read : wr ≡ 0 → Reads sheet a b (Records i)
+  pub all-read : wr ≡ 0 → Reads depth sheet a b (Records i)
   unfolding readOnly then testReading
   all-read z = let d = ended in (d .tree, rw (d .reads, d .write) (passed (d .tree) wr z), d .count, d .is)
 
-  pub write-read : (wr ≡ 0 → ⊥) → Reads sheet a b (WriteClause wr)
+  pub write-read : (wr ≡ 0 → ⊥) → Reads depth sheet a b (WriteClause wr)
   unfolding readOnly then testReading
   write-read z = let d = ended in rw (d .reads, d .write) (written (d .tree) wr z)
 
@@ -159,7 +159,7 @@ first-of zero wr′ i v new old = rw (new refl)
 first-of (suc l) wr′ i v new old = rw (old (λ e. omega arith))
 
 -- one record more, x, of sort s
-module _ (sheet : Bytes) (a b w a′ b′ w′ : List ℕ) (i pos m wr : ℕ) (o : SoFar sheet a b w i pos (suc m) wr) (to m′ wr′ : ℕ) (x : RecOf (group w m .sort)) where
+module _ {depth : ℕ} (sheet : Bytes) (a b w a′ b′ w′ : List ℕ) (i pos m wr : ℕ) (o : SoFar depth sheet a b w i pos (suc m) wr) (to m′ wr′ : ℕ) (x : RecOf (group w m .sort)) where
   pub seen-more : writes (group w m .sort) (x .0) ≡ false → wr′ ≡ wr → (ss : List Rec) → writeAmong 1 ((o .done ++ (rec (group w m .sort) (x .0) (x .1) ∷ [])) ++ ss) ≡ orElse (writeOf wr′) (writeAmong (suc (suc i)) ss)
   unfolding writeAmong
   seen-more q e ss = ap (writeAmong 1) (append-assoc (o .done) (rec (group w m .sort) (x .0) (x .1) ∷ []) ss) ∙ o .wrote (rec (group w m .sort) (x .0) (x .1) ∷ ss) ∙ rw (q, e)
@@ -172,7 +172,7 @@ module _ (sheet : Bytes) (a b w a′ b′ w′ : List ℕ) (i pos m wr : ℕ) (o
   remains-is :
       readLine (group w m .sort) (isZero (group w m .room)) (placeAt sheet pos (suc i)) ≡ got x (placeAt sheet to (suc (suc i)))
       → Alike (dues w′ m′) (dueOf (roomBelow (group w m .sort) (group w m .room)) (children (group w m .sort) (x .0) (x .1)) ++ (due (group w m .sort) (group w m .count - 1) (group w m .room) ∷ dues w m))
-      → whole maxDepth sheet ≡ mapped (λ rs. (o .done ++ (rec (group w m .sort) (x .0) (x .1) ∷ [])) ++ rs) (readRest (dues w′ m′) (placeAt sheet to (suc (suc i))))
+      → whole depth sheet ≡ mapped (λ rs. (o .done ++ (rec (group w m .sort) (x .0) (x .1) ∷ [])) ++ rs) (readRest (dues w′ m′) (placeAt sheet to (suc (suc i))))
   remains-is r alike =
       o .remains
       ∙ ap (λ st. mapped (λ rs. o .done ++ rs) (readRest st (placeAt sheet pos (suc i)))) (top-is w m (o .fit))
@@ -193,7 +193,7 @@ module _ (sheet : Bytes) (a b w a′ b′ w′ : List ℕ) (i pos m wr : ℕ) (o
       → Sorted w′ m′
       → Alike (dues w′ m′) (dueOf (roomBelow (group w m .sort) (group w m .room)) (children (group w m .sort) (x .0) (x .1)) ++ (due (group w m .sort) (group w m .count - 1) (group w m .room) ∷ dues w m))
       → ((ss : List Rec) → writeAmong 1 ((o .done ++ (rec (group w m .sort) (x .0) (x .1) ∷ [])) ++ ss) ≡ orElse (writeOf wr′) (writeAmong (suc (suc i)) ss))
-      → SoFar sheet a′ b′ w′ (suc i) to m′ wr′
+      → SoFar depth sheet a′ b′ w′ (suc i) to m′ wr′
   advance r low here at others roomy long fit sorted alike wrote =
       record {
         done = o .done ++ (rec (group w m .sort) (x .0) (x .1) ∷ []);
@@ -219,17 +219,17 @@ unfolding mapped
 mapped-all (got rs p) = refl
 mapped-all (refused y) = refl
 
-only-statement : (w w′ : List ℕ) → Pushed w w′ 0 statementSort 1 maxDepth → dues w′ 1 ≡ due statement 1 maxDepth ∷ []
+only-statement : (depth : ℕ) (w w′ : List ℕ) → Pushed w w′ 0 statementSort 1 depth → dues w′ 1 ≡ due statement 1 depth ∷ []
 unfolding dues sortOf sorts
-only-statement w w′ p = p .is
+only-statement depth w w′ p = p .is
 
-statement-fits : Fit (due statement 1 maxDepth ∷ [])
-statement-fits = (omega arith, omega arith, omega arith, tt)
+statement-fits : (depth : ℕ) → depth ≤ maxRoom → Fit (due statement 1 depth ∷ [])
+statement-fits depth h = (omega arith, omega arith, omega arith, tt)
 
-pub begin : (sheet : Bytes) (a b w w′ : List ℕ) → Roomy a b → workWords ≤ length w → Pushed w w′ 0 statementSort 1 maxDepth → SoFar sheet a b w′ 0 0 1 0
+pub begin : (depth : ℕ) (sheet : Bytes) (a b w w′ : List ℕ) → depth ≤ maxRoom → Roomy a b → workWords ≤ length w → Pushed w w′ 0 statementSort 1 depth → SoFar depth sheet a b w′ 0 0 1 0
 unfolding writeOf orElse
-begin sheet a b w w′ roomy long p =
-    let e = only-statement w w′ p in
+begin depth sheet a b w w′ h roomy long p =
+    let e = only-statement depth w w′ p in
     record {
       done = [];
       stands = tt;
@@ -238,9 +238,9 @@ begin sheet a b w w′ roomy long p =
       here = omega arith;
       long = omega (arith, p .same);
       roomy = roomy;
-      fit = subst (λ st. Fit st) (sym e) statement-fits;
+      fit = subst (λ st. Fit st) (sym e) (statement-fits depth h);
       sorted = p .sorted (record { at = λ j l. absurd (omega arith) }) (omega arith);
-      remains = at-start maxDepth sheet ∙ sym (mapped-all (readRest (due statement 1 maxDepth ∷ []) (placeAt sheet 0 1))) ∙ ap (λ st. mapped (λ rs. [] ++ rs) (readRest st (placeAt sheet 0 1))) (sym e);
+      remains = at-start depth sheet ∙ sym (mapped-all (readRest (due statement 1 depth ∷ []) (placeAt sheet 0 1))) ∙ ap (λ st. mapped (λ rs. [] ++ rs) (readRest st (placeAt sheet 0 1))) (sym e);
       wrote = λ ss. refl;
     }
 
@@ -248,14 +248,14 @@ begin sheet a b w w′ roomy long p =
 
 -- the answer where nothing is due, for every state that the reader can have come to there
 pub record Ends (sheet : Bytes) (i pos wr : ℕ) (r : Read) : Type 0 where
-  pub is : (a b w : List ℕ) → SoFar sheet a b w i pos 0 wr → Reads sheet a b r
+  pub is : (depth : ℕ) (a b w : List ℕ) → SoFar depth sheet a b w i pos 0 wr → Reads depth sheet a b r
 
 pub ends-bad : (sheet : Bytes) (i pos wr l : ℕ) → pos < length sheet → l ≡ suc i → Ends sheet i pos wr (BadLine l)
 unfolding dues
-ends-bad sheet i pos wr l h e = record { is = λ a b w s. rw e (rest-refused sheet a b w i pos 0 wr s (Refusal.BadLine (suc i)) (not-the-end sheet pos (suc i) h)) }
+ends-bad sheet i pos wr l h e = record { is = λ depth a b w s. rw e (rest-refused sheet a b w i pos 0 wr s (Refusal.BadLine (suc i)) (not-the-end sheet pos (suc i) h)) }
 
 pub ends-read : (sheet : Bytes) (i pos wr : ℕ) → length sheet ≤ pos → wr ≡ 0 → Ends sheet i pos wr (Records i)
-ends-read sheet i pos wr h z = record { is = λ a b w s. all-read sheet a b w i pos wr s (omega (arith, s .here)) z }
+ends-read sheet i pos wr h z = record { is = λ depth a b w s. all-read sheet a b w i pos wr s (omega (arith, s .here)) z }
 
 pub ends-write : (sheet : Bytes) (i pos wr : ℕ) → length sheet ≤ pos → (wr ≡ 0 → ⊥) → Ends sheet i pos wr (WriteClause wr)
-ends-write sheet i pos wr h z = record { is = λ a b w s. write-read sheet a b w i pos wr s (omega (arith, s .here)) z }
+ends-write sheet i pos wr h z = record { is = λ depth a b w s. write-read sheet a b w i pos wr s (omega (arith, s .here)) z }

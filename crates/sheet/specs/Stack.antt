@@ -7,7 +7,6 @@ use mathlib.Core.List.{List, [], _∷_, _++_}
 use lib.ListN.{length, replicate}
 use Rattle.model.specs.Kind.{Sort}
 use Rattle.model.specs.Record.{rec, Group, children, beside}
-use Rattle.model.specs.Call.{maxDepth}
 use Rattle.model.specs.Tree.{recordsOf}
 use Rattle.model.specs.Sheet.{Place, thenRead, readLine, readMany, readTree, atEnd}
 use Rattle.words.specs.GroupLaws.{sortsOf}
@@ -75,9 +74,13 @@ alike-split s d st a b n e = rw e (split-at s d st b a)
 abbrev pub levelGroups : ℕ
 levelGroups = 11
 
+-- the work slice has room for so many levels
+abbrev pub maxRoom : ℕ
+maxRoom = 495
+
 -- so many groups may be due down to one with room d
 abbrev pub allowed : ℕ → ℕ
-allowed d = levelGroups * (maxDepth + 1 - d)
+allowed d = levelGroups * (maxRoom + 1 - d)
 
 -- a map's key leaves place for the expression beside it
 abbrev pub entrySlack : ℕ
@@ -89,7 +92,7 @@ slack s = cond (beside s) entrySlack 0
 -- each group is due, and stands low enough for its room
 abbrev pub Fit : List Due → Type 0
 Fit [] = Unit {0}
-Fit (g ∷ st) = (0 < g .count) × (g .room ≤ maxDepth) × (length st + 1 + slack (g .sort) ≤ allowed (g .room)) × Fit st
+Fit (g ∷ st) = (0 < g .count) × (g .room ≤ maxRoom) × (length st + 1 + slack (g .sort) ≤ allowed (g .room)) × Fit st
 
 -- ── groups one by one ──
 

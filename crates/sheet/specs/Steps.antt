@@ -8,7 +8,7 @@ use mathlib.Core.Option.{some}
 use borrow.Author.Tests.{eqb-true, eq-eqb, ne-eqb}
 use lib.Dec.{eqb}
 use lib.ListN.{length, getD}
-use Rattle.model.specs.Call.{workWords, maxDepth}
+use Rattle.model.specs.Call.{workWords}
 use Rattle.words.specs.Places.{writeKind, entryKind, entrySort, sortCount}
 use Rattle.model.specs.Text.{Bytes}
 use Rattle.model.specs.Kind.{Sort, Kind}
@@ -20,7 +20,7 @@ use Rattle.words.specs.TableLaws.{Rows, done, _▸_, kind-row}
 use Rattle.words.specs.GroupLaws.{groups-are}
 use Rattle.sheet.specs.Due.{due, dueOf, roomBelow}
 use Rattle.sheet.specs.Writes.{writes}
-use Rattle.sheet.specs.Stack.{Alike, alike-trans, alike-behind, alike-groups, slack, Fit, dueWords, allowed, entrySlack}
+use Rattle.sheet.specs.Stack.{Alike, alike-trans, alike-behind, alike-groups, slack, Fit, dueWords, allowed, entrySlack, maxRoom}
 use Rattle.sheet.specs.Dues.{dues, dues-length, group, Sorted, Popped, Groups, Space}
 
 -- ── the room below ──
@@ -111,7 +111,7 @@ entry-slack m n g k e q h = let z : n ≡ entryKind = entry-number m n k e q in 
 numbers-beside : (m r d t : ℕ) → m + 1 + entrySlack ≤ allowed d → r ≤ suc m → 0 < d → t ≡ 0 → r + groupCount + t ≤ allowed d
 numbers-beside m r d t h l z e = omega arith
 
-numbers-below : (m r d t : ℕ) → m + 1 + 0 ≤ allowed d → r ≤ suc m → 0 < d → d ≤ maxDepth → t ≤ entrySlack → r + groupCount + t ≤ allowed (d - 1)
+numbers-below : (m r d t : ℕ) → m + 1 + 0 ≤ allowed d → r ≤ suc m → 0 < d → d ≤ maxRoom → t ≤ entrySlack → r + groupCount + t ≤ allowed (d - 1)
 numbers-below m r d t h l z k e = omega arith
 
 -- ── the line's groups on the stack ──
@@ -121,7 +121,7 @@ module _ (w w′ : List ℕ) (m r n : ℕ) (long : workWords ≤ length w) (fit 
   low-sort : getD w (m * dueWords) 0 < sortCount
   low-sort = sorted .at m (omega arith)
 
-  top-fits : (0 < group w m .count) × (group w m .room ≤ maxDepth) × (m + 1 + slack (group w m .sort) ≤ allowed (group w m .room))
+  top-fits : (0 < group w m .count) × (group w m .room ≤ maxRoom) × (m + 1 + slack (group w m .sort) ≤ allowed (group w m .room))
   unfolding dues
   top-fits = (fit .0, fit .1, rw (dues-length w m) at (fit .2))
 
@@ -134,7 +134,7 @@ module _ (w w′ : List ℕ) (m r n : ℕ) (long : workWords ≤ length w) (fit 
       let low : m + 1 + 0 ≤ allowed (group w m .room) = rw e at (top-fits .2) in
       rw (q, ← (room-less (group w m .sort) (group w m .room) e room)) (numbers-below m r (group w m .room) _ low (pop .high) room (top-fits .1) (slack-low (sortOf (groupSort n g))))
 
-  room-low : (t : Bool) → beside (group w m .sort) ≡ t → roomBelow (group w m .sort) (group w m .room) ≤ maxDepth
+  room-low : (t : Bool) → beside (group w m .sort) ≡ t → roomBelow (group w m .sort) (group w m .room) ≤ maxRoom
   room-low true e = rw (← (room-same (group w m .sort) (group w m .room) e room)) (top-fits .1)
   room-low false e = rw (← (room-less (group w m .sort) (group w m .room) e room)) (omega (arith, top-fits .1))
 

@@ -1,6 +1,6 @@
 // Reading a sheet line by line.
 ghost use mathlib.Core.Path.{_≡_};
-ghost use Prim.Native.Nat.{_+_, _<_, _≤_};
+ghost use Prim.Native.Nat.{ℕ, _+_, _<_, _≤_};
 ghost use lib.ListN.{length};
 ghost use Rattle.words.specs.Words.{Roomy, maxRecords};
 ghost use Rattle.words.specs.Places.{sortCount};
@@ -9,6 +9,7 @@ ghost use Rattle.words.specs.Table.{sortOf};
 ghost use Rattle.line.specs.Place.{InLine};
 ghost use Rattle.sheet.specs.Due.{roomBelow};
 ghost use Rattle.sheet.specs.LineLaws.{LinesEnd};
+ghost use Rattle.sheet.specs.Stack.{maxRoom};
 ghost use Rattle.sheet.specs.Reader.{Reads, SoFar, Ends};
 ghost use Rattle.sheet.specs.Next.{Next, Wrote};
 use crate::stack::pop;
@@ -17,9 +18,6 @@ use crate::stack::push_groups;
 use line::read::Line;
 use line::read::read_into;
 use words::sort;
-
-// The room of the statement: so deep may a tree be.
-const MAX_ROOM: u32 = words::MAX_DEPTH as u32;
 
 // The number of records, or a refusal with its line.
 pub enum Read {
@@ -100,8 +98,8 @@ fn read_next(
     write: u32,
 ) -> Reached
     requires { ⌜ InLine (now sheet) pos ⌝ }
-    requires { ⌜ SoFar (now sheet) (now a) (now b) (now stack) i pos (top + 1) write ⌝ }
-    ensures { λ r. ⌜ Next (now (sheet .entry)) (now (a .exit)) (now (b .exit)) (now (stack .exit)) i r ⌝ }
+    requires { ⌜ ((depth : ℕ) × SoFar depth (now sheet) (now a) (now b) (now stack) i pos (top + 1) write) ⌝ }
+    ensures { λ r. ⌜ ((depth : ℕ) → SoFar depth (now (sheet .entry)) (now (a .entry)) (now (b .entry)) (now (stack .entry)) i pos (top + 1) write → Next depth (now (sheet .entry)) (now (a .exit)) (now (b .exit)) (now (stack .exit)) i r) ⌝ }
 {
     let at = top * crate::stack::GROUP_WORDS;
     let sort = stack[at];
@@ -122,15 +120,23 @@ fn read_next(
     Reached::More(behind, due, first)
 }
 
-// Reads a sheet into the records of two slices; the third is room to work in. What a refusal leaves in them is not promised.
-pub fn read_sheet(sheet: &[u8], a: &mut [u32], b: &mut [u32], stack: &mut [u32]) -> Read
+// Reads a sheet of at most a depth into the records of two slices; the third is room to work in. What a refusal leaves in them is not promised.
+pub fn read_sheet(
+    sheet: &[u8],
+    a: &mut [u32],
+    b: &mut [u32],
+    stack: &mut [u32],
+    depth: usize,
+) -> Read
     requires { ⌜ length (now sheet) ≤ maxBytes ⌝ }
     requires { ⌜ Roomy (now a) (now b) ⌝ }
     requires { ⌜ workWords ≤ length (now stack) ⌝ }
-    ensures { λ r. ⌜ Reads (now (sheet .entry)) (now (a .exit)) (now (b .exit)) r ⌝ }
+    requires { ⌜ depth ≤ maxRoom ⌝ }
+    ensures { λ r. ⌜ Reads depth (now (sheet .entry)) (now (a .exit)) (now (b .exit)) r ⌝ }
 {
     let last = lines_end(sheet);
-    push(stack, 0, sort::STATEMENT, 1, MAX_ROOM);
+    let room = depth as u32;
+    push(stack, 0, sort::STATEMENT, 1, room);
     let mut i = 0;
     let mut pos = 0;
     let mut due = 1;

@@ -69,24 +69,24 @@ module _ (work : List ℕ) (sheet slice : Bytes) (e : short work ≡ false) wher
   lower-long h = rw (long-second work sheet e h)
 
   module _ (h : length sheet ≤ maxBytes) where
-    pub lower-bad : (a b : List ℕ) (r : Read) (l : ℕ) → r ≡ Read.BadLine l → Reads sheet a b r → Gives slice slice (Answer.BadLine l) (planned maxDepth work sheet)
+    pub lower-bad : (a b : List ℕ) (r : Read) (l : ℕ) → r ≡ Read.BadLine l → Reads maxDepth sheet a b r → Gives slice slice (Answer.BadLine l) (planned maxDepth work sheet)
     unfolding planned then outcome
     lower-bad a b r l z q = let d = rw z at q in rw (read-third work sheet e h, d)
 
-    pub lower-big : (a b : List ℕ) (r : Read) (l : ℕ) → r ≡ Read.BigTree l → Reads sheet a b r → Gives slice slice (Answer.BigTree l) (planned maxDepth work sheet)
+    pub lower-big : (a b : List ℕ) (r : Read) (l : ℕ) → r ≡ Read.BigTree l → Reads maxDepth sheet a b r → Gives slice slice (Answer.BigTree l) (planned maxDepth work sheet)
     unfolding planned then outcome
     lower-big a b r l z q = let d = rw z at q in rw (read-third work sheet e h, d)
 
-    pub lower-write : (a b : List ℕ) (r : Read) (l : ℕ) → r ≡ Read.WriteClause l → Reads sheet a b r → Gives slice slice (Answer.WriteClause l) (planned maxDepth work sheet)
+    pub lower-write : (a b : List ℕ) (r : Read) (l : ℕ) → r ≡ Read.WriteClause l → Reads maxDepth sheet a b r → Gives slice slice (Answer.WriteClause l) (planned maxDepth work sheet)
     unfolding planned then outcome
     lower-write a b r l z q = let d = rw z at q in rw (read-third work sheet e h, d)
 
-    pub lower-tree : (slice′ : Bytes) (a b : List ℕ) (r : Read) (n : ℕ) (x : Answer) → r ≡ Read.Records n → Reads sheet a b r → ((t : Tree statement) → Held sheet a b t maxDepth 0 → Gives slice slice′ x (behind t)) → Gives slice slice′ x (planned maxDepth work sheet)
+    pub lower-tree : (slice′ : Bytes) (a b : List ℕ) (r : Read) (n : ℕ) (x : Answer) → r ≡ Read.Records n → Reads maxDepth sheet a b r → ((t : Tree statement) → Held sheet a b t maxDepth 0 → Gives slice slice′ x (behind t)) → Gives slice slice′ x (planned maxDepth work sheet)
     unfolding planned then
     lower-tree slice′ a b r n x z q f = let d = rw z at q in rw (read-third work sheet e h, d .1) (f (d .0) (d .3))
 
 -- a statement is held
-pub held-here : (sheet : Bytes) (a b : List ℕ) (r : Read) (n : ℕ) → r ≡ Read.Records n → Reads sheet a b r → HeldSome sheet a b statement maxDepth 0
+pub held-here : (sheet : Bytes) (a b : List ℕ) (r : Read) (n : ℕ) → r ≡ Read.Records n → Reads maxDepth sheet a b r → HeldSome sheet a b statement maxDepth 0
 held-here sheet a b r n z q = let d = rw z at q in record { tree = d .0; is = d .3 }
 
 -- ── test 1 ──

@@ -66,7 +66,7 @@ pub long-second : (work : List ℕ) (sheet : Bytes) → short work ≡ false →
 unfolding checked then testWork testBytes
 long-second work sheet e h = rw (e, lt-ltb maxBytes (length sheet) h)
 
-pub read-third : (work : List ℕ) (sheet : Bytes) → short work ≡ false → length sheet ≤ maxBytes → checked maxDepth work sheet ≡ then (readOnly sheet) (λ t. testCheck t (precheckStatement t))
+pub read-third : (work : List ℕ) (sheet : Bytes) → short work ≡ false → length sheet ≤ maxBytes → checked maxDepth work sheet ≡ then (readOnly maxDepth sheet) (λ t. testCheck t (precheckStatement t))
 unfolding checked then testWork testBytes readOnly
 read-third work sheet e h = rw (e, le-ltb maxBytes (length sheet) h) (sym (then-assoc (testReading (readSheet maxDepth sheet)) _ _))
 
@@ -99,25 +99,25 @@ module _ (work : List ℕ) (sheet : Bytes) (e : short work ≡ false) where
   size-long h = rw (long-second work sheet e h) refusal
 
   module _ (h : length sheet ≤ maxBytes) where
-    size-refused : (x : Refusal) → readOnly sheet ≡ refuse x → Sized (checked maxDepth work sheet) (valuesOf x)
+    size-refused : (x : Refusal) → readOnly maxDepth sheet ≡ refuse x → Sized (checked maxDepth work sheet) (valuesOf x)
     unfolding then
     size-refused x q = rw (read-third work sheet e h, q) refusal
 
-    pub size-bad : (a b : List ℕ) (r : Read) (l : ℕ) → r ≡ Read.BadLine l → Reads sheet a b r → Sized (checked maxDepth work sheet) (valuesOf (Refusal.BadLine l))
+    pub size-bad : (a b : List ℕ) (r : Read) (l : ℕ) → r ≡ Read.BadLine l → Reads maxDepth sheet a b r → Sized (checked maxDepth work sheet) (valuesOf (Refusal.BadLine l))
     size-bad a b r l z q = size-refused (Refusal.BadLine l) (rw z at q)
 
-    pub size-big : (a b : List ℕ) (r : Read) (l : ℕ) → r ≡ Read.BigTree l → Reads sheet a b r → Sized (checked maxDepth work sheet) (valuesOf (Refusal.BigTree l))
+    pub size-big : (a b : List ℕ) (r : Read) (l : ℕ) → r ≡ Read.BigTree l → Reads maxDepth sheet a b r → Sized (checked maxDepth work sheet) (valuesOf (Refusal.BigTree l))
     size-big a b r l z q = size-refused (Refusal.BigTree l) (rw z at q)
 
-    pub size-write : (a b : List ℕ) (r : Read) (l : ℕ) → r ≡ Read.WriteClause l → Reads sheet a b r → Sized (checked maxDepth work sheet) (valuesOf (Refusal.WriteClause l))
+    pub size-write : (a b : List ℕ) (r : Read) (l : ℕ) → r ≡ Read.WriteClause l → Reads maxDepth sheet a b r → Sized (checked maxDepth work sheet) (valuesOf (Refusal.WriteClause l))
     size-write a b r l z q = size-refused (Refusal.WriteClause l) (rw z at q)
 
-    pub size-tree : (a b : List ℕ) (r : Read) (n : ℕ) (x : Answer) → r ≡ Read.Records n → Reads sheet a b r → ((sheet : Bytes) (t : Tree statement) → Held sheet a b t maxDepth 0 → recordCount t ≡ n → Sized (testCheck t (precheckStatement t)) (answerOf x)) → Sized (checked maxDepth work sheet) (answerOf x)
+    pub size-tree : (a b : List ℕ) (r : Read) (n : ℕ) (x : Answer) → r ≡ Read.Records n → Reads maxDepth sheet a b r → ((sheet : Bytes) (t : Tree statement) → Held sheet a b t maxDepth 0 → recordCount t ≡ n → Sized (testCheck t (precheckStatement t)) (answerOf x)) → Sized (checked maxDepth work sheet) (answerOf x)
     unfolding then
     size-tree a b r n x z q f = let d = rw z at q in rw (read-third work sheet e h, d .1) (f sheet (d .0) (d .3) (d .2))
 
 -- a statement is held, of not too many records
-pub held-some : (sheet : Bytes) (a b : List ℕ) (r : Read) (n : ℕ) → r ≡ Read.Records n → Reads sheet a b r → (sheet : Bytes) × HeldSome sheet a b statement maxDepth 0
+pub held-some : (sheet : Bytes) (a b : List ℕ) (r : Read) (n : ℕ) → r ≡ Read.Records n → Reads maxDepth sheet a b r → (sheet : Bytes) × HeldSome sheet a b statement maxDepth 0
 held-some sheet a b r n z q = let d = rw z at q in (sheet, record { tree = d .0; is = d .3 })
 
 written : (u t : Tree statement) (o : Option ℕ) → testWrite u o ≡ pass t → u ≡ t
@@ -130,7 +130,7 @@ unfolding then testReading
 passed sheet t (got u p) e = (p, ap (λ v. got v p) (written u t (firstWrite u) e))
 passed sheet t (refused x) e = let z : _≡_ {A = ℕ} 0 1 = cc in absurd (omega arith)
 
-pub held-few : (sheet : Bytes) (a b : List ℕ) (r : Read) (n : ℕ) → r ≡ Read.Records n → Reads sheet a b r → n ≤ maxRecords
+pub held-few : (sheet : Bytes) (a b : List ℕ) (r : Read) (n : ℕ) → r ≡ Read.Records n → Reads maxDepth sheet a b r → n ≤ maxRecords
 unfolding readOnly recordCount
 held-few sheet a b r n z q =
     let d = rw z at q in

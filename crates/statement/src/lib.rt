@@ -63,7 +63,7 @@ fn size_checked(a: &[u32], b: &[u32], n: usize) -> Answer
     requires { ⌜ ((sheet : Bytes) × HeldSome sheet (now a) (now b) statement maxDepth 0) ⌝ }
     ensures { λ r. ⌜ ((sheet : Bytes) (t : Tree statement) → Held sheet (now (a .entry)) (now (b .entry)) t maxDepth 0 → recordCount t ≡ n → Sized (testCheck t (precheckStatement t)) (answerOf r)) ⌝ }
 {
-    match precheck_statement(a, b) {
+    match precheck_statement(a, b, words::MAX_DEPTH) {
         Checked::Fine => Answer::Accepted(n * RECORD_OPERATORS),
         Checked::Refused(e) => Answer::Refused(e),
     }
@@ -78,7 +78,7 @@ fn size_read(sheet: &[u8], a: &mut [u32], b: &mut [u32], c: &mut [u32]) -> Answe
     if words::MAX_BYTES < sheet.len() {
         return Answer::LongSheet;
     }
-    match read_sheet(sheet, a, b, c) {
+    match read_sheet(sheet, a, b, c, words::MAX_DEPTH) {
         Read::Records(n) => size_checked(a, b, n),
         Read::BadLine(l) => Answer::BadLine(l),
         Read::BigTree(l) => Answer::BigTree(l),

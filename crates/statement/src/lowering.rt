@@ -69,7 +69,7 @@ fn lower_checked(
     requires { ⌜ HeldSome (now sheet) (now a) (now b) statement maxDepth 0 ⌝ }
     ensures { λ r. ⌜ ((t : Tree statement) → Held (now (sheet .entry)) (now (a .entry)) (now (b .entry)) t maxDepth 0 → Gives (now (plan .entry)) (now (plan .exit)) r (behind t)) ⌝ }
 {
-    match precheck_statement(a, b) {
+    match precheck_statement(a, b, words::MAX_DEPTH) {
         Checked::Fine => {
             let ctx = clauses::lower(sheet, a, b, ops, rest);
             write_lowered(sheet, a, b, ops, rest, ctx, plan)
@@ -93,7 +93,7 @@ fn lower_read(
     if words::MAX_BYTES < sheet.len() {
         return Answer::LongSheet;
     }
-    match read_sheet(sheet, a, b, c) {
+    match read_sheet(sheet, a, b, c, words::MAX_DEPTH) {
         Read::Records(_) => lower_checked(sheet, a, b, c, d, plan),
         Read::BadLine(l) => Answer::BadLine(l),
         Read::BigTree(l) => Answer::BigTree(l),

@@ -36,7 +36,7 @@ check-clauses-requires c κs =
       (
         omega arith,
         Laws.first-of
-            (some-turned (as-statement (start .pre .0) (after-count .count .ensures .0) (c .count2 .ensures .0)) (some-held (start .pre .1))),
+            (some-turned (as-statement (start .pre .0) (after-count .count .ensures .0) (c .count2 .ensures .0)) (some-held (start .pre .1 .1))),
       ),
     )
 
@@ -65,7 +65,7 @@ check-arms-requires c κs =
     let after-count2 : tie.After-count2 = search ways depth 7 in
     let after-count : tie.After-count = search ways depth 7 in
     let start : tie.Start = search ways depth 7 in
-    let held = some-turned (as-statement (start .pre .0) (after-count .count .ensures .0) (after-count2 .count2 .ensures .0)) (some-held (start .pre .1)) in
+    let held = some-turned (as-statement (start .pre .0) (after-count .count .ensures .0) (after-count2 .count2 .ensures .0)) (some-held (start .pre .1 .1)) in
     let arms = Laws.after (after-check-clauses .check-clauses .ensures) (after-head .head .given .1) held in
     (start .pre .0, (omega arith, search (arms, Laws.some-none)))
 
@@ -94,6 +94,7 @@ precheck-statement-spec =
     (tie.spec
     (λ c κs. search needs)
     (λ c κs. search needs)
+    (λ c. search needs)
     check-clauses-requires
     (λ c. search needs)
     (λ c. search needs)

@@ -31,49 +31,49 @@ ruleset ways = (back-push-groups, back-room-below, back-pop, back-kind, back-rea
 mul-at : tie.Need-mul-at
 mul-at c =
     let start : tie.Start = search ways depth 11 in
-    omega (arith, (top-room _ _ _ _ _ _ _ _ (start .pre .1)) .few)
+    omega (arith, (top-room _ _ _ _ _ _ _ _ (start .pre .1 .1)) .few)
 
 mul-sort : tie.Need-mul-sort
 mul-sort c =
     let start : tie.Start = search ways depth 11 in
-    omega (arith, (top-room _ _ _ _ _ _ _ _ (start .pre .1)) .few)
+    omega (arith, (top-room _ _ _ _ _ _ _ _ (start .pre .1 .1)) .few)
 
 slice-read-sort : tie.Need-slice-read-sort
 slice-read-sort c =
     let start : tie.Start = search ways depth 11 in
-    omega (arith, (top-room _ _ _ _ _ _ _ _ (start .pre .1)) .few, (top-room _ _ _ _ _ _ _ _ (start .pre .1)) .long)
+    omega (arith, (top-room _ _ _ _ _ _ _ _ (start .pre .1 .1)) .few, (top-room _ _ _ _ _ _ _ _ (start .pre .1 .1)) .long)
 
 add-room : tie.Need-add-room
 add-room c =
     let start : tie.Start = search ways depth 11 in
-    omega (arith, (top-room _ _ _ _ _ _ _ _ (start .pre .1)) .few)
+    omega (arith, (top-room _ _ _ _ _ _ _ _ (start .pre .1 .1)) .few)
 
 mul-room : tie.Need-mul-room
 mul-room c =
     let start : tie.Start = search ways depth 11 in
-    omega (arith, (top-room _ _ _ _ _ _ _ _ (start .pre .1)) .few)
+    omega (arith, (top-room _ _ _ _ _ _ _ _ (start .pre .1 .1)) .few)
 
 slice-read-room : tie.Need-slice-read-room
 slice-read-room c =
     let start : tie.Start = search ways depth 11 in
-    omega (arith, (top-room _ _ _ _ _ _ _ _ (start .pre .1)) .few, (top-room _ _ _ _ _ _ _ _ (start .pre .1)) .long)
+    omega (arith, (top-room _ _ _ _ _ _ _ _ (start .pre .1 .1)) .few, (top-room _ _ _ _ _ _ _ _ (start .pre .1 .1)) .long)
 
 returns : tie.Need-returns
 returns c =
     let start : tie.Start = search ways depth 11 in
-    next-many _ _ _ _ _ _ _ _ (start .pre .1) _ (start .pre .0 .fed .line) (omega (arith, c .if1 .taken))
+    λ depth o. next-many _ _ _ _ _ _ _ _ o _ (start .pre .0 .fed .line) (omega (arith, c .if1 .taken))
 
 returns-2 : tie.Need-returns-2
 returns-2 c =
     let start : tie.Start = search ways depth 11 in
-    next-deep _ _ _ _ _ _ _ _ (start .pre .1) _ (start .pre .0 .fed .line) (c .if2 .taken)
+    λ depth o. next-deep _ _ _ _ _ _ _ _ o _ (start .pre .0 .fed .line) (c .if2 .taken)
 
 read-into-requires : tie.Need-read-into-requires
 read-into-requires c κs =
     let else1 : tie.Else1 = search ways depth 11 in
     let start : tie.Start = search ways depth 11 in (
       start .pre .0,
-      ((top-sort _ _ _ _ _ _ _ _ (start .pre .1), omega (arith, (start .pre .1) .few, else1 .if1 .left)), (start .pre .1) .roomy),
+      ((top-sort _ _ _ _ _ _ _ _ (start .pre .1 .1), omega (arith, (start .pre .1 .1) .few, else1 .if1 .left)), (start .pre .1 .1) .roomy),
     )
 
 returns-3 : tie.Need-returns-3
@@ -82,7 +82,7 @@ returns-3 c =
     let else2 : tie.Else2 = search ways depth 11 in
     let else1 : tie.Else1 = search ways depth 11 in
     let start : tie.Start = search ways depth 11 in
-    next-unformed
+    λ depth o. next-unformed
     _
     _
     _
@@ -91,7 +91,7 @@ returns-3 c =
     _
     _
     _
-    (start .pre .1)
+    o
     _
     (start .pre .0 .fed .line)
     (else1 .if1 .left)
@@ -105,13 +105,13 @@ returns-3 c =
 pop-requires : tie.Need-pop-requires
 pop-requires c κs =
     let start : tie.Start = search ways depth 11 in
-    (top-room _ _ _ _ _ _ _ _ (start .pre .1), top-count _ _ _ _ _ _ _ _ (start .pre .1))
+    (top-room _ _ _ _ _ _ _ _ (start .pre .1 .1), top-count _ _ _ _ _ _ _ _ (start .pre .1 .1))
 
 room-below-requires : tie.Need-room-below-requires
 room-below-requires c κs =
     let else2 : tie.Else2 = search ways depth 11 in
     let start : tie.Start = search ways depth 11 in
-    (top-sort _ _ _ _ _ _ _ _ (start .pre .1), omega (arith, else2 .if2 .left))
+    (top-sort _ _ _ _ _ _ _ _ (start .pre .1 .1), omega (arith, else2 .if2 .left))
 
 push-groups-requires : tie.Need-push-groups-requires
 push-groups-requires c κs =
@@ -131,7 +131,7 @@ push-groups-requires c κs =
           _
           _
           _
-          (start .pre .1)
+          (start .pre .1 .1)
           _
           (start .pre .0 .fed .line)
           (else1 .if1 .left)
@@ -149,9 +149,9 @@ push-groups-requires c κs =
           (after-pop .pop .ensures)
           (after-room-below .room-below .ensures),
       (
-        omega (arith, (start .pre .1) .few, else1 .if1 .left),
+        omega (arith, (start .pre .1 .1) .few, else1 .if1 .left),
         (
-          roomy-still _ _ _ _ _ _ _ _ (start .pre .1) _ _ _ _ _ (after-read-into .read-into .ensures _ (start .pre .0 .fed .line)),
+          roomy-still _ _ _ _ _ _ _ _ (start .pre .1 .1) _ _ _ _ _ (after-read-into .read-into .ensures _ (start .pre .0 .fed .line)),
           next-space
               _
               _
@@ -161,7 +161,7 @@ push-groups-requires c κs =
               _
               _
               _
-              (start .pre .1)
+              (start .pre .1 .1)
               _
               (start .pre .0 .fed .line)
               (else1 .if1 .left)
@@ -186,7 +186,7 @@ write-line-requires : tie.Need-write-line-requires
 write-line-requires c κs =
     let else1 : tie.Else1 = search ways depth 11 in
     let start : tie.Start = search ways depth 11 in
-    omega (arith, (start .pre .1) .few, else1 .if1 .left)
+    omega (arith, (start .pre .1 .1) .few, else1 .if1 .left)
 
 returns-4 : tie.Need-returns-4
 returns-4 c =
@@ -198,7 +198,7 @@ returns-4 c =
     let else2 : tie.Else2 = search ways depth 11 in
     let else1 : tie.Else1 = search ways depth 11 in
     let start : tie.Start = search ways depth 11 in
-    next-more
+    λ depth o. next-more
     _
     _
     _
@@ -207,7 +207,7 @@ returns-4 c =
     _
     _
     _
-    (start .pre .1)
+    o
     _
     (start .pre .0 .fed .line)
     (else1 .if1 .left)

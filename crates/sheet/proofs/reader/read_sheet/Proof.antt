@@ -10,11 +10,11 @@ use Rattle.sheet.proofs.reader.read_sheet.Statement.{statement}
 use Rattle.sheet.proofs.reader.read_sheet.Tie as tie
 
 abbrev Inv-loop : tie.InvT-loop
-Inv-loop sheet a₀ b₀ stack₀ last i₀ pos₀ due₀ write₀ a b stack i pos due write =
-    (length a ≡ length a₀) × (length b ≡ length b₀) × (length stack ≡ length stack₀) × SoFar sheet a b stack i pos due write
+Inv-loop sheet a₀ b₀ stack₀ depth last room i₀ pos₀ due₀ write₀ a b stack i pos due write =
+    (length a ≡ length a₀) × (length b ≡ length b₀) × (length stack ≡ length stack₀) × SoFar depth sheet a b stack i pos due write
 
 abbrev μ-loop : tie.MeasureT-loop
-μ-loop sheet a₀ b₀ stack₀ last i₀ pos₀ due₀ write₀ a b stack i pos due write = maxRecords - i
+μ-loop sheet a₀ b₀ stack₀ depth last room i₀ pos₀ due₀ write₀ a b stack i pos due write = maxRecords - i
 
 -- a place or a need, at the loops' invariants and measures
 abbrev here : (tie.InvT-loop → tie.MeasureT-loop → Type 0) → Type 0
@@ -53,13 +53,13 @@ ruleset ways = (back-p, back-read-next, back-then1, back-else1, back-in-loop, ba
 push-requires : here tie.Need-push-requires
 push-requires c κs =
     let start : here tie.Start = search ways depth 10 in
-    record { few = omega arith; long = (start .pre .1 .1) }
+    record { few = omega arith; long = (start .pre .1 .1 .0) }
 
 loop-holds : here tie.Need-loop-holds
 loop-holds c =
     let after-push : here tie.After-push = search ways depth 10 in
     let start : here tie.Start = search ways depth 10 in
-    (search needs, search needs, search needs, begin _ _ _ _ _ (start .pre .1 .0) (start .pre .1 .1) (after-push .push .ensures))
+    (search needs, search needs, search needs, begin _ _ _ _ _ _ (start .pre .1 .1 .1) (start .pre .1 .0) (start .pre .1 .1 .0) (after-push .push .ensures))
 
 read-next-requires : here tie.Need-read-next-requires
 read-next-requires c κs =
@@ -68,15 +68,15 @@ read-next-requires c κs =
     let start : here tie.Start = search ways depth 10 in
     let else1 : here tie.Else1 = search ways depth 10 in
     let after-lines-end : here tie.After-lines-end = search ways depth 10 in
-    (record { fed = after-lines-end .lines-end .ensures .fed _ (else1 .if1 .left); short = start .pre .0 }, loop-top _ _ _ _ _ _ _ _ (at-loop .loop .inv .3) (in-loop .loop-test .taken))
+    (record { fed = after-lines-end .lines-end .ensures .fed _ (else1 .if1 .left); short = start .pre .0 }, (_, loop-top _ _ _ _ _ _ _ _ (at-loop .loop .inv .3) (in-loop .loop-test .taken)))
 
-cast-t17 : here tie.Need-cast-t17
-cast-t17 c =
+cast-t19 : here tie.Need-cast-t19
+cast-t19 c =
     let at-loop : here tie.At-loop = search ways depth 10 in
     omega (arith, (at-loop .loop .inv .3) .few)
 
-add-t18 : here tie.Need-add-t18
-add-t18 c =
+add-t20 : here tie.Need-add-t20
+add-t20 c =
     let at-loop : here tie.At-loop = search ways depth 10 in
     omega (arith, (at-loop .loop .inv .3) .few)
 
@@ -97,28 +97,17 @@ loop-less : here tie.Need-loop-less
 loop-less c =
     let after-p : here tie.After-p = search ways depth 10 in
     let after-read-next : here tie.After-read-next = search ways depth 10 in
-    omega (arith, (next-more-is _ _ _ _ _ _ _ _ _ (after-p .p .given .1) (after-read-next .read-next .ensures)) .few)
+    let in-loop : here tie.In-loop = search ways depth 10 in
+    let at-loop : here tie.At-loop = search ways depth 10 in
+    omega (arith, (next-more-is _ _ _ _ _ _ _ _ _ _ (after-p .p .given .1) (after-read-next .read-next .ensures _ (loop-top _ _ _ _ _ _ _ _ (at-loop .loop .inv .3) (in-loop .loop-test .taken)))) .few)
 
 loop-again : here tie.Need-loop-again
 loop-again c =
     let after-p : here tie.After-p = search ways depth 10 in
     let after-read-next : here tie.After-read-next = search ways depth 10 in
-    (search needs, search needs, search needs, next-more-is _ _ _ _ _ _ _ _ _ (after-p .p .given .1) (after-read-next .read-next .ensures))
-
-cast-t27 : here tie.Need-cast-t27
-cast-t27 c =
+    let in-loop : here tie.In-loop = search ways depth 10 in
     let at-loop : here tie.At-loop = search ways depth 10 in
-    omega (arith, (at-loop .loop .inv .3) .few)
-
-add-t28 : here tie.Need-add-t28
-add-t28 c =
-    let at-loop : here tie.At-loop = search ways depth 10 in
-    omega (arith, (at-loop .loop .inv .3) .few)
-
-returns-2 : here tie.Need-returns-2
-returns-2 c =
-    let after-read-next : here tie.After-read-next = search ways depth 10 in
-    next-bad-is _ _ _ _ _ _ (c .enum-told .given .1) (after-read-next .read-next .ensures)
+    (search needs, search needs, search needs, next-more-is _ _ _ _ _ _ _ _ _ _ (after-p .p .given .1) (after-read-next .read-next .ensures _ (loop-top _ _ _ _ _ _ _ _ (at-loop .loop .inv .3) (in-loop .loop-test .taken))))
 
 cast-t29 : here tie.Need-cast-t29
 cast-t29 c =
@@ -130,10 +119,29 @@ add-t30 c =
     let at-loop : here tie.At-loop = search ways depth 10 in
     omega (arith, (at-loop .loop .inv .3) .few)
 
+returns-2 : here tie.Need-returns-2
+returns-2 c =
+    let after-read-next : here tie.After-read-next = search ways depth 10 in
+    let in-loop : here tie.In-loop = search ways depth 10 in
+    let at-loop : here tie.At-loop = search ways depth 10 in
+    next-bad-is _ _ _ _ _ _ _ (c .enum-told .given .1) (after-read-next .read-next .ensures _ (loop-top _ _ _ _ _ _ _ _ (at-loop .loop .inv .3) (in-loop .loop-test .taken)))
+
+cast-t31 : here tie.Need-cast-t31
+cast-t31 c =
+    let at-loop : here tie.At-loop = search ways depth 10 in
+    omega (arith, (at-loop .loop .inv .3) .few)
+
+add-t32 : here tie.Need-add-t32
+add-t32 c =
+    let at-loop : here tie.At-loop = search ways depth 10 in
+    omega (arith, (at-loop .loop .inv .3) .few)
+
 returns-3 : here tie.Need-returns-3
 returns-3 c =
     let after-read-next : here tie.After-read-next = search ways depth 10 in
-    next-big-is _ _ _ _ _ _ (c .enum-told2 .given .1) (after-read-next .read-next .ensures)
+    let in-loop : here tie.In-loop = search ways depth 10 in
+    let at-loop : here tie.At-loop = search ways depth 10 in
+    next-big-is _ _ _ _ _ _ _ (c .enum-told2 .given .1) (after-read-next .read-next .ensures _ (loop-top _ _ _ _ _ _ _ _ (at-loop .loop .inv .3) (in-loop .loop-test .taken)))
 
 finish-requires : here tie.Need-finish-requires
 finish-requires c κs =
@@ -153,10 +161,11 @@ read-sheet-spec =
     Inv-loop
     μ-loop
     (λ c κs. search needs)
+    (λ c. search needs)
     push-requires
     loop-holds
-    cast-t17
-    add-t18
+    cast-t19
+    add-t20
     (λ c. search needs)
     (λ c. search needs)
     (λ c. search needs)
@@ -168,15 +177,15 @@ read-sheet-spec =
     loop-less
     loop-again
     (λ c. search needs)
-    cast-t27
-    add-t28
+    cast-t29
+    add-t30
     (λ c. search needs)
     (λ c. search needs)
     (λ c. search needs)
     returns-2
     (λ c. search needs)
-    cast-t29
-    add-t30
+    cast-t31
+    add-t32
     (λ c. search needs)
     (λ c. search needs)
     (λ c. search needs)
