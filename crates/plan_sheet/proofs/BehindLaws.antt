@@ -313,18 +313,18 @@ module _ {sheet : Bytes} {a b rest : List ℕ} {first : ℕ} {A : Ops} {k : ℕ}
 
 -- ── a whole operator ──
 
-module _ (k : ℕ) {sheet : Bytes} {a b os rest : List ℕ} {o : Op} (p : SomePlan sheet a b os rest k (k + 1)) (e : o ≡ opAt os k) (room : Roomy a b) (z : Others (o .kind) ownWays) {n i : ℕ} (count : n ≡ manyOf a b o) (place : i ≡ firstOf o) where
-  inside-at : Inside sheet a b rest (p .first) (p .ops) k o (p .ops k) n i
-  inside-at = rw (count, place) (inside room z (here k p e))
+module _ (k : ℕ) {sheet : Bytes} {a b os rest : List ℕ} {o : Op} (p : SomePlan sheet a b os rest k (k + 1)) (e : o ≡ opAt os k) (room : Roomy a b) (z : Others (o .kind) ownWays) where
+  inside-at : Inside sheet a b rest (p .first) (p .ops) k o (p .ops k) (manyOf a b o) (firstOf o)
+  inside-at = inside room z (here k p e)
 
-  pub exprs-there : Many sheet a b os rest k (o .base) (o .left) n i
+  pub exprs-there : Many sheet a b os rest k (o .base) (o .left) (manyOf a b o) (firstOf o)
   exprs-there = record { first = p .first; ops = p .ops; tabled = tabled-below k p e; list = inside-at .list }
 
-  pub tail-there : {next : ℕ} {g g′ : Page} → WroteMany sheet a b os rest k (o .base) (o .left) n i g next g′ → SomeTail sheet a b rest o next
+  pub tail-there : {next : ℕ} {g g′ : Page} → WroteMany sheet a b os rest k (o .base) (o .left) (manyOf a b o) (firstOf o) g next g′ → SomeTail sheet a b rest o next
   unfolding exprs-there
   tail-there v = record { recs = inside-at .tail; tail = rw (v exprs-there .0) (inside-at .tail-is) }
 
-  pub inside-wrote : {next : ℕ} {g g′ g″ g‴ : Page} → WroteFirst sheet a b rest o g g′ → WroteMany sheet a b os rest k (o .base) (o .left) n i g′ next g″ → WroteTail sheet a b rest o next g″ g‴ → Puts (spellRecs (p .ops k)) g g‴
+  pub inside-wrote : {next : ℕ} {g g′ g″ g‴ : Page} → WroteFirst sheet a b rest o g g′ → WroteMany sheet a b os rest k (o .base) (o .left) (manyOf a b o) (firstOf o) g′ next g″ → WroteTail sheet a b rest o next g″ g‴ → Puts (spellRecs (p .ops k)) g g‴
   unfolding exprs-there shown-at
   inside-wrote {next} first v u =
       let h = inside-at in

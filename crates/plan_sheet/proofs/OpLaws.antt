@@ -12,6 +12,7 @@ use Rattle.model.specs.Kind.{ReadOp, Clause, clause, patternElement}
 use Rattle.model.specs.Record.{Rec, one, forms, keyword, planKeyword, opKeyword, spellRec, spellRecs}
 use Rattle.model.specs.Tree.{Tree, node}
 use Rattle.model.specs.Lower.{Recs, op, source}
+use Rattle.model.specs.Call.{maxDepth}
 use Rattle.output.specs.Page.{Page, Puts}
 use Rattle.output.specs.Writes.{_⨾_}
 use Rattle.words.specs.Words.{Roomy, cell, optionOf, fieldOf, fieldsOf, maxRecords}
@@ -25,7 +26,11 @@ use Rattle.lower.specs.Render.{Notes, Ops, specRecs}
 use Rattle.lower.specs.Shows.{shift, InBounds, Shows, Stored, OverExpr, ByLabels, ByRel, ByShortest, ByPath, ByWith, ByItems, ByParted, ByKeys, ByCall, shows-all, shows-source, shows-filter, shows-expand, shows-short, shows-path, shows-optional, shows-with, shows-project, shows-aggregate, shows-order, shows-skip, shows-limit, shows-distinct, shows-unwind, shows-union, shows-call}
 use Rattle.plan_line.specs.Keywords.{word, letters, sourceWord, filterWord, expandWord, shortWord, pathWord, optionalWord, withWord, projectWord, aggWord, orderWord, skipWord, limitWord, distinctWord, unwindWord, unionWord, callWord}
 use Rattle.plan_line.specs.Row.{numbersText, rowText, callText}
-use Rattle.plan_sheet.specs.Due.{noted, Tabled, SomePlan, OpShown, WroteFirst, Element, WroteElement, WroteOp, TextIn, allShortest, textAt}
+use Rattle.plan_sheet.specs.Due.{noted, Room, Near, Tabled, SomePlan, OpShown, WroteFirst, Many, WroteMany, Element, WroteElement, WroteOp, TextIn, allShortest, textAt}
+use Rattle.plan_sheet.specs.Parted.{Items, WroteItems}
+use Rattle.plan_sheet.specs.Asked.{elementOf, ExprsAsked, ExprsWrote, ElementAsked, ElementWrote, ItemsAsked, ItemsWrote}
+use Rattle.plan_sheet.specs.declared.write.At.{At}
+use Rattle.plan_sheet.specs.declared.write.Run.{Run}
 use Rattle.plan_line.proofs.RowLaws.{flag-decimal, record-line, row-rec, place-escape}
 use Rattle.plan_sheet.proofs.HeadLaws.{texts-at}
 use Rattle.plan_sheet.proofs.DueLaws.{tabled-less, spell-append}
@@ -275,6 +280,37 @@ module _ (k : ℕ) {sheet : Bytes} {a b os rest : List ℕ} {o : Op} (p : SomePl
 
   pub tabled-below : Tabled sheet a b os rest (p .first) k (p .ops)
   tabled-below = tabled-less (omega arith) (p .tabled)
+
+  bounds-near : Near (o .base) (o .left)
+  bounds-near = record { near = bounded-at .near; shallow = bounded-at .shallow }
+
+  -- an element that it has at record i
+  module _ {at : At} {i : ℕ} (q : at ≡ elementOf o i k) where
+    pub element-near : (at .below ≡ k) × (at .left ≤ maxDepth)
+    element-near = rw q (refl, bounded-at .shallow)
+
+    pub element-asked : Room a b os rest → Element sheet a b os rest k (o .base) (o .left) i → ElementAsked sheet a b os rest at
+    element-asked room due = rw q (record { room = room; near = bounds-near; due = due })
+
+    pub element-written : {g g′ : Page} → ElementWrote sheet a b os rest at g g′ → WroteElement sheet a b os rest k (o .base) (o .left) i g g′
+    element-written w = rw q at w
+
+  -- a run that it has from record i on
+  module _ {run : Run} {i n : ℕ} (q : run ≡ record { base = o .base; i = i; left = o .left; below = k; n = n }) where
+    pub run-near : (run .below ≡ k) × (run .left ≤ maxDepth)
+    run-near = rw q (refl, bounded-at .shallow)
+
+    pub exprs-asked : Room a b os rest → Many sheet a b os rest k (o .base) (o .left) n i → ExprsAsked sheet a b os rest run
+    exprs-asked room due = rw q (record { room = room; near = bounds-near; due = due })
+
+    pub exprs-written : {next : ℕ} {g g′ : Page} → ExprsWrote sheet a b os rest run g next g′ → WroteMany sheet a b os rest k (o .base) (o .left) n i g next g′
+    exprs-written w = rw q at w
+
+    pub items-asked : Room a b os rest → Items sheet a b os rest k (o .base) (o .left) n i → ItemsAsked sheet a b os rest run
+    items-asked room due = rw q (record { room = room; near = bounds-near; due = due })
+
+    pub items-written : {g g′ : Page} → ItemsWrote sheet a b os rest run g g′ → WroteItems sheet a b os rest k (o .base) (o .left) n i g g′
+    items-written w = rw q at w
 
   -- an expand
   module _ (c : o .kind ≡ expandKind) where

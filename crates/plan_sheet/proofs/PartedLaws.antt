@@ -229,14 +229,14 @@ items-wrote {rest = rest} {base = base} ks gs h = rw (spell-append (keyRecs (shi
 
 -- ── a whole operator ──
 
-module _ (k : ℕ) {sheet : Bytes} {a b os rest : List ℕ} {o : Op} (p : SomePlan sheet a b os rest k (k + 1)) (e : o ≡ opAt os k) (c : o .kind ≡ aggregateKind) {n : ℕ} (count : n ≡ cell a b (o .idx) itemsAt) where
-  pub items-of : Items sheet a b os rest k (o .base) (o .left) n (o .idx + 1)
-  items-of = let s = of-kind aggregateKind c (here k p e) in rw (count ∙ sym (s .counted)) (record { first = p .first; ops = p .ops; tabled = tabled-below k p e; items = s .items; held = s .held; under = s .below })
+module _ (k : ℕ) {sheet : Bytes} {a b os rest : List ℕ} {o : Op} (p : SomePlan sheet a b os rest k (k + 1)) (e : o ≡ opAt os k) (c : o .kind ≡ aggregateKind) where
+  pub items-of : Items sheet a b os rest k (o .base) (o .left) (cell a b (o .idx) itemsAt) (o .idx + 1)
+  items-of = let s = of-kind aggregateKind c (here k p e) in rw (sym (s .counted)) (record { first = p .first; ops = p .ops; tabled = tabled-below k p e; items = s .items; held = s .held; under = s .below })
 
-  pub parted-wrote : {g g′ g″ : Page} → WroteFirst sheet a b rest o g g′ → WroteItems sheet a b os rest k (o .base) (o .left) n (o .idx + 1) g′ g″ → Puts (spellRecs (p .ops k)) g g″
+  pub parted-wrote : {g g′ g″ : Page} → WroteFirst sheet a b rest o g g′ → WroteItems sheet a b os rest k (o .base) (o .left) (cell a b (o .idx) itemsAt) (o .idx + 1) g′ g″ → Puts (spellRecs (p .ops k)) g g″
   unfolding shown-at
   parted-wrote {g} {g′} {g″} first items =
       let s = of-kind aggregateKind c (here k p e) in
       let h : Items sheet a b os rest k (o .base) (o .left) (s .count) (o .idx + 1) = record { first = p .first; ops = p .ops; tabled = tabled-below k p e; items = s .items; held = s .held; under = s .below } in
-      let v : WroteItems sheet a b os rest k (o .base) (o .left) (s .count) (o .idx + 1) g′ g″ = rw (count ∙ sym (s .counted)) at items in
+      let v : WroteItems sheet a b os rest k (o .base) (o .left) (s .count) (o .idx + 1) g′ g″ = rw (sym (s .counted)) at items in
       rw (first-more (s .is)) (first (shown-at k p e) ⨾ v h)

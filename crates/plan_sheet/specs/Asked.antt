@@ -1,8 +1,12 @@
 -- What the writers of expressions, elements and items ask and what they promise, by the structs that they are given. Assumes nothing: these are definitions.
-use Prim.Native.Nat.{ℕ}
+use Prim.Native.Nat.{ℕ, _+_}
 use mathlib.Core.List.{List}
 use Rattle.model.specs.Text.{Bytes}
 use Rattle.output.specs.Page.{Page}
+use Rattle.words.specs.Words.{cell}
+use Rattle.words.specs.Places.{itemsAt}
+use Rattle.context.specs.declared.op.Op.{Op}
+use Rattle.plan_sheet.specs.Behind.{manyOf, firstOf}
 use Rattle.plan_sheet.specs.Due.{Room, Near, One, Many, Element, WroteMany, WroteElement}
 use Rattle.plan_sheet.specs.Parted.{Items, WrotePart, WroteParts, WroteItems}
 use Rattle.plan_sheet.specs.declared.write.At.{At}
@@ -15,6 +19,18 @@ pub record Asked (a b os rest : List ℕ) (base left : ℕ) (Due : Type 0) : Typ
   pub room : Room a b os rest
   pub near : Near base left
   pub due : Due
+
+-- ── what operator k has behind its first line ──
+
+abbrev pub exprsOf : List ℕ → List ℕ → Op → (k : ℕ) → Run
+exprsOf a b o k = record { base = o .base; i = firstOf o; left = o .left; below = k; n = manyOf a b o }
+
+abbrev pub itemsOf : List ℕ → List ℕ → Op → (k : ℕ) → Run
+itemsOf a b o k = record { base = o .base; i = o .idx + 1; left = o .left; below = k; n = cell a b (o .idx) itemsAt }
+
+-- an element, at record i
+abbrev pub elementOf : Op → (i k : ℕ) → At
+elementOf o i k = record { base = o .base; i = i; left = o .left; below = k }
 
 -- ── an expression behind its line, and some of them ──
 

@@ -1,11 +1,14 @@
-// What stands behind the first line of an operator, but for copies: where its expressions are, its labels, its path, its yields.
+// What stands behind the first line of an operator, but for copies: where its expressions, items and elements are, its labels, its path, its yields.
 ghost use mathlib.Core.Path.{_≡_};
 ghost use Prim.Native.Nat.{_+_, _<_};
 ghost use Rattle.output.specs.Page.{on};
 ghost use Rattle.words.specs.Words.{Roomy, cell, maxRecords};
 ghost use Rattle.words.specs.Places.{callYieldsAt};
 ghost use Rattle.plan_sheet.specs.Due.{NotesIn};
+ghost use Rattle.plan_sheet.specs.Asked.{exprsOf, itemsOf, elementOf};
 ghost use Rattle.plan_sheet.specs.Behind.{manyOf, firstOf, Yields, WroteYields, SomeTail, WroteTail};
+use crate::write::At;
+use crate::write::Run;
 use context::op;
 use context::op::Op;
 use context::read::note_of;
@@ -13,7 +16,7 @@ use words::field;
 use words::records::count;
 
 // How many expressions an operator has.
-pub fn many_of(a: &[u32], b: &[u32], w: Op) -> usize
+fn many_of(a: &[u32], b: &[u32], w: Op) -> usize
     requires { ⌜ Roomy (now a) (now b) ⌝ }
     requires { ⌜ w .idx < maxRecords ⌝ }
     ensures { λ r. ⌜ r ≡ manyOf (now (a .entry)) (now (b .entry)) w ⌝ }
@@ -38,7 +41,7 @@ pub fn many_of(a: &[u32], b: &[u32], w: Op) -> usize
 }
 
 // The record that they begin at.
-pub fn first_of(w: Op) -> usize
+fn first_of(w: Op) -> usize
     requires { ⌜ w .idx < maxRecords ⌝ }
     ensures { λ r. ⌜ r ≡ firstOf w ⌝ }
 {
@@ -51,6 +54,50 @@ pub fn first_of(w: Op) -> usize
         op::LIMIT => idx,
         op::UNWIND => idx,
         _ => idx + 1,
+    }
+}
+
+// The expressions of operator k.
+pub fn exprs_of(a: &[u32], b: &[u32], w: Op, k: usize) -> Run
+    requires { ⌜ Roomy (now a) (now b) ⌝ }
+    requires { ⌜ w .idx < maxRecords ⌝ }
+    ensures { λ r. ⌜ r ≡ exprsOf (now (a .entry)) (now (b .entry)) w k ⌝ }
+{
+    Run {
+        base: w.base as usize,
+        i: first_of(w),
+        left: w.left as usize,
+        below: k,
+        n: many_of(a, b, w),
+    }
+}
+
+// The items of operator k, which aggregates.
+pub fn items_of(a: &[u32], b: &[u32], w: Op, k: usize) -> Run
+    requires { ⌜ Roomy (now a) (now b) ⌝ }
+    requires { ⌜ w .idx < maxRecords ⌝ }
+    ensures { λ r. ⌜ r ≡ itemsOf (now (a .entry)) (now (b .entry)) w k ⌝ }
+{
+    let idx = w.idx as usize;
+    let first = idx + 1;
+    Run {
+        base: w.base as usize,
+        i: first,
+        left: w.left as usize,
+        below: k,
+        n: count(a, b, idx, field::ITEMS),
+    }
+}
+
+// The element of a pattern that operator k has at record i.
+pub fn element_of(w: Op, i: u32, k: usize) -> At
+    ensures { λ r. ⌜ r ≡ elementOf w i k ⌝ }
+{
+    At {
+        base: w.base as usize,
+        i: i as usize,
+        left: w.left as usize,
+        below: k,
     }
 }
 

@@ -3,6 +3,10 @@ ghost use Prim.Native.Nat.{_+_};
 ghost use Rattle.output.specs.Page.{on};
 ghost use Rattle.plan_sheet.specs.Due.{Room, SomePlan, WroteOp};
 ghost use Rattle.plan_sheet.specs.Asked.{ExprAsked, ExprWrote, ExprsAsked, ExprsWrote, ElementAsked, ElementWrote, PartAsked, PartWrote, PartsAsked, PartsWrote, ItemsAsked, ItemsWrote};
+use crate::behind::element_of;
+use crate::behind::exprs_of;
+use crate::behind::items_of;
+use crate::behind::put_tail;
 use crate::head::Wrote;
 use aggregate::is_aggregate;
 use context::op;
@@ -278,59 +282,28 @@ pub fn write_op(
     ensures { λ r. ⌜ WroteOp (now (sheet .entry)) (now (a .entry)) (now (b .entry)) (now (ops .entry)) (now (rest .entry)) k (on (now (plan .entry)) out) (on (now (plan .exit)) r) ⌝ }
 {
     let w = op::read_op(ops, k);
-    let base = w.base as usize;
-    let idx = w.idx as usize;
-    let left = w.left as usize;
     let o = crate::op::put_op(plan, out, sheet, a, b, rest, w);
     let kind = w.kind;
     match kind {
         op::EXPAND => {
-            let rel = At {
-                base,
-                i: idx,
-                left,
-                below: k,
-            };
+            let rel = element_of(w, w.idx, k);
             let p = write_element(plan, o, sheet, a, b, ops, rest, rel);
-            let far = At {
-                base,
-                i: w.y as usize,
-                left,
-                below: k,
-            };
+            let far = element_of(w, w.y, k);
             write_element(plan, p, sheet, a, b, ops, rest, far)
         }
         op::SHORTEST_PATH => {
-            let rel = At {
-                base,
-                i: w.x as usize,
-                left,
-                below: k,
-            };
+            let rel = element_of(w, w.x, k);
             write_element(plan, o, sheet, a, b, ops, rest, rel)
         }
         op::OPTIONAL_JOIN => write_op(plan, o, sheet, a, b, ops, rest, w.x as usize),
         op::AGGREGATE => {
-            let first = idx + 1;
-            let items = Run {
-                base,
-                i: first,
-                left,
-                below: k,
-                n: count(a, b, idx, field::ITEMS),
-            };
+            let items = items_of(a, b, w, k);
             write_items(plan, o, sheet, a, b, ops, rest, items)
         }
         _ => {
-            let run = Run {
-                base,
-                i: crate::behind::first_of(w),
-                left,
-                below: k,
-                n: crate::behind::many_of(a, b, w),
-            };
+            let run = exprs_of(a, b, w, k);
             let v = write_exprs(plan, o, sheet, a, b, ops, rest, run);
-            crate::behind::put_tail(plan, v.out, sheet, a, b, rest, w, v.next)
+            put_tail(plan, v.out, sheet, a, b, rest, w, v.next)
         }
     }
 }

@@ -1,6 +1,6 @@
 -- The tables that the lowering leaves, the state that they stand for, and what writing the whole plan sheet comes to. Assumes nothing: these are definitions.
 use mathlib.Core.Path.{_≡_}
-use Prim.Native.Nat.{ℕ, zero, suc, _≤_}
+use Prim.Native.Nat.{ℕ, zero, suc, _+_, _-_, _≤_}
 use mathlib.Core.List.{List, [], _++_}
 use lib.ListN.{length, drop}
 use Rattle.model.specs.Text.{Bytes}
@@ -12,7 +12,7 @@ use Rattle.model.specs.Call.{written}
 use Rattle.output.specs.Page.{Page, Puts}
 use Rattle.context.specs.Tables.{varsOf, varsAt, maxVars}
 use Rattle.lower.specs.Render.{Ops}
-use Rattle.plan_sheet.specs.Due.{Tabled}
+use Rattle.plan_sheet.specs.Due.{Tabled, SomePlan}
 use Rattle.plan_writer.specs.declared.Plan.{Plan}
 
 -- the tables, with n operators from 0 on and so many named variables, stand for the state s
@@ -26,19 +26,19 @@ pub record SomeTables (sheet : Bytes) (a b os rest : List ℕ) (n mapped : ℕ) 
   pub state : LowerCtx
   pub tables : Tables sheet a b os rest n mapped state
 
--- the first n operators, in order
-unfoldable pub upTo : ℕ → Ops → Recs
-upTo zero A = []
-upTo (suc n) A = upTo n A ++ A n
+-- n operators from number `first` on, in order
+unfoldable pub opsFrom : (first n : ℕ) → Ops → Recs
+opsFrom first zero A = []
+opsFrom first (suc n) A = opsFrom first n A ++ A (first + n)
 
 -- document 01's answer
 unfoldable pub answerOf : Plan → Answer
 answerOf Plan.NoRoom = valuesOf Refusal.NoRoom
 answerOf (Plan.Written n) = accepted n
 
--- k of n operators are written
-abbrev pub WroteOps : (sheet : Bytes) (a b os rest : List ℕ) (n k : ℕ) → Page → Page → Type 0
-WroteOps sheet a b os rest n k p q = (A : Ops) → Tabled sheet a b os rest 0 n A → Puts (spellRecs (upTo k A)) p q
+-- the operators from number `first` on and below `end` are written
+abbrev pub WroteOps : (sheet : Bytes) (a b os rest : List ℕ) (first end : ℕ) → Page → Page → Type 0
+WroteOps sheet a b os rest first end p q = (h : SomePlan sheet a b os rest first end) → Puts (spellRecs (opsFrom first (end - first) (h .ops))) p q
 
 abbrev pub WroteVars : (rest : List ℕ) (n : ℕ) → Page → Page → Type 0
 WroteVars rest n p q = Puts (spellRecs (mappedRecs (varsOf n (drop varsAt rest)))) p q

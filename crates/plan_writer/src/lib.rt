@@ -15,7 +15,13 @@ pub enum Plan {
     Written(usize),
 }
 
-// The first n operators.
+// The numbers of some operators: from `first` on, and below `end`.
+struct Range {
+    first: usize,
+    end: usize,
+}
+
+// The operators of a range.
 fn write_ops(
     plan: &mut [u8],
     out: usize,
@@ -24,15 +30,16 @@ fn write_ops(
     b: &[u32],
     ops: &[u32],
     rest: &[u32],
-    n: usize,
+    range: Range,
 ) -> usize
     requires { ⌜ Room (now a) (now b) (now ops) (now rest) ⌝ }
-    requires { ⌜ SomePlan (now sheet) (now a) (now b) (now ops) (now rest) 0 n ⌝ }
-    ensures { λ r. ⌜ WroteOps (now (sheet .entry)) (now (a .entry)) (now (b .entry)) (now (ops .entry)) (now (rest .entry)) n n (on (now (plan .entry)) out) (on (now (plan .exit)) r) ⌝ }
+    requires { ⌜ SomePlan (now sheet) (now a) (now b) (now ops) (now rest) (range .first) (range .end) ⌝ }
+    ensures { λ r. ⌜ WroteOps (now (sheet .entry)) (now (a .entry)) (now (b .entry)) (now (ops .entry)) (now (rest .entry)) (range .first) (range .end) (on (now (plan .entry)) out) (on (now (plan .exit)) r) ⌝ }
 {
-    let mut k = 0;
+    let end = range.end;
+    let mut k = range.first;
     let mut o = out;
-    while k < n {
+    while k < end {
         o = plan_sheet::write::write_op(plan, o, sheet, a, b, ops, rest, k);
         k += 1;
     }
@@ -70,7 +77,8 @@ fn write_sheet(
     ensures { λ r. ⌜ WroteSheet (now (sheet .entry)) (now (a .entry)) (now (b .entry)) (now (ops .entry)) (now (rest .entry)) n mapped (on (now (plan .entry)) 0) (on (now (plan .exit)) r) ⌝ }
 {
     let o = put_row2(plan, 0, word::PLAN, n as u32, mapped as u32);
-    let p = write_ops(plan, o, sheet, a, b, ops, rest, n);
+    let all = Range { first: 0, end: n };
+    let p = write_ops(plan, o, sheet, a, b, ops, rest, all);
     write_vars(plan, p, rest, mapped)
 }
 

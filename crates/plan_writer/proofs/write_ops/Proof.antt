@@ -1,18 +1,16 @@
 -- `write_ops` meets its contract. Assumes nothing.
 use Rattle.plan_writer.proofs.WholeLaws
-use Rattle.plan_sheet.proofs.DueLaws.{tabled-less}
 use Rattle.output.specs.Page.{on}
-use native.Mathlib.Omega.{arith}
 use Prim.Native.Nat.{_-_}
 use borrow.Author.Needs.{needs}
 use Rattle.plan_writer.proofs.write_ops.Statement.{statement}
 use Rattle.plan_writer.proofs.write_ops.Tie as tie
 
 abbrev Inv-loop : tie.InvT-loop
-Inv-loop plan₀ out sheet a b ops rest n k₀ o₀ plan k o = WholeLaws.Writing sheet a b ops rest n (on plan₀ o₀) k (on plan o)
+Inv-loop plan₀ out sheet a b ops rest end k₀ o₀ plan k o = WholeLaws.Writing sheet a b ops rest k₀ end (on plan₀ o₀) k (on plan o)
 
 abbrev μ-loop : tie.MeasureT-loop
-μ-loop plan₀ out sheet a b ops rest n k₀ o₀ plan k o = n - k
+μ-loop plan₀ out sheet a b ops rest end k₀ o₀ plan k o = end - k
 
 -- a place or a need, at the loop's invariant and measure
 abbrev here : (tie.InvT-loop → tie.MeasureT-loop → Type 0) → Type 0
@@ -24,8 +22,9 @@ loop-holds c = WholeLaws.no-ops
 write-op-requires : here tie.Need-write-op-requires
 write-op-requires c κs =
     let turn : here tie.In-loop = search in
+    let l : here tie.At-loop = search in
     let s : here tie.Start = search in
-    (s .pre .0, record { first = s .pre .1 .first; ops = s .pre .1 .ops; tabled = tabled-less (omega (arith, turn .loop-test .taken)) (s .pre .1 .tabled); inside = omega (arith, s .pre .1 .inside) })
+    (s .pre .0, WholeLaws.plan-at (l .loop .inv .begun) (turn .loop-test .taken) (s .pre .1))
 
 loop-again : here tie.Need-loop-again
 loop-again c =

@@ -27,8 +27,9 @@ use Rattle.aggregate.proofs.is_aggregate.Reads as is-aggregate-reads
 use Rattle.words.proofs.records.children.Reads as children-reads
 use Rattle.words.proofs.records.count.Reads as count-reads
 use Rattle.words.proofs.records.skip.Reads as skip-reads
-use Rattle.plan_sheet.proofs.behind.first_of.Reads as first-of-reads
-use Rattle.plan_sheet.proofs.behind.many_of.Reads as many-of-reads
+use Rattle.plan_sheet.proofs.behind.element_of.Reads as element-of-reads
+use Rattle.plan_sheet.proofs.behind.exprs_of.Reads as exprs-of-reads
+use Rattle.plan_sheet.proofs.behind.items_of.Reads as items-of-reads
 use Rattle.plan_sheet.proofs.behind.put_tail.Reads as put-tail-reads
 use Rattle.context.proofs.read.note_of.Reads as note-of-reads
 use Rattle.words.proofs.kind.is_leaf.Reads as is-leaf-reads
@@ -175,18 +176,18 @@ write-op-calls t = (
   read-op-reads.Learnt,
   put-op-reads.Asked,
   put-op-reads.Learnt,
+  element-of-reads.Asked,
+  element-of-reads.Learnt,
   write-element-below t,
   write-element.Post,
   write-op-below t,
   write-op.Post,
-  count-reads.Asked,
-  count-reads.Learnt,
+  items-of-reads.Asked,
+  items-of-reads.Learnt,
   write-items-below t,
   write-items.Post,
-  first-of-reads.Asked,
-  first-of-reads.Learnt,
-  many-of-reads.Asked,
-  many-of-reads.Learnt,
+  exprs-of-reads.Asked,
+  exprs-of-reads.Learnt,
   write-exprs-below t,
   write-exprs.Post,
   put-tail-reads.Asked,

@@ -20,32 +20,38 @@ module _ (t : ℕ) where
   abbrev back-put-tail : here lts.After-put-tail → here lts.After-write-exprs
   back-put-tail c = search
 
-  abbrev back-write-element2 : here lts.After-write-element2 → here lts.After-write-element
+  abbrev back-write-element2 : here lts.After-write-element2 → here lts.After-element-of2
   back-write-element2 c = search
 
-  abbrev back-write-exprs : here lts.After-write-exprs → here lts.After-many-of
+  abbrev back-write-exprs : here lts.After-write-exprs → here lts.After-exprs-of
   back-write-exprs c = search
 
-  abbrev back-write-items : here lts.After-write-items → here lts.After-count
+  abbrev back-write-items : here lts.After-write-items → here lts.After-items-of
   back-write-items c = search
 
   abbrev back-write-op : here lts.After-write-op → here lts.At-match-keys3
   back-write-op c = search
 
-  abbrev back-write-element3 : here lts.After-write-element3 → here lts.At-match-keys2
+  abbrev back-write-element3 : here lts.After-write-element3 → here lts.After-element-of3
   back-write-element3 c = search
 
-  abbrev back-write-element : here lts.After-write-element → here lts.At-match-keys1
+  abbrev back-write-element : here lts.After-write-element → here lts.After-element-of
   back-write-element c = search
 
-  abbrev back-many-of : here lts.After-many-of → here lts.After-first-of
-  back-many-of c = search
+  abbrev back-element-of2 : here lts.After-element-of2 → here lts.After-write-element
+  back-element-of2 c = search
 
-  abbrev back-count : here lts.After-count → here lts.At-match-keys4
-  back-count c = search
+  abbrev back-element-of3 : here lts.After-element-of3 → here lts.At-match-keys2
+  back-element-of3 c = search
 
-  abbrev back-first-of : here lts.After-first-of → here lts.At-match-rest
-  back-first-of c = search
+  abbrev back-element-of : here lts.After-element-of → here lts.At-match-keys1
+  back-element-of c = search
+
+  abbrev back-items-of : here lts.After-items-of → here lts.At-match-keys4
+  back-items-of c = search
+
+  abbrev back-exprs-of : here lts.After-exprs-of → here lts.At-match-rest
+  back-exprs-of c = search
 
   abbrev back-at-match-rest : here lts.At-match-rest → here lts.After-put-op
   back-at-match-rest c = search
@@ -68,7 +74,7 @@ module _ (t : ℕ) where
   abbrev back-read-op : here lts.After-read-op → here lts.Start
   back-read-op c = search
 
-  ruleset ways = (back-put-tail, back-write-element2, back-write-exprs, back-write-items, back-write-op, back-write-element3, back-write-element, back-many-of, back-count, back-first-of, back-at-match-rest, back-at-match-keys4, back-at-match-keys3, back-at-match-keys2, back-at-match-keys1, back-put-op, back-read-op)
+  ruleset ways = (back-put-tail, back-write-element2, back-write-exprs, back-write-items, back-write-op, back-write-element3, back-write-element, back-element-of2, back-element-of3, back-element-of, back-items-of, back-exprs-of, back-at-match-rest, back-at-match-keys4, back-at-match-keys3, back-at-match-keys2, back-at-match-keys1, back-put-op, back-read-op)
 
   read-op-requires : here lts.Need-read-op-requires
   read-op-requires c κs =
@@ -83,27 +89,30 @@ module _ (t : ℕ) where
 
   write-element-requires : here lts.Need-write-element-requires
   write-element-requires c κs =
+      let place : here lts.After-element-of = search ways depth 9 in
       let arm : here lts.At-match-keys1 = search ways depth 9 in
       let w : here lts.After-read-op = search ways depth 9 in
       let s : here lts.Start = search ways depth 9 in
-      let v = OpLaws.bounded-at _ (s .pre .1 .1) (w .read-op .ensures) in
-      (omega (arith, s .pre .0, v .shallow), record { room = s .pre .1 .0; near = record { near = v .near; shallow = v .shallow }; due = OpLaws.rel-of _ (s .pre .1 .1) (w .read-op .ensures) (arm .match .keys1) })
+      let near = OpLaws.element-near _ (s .pre .1 .1) (w .read-op .ensures) (place .element-of .ensures) in
+      (omega (arith, s .pre .0, near .0, near .1), OpLaws.element-asked _ (s .pre .1 .1) (w .read-op .ensures) (place .element-of .ensures) (s .pre .1 .0) (OpLaws.rel-of _ (s .pre .1 .1) (w .read-op .ensures) (arm .match .keys1)))
 
   write-element-requires-2 : here lts.Need-write-element-requires-2
   write-element-requires-2 c κs =
+      let place : here lts.After-element-of2 = search ways depth 9 in
       let arm : here lts.At-match-keys1 = search ways depth 9 in
       let w : here lts.After-read-op = search ways depth 9 in
       let s : here lts.Start = search ways depth 9 in
-      let v = OpLaws.bounded-at _ (s .pre .1 .1) (w .read-op .ensures) in
-      (omega (arith, s .pre .0, v .shallow), record { room = s .pre .1 .0; near = record { near = v .near; shallow = v .shallow }; due = OpLaws.far-of _ (s .pre .1 .1) (w .read-op .ensures) (arm .match .keys1) })
+      let near = OpLaws.element-near _ (s .pre .1 .1) (w .read-op .ensures) (place .element-of2 .ensures) in
+      (omega (arith, s .pre .0, near .0, near .1), OpLaws.element-asked _ (s .pre .1 .1) (w .read-op .ensures) (place .element-of2 .ensures) (s .pre .1 .0) (OpLaws.far-of _ (s .pre .1 .1) (w .read-op .ensures) (arm .match .keys1)))
 
   write-element-requires-3 : here lts.Need-write-element-requires-3
   write-element-requires-3 c κs =
+      let place : here lts.After-element-of3 = search ways depth 9 in
       let arm : here lts.At-match-keys2 = search ways depth 9 in
       let w : here lts.After-read-op = search ways depth 9 in
       let s : here lts.Start = search ways depth 9 in
-      let v = OpLaws.bounded-at _ (s .pre .1 .1) (w .read-op .ensures) in
-      (omega (arith, s .pre .0, v .shallow), record { room = s .pre .1 .0; near = record { near = v .near; shallow = v .shallow }; due = OpLaws.short-rel _ (s .pre .1 .1) (w .read-op .ensures) (arm .match .keys2) })
+      let near = OpLaws.element-near _ (s .pre .1 .1) (w .read-op .ensures) (place .element-of3 .ensures) in
+      (omega (arith, s .pre .0, near .0, near .1), OpLaws.element-asked _ (s .pre .1 .1) (w .read-op .ensures) (place .element-of3 .ensures) (s .pre .1 .0) (OpLaws.short-rel _ (s .pre .1 .1) (w .read-op .ensures) (arm .match .keys2)))
 
   write-op-requires : here lts.Need-write-op-requires
   write-op-requires c κs =
@@ -114,67 +123,40 @@ module _ (t : ℕ) where
         (s .pre .1 .0, OpLaws.optional-plan _ (s .pre .1 .1) (w .read-op .ensures) (arm .match .keys3)),
       )
 
-  count-requires : here lts.Need-count-requires
-  count-requires c κs =
+  items-of-requires : here lts.Need-items-of-requires
+  items-of-requires c κs =
       let w : here lts.After-read-op = search ways depth 9 in
       let s : here lts.Start = search ways depth 9 in
-      (OpLaws.bounded-at _ (s .pre .1 .1) (w .read-op .ensures) .low, (omega arith, s .pre .1 .0 .records))
-
-  add-first : here lts.Need-add-first
-  add-first c =
-      let w : here lts.After-read-op = search ways depth 9 in
-      let s : here lts.Start = search ways depth 9 in
-      omega (arith, OpLaws.bounded-at _ (s .pre .1 .1) (w .read-op .ensures) .low)
+      (s .pre .1 .0 .records, OpLaws.bounded-at _ (s .pre .1 .1) (w .read-op .ensures) .low)
 
   write-items-requires : here lts.Need-write-items-requires
   write-items-requires c κs =
-      let count : here lts.After-count = search ways depth 9 in
+      let place : here lts.After-items-of = search ways depth 9 in
       let arm : here lts.At-match-keys4 = search ways depth 9 in
       let w : here lts.After-read-op = search ways depth 9 in
       let s : here lts.Start = search ways depth 9 in
-      let v = OpLaws.bounded-at _ (s .pre .1 .1) (w .read-op .ensures) in
-      (omega (arith, s .pre .0, v .shallow), record { room = s .pre .1 .0; near = record { near = v .near; shallow = v .shallow }; due = PartedLaws.items-of _ (s .pre .1 .1) (w .read-op .ensures) (arm .match .keys4) (count .count .ensures .0) })
+      let near = OpLaws.run-near _ (s .pre .1 .1) (w .read-op .ensures) (place .items-of .ensures) in
+      (omega (arith, s .pre .0, near .0, near .1), OpLaws.items-asked _ (s .pre .1 .1) (w .read-op .ensures) (place .items-of .ensures) (s .pre .1 .0) (PartedLaws.items-of _ (s .pre .1 .1) (w .read-op .ensures) (arm .match .keys4)))
 
-  first-of-requires : here lts.Need-first-of-requires
-  first-of-requires c κs =
-      let w : here lts.After-read-op = search ways depth 9 in
-      let s : here lts.Start = search ways depth 9 in
-      OpLaws.bounded-at _ (s .pre .1 .1) (w .read-op .ensures) .low
-
-  many-of-requires : here lts.Need-many-of-requires
-  many-of-requires c κs =
+  exprs-of-requires : here lts.Need-exprs-of-requires
+  exprs-of-requires c κs =
       let w : here lts.After-read-op = search ways depth 9 in
       let s : here lts.Start = search ways depth 9 in
       (s .pre .1 .0 .records, OpLaws.bounded-at _ (s .pre .1 .1) (w .read-op .ensures) .low)
 
   write-exprs-requires : here lts.Need-write-exprs-requires
   write-exprs-requires c κs =
-      let many : here lts.After-many-of = search ways depth 9 in
-      let first : here lts.After-first-of = search ways depth 9 in
+      let place : here lts.After-exprs-of = search ways depth 9 in
       let arm : here lts.At-match-rest = search ways depth 9 in
       let w : here lts.After-read-op = search ways depth 9 in
       let s : here lts.Start = search ways depth 9 in
-      let v = OpLaws.bounded-at _ (s .pre .1 .1) (w .read-op .ensures) in (
-        omega (arith, s .pre .0, v .shallow),
-        record {
-          room = s .pre .1 .0;
-          near = record { near = v .near; shallow = v .shallow };
-          due = BehindLaws.exprs-there
-              _
-              (s .pre .1 .1)
-              (w .read-op .ensures)
-              (s .pre .1 .0 .records)
-              (arm .match .rest)
-              (many .many-of .ensures)
-              (first .first-of .ensures);
-        },
-      )
+      let near = OpLaws.run-near _ (s .pre .1 .1) (w .read-op .ensures) (place .exprs-of .ensures) in
+      (omega (arith, s .pre .0, near .0, near .1), OpLaws.exprs-asked _ (s .pre .1 .1) (w .read-op .ensures) (place .exprs-of .ensures) (s .pre .1 .0) (BehindLaws.exprs-there _ (s .pre .1 .1) (w .read-op .ensures) (s .pre .1 .0 .records) (arm .match .rest)))
 
   put-tail-requires : here lts.Need-put-tail-requires
   put-tail-requires c κs =
       let exprs : here lts.After-write-exprs = search ways depth 9 in
-      let many : here lts.After-many-of = search ways depth 9 in
-      let first : here lts.After-first-of = search ways depth 9 in
+      let place : here lts.After-exprs-of = search ways depth 9 in
       let arm : here lts.At-match-rest = search ways depth 9 in
       let w : here lts.After-read-op = search ways depth 9 in
       let s : here lts.Start = search ways depth 9 in
@@ -188,16 +170,16 @@ module _ (t : ℕ) where
               (w .read-op .ensures)
               (s .pre .1 .0 .records)
               (arm .match .rest)
-              (many .many-of .ensures)
-              (first .first-of .ensures)
-              (exprs .write-exprs .ensures),
+              (OpLaws.exprs-written _ (s .pre .1 .1) (w .read-op .ensures) (place .exprs-of .ensures) (exprs .write-exprs .ensures)),
         ),
       )
 
   returns : here lts.Need-returns
   returns c =
       let far : here lts.After-write-element2 = search ways depth 9 in
+      let far-place : here lts.After-element-of2 = search ways depth 9 in
       let rel : here lts.After-write-element = search ways depth 9 in
+      let rel-place : here lts.After-element-of = search ways depth 9 in
       let arm : here lts.At-match-keys1 = search ways depth 9 in
       let line : here lts.After-put-op = search ways depth 9 in
       let w : here lts.After-read-op = search ways depth 9 in
@@ -208,16 +190,24 @@ module _ (t : ℕ) where
       (w .read-op .ensures)
       (arm .match .keys1)
       (line .put-op .ensures)
-      (rel .write-element .ensures)
-      (far .write-element2 .ensures)
+      (OpLaws.element-written _ p (w .read-op .ensures) (rel-place .element-of .ensures) (rel .write-element .ensures))
+      (OpLaws.element-written _ p (w .read-op .ensures) (far-place .element-of2 .ensures) (far .write-element2 .ensures))
 
   returns-2 : here lts.Need-returns-2
   returns-2 c =
       let rel : here lts.After-write-element3 = search ways depth 9 in
+      let place : here lts.After-element-of3 = search ways depth 9 in
       let arm : here lts.At-match-keys2 = search ways depth 9 in
       let line : here lts.After-put-op = search ways depth 9 in
       let w : here lts.After-read-op = search ways depth 9 in
-      λ p. OpLaws.short-wrote _ p (w .read-op .ensures) (arm .match .keys2) (line .put-op .ensures) (rel .write-element3 .ensures)
+      λ p.
+      OpLaws.short-wrote
+      _
+      p
+      (w .read-op .ensures)
+      (arm .match .keys2)
+      (line .put-op .ensures)
+      (OpLaws.element-written _ p (w .read-op .ensures) (place .element-of3 .ensures) (rel .write-element3 .ensures))
 
   returns-3 : here lts.Need-returns-3
   returns-3 c =
@@ -230,7 +220,7 @@ module _ (t : ℕ) where
   returns-4 : here lts.Need-returns-4
   returns-4 c =
       let items : here lts.After-write-items = search ways depth 9 in
-      let count : here lts.After-count = search ways depth 9 in
+      let place : here lts.After-items-of = search ways depth 9 in
       let arm : here lts.At-match-keys4 = search ways depth 9 in
       let line : here lts.After-put-op = search ways depth 9 in
       let w : here lts.After-read-op = search ways depth 9 in
@@ -240,16 +230,14 @@ module _ (t : ℕ) where
       p
       (w .read-op .ensures)
       (arm .match .keys4)
-      (count .count .ensures .0)
       (line .put-op .ensures)
-      (items .write-items .ensures)
+      (OpLaws.items-written _ p (w .read-op .ensures) (place .items-of .ensures) (items .write-items .ensures))
 
   returns-5 : here lts.Need-returns-5
   returns-5 c =
       let tail : here lts.After-put-tail = search ways depth 9 in
       let exprs : here lts.After-write-exprs = search ways depth 9 in
-      let many : here lts.After-many-of = search ways depth 9 in
-      let first : here lts.After-first-of = search ways depth 9 in
+      let place : here lts.After-exprs-of = search ways depth 9 in
       let arm : here lts.At-match-rest = search ways depth 9 in
       let line : here lts.After-put-op = search ways depth 9 in
       let w : here lts.After-read-op = search ways depth 9 in
@@ -261,10 +249,8 @@ module _ (t : ℕ) where
       (w .read-op .ensures)
       (s .pre .1 .0 .records)
       (arm .match .rest)
-      (many .many-of .ensures)
-      (first .first-of .ensures)
       (line .put-op .ensures)
-      (exprs .write-exprs .ensures)
+      (OpLaws.exprs-written _ p (w .read-op .ensures) (place .exprs-of .ensures) (exprs .write-exprs .ensures))
       (tail .put-tail .ensures)
 
   pub meets : {M : Type 1} → lts.Closed (write-op-calls t) (write-op-at t) reads.Post M
@@ -274,22 +260,18 @@ module _ (t : ℕ) where
       (write-op-at t)
       reads.Post
       read-op-requires
-      (λ c. search needs)
-      (λ c. search needs)
-      (λ c. search needs)
       put-op-requires
+      (λ c κs. search needs)
       write-element-requires
-      (λ c. search needs)
+      (λ c κs. search needs)
       write-element-requires-2
-      (λ c. search needs)
+      (λ c κs. search needs)
       write-element-requires-3
       (λ c. search needs)
       write-op-requires
-      add-first
-      count-requires
+      items-of-requires
       write-items-requires
-      first-of-requires
-      many-of-requires
+      exprs-of-requires
       write-exprs-requires
       put-tail-requires
       (λ c. search needs)
