@@ -12,11 +12,11 @@ use Rattle.model.specs.Kind.{Clause, ReadOp, clause, expr, yieldItem}
 use Rattle.model.specs.Record.{forms}
 use Rattle.model.specs.Tree.{Tree, Trees}
 use Rattle.model.specs.Lower.{Recs, _>>=_, ret, push, op, lowerExprs, lowerYields, lowerClause}
-use Rattle.words.specs.Words.{cell, optionOf, maxRecords}
+use Rattle.words.specs.Words.{cell, maxRecords}
 use Rattle.words.specs.Held.{Held, HeldOf, RecordAt, sizeOf}
 use Rattle.words.specs.Places.{callKind, callArgsAt, callYieldsAt}
 use Rattle.context.specs.Tables.{Pushed, deepest}
-use Rattle.context.specs.Ops.{beforeOf, procedureCallOp}
+use Rattle.context.specs.Ops.{beforeOf, procedureCallOp, inputIf}
 use Rattle.context.specs.declared.At.{At}
 use Rattle.context.specs.declared.Before.{Before}
 use Rattle.context.specs.declared.Before.the-variants as before
@@ -49,7 +49,7 @@ module _ {sheet : Bytes} {a b : List ℕ} {first : ℕ} {N : Notes} {A : Ops} {k
     (ha : HeldOf sheet a b args d (i + 1)) (hy : HeldOf sheet a b yields d (i + 1 + sizeOf args))
     (bl : BelowOf (shift N 0) first k args) (e : renderOf (shift N 0) A args ≡ rs) (e′ : renderOf (shift N 0) A yields ≡ ss) where
   call-stored : (current : Before) → Stored (side sheet a b first) N A k (procedureCallOp (atPlace 0 i d) current) (op ReadOp.ProcedureCall (beforeOf current, (f .0, (f .1 .0, (f .1 .1 .0, (f .1 .1 .1 .0, tt))))) ∷ (rs ++ ss))
-  unfolding procedureCallOp beforeOf optionOf
+  unfolding procedureCallOp beforeOf inputIf
   call-stored before.Nothing = record {
     bounded = record { shallow = sh; near = omega arith; low = is .low; far = λ e. absurd (omega arith); flagged = λ e. absurd (omega arith) };
     shows = shows-call refl (record { fields = f; at = is; args = args; yields = yields; held-args = ha; held-yields = hy; below = bl; is = rw (e, e′) });

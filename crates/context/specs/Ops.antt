@@ -1,6 +1,6 @@
 -- The stored operators, one for each kind, and what stands before one. Assumes nothing: these are definitions.
 use mathlib.Core.Path.{_≡_}
-use Prim.Native.Nat.{ℕ, _≤_, _<_}
+use Prim.Native.Nat.{ℕ, zero, suc, _≤_, _<_}
 use mathlib.Core.Option.{Option, none, some}
 use Rattle.words.specs.Words.{two32}
 use Rattle.context.specs.declared.At.{At}
@@ -148,3 +148,11 @@ unionOp i input right all = opAlone unionKind i input right all
 unfoldable pub procedureCallOp : At → Before → Op
 procedureCallOp at before.Nothing = opOver procedureCallKind at 0 0 0
 procedureCallOp at (before.Op input) = opOver procedureCallKind at input 1 0
+
+-- what stands before a stored call: an operator, unless the word that tells is 0
+unfoldable pub inputIf : (told input : ℕ) → Before
+inputIf zero input = before.Nothing
+inputIf (suc n) input = before.Op input
+
+abbrev pub callInput : Op → Before
+callInput o = inputIf (o .x) (o .input)

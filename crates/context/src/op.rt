@@ -25,7 +25,7 @@ ghost use lib.ListN.{length, getD};
 ghost use Rattle.model.specs.Call.{workWords};
 ghost use Rattle.words.specs.Words.{two32};
 ghost use Rattle.context.specs.Tables.{opAt, maxStored, opWords};
-ghost use Rattle.context.specs.Ops.{Fits, Under, sourceAllOp, sourceOp, filterOp, expandOp, shortestPathOp, bindPathOp, optionalJoinOp, withOp, projectOp, aggregateOp, orderByOp, skipOp, limitOp, distinctOp, unwindOp, unionOp, procedureCallOp};
+ghost use Rattle.context.specs.Ops.{Fits, Under, sourceAllOp, sourceOp, filterOp, expandOp, shortestPathOp, bindPathOp, optionalJoinOp, withOp, projectOp, aggregateOp, orderByOp, skipOp, limitOp, distinctOp, unwindOp, unionOp, procedureCallOp, callInput};
 use crate::At;
 use crate::Before;
 use crate::OP_WORDS;
@@ -353,6 +353,16 @@ pub fn procedure_call(at: At, current: Before) -> Op
             base: at.base as u32,
         },
     }
+}
+
+// The operator before a stored call, if there is one: what `procedure_call` was given.
+pub fn call_input(w: Op) -> Before
+    ensures { λ r. ⌜ r ≡ callInput w ⌝ }
+{
+    if w.x == 0 {
+        return Before::Nothing;
+    }
+    Before::Op(w.input as usize)
 }
 
 // Word j of operator k.

@@ -10,10 +10,10 @@ use Rattle.model.specs.Kind.{Clause, ReadOp, clause, projection, orderItem, pat
 use Rattle.model.specs.Record.{Rec, one, forms}
 use Rattle.model.specs.Tree.{Tree, Trees}
 use Rattle.model.specs.Lower.{Recs, op, source, pathElements}
-use Rattle.words.specs.Words.{cell, optionOf, maxRecords}
+use Rattle.words.specs.Words.{cell, maxRecords}
 use Rattle.words.specs.Held.{Held, HeldOf, RecordAt, sizeOf}
 use Rattle.context.specs.declared.op.Op.{Op}
-use Rattle.context.specs.Ops.{sourceAllKind, sourceKind, filterKind, expandKind, shortestPathKind, bindPathKind, optionalJoinKind, withKind, projectKind, aggregateKind, orderByKind, skipKind, limitKind, distinctKind, unwindKind, unionKind, procedureCallKind}
+use Rattle.context.specs.Ops.{beforeOf, callInput, sourceAllKind, sourceKind, filterKind, expandKind, shortestPathKind, bindPathKind, optionalJoinKind, withKind, projectKind, aggregateKind, orderByKind, skipKind, limitKind, distinctKind, unwindKind, unionKind, procedureCallKind}
 use Rattle.lower.specs.Side.{Side}
 use Rattle.lower.specs.Render.{Notes, Ops, render, renderOf, Below, BelowOf, specRecs, KidsBelow, keptFrom, keyRecs, aggRecs}
 use Rattle.words.specs.Places.{kindAt, nodeKind, relKind, nodeLabelsAt, partShortestAt, partElementsAt, itemsAt, withFilterAt}
@@ -125,7 +125,7 @@ module _ (S : Side) (N : Notes) (A : Ops) (k : ℕ) (o : Op) where
     pub held-args : HeldOf (S .sheet) (S .a) (S .b) args (o .left) (o .idx + 1)
     pub held-yields : HeldOf (S .sheet) (S .a) (S .b) yields (o .left) (o .idx + 1 + sizeOf args)
     pub below : BelowOf (shift N (o .base)) (S .first) k args
-    pub is : recs ≡ op ReadOp.ProcedureCall (optionOf (o .x) (o .input), (fields .0, (fields .1 .0, (fields .1 .1 .0, (fields .1 .1 .1 .0, tt))))) ∷ (renderOf (shift N (o .base)) A args ++ renderOf (shift N (o .base)) A yields)
+    pub is : recs ≡ op ReadOp.ProcedureCall (beforeOf (callInput o), (fields .0, (fields .1 .0, (fields .1 .1 .0, (fields .1 .1 .1 .0, tt))))) ∷ (renderOf (shift N (o .base)) A args ++ renderOf (shift N (o .base)) A yields)
 
   -- operator k
   pub data Shows (recs : Recs) : Type 0 where

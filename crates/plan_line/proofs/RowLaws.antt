@@ -7,12 +7,11 @@ use lib.Dec.{eqb}
 use lib.IntN.{ℤ}
 use lib.Seq.{slice}
 use Rattle.model.specs.Text.{Bytes, tab, lineFeed, behind, join, decimal, digits, signed, escape, unescape}
-use Rattle.model.specs.Field.{Form, text, spell, spellFlag, spellOption, spellFields}
+use Rattle.model.specs.Field.{Form, text, spell, spellFlag, spellFields}
 use Rattle.model.specs.Record.{Rec, forms, keyword, spellRec}
 use Rattle.output.specs.Page.{Page, Puts}
-use Rattle.output.specs.Writes.{_⨾_}
 use Rattle.laws.specs.TextLaws.{join-split}
-use Rattle.words.specs.Words.{optionOf, fieldOf, piecesOf}
+use Rattle.words.specs.Words.{fieldOf, piecesOf}
 use Rattle.words.specs.Held.{PlaceAt}
 use Rattle.plan_line.specs.Keywords.{word, intWord}
 use Rattle.plan_line.specs.Row.{numbersText, rowText, namedText, intText}
@@ -65,16 +64,6 @@ row k ns p = rw (← pieces-are ns) p
 pub named : (k : ℕ) (name : Bytes) (ns : List ℕ) {g g′ : Page} → Puts (word k ++ ((tab ∷ name) ++ pieces ns)) g g′ → Puts (namedText k name ns) g g′
 unfolding namedText
 named k name ns p = rw (← pieces-are ns) p
-
--- an input that is there, or not
-pub input-none : (there input : ℕ) {g g′ g″ : Page} → there ≡ 0 → Puts (tab ∷ []) g g′ → Puts (45 ∷ []) g′ g″ → Puts (tab ∷ spellOption (optionOf there input)) g g″
-unfolding spellOption optionOf
-input-none there input e p q = rw e (p ⨾ q)
-
-pub input-there : (there input : ℕ) {g g′ : Page} → (there ≡ 0 → ⊥) → Puts (tab ∷ decimal input) g g′ → Puts (tab ∷ spellOption (optionOf there input)) g g′
-unfolding spellOption optionOf
-input-there zero input z p = absurd (z refl)
-input-there (suc n) input z p = p
 
 -- ── records ──
 

@@ -15,7 +15,7 @@ use Rattle.model.specs.Lower.{Recs, op, source}
 use Rattle.model.specs.Call.{maxDepth}
 use Rattle.output.specs.Page.{Page, Puts}
 use Rattle.output.specs.Writes.{_⨾_}
-use Rattle.words.specs.Words.{Roomy, cell, optionOf, fieldOf, fieldsOf, maxRecords}
+use Rattle.words.specs.Words.{Roomy, cell, fieldOf, fieldsOf, maxRecords}
 use Rattle.words.specs.Held.{Held, PlaceAt}
 use Rattle.words.specs.Cells.{shown}
 use Rattle.context.specs.Tables.{opAt}
@@ -35,7 +35,7 @@ use Rattle.plan_line.proofs.RowLaws.{flag-decimal, record-line, row-rec, place-
 use Rattle.plan_sheet.proofs.HeadLaws.{texts-at}
 use Rattle.plan_sheet.proofs.DueLaws.{tabled-less, spell-append}
 use Rattle.plan_sheet.proofs.NameLaws.{names-made}
-use Rattle.context.specs.Ops.{aggregateKind, bindPathKind, distinctKind, expandKind, filterKind, limitKind, optionalJoinKind, orderByKind, procedureCallKind, projectKind, shortestPathKind, skipKind, sourceAllKind, sourceKind, unionKind, unwindKind, withKind}
+use Rattle.context.specs.Ops.{beforeOf, callInput, aggregateKind, bindPathKind, distinctKind, expandKind, filterKind, limitKind, optionalJoinKind, orderByKind, procedureCallKind, projectKind, shortestPathKind, skipKind, sourceAllKind, sourceKind, unionKind, unwindKind, withKind}
 use Rattle.words.specs.Places.{callArgsAt, callNameAt, callOptionalAt, callYieldsAt, itemsAt, nodeLabelsAt, partShortestAt, withFilterAt}
 use Rattle.words.specs.Numbers.{Others, other-than}
 
@@ -250,7 +250,7 @@ module _ {sheet : Bytes} {a b rest : List ℕ} {o : Op} (room : Roomy a b) (h : 
   pub procedure-in : TextIn sheet a b (o .idx) callNameAt
   procedure-in = (call-text .from, call-text .to)
 
-  pub call-line : spellRecs (take 1 (h .recs)) ≡ callText (optionOf (o .x) (o .input)) (textAt sheet a b (o .idx) callNameAt) (cell a b (o .idx) callArgsAt) (cell a b (o .idx) callYieldsAt) (cell a b (o .idx) callOptionalAt)
+  pub call-line : spellRecs (take 1 (h .recs)) ≡ callText (beforeOf (callInput o)) (textAt sheet a b (o .idx) callNameAt) (cell a b (o .idx) callArgsAt) (cell a b (o .idx) callYieldsAt) (cell a b (o .idx) callOptionalAt)
   unfolding spellRec keyword planKeyword opKeyword word letters bytes bytesFrom spellFields spell fieldsOf fieldOf callText numbersText
   call-line =
       let s = of-kind procedureCallKind e (h .stored .shows) in
@@ -261,7 +261,7 @@ module _ {sheet : Bytes} {a b rest : List ℕ} {o : Op} (room : Roomy a b) (h : 
       let optional : spellFlag (s .fields .1 .1 .1 .0) ≡ decimal (cell a b (o .idx) callOptionalAt) = rw (r .fields) (flag-decimal (cell a b (o .idx) callOptionalAt) (r .flags .1 .1 .1 .0)) in
       first-rec (s .is)
       ∙ record-line (word callWord) _
-      ∙ ap (λ (t : Bytes). word callWord ++ t) (rw (name, args, yields, optional) (two-behind (spellOption (optionOf (o .x) (o .input))) (textAt sheet a b (o .idx) callNameAt) (decimal (cell a b (o .idx) callArgsAt) ∷ decimal (cell a b (o .idx) callYieldsAt) ∷ decimal (cell a b (o .idx) callOptionalAt) ∷ []) (lineFeed ∷ [])))
+      ∙ ap (λ (t : Bytes). word callWord ++ t) (rw (name, args, yields, optional) (two-behind (spellOption (beforeOf (callInput o))) (textAt sheet a b (o .idx) callNameAt) (decimal (cell a b (o .idx) callArgsAt) ∷ decimal (cell a b (o .idx) callYieldsAt) ∷ decimal (cell a b (o .idx) callOptionalAt) ∷ []) (lineFeed ∷ [])))
 
 -- ── a whole operator ──
 

@@ -4,15 +4,15 @@ ghost use Prim.Native.Nat.{_<_};
 ghost use Rattle.model.specs.Text.{tab, lineFeed};
 ghost use Rattle.model.specs.Field.{spellOption};
 ghost use Rattle.output.specs.Page.{on, Puts};
-ghost use Rattle.words.specs.Words.{Roomy, cell, optionOf, maxRecords};
+ghost use Rattle.words.specs.Words.{Roomy, cell, maxRecords};
 ghost use Rattle.words.specs.Places.{itemsAt, withFilterAt, callArgsAt, callYieldsAt, callOptionalAt, callNameAt};
-ghost use Rattle.context.specs.Ops.{bindPathKind};
+ghost use Rattle.context.specs.Ops.{beforeOf, bindPathKind};
 ghost use Rattle.plan_line.specs.Keywords.{withWord, projectWord};
 ghost use Rattle.plan_line.specs.Row.{numbersText, rowText, callText};
 ghost use Rattle.plan_sheet.specs.Due.{OpShown, WroteFirst, TextIn, textAt};
+use context::Before;
 use context::op;
 use context::op::Op;
-use plan_line::field::put_number;
 use plan_line::field::put_text;
 use plan_line::row;
 use plan_line::word;
@@ -40,14 +40,16 @@ fn put_project(plan: &mut [u8], out: usize, a: &[u32], b: &[u32], i: usize, inpu
 }
 
 // The input of a procedure, or that it has none.
-fn put_input(plan: &mut [u8], out: usize, there: u32, input: u32) -> usize
-    ensures { λ r. ⌜ Puts (tab ∷ spellOption (optionOf there input)) (on (now (plan .entry)) out) (on (now (plan .exit)) r) ⌝ }
+fn put_input(plan: &mut [u8], out: usize, input: Before) -> usize
+    ensures { λ r. ⌜ Puts (tab ∷ spellOption (beforeOf input)) (on (now (plan .entry)) out) (on (now (plan .exit)) r) ⌝ }
 {
-    if there == 0 {
-        let o = output::put_byte(plan, out, b'\t');
-        return output::put_byte(plan, o, b'-');
+    match input {
+        Before::Nothing => {
+            let o = output::put_byte(plan, out, b'\t');
+            output::put_byte(plan, o, b'-')
+        }
+        Before::Op(k) => output::put_tabbed(plan, out, k as u64),
     }
-    put_number(plan, out, input)
 }
 
 // How many arguments and yields a `call` has and whether it is optional, up to the end of its line.
@@ -70,18 +72,17 @@ fn put_procedure(
     a: &[u32],
     b: &[u32],
     i: usize,
-    there: u32,
-    input: u32,
+    input: Before,
 ) -> usize
     requires { ⌜ Roomy (now a) (now b) ⌝ }
     requires { ⌜ i < maxRecords ⌝ }
     requires { ⌜ TextIn (now sheet) (now a) (now b) i callNameAt ⌝ }
-    ensures { λ r. ⌜ Puts (callText (optionOf there input) (textAt (now (sheet .entry)) (now (a .entry)) (now (b .entry)) i callNameAt) (cell (now (a .entry)) (now (b .entry)) i callArgsAt) (cell (now (a .entry)) (now (b .entry)) i callYieldsAt) (cell (now (a .entry)) (now (b .entry)) i callOptionalAt)) (on (now (plan .entry)) out) (on (now (plan .exit)) r) ⌝ }
+    ensures { λ r. ⌜ Puts (callText (beforeOf input) (textAt (now (sheet .entry)) (now (a .entry)) (now (b .entry)) i callNameAt) (cell (now (a .entry)) (now (b .entry)) i callArgsAt) (cell (now (a .entry)) (now (b .entry)) i callYieldsAt) (cell (now (a .entry)) (now (b .entry)) i callOptionalAt)) (on (now (plan .entry)) out) (on (now (plan .exit)) r) ⌝ }
 {
     let s = words::word(a, b, i, field::CALL_NAME);
     let e = words::word(a, b, i, field::CALL_NAME + 1);
     let o = plan_line::keyword::put_keyword(plan, out, word::CALL);
-    let p = put_input(plan, o, there, input);
+    let p = put_input(plan, o, input);
     let q = put_text(plan, p, sheet, s, e);
     put_counts(plan, q, a, b, i)
 }
@@ -115,6 +116,6 @@ pub fn put_clause_op(
         op::DISTINCT => row::put_row1(plan, out, word::DISTINCT, input),
         op::UNWIND => row::put_row2(plan, out, word::UNWIND, input, w.x),
         op::UNION => row::put_row3(plan, out, word::UNION, input, w.x, w.y),
-        _ => put_procedure(plan, out, sheet, a, b, idx, w.x, input),
+        _ => put_procedure(plan, out, sheet, a, b, idx, op::call_input(w)),
     }
 }

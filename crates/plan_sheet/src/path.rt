@@ -1,6 +1,5 @@
 // The numbers of a path: every node's, and a rel's where a node stands before it and the next element is a node.
-ghost use Prim.Native.Nat.{_+_, _<_, _≤_};
-ghost use lib.ListN.{length};
+ghost use Prim.Native.Nat.{_<_};
 ghost use Rattle.model.specs.Record.{spellRecs};
 ghost use Rattle.model.specs.Lower.{pathElements};
 ghost use Rattle.output.specs.Page.{on, Puts};
@@ -9,9 +8,7 @@ ghost use Rattle.words.specs.Places.{partElementsAt};
 ghost use Rattle.lower.specs.Render.{keptRel};
 ghost use Rattle.lower.specs.Shows.{shift};
 ghost use Rattle.plan_sheet.specs.Due.{noted, NotesIn};
-ghost use Rattle.plan_sheet.specs.Path.{waitsOf, Stepped, Elements, WrotePath};
-ghost use Rattle.context.specs.Tables.{secondPass};
-ghost use Rattle.model.specs.Call.{workWords};
+ghost use Rattle.plan_sheet.specs.Path.{waitsOf, StepAsked, Stepped, Elements, WrotePath};
 use context::op::Op;
 use context::read::note_of;
 use plan_line::row::put_row1;
@@ -19,63 +16,56 @@ use plan_line::word;
 use words::field;
 use words::kind;
 
-// So far: whether there was a node, the line of the rel that waits for its far node (0 for none), and the cursor.
+// The record of the rel that waits for its far node, if one does.
+pub enum Waits {
+    Nothing,
+    Rel(usize),
+}
+
+// So far: whether there was a node, the rel that waits, and the cursor.
 pub struct Path {
     pub seen: bool,
-    pub waits: usize,
+    pub waits: Waits,
     pub out: usize,
 }
 
 // The number of the rel that waits, if it is kept.
-fn put_kept(
-    plan: &mut [u8],
-    out: usize,
-    rest: &[u32],
-    base: usize,
-    seen: bool,
-    waits: usize,
-) -> usize
-    requires { ⌜ (workWords ≤ length (now rest)) × (base ≤ secondPass) × (waits ≤ maxRecords) ⌝ }
-    ensures { λ r. ⌜ Puts (spellRecs (pathElements (keptRel (shift (noted (now (rest .entry))) base) seen (waitsOf waits)))) (on (now (plan .entry)) out) (on (now (plan .exit)) r) ⌝ }
+fn put_kept(plan: &mut [u8], rest: &[u32], base: usize, path: Path) -> usize
+    requires { ⌜ StepAsked (now rest) base (path .waits) ⌝ }
+    ensures { λ r. ⌜ Puts (spellRecs (pathElements (keptRel (shift (noted (now (rest .entry))) base) (path .seen) (waitsOf (path .waits))))) (on (now (plan .entry)) (path .out)) (on (now (plan .exit)) r) ⌝ }
 {
-    if waits == 0 {
+    let out = path.out;
+    let waits = path.waits;
+    let Waits::Rel(i) = waits else {
         return out;
-    }
-    if seen {
-        let n = note_of(rest, base, waits - 1);
+    };
+    if path.seen {
+        let n = note_of(rest, base, i);
         return put_row1(plan, out, word::ELEMENT, n);
     }
     out
 }
 
 // The element at record i: a node, or else a rel.
-fn put_step(
-    plan: &mut [u8],
-    out: usize,
-    rest: &[u32],
-    base: usize,
-    i: usize,
-    kind: u32,
-    seen: bool,
-    waits: usize,
-) -> Path
-    requires { ⌜ (workWords ≤ length (now rest)) × (base ≤ secondPass) × (waits ≤ maxRecords) × (i < maxRecords) ⌝ }
-    ensures { λ r. ⌜ Stepped (now (rest .entry)) base i kind seen waits (on (now (plan .entry)) out) (on (now (plan .exit)) (r .out)) (r .seen) (r .waits) ⌝ }
+fn put_step(plan: &mut [u8], rest: &[u32], base: usize, i: usize, kind: u32, path: Path) -> Path
+    requires { ⌜ StepAsked (now rest) base (path .waits) ⌝ }
+    requires { ⌜ i < maxRecords ⌝ }
+    ensures { λ r. ⌜ Stepped (now (rest .entry)) base i kind path r (on (now (plan .entry)) (path .out)) (on (now (plan .exit)) (r .out)) ⌝ }
 {
     if kind == kind::NODE {
-        let o = put_kept(plan, out, rest, base, seen, waits);
+        let o = put_kept(plan, rest, base, path);
         let n = note_of(rest, base, i);
         let p = put_row1(plan, o, word::ELEMENT, n);
         return Path {
             seen: true,
-            waits: 0,
+            waits: Waits::Nothing,
             out: p,
         };
     }
     Path {
-        seen,
-        waits: i + 1,
-        out,
+        seen: path.seen,
+        waits: Waits::Rel(i),
+        out: path.out,
     }
 }
 
@@ -98,17 +88,16 @@ pub fn put_path(
     let base = w.base as usize;
     let mut at = i;
     let mut due = words::word(a, b, w.idx as usize, field::PART_ELEMENTS);
-    let mut seen = false;
-    let mut waits = 0;
-    let mut o = out;
+    let mut path = Path {
+        seen: false,
+        waits: Waits::Nothing,
+        out,
+    };
     while due != 0 {
         let kind = words::word(a, b, at, field::KIND);
-        let p = put_step(plan, o, rest, base, at, kind, seen, waits);
+        path = put_step(plan, rest, base, at, kind, path);
         at = words::records::skip(a, b, at);
-        o = p.out;
-        seen = p.seen;
-        waits = p.waits;
         due -= 1;
     }
-    o
+    path.out
 }

@@ -35,8 +35,11 @@ back-put-row1 c = search
 abbrev back-put-project : tie.After-put-project → tie.At-match-keys3
 back-put-project c = search
 
-abbrev back-put-procedure : tie.After-put-procedure → tie.At-match-rest
+abbrev back-put-procedure : tie.After-put-procedure → tie.After-call-input
 back-put-procedure c = search
+
+abbrev back-call-input : tie.After-call-input → tie.At-match-rest
+back-call-input c = search
 
 abbrev back-at-match-rest : tie.At-match-rest → tie.Start
 back-at-match-rest c = search
@@ -83,6 +86,7 @@ ruleset ways = (
   back-put-row1,
   back-put-project,
   back-put-procedure,
+  back-call-input,
   back-at-match-rest,
   back-at-match-keys9,
   back-at-match-keys8,
@@ -184,6 +188,7 @@ returns-10 c =
 returns-11 : tie.Need-returns-11
 returns-11 c =
     let after-put-procedure : tie.After-put-procedure = search ways in
+    let after-call-input : tie.After-call-input = search ways in
     let at-match-rest : tie.At-match-rest = search ways in
     let start : tie.Start = search ways in
     λ h.
@@ -192,7 +197,7 @@ returns-11 c =
     (start .pre .0)
     h
     (OpLaws.is-call (start .pre .1 .1) (start .pre .1 .0) (at-match-rest .match .rest)))
-    (after-put-procedure .put-procedure .ensures)
+    (rw (after-call-input .call-input .ensures) at (after-put-procedure .put-procedure .ensures))
 
 pub put-clause-op-spec : {M : Type 1} → statement M
 put-clause-op-spec =
@@ -202,6 +207,7 @@ put-clause-op-spec =
     (λ c κs. search needs)
     put-with-requires
     put-project-requires
+    (λ c κs. search needs)
     (λ c κs. search needs)
     (λ c κs. search needs)
     (λ c κs. search needs)

@@ -7,10 +7,10 @@ use Rattle.plan_sheet.proofs.path.put_path.Statement.{statement}
 use Rattle.plan_sheet.proofs.path.put_path.Tie as tie
 
 abbrev Inv-loop : tie.InvT-loop
-Inv-loop plan₀ out sheet a b rest i base at₀ due₀ seen₀ waits₀ o₀ plan at due seen waits o = PathLaws.Walking sheet a b rest base due₀ i (on plan₀ o₀) due at seen waits (on plan o)
+Inv-loop plan₀ out sheet a b rest i base at₀ due₀ path₀ plan at due path = PathLaws.Walking sheet a b rest base due₀ i (on plan₀ out) due at path (on plan (path .out))
 
 abbrev μ-loop : tie.MeasureT-loop
-μ-loop plan₀ out sheet a b rest i base at₀ due₀ seen₀ waits₀ o₀ plan at due seen waits o = due
+μ-loop plan₀ out sheet a b rest i base at₀ due₀ path₀ plan at due path = due
 
 -- a place or a need, at the loops' invariants and measures
 abbrev here : (tie.InvT-loop → tie.MeasureT-loop → Type 0) → Type 0
@@ -55,9 +55,7 @@ put-step-requires c κs =
     let in-loop : here tie.In-loop = search ways in
     let at-loop : here tie.At-loop = search ways in
     let start : here tie.Start = search ways in (
-      start .pre .1 .0 .in-rest,
-      start .pre .1 .0 .near,
-      at-loop .loop .inv .low,
+      record { in-rest = start .pre .1 .0 .in-rest; near = start .pre .1 .0 .near; low = at-loop .loop .inv .low },
       PathLaws.element-starts (in-loop .loop-test .taken) (at-loop .loop .inv .some) .1,
     )
 
