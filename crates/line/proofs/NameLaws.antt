@@ -1,6 +1,6 @@
 -- The words of a name and of an alias: their places, which the sheet spells. Assumes nothing.
 use mathlib.Core.Path.{_≡_, refl, sym, ap, _∙_}
-use Prim.Native.Nat.{ℕ, suc, _+_, _-_, _<_, _≤_}
+use Prim.Native.Nat.{ℕ, suc, _+_, _<_, _≤_}
 use mathlib.Core.Bool.{false}
 use mathlib.Core.List.{[], _∷_, tail}
 use mathlib.Core.Option.{Option, none, some}

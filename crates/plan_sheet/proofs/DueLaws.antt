@@ -1,6 +1,6 @@
 -- Expressions one after another: taken apart as the loop over them does, and made of the groups of a record. Assumes nothing: every law is proved.
 use mathlib.Core.Path.{_≡_, refl, sym, ap, _∙_}
-use Prim.Native.Nat.{ℕ, zero, suc, _+_, _-_, _≤_, _<_}
+use Prim.Native.Nat.{ℕ, zero, suc, _+_, _-_, _≤_}
 use native.Mathlib.Nat.{add-zero, add-assoc}
 use native.Mathlib.Omega.{arith}
 use mathlib.Core.Bool.{Bool, true, false, cond}
@@ -13,13 +13,11 @@ use Rattle.model.specs.Tree.{Tree, Trees, Forest, node, []ᵗ, _∷ᵗ_, end, _
 use Rattle.model.specs.Lower.{Recs, item, synthesiseAlias, exprAlias}
 use Rattle.output.specs.Page.{Page, Puts}
 use Rattle.output.specs.Writes.{_⨾_, stay}
-use Rattle.words.specs.Words.{maxRecords}
 use Rattle.words.specs.Held.{Held, HeldOf, HeldIn, size, sizeOf, roomIn}
 use Rattle.lower.specs.Render.{Notes, Ops, recsOver, render, renderOf, nameOf, Below, BelowOf, belowIn}
 use Rattle.lower.specs.Shows.{shift}
 use Rattle.plan_sheet.specs.Due.{Tabled, noted, ExprAt, ItemAt, namedRec, itemName, Line, SomeLine, One, Carried, carriedRecs, carriedEnd, Many, manyText, WroteOne, WroteMany, WroteLine}
 use Rattle.plan_sheet.specs.Due
-use Rattle.plan_sheet.proofs.HeadLaws.{line-low}
 
 pub spell-append : (rs ss : Recs) → spellRecs (rs ++ ss) ≡ spellRecs rs ++ spellRecs ss
 unfolding spellRecs
@@ -107,9 +105,6 @@ module _ {sheet : Bytes} {a b os rest : List ℕ} {below base left : ℕ} where
 
   pub first-line : {i : ℕ} → Many sheet a b os rest below base left 1 i → SomeLine sheet a b i
   first-line h = some-line one-of h
-
-  pub first-low : {i : ℕ} → Many sheet a b os rest below base left 1 i → i < maxRecords
-  first-low h = line-low (first-line h .line)
 
   pub first-there : {i next : ℕ} {p q : Page} → Many sheet a b os rest below base left 1 i → WroteLine sheet a b i p next q → One sheet a b os rest below base left next
   first-there h w = one-there one-of h w

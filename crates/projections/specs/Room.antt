@@ -94,10 +94,6 @@ twice-refl h = record { up = omega arith; here = h; grow = le-refl _; few = omeg
 pub twice-then : {i j e : ℕ} {m m₁ m₂ : Mem} → MovedTwice i j m m₁ → MovedTwice j e m₁ m₂ → MovedTwice i e m m₂
 twice-then p q = record { up = omega (arith, p .up, q .up); here = q .here; grow = omega (arith, p .grow, q .grow); few = omega (arith, p .few, q .few); low = omega (arith, p .low, q .low); met = omega (arith, p .met, q .met); in-ops = q .in-ops ∙ p .in-ops; in-rest = q .in-rest ∙ p .in-rest; index = λ x. q .index (p .index x) }
 
--- one pass alone
-pub twice-once : {i e : ℕ} {m m′ : Mem} → Moved i e m m′ → MovedTwice i e m m′
-twice-once p = record { up = p .up; here = p .here; grow = p .grow; few = omega (arith, p .few, p .up); low = omega (arith, p .low, p .up); met = omega (arith, p .met, p .up); in-ops = p .in-ops; in-rest = p .in-rest; index = p .index }
-
 -- at least one record, and then an operator
 pub twice-pushed : {i j : ℕ} {c : LowerCtx} {os : List ℕ} {x : Op} {m m₁ : Mem} → Moved i j m m₁ → i + 1 ≤ j → Pushed (m₁ .ctx) c (m₁ .ops) os x → length os ≡ length (m₁ .ops) → MovedTwice i j m (mem c os (m₁ .rest))
 twice-pushed p l q lo = record { up = p .up; here = p .here; grow = omega (arith, p .grow, q .count); few = omega (arith, p .few, q .count); low = omega (arith, p .low, p .up, q .numbers); met = omega (arith, p .met, p .up, q .mapped); in-ops = lo ∙ p .in-ops; in-rest = p .in-rest; index = λ x. rw (q .mapped) (p .index x) }

@@ -1,7 +1,7 @@
 -- Trees that are held end within the records that a sheet may have, and each has a record at least. Assumes nothing.
-use Prim.Native.Nat.{ℕ, _+_, _-_, _≤_, _<_}
+use Prim.Native.Nat.{ℕ, _+_, _≤_, _<_}
 use native.Mathlib.Omega.{arith}
-use mathlib.Core.List.{List, _∷_}
+use mathlib.Core.List.{List}
 use Rattle.model.specs.Text.{Bytes}
 use Rattle.model.specs.Kind.{Sort}
 use Rattle.model.specs.Record.{Group}
