@@ -54,7 +54,7 @@ loop-again c =
     let s : here tie.Start = search in
     let i : here tie.After-count-in = search in
     let w : here tie.After-wide = search in
-    add-one-group _ _ (s .pre .0) _ _ _ (omega (arith, n .loop-test .taken, g .groups-of .ensures)) (w .wide .ensures .0 ∙ i .count-in .ensures, w .wide .ensures .1) (l .loop .inv)
+    add-one-group _ _ (s .pre .0) _ _ _ (omega (arith, n .loop-test .taken, g .groups-of .ensures)) (cc (w .wide .ensures .0, i .count-in .ensures), w .wide .ensures .1) (l .loop .inv)
 
 returns : here tie.Need-returns
 returns c =
