@@ -6,7 +6,7 @@ use mathlib.Core.Bool.{cond}
 use lib.Dec.{eqb}
 use mathlib.Core.Option.{Option, none, some}
 use lib.ListN.{length, getD, drop, set}
-use Rattle.model.specs.Call.{workWords, maxDepth}
+use Rattle.model.specs.Call.{workWords}
 use Rattle.model.specs.Lower.{Recs, Lowering}
 use Rattle.model.specs.Lower
 use Rattle.context.specs.declared.LowerCtx.{LowerCtx}
@@ -23,17 +23,17 @@ maxStored = 2048
 abbrev pub opWords : ℕ
 opWords = 8
 
--- the notes end, and the variables begin, at this word
+-- the notes, one for each line of two passes, end, and the variables begin, at this word
 abbrev pub varsAt : ℕ
-varsAt = 4608
+varsAt = 4097
 
 -- there is room for so many variables
 abbrev pub maxVars : ℕ
-maxVars = 4352
+maxVars = 5119
 
--- The lowering's promises are for trees of at most this depth. The variables' words have room for a level more each, up to 256 levels; the writer asks for no more than the single call's depth.
+-- The promises of the lowering and the writer are for trees of at most this depth, whatever a call's own limit is: the variables' words have room for one more for each level.
 abbrev pub deepest : ℕ
-deepest = maxDepth
+deepest = 1024
 
 -- the notes of a second pass begin at this word
 abbrev pub secondPass : ℕ
@@ -45,7 +45,7 @@ maxCount = 65536
 
 -- so many words at least stand behind the notes
 abbrev pub varWords : ℕ
-varWords = 11776
+varWords = 12286
 
 -- the first n variables, the newest first
 unfoldable pub varsOf : ℕ → List ℕ → List (ℕ × ℕ)
@@ -60,7 +60,7 @@ maxIndexed = 2048
 
 -- a word of links for each of them, behind the variables' words
 abbrev pub linksAt : ℕ
-linksAt = 8704
+linksAt = 10238
 
 -- a word of links has two halves, each below this
 abbrev pub halfWord : ℕ

@@ -22,14 +22,14 @@ pub const OP_WORDS: usize = 8;
 // The notes of a second pass begin at this word of the fourth slice, and the variables, two words each, behind all notes.
 pub const SECOND_PASS: usize = 2048;
 
-pub const VARS_AT: usize = 4608;
+pub const VARS_AT: usize = 4097;
 
 // There is room for so many variables; so many of them are in the index, whose words begin at this word behind VARS_AT.
-pub const MAX_VARS: usize = 4352;
+pub const MAX_VARS: usize = 5119;
 
 pub const MAX_INDEXED: usize = 2048;
 
-pub const LINKS_AT: usize = 8704;
+pub const LINKS_AT: usize = 10238;
 
 // A word of links has two halves, each below this.
 pub const HALF_WORD: u32 = 65536;

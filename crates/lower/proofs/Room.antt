@@ -181,8 +181,8 @@ rel-ends {d = d} {i = i} room k x p n = rel-end room d i k p (x .sheet) (x .tree
 
 -- two numbers running, and an operator behind them
 module _ {d i : ℕ} {c : LowerCtx} {os rs : List ℕ} (g : RoomFor d i (mem c os rs)) {step : Lowering ℕ} {rs′ : List ℕ} {r : Numbered} (n : Issued step c (drop varsAt rs) (drop varsAt rs′) r) where
-  pub can-again : length rs′ ≡ length rs → (base place j : ℕ) → base ≤ secondPass → j ≤ maxRecords → place ≡ base + j → CanNumber (r .ctx) place rs′
-  can-again l base place j lb lj e = record { met = omega (arith, g .met, g .here, n .met); low = omega (arith, g .low, g .here, n .low); noted = omega arith; long = rw l (g .in-rest); index = n .index (g .index) }
+  pub can-again : i < maxRecords → length rs′ ≡ length rs → (base place j : ℕ) → base ≤ secondPass → j ≤ maxRecords → place ≡ base + j → CanNumber (r .ctx) place rs′
+  can-again li l base place j lb lj e = record { met = omega (arith, g .met, g .here, n .met); low = omega (arith, g .low, g .here, n .low); noted = omega arith; long = rw l (g .in-rest); index = n .index (g .index) }
 
 pub push-again : {d i : ℕ} {c : LowerCtx} {os rs : List ℕ} {step step₂ : Lowering ℕ} {vs vs′ ws ws′ : List ℕ} {r r₂ : Numbered} → RoomFor d i (mem c os rs) → Issued step c vs vs′ r → Issued step₂ (r .ctx) ws ws′ r₂ → (r₂ .ctx .ops < maxCount) × (workWords ≤ length os)
 push-again g n n₂ = (omega (arith, g .few, g .here, n .ops, n₂ .ops), g .in-ops)

@@ -1,6 +1,6 @@
 -- How the tables stand for a state of the lowering, now and whatever is written behind. Assumes nothing: these are definitions.
 use mathlib.Core.Path.{_≡_}
-use Prim.Native.Nat.{ℕ, _+_, _*_, _≤_, _<_}
+use Prim.Native.Nat.{ℕ, _+_, _*_, _-_, _≤_, _<_}
 use mathlib.Core.List.{List, [], _∷_}
 use mathlib.Core.Logic.{_⊎_}
 use lib.ListN.{length, getD, drop}
@@ -105,9 +105,9 @@ Indexes m = Indexed (m .ctx .mapped) (drop varsAt (m .rest))
 abbrev pub maxBefore : ℕ
 maxBefore = 30000
 
--- Variables that a lowering may find at record i, beside one for each record before it: those of a first pass over the same records, and one for each level of a tree that is under way.
+-- Variables that a lowering may find at record i, beside one for each record before it: those of a first pass over the same records, and one for each level of a tree that is under way. The statement's record has none in either pass.
 abbrev pub maxMet : ℕ
-maxMet = maxRecords + deepest
+maxMet = maxRecords + deepest - 2
 
 -- there is room at record i, for what is at most d deep: two operators and one number for each record, and one for each level
 pub record RoomFor (d i : ℕ) (m : Mem) : Type 0 where

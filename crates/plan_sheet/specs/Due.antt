@@ -13,12 +13,12 @@ use Rattle.model.specs.Lower.{Recs, exprAlias, aliasOr}
 use Rattle.output.specs.Page.{Page, Puts}
 use Rattle.words.specs.Words.{Roomy, cell, maxRecords}
 use Rattle.words.specs.Held.{Held, RecordAt, size}
-use Rattle.context.specs.Tables.{opAt, maxStored, secondPass}
+use Rattle.context.specs.Tables.{opAt, maxStored, secondPass, deepest}
 use Rattle.context.specs.declared.op.Op.{Op}
 use Rattle.lower.specs.Side.{side}
 use Rattle.lower.specs.Render.{Notes, Ops, render, Below, specRecs, KidsBelow}
 use Rattle.lower.specs.Shows.{Stored, shift}
-use Rattle.model.specs.Call.{maxDepth, workWords}
+use Rattle.model.specs.Call.{workWords}
 
 -- what is noted
 abbrev pub noted : List ℕ → Notes
@@ -33,7 +33,7 @@ pub record Room (a b os rest : List ℕ) : Type 0 where
 -- where the notes of a pass begin, and how deep trees may be
 pub record Near (base left : ℕ) : Type 0 where
   pub near : base ≤ secondPass
-  pub shallow : left ≤ maxDepth
+  pub shallow : left ≤ deepest
 
 -- the notes of an operator's pass are inside the fourth slice, and its record is one of the first
 pub record NotesIn (rest : List ℕ) (o : Op) : Type 0 where

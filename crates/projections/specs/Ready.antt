@@ -9,11 +9,11 @@ use Rattle.lower.specs.Rep.{Mem, Indexes}
 abbrev pub maxStart : ℕ
 maxStart = 4 * maxRecords
 
--- there is room at record i, where a clause may begin
+-- there is room at record i, where a clause may begin; each record before it but the statement's may have met a variable in each of two passes
 pub record Ready (i : ℕ) (m : Mem) : Type 0 where
   pub few : m .ctx .ops ≤ maxStart + 4 * i
   pub low : m .ctx .numbers ≤ maxStart + 2 * i
-  pub met : m .ctx .mapped ≤ 2 * i
+  pub met : m .ctx .mapped + 2 ≤ 2 * i
   pub here : i ≤ maxRecords
   pub in-ops : workWords ≤ length (m .ops)
   pub in-rest : workWords ≤ length (m .rest)

@@ -232,6 +232,7 @@ module _ (t : ℕ) where
       (after-start-node .start-node .ensures))
       (after-lower-rel-element .lower-rel-element .ensures))
       (after-endpoint-var2 .endpoint-var2 .ensures .issued)
+      l₄′
       (after-endpoint-var2 .endpoint-var2 .kept .1 .0)
       _
       _

@@ -1,5 +1,6 @@
 -- The measures of the cycle, and what each function of it asks and learns of its callees, those of the cycle below the measure t.
 use Prim.Native.Nat.{_+_, _*_, ℕ, _<_}
+use Rattle.context.specs.Tables.{deepest}
 use borrow.Fn.Kinds.{In}
 use borrow.Fn.PlainCycle.{Measures, is, falls, and}
 use Rattle.plan_sheet.proofs.write.write_element.Reads as write-element
@@ -43,26 +44,30 @@ use Rattle.plan_sheet.proofs.op.put_op.Reads as put-op-reads
 use Rattle.context.proofs.op.read_op.Reads as read-op-reads
 use Rattle.words.proofs.word.Reads as word-reads
 
+-- an operator's number counts for more than all levels of its expressions
+abbrev perOp : ℕ
+perOp = 4 * deepest
+
 abbrev pub μ-write-element : Measures 6 write-element-kinds.ps ℕ
-μ-write-element κs a = 256 * a .1 .1 .1 .1 .1 .1 .1 .0 .below + 3 * a .1 .1 .1 .1 .1 .1 .1 .0 .left + 2
+μ-write-element κs a = perOp * a .1 .1 .1 .1 .1 .1 .1 .0 .below + 3 * a .1 .1 .1 .1 .1 .1 .1 .0 .left + 2
 
 abbrev pub μ-write-expr : Measures 6 write-expr-kinds.ps ℕ
-μ-write-expr κs a = 256 * a .1 .1 .1 .1 .1 .1 .1 .0 .below + 3 * a .1 .1 .1 .1 .1 .1 .1 .0 .left
+μ-write-expr κs a = perOp * a .1 .1 .1 .1 .1 .1 .1 .0 .below + 3 * a .1 .1 .1 .1 .1 .1 .1 .0 .left
 
 abbrev pub μ-write-exprs : Measures 6 write-exprs-kinds.ps ℕ
-μ-write-exprs κs a = 256 * a .1 .1 .1 .1 .1 .1 .1 .0 .below + 3 * a .1 .1 .1 .1 .1 .1 .1 .0 .left + 1
+μ-write-exprs κs a = perOp * a .1 .1 .1 .1 .1 .1 .1 .0 .below + 3 * a .1 .1 .1 .1 .1 .1 .1 .0 .left + 1
 
 abbrev pub μ-write-items : Measures 6 write-items-kinds.ps ℕ
-μ-write-items κs a = 256 * a .1 .1 .1 .1 .1 .1 .1 .0 .below + 3 * a .1 .1 .1 .1 .1 .1 .1 .0 .left + 3
+μ-write-items κs a = perOp * a .1 .1 .1 .1 .1 .1 .1 .0 .below + 3 * a .1 .1 .1 .1 .1 .1 .1 .0 .left + 3
 
 abbrev pub μ-write-op : Measures 6 write-op-kinds.ps ℕ
-μ-write-op κs a = 256 * a .1 .1 .1 .1 .1 .1 .1 .0 + 255
+μ-write-op κs a = perOp * a .1 .1 .1 .1 .1 .1 .1 .0 + 3 * deepest + 4
 
 abbrev pub μ-write-part : Measures 6 write-part-kinds.ps ℕ
-μ-write-part κs a = 256 * a .1 .1 .1 .1 .1 .1 .1 .0 .below + 3 * a .1 .1 .1 .1 .1 .1 .1 .0 .left + 1
+μ-write-part κs a = perOp * a .1 .1 .1 .1 .1 .1 .1 .0 .below + 3 * a .1 .1 .1 .1 .1 .1 .1 .0 .left + 1
 
 abbrev pub μ-write-parts : Measures 6 write-parts-kinds.ps ℕ
-μ-write-parts κs a = 256 * a .1 .1 .1 .1 .1 .1 .1 .0 .below + 3 * a .1 .1 .1 .1 .1 .1 .1 .0 .left + 2
+μ-write-parts κs a = perOp * a .1 .1 .1 .1 .1 .1 .1 .0 .below + 3 * a .1 .1 .1 .1 .1 .1 .1 .0 .left + 2
 
 abbrev pub write-element-at : ℕ → In 6 write-element-kinds.ps
 write-element-at t =
