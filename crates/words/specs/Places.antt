@@ -293,9 +293,6 @@ projectionSpanAt = 12
 abbrev pub itemAliasAt : ℕ
 itemAliasAt = 2
 
-abbrev pub keyDescendingAt : ℕ
-keyDescendingAt = 2
-
 abbrev pub yieldNameAt : ℕ
 yieldNameAt = 2
 

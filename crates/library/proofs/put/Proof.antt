@@ -2,8 +2,6 @@ use Rattle.library.specs.Six.{sets, second, third, fourth, fifth, sixth}
 use borrow.Author.Needs.{needs}
 use Rattle.library.proofs.put.Statement.{statement}
 use Rattle.library.proofs.put.Tie as tie
-use Rattle.library.proofs.put.Reads as reads
-use Rattle.library.proofs.put.Lts as lts
 
 pub put-spec : {M : Type 1} → statement M
 put-spec =

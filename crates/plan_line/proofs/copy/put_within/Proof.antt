@@ -3,9 +3,6 @@ use Rattle.laws.specs.PartLaws.{part-is}
 use borrow.Author.Needs.{needs}
 use Rattle.plan_line.proofs.copy.put_within.Statement.{statement}
 use Rattle.plan_line.proofs.copy.put_within.Tie as tie
-use Rattle.plan_line.proofs.copy.put_within.Reads as reads
-use Rattle.plan_line.proofs.copy.put_within.Lts as lts
-use Rattle.output.proofs.put_part.Reads as put-part-reads
 
 -- src/copy.rt:19:33
 sub-put-part : tie.Need-sub-put-part

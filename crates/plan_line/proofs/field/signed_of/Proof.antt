@@ -3,9 +3,6 @@ use Rattle.plan_line.proofs.SignedLaws.{plain-fits, plain-is, rest-fits
 use borrow.Author.Needs.{needs}
 use Rattle.plan_line.proofs.field.signed_of.Statement.{statement}
 use Rattle.plan_line.proofs.field.signed_of.Tie as tie
-use Rattle.plan_line.proofs.field.signed_of.Reads as reads
-use Rattle.plan_line.proofs.field.signed_of.Lts as lts
-use Rattle.plan_line.proofs.field.bits.Reads as bits-reads
 
 -- src/field.rt:38:13
 bits-requires : tie.Need-bits-requires
