@@ -5,14 +5,14 @@ use mathlib.Core.List.{List}
 use native.Mathlib.Omega.{arith}
 use borrow.Author.Tests.{lt-ltb, le-ltb}
 use Rattle.words.specs.Words.{part, cell, recordWords}
-use Rattle.words.specs.Table.{countOf}
+use Rattle.words.specs.Table.{sourceCount, fixedSources, sourceShift, countOf}
 use Rattle.words.specs.GroupLaws.{part-cell}
 
 module _ (a b : List ℕ) (i c s : ℕ) (e : c ≡ s) where
-  pub count-fixed : c < 3 → c ≡ countOf (part a b i) s
-  count-fixed h = rw (← e, lt-ltb c 3 h)
+  pub count-fixed : c < fixedSources → c ≡ countOf (part a b i) s
+  count-fixed h = rw (← e, lt-ltb c fixedSources h)
 
-  pub count-word : 3 ≤ c → c < 8 → (r : ℕ) → r ≡ cell a b i (c + c - 4) → r ≡ countOf (part a b i) s
+  pub count-word : fixedSources ≤ c → c < sourceCount → (r : ℕ) → r ≡ cell a b i (c + c - sourceShift) → r ≡ countOf (part a b i) s
   count-word h k r q =
-      let low : c + c - 4 < recordWords = omega arith in
-      rw (← e, le-ltb c 3 h, part-cell a b i (c + c - 4) low) q
+      let low : c + c - sourceShift < recordWords = omega arith in
+      rw (← e, le-ltb c fixedSources h, part-cell a b i (c + c - sourceShift) low) q

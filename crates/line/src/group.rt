@@ -3,8 +3,14 @@ ghost use mathlib.Core.Path.{_≡_};
 ghost use Prim.Native.Nat.{_<_};
 ghost use Rattle.words.specs.Words.{Roomy, part, maxRecords};
 ghost use Rattle.words.specs.Places.{kindCount, sortCount};
-ghost use Rattle.words.specs.Table.{groupSort, groupSource, countOf, groupCount};
+ghost use Rattle.words.specs.Table.{groupSort, groupSource, countOf, groupCount, sourceCount};
 use words::table::group_entry;
+
+// A source below this is itself the count; from it on it stands for field 0, 1, ..
+const FIXED_SOURCES: u32 = 3;
+
+// Twice such a source less this is the place of the field's first word.
+const SOURCE_SHIFT: usize = 4;
 
 // The sort of group g.
 pub fn group_sort(kind: u32, g: usize) -> u32
@@ -17,7 +23,7 @@ pub fn group_sort(kind: u32, g: usize) -> u32
 // Where the count of group g is from.
 fn group_source(kind: u32, g: usize) -> u32
     requires { ⌜ (kind < kindCount) × (g < groupCount) ⌝ }
-    ensures { λ r. ⌜ (r ≡ groupSource kind g) × (r < 8) ⌝ }
+    ensures { λ r. ⌜ (r ≡ groupSource kind g) × (r < sourceCount) ⌝ }
 {
     group_entry(kind, g * 2 + 1)
 }
@@ -30,9 +36,9 @@ pub fn group_count(a: &[u32], b: &[u32], i: usize, kind: u32, g: usize) -> u32
     ensures { λ r. ⌜ r ≡ countOf (part (now (a .entry)) (now (b .entry)) i) (groupSource kind g) ⌝ }
 {
     let c = group_source(kind, g);
-    if c < 3 {
+    if c < FIXED_SOURCES {
         return c;
     }
     let at = c as usize;
-    words::word(a, b, i, at + at - 4)
+    words::word(a, b, i, at + at - SOURCE_SHIFT)
 }

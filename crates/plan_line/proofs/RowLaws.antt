@@ -6,7 +6,7 @@ use mathlib.Core.List.{List, [], _∷_, _++_, map, tail, append-nil, append-asso
 use lib.Dec.{eqb}
 use lib.IntN.{ℤ}
 use lib.Seq.{slice}
-use Rattle.model.specs.Text.{Bytes, tab, lineFeed, behind, join, decimal, digits, signed, escape, unescape}
+use Rattle.model.specs.Text.{Bytes, tab, lineFeed, behind, join, decimal, digits, signed, escape, unescape, dash}
 use Rattle.model.specs.Field.{Form, text, spell, spellFlag, spellOption, spellFields}
 use Rattle.model.specs.Record.{Rec, forms, keyword, spellRec}
 use Rattle.output.specs.Page.{Page, Puts}
@@ -67,7 +67,7 @@ unfolding namedText
 named k name ns p = rw (← pieces-are ns) p
 
 -- an input that is there, or not
-pub input-none : (there input : ℕ) {g g′ g″ : Page} → there ≡ 0 → Puts (tab ∷ []) g g′ → Puts (45 ∷ []) g′ g″ → Puts (tab ∷ spellOption (optionOf there input)) g g″
+pub input-none : (there input : ℕ) {g g′ g″ : Page} → there ≡ 0 → Puts (tab ∷ []) g g′ → Puts dash g′ g″ → Puts (tab ∷ spellOption (optionOf there input)) g g″
 unfolding spellOption optionOf
 input-none there input e p q = rw e (p ⨾ q)
 
