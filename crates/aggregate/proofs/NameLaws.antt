@@ -10,7 +10,7 @@ use lib.ListN.{length, getD, drop, drop-of-length-le}
 use lib.Seq.{drop-cons}
 use borrow.Author.Tests.{eq-eqb, ne-eqb, lt-leb, le-leb, leb-true}
 use Rattle.model.specs.Text.{Bytes, bytes, bytesFrom, same, sameBy}
-use Rattle.model.specs.Lower.{lowercase, among, aggregates}
+use Rattle.model.specs.Lower.{capitalA, capitalZ, toSmall, lowercase, among, aggregates}
 use Rattle.laws.specs.TextLaws.{and-left, and-right}
 use Rattle.aggregate.specs.Names.{letters, names, starts, aggregate, letterCount}
 
@@ -95,14 +95,14 @@ name-within k h =
 -- ── letters ──
 
 module _ (b : ℕ) where
-  pub below-capitals : b < 65 → b ≡ lowercase b
+  pub below-capitals : b < capitalA → b ≡ lowercase b
   unfolding lowercase
-  below-capitals h = rw (lt-leb 65 b h)
+  below-capitals h = rw (lt-leb capitalA b h)
 
-  pub above-capitals : 90 < b → b ≡ lowercase b
+  pub above-capitals : capitalZ < b → b ≡ lowercase b
   unfolding lowercase
-  above-capitals h = let k : 65 ≤ b = omega arith in rw (le-leb 65 b k, lt-leb b 90 h)
+  above-capitals h = let k : capitalA ≤ b = omega arith in rw (le-leb capitalA b k, lt-leb b capitalZ h)
 
-  pub capital : 65 ≤ b → b ≤ 90 → b + 32 ≡ lowercase b
+  pub capital : capitalA ≤ b → b ≤ capitalZ → b + toSmall ≡ lowercase b
   unfolding lowercase
-  capital h k = rw (le-leb 65 b h, le-leb b 90 k)
+  capital h k = rw (le-leb capitalA b h, le-leb b capitalZ k)

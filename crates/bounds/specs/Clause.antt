@@ -10,6 +10,7 @@ use Rattle.model.specs.Kind.{statement, unionArm, clause, projection, orderItem
 use Rattle.model.specs.Record.{Rec, inputs, ofOption}
 use Rattle.model.specs.Tree.{Tree, Trees, node, []ᵗ, _∷ᵗ_, end, _▸_}
 use Rattle.model.specs.Lower.{filter, item, lowerProjections, isAggregateFunc}
+use Rattle.model.specs.Call.{recordOperators, recordNumbers}
 use Rattle.model.specs.Lower.{Split, noSplit, withKey, withAgg, lowerKey, lowerCallItem, lowerItem, splitProjectionsAgg, lowerKeys, orderBy, overExpr, lowerTrailers, lowerYields, distinctIf, aggregateIf, lowerClause, lowerClauses, lowerArms, lower}
 use Rattle.bounds.specs.Earlier.{All, []ᵃ, _∷ᵃ_, all-append, Low, raise}
 use Rattle.bounds.specs.Bounded.{Post, Bounded, Old, Lows, bind✓, within, ret✓, push✓, mapVar✓, Before, nothing, operator, before-raise, orSourceAll✓}
@@ -87,7 +88,7 @@ lowerKeys✓ (node orderItem line k (descending, _) (e ∷ᵗ []ᵗ ▸ end) ∷
     ret✓ _ ([]ᵃ ∷ᵃ all-append (raise le₂ low₁) low₂))
     (omega arith) (omega arith)
 
-pub orderBy✓ : {n i input : ℕ} (ks : Trees orderItem i) → input < n → Bounded n Old (4 * sizeOf ks) (2 * sizeOf ks) (orderBy input ks)
+pub orderBy✓ : {n i input : ℕ} (ks : Trees orderItem i) → input < n → Bounded n Old (recordOperators * sizeOf ks) (recordNumbers * sizeOf ks) (orderBy input ks)
 unfolding orderBy
 orderBy✓ []ᵗ lt = within (ret✓ _ lt) (omega arith) (omega arith)
 orderBy✓ (k ∷ᵗ ks) lt =
@@ -96,7 +97,7 @@ orderBy✓ (k ∷ᵗ ks) lt =
     push✓ ((omega arith ∷ᵃ []ᵃ) ∷ᵃ low))
     (omega (arith, sizeOf-pos k ks)) (omega arith)
 
-pub overExpr✓ : {n i input : ℕ} (r : Rec) (es : Trees expr i) → All (λ k. k < n) (inputs r) → input < n → Bounded n Old (4 * sizeOf es) (2 * sizeOf es) (overExpr r input es)
+pub overExpr✓ : {n i input : ℕ} (r : Rec) (es : Trees expr i) → All (λ k. k < n) (inputs r) → input < n → Bounded n Old (recordOperators * sizeOf es) (recordNumbers * sizeOf es) (overExpr r input es)
 unfolding overExpr size
 overExpr✓ r []ᵗ low lt = within (ret✓ _ lt) (omega arith) (omega arith)
 overExpr✓ r (e ∷ᵗ es) low lt =
@@ -105,7 +106,7 @@ overExpr✓ r (e ∷ᵗ es) low lt =
     push✓ (all-append (raise le₁ (low ∷ᵃ []ᵃ)) low₁))
     (omega (arith, sizeOf-pos e es)) (omega arith)
 
-pub lowerTrailers✓ : {n i s l input : ℕ} (keys : Trees orderItem i) (skip : Trees expr s) (limit : Trees expr l) → input < n → Bounded n Old (4 * (sizeOf keys + sizeOf skip + sizeOf limit)) (2 * (sizeOf keys + sizeOf skip + sizeOf limit)) (lowerTrailers input keys skip limit)
+pub lowerTrailers✓ : {n i s l input : ℕ} (keys : Trees orderItem i) (skip : Trees expr s) (limit : Trees expr l) → input < n → Bounded n Old (recordOperators * (sizeOf keys + sizeOf skip + sizeOf limit)) (recordNumbers * (sizeOf keys + sizeOf skip + sizeOf limit)) (lowerTrailers input keys skip limit)
 unfolding lowerTrailers
 lowerTrailers✓ keys skip limit lt =
     within
@@ -140,7 +141,7 @@ pub call-input : {n : ℕ} {o : Option ℕ} → Before n o → All (λ k. k < n)
 call-input nothing = []ᵃ
 call-input (operator lt) = lt ∷ᵃ []ᵃ
 
-pub lowerClause✓ : {n : ℕ} {o : Option ℕ} (c : Tree clause) → Before n o → Bounded n (λ p m. Before m p) (4 * size c) (2 * size c) (lowerClause c o)
+pub lowerClause✓ : {n : ℕ} {o : Option ℕ} (c : Tree clause) → Before n o → Bounded n (λ p m. Before m p) (recordOperators * size c) (recordNumbers * size c) (lowerClause c o)
 unfolding lowerClause filter size
 lowerClause✓ (node clause line Clause.Match (optional, _) (parts ▸ end)) before =
     within
@@ -191,14 +192,14 @@ lowerClause✓ (node clause line Clause.Call (procedure, (args, (yields, (option
     (omega arith) (omega arith)
 lowerClause✓ (node clause line Clause.Write f kids) before = within (ret✓ _ before) (omega arith) (omega arith)
 
-pub lowerClauses✓ : {n i : ℕ} {o : Option ℕ} (cs : Trees clause i) → Before n o → Bounded n (λ p m. Before m p) (4 * sizeOf cs) (2 * sizeOf cs) (lowerClauses cs o)
+pub lowerClauses✓ : {n i : ℕ} {o : Option ℕ} (cs : Trees clause i) → Before n o → Bounded n (λ p m. Before m p) (recordOperators * sizeOf cs) (recordNumbers * sizeOf cs) (lowerClauses cs o)
 unfolding lowerClauses size
 lowerClauses✓ []ᵗ before = within (ret✓ _ before) (omega arith) (omega arith)
 lowerClauses✓ (c ∷ᵗ cs) before = within (bind✓ (lowerClause✓ c before) λ left n₁ le₁ before₁. lowerClauses✓ cs before₁) (omega arith) (omega arith)
 
 -- ── the statement ──
 
-pub lowerArms✓ : {n i : ℕ} {o : Option ℕ} (arms : Trees unionArm i) → Before n o → Bounded n (λ p m. Before m p) (4 * sizeOf arms) (2 * sizeOf arms) (lowerArms arms o)
+pub lowerArms✓ : {n i : ℕ} {o : Option ℕ} (arms : Trees unionArm i) → Before n o → Bounded n (λ p m. Before m p) (recordOperators * sizeOf arms) (recordNumbers * sizeOf arms) (lowerArms arms o)
 unfolding lowerArms size
 lowerArms✓ []ᵗ before = within (ret✓ _ before) (omega arith) (omega arith)
 lowerArms✓ (node unionArm line k (all, _) (cs ▸ end) ∷ᵗ arms) before =
@@ -210,6 +211,6 @@ lowerArms✓ (node unionArm line k (all, _) (cs ▸ end) ∷ᵗ arms) before =
     lowerArms✓ arms (operator lt₄))
     (omega arith) (omega arith)
 
-pub lower✓ : (t : Tree statement) → Bounded 0 (λ p m. Before m p) (4 * size t) (2 * size t) (lower t)
+pub lower✓ : (t : Tree statement) → Bounded 0 (λ p m. Before m p) (recordOperators * size t) (recordNumbers * size t) (lower t)
 unfolding lower size
 lower✓ (node statement line k f (cs ▸ arms ▸ end)) = within (bind✓ (lowerClauses✓ cs nothing) λ head n₁ le₁ before. lowerArms✓ arms before) (omega arith) (omega arith)

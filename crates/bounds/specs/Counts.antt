@@ -10,22 +10,22 @@ use Rattle.model.specs.Record.{rec}
 use Rattle.model.specs.Tree.{Tree}
 use Rattle.model.specs.Lower.{Recs, empty, lowerStatement}
 use Rattle.model.specs.Plan.{mappedRecs}
-use Rattle.model.specs.Call.{recordCount, Figure}
+use Rattle.model.specs.Call.{recordCount, recordOperators, recordNumbers, Figure}
 use Rattle.bounds.specs.Bounded.{Spent, Falling, []ᶠ, _∷ᶠ_}
 use Rattle.bounds.specs.Size.{size, size-records}
 use Rattle.bounds.specs.Clause.{lower✓}
 use Rattle.bounds.specs.Inputs.{ordered-empty}
 
-pub spent : (t : Tree statement) → Spent (4 * size t) (2 * size t) empty (lowerStatement t)
+pub spent : (t : Tree statement) → Spent (recordOperators * size t) (recordNumbers * size t) empty (lowerStatement t)
 unfolding lowerStatement empty
 spent t = lower✓ t .run empty refl ordered-empty .spent
 
-pub operators-few : (t : Tree statement) → length (lowerStatement t .ops) ≤ 4 * recordCount t
+pub operators-few : (t : Tree statement) → length (lowerStatement t .ops) ≤ recordOperators * recordCount t
 unfolding recordCount empty
 operators-few t = omega (arith, spent t .added, size-records t)
 
 -- `return` lowers its items twice, so one for each record is too few
-pub numbers-few : (t : Tree statement) → lowerStatement t .scope .nextVar ≤ 2 * recordCount t
+pub numbers-few : (t : Tree statement) → lowerStatement t .scope .nextVar ≤ recordNumbers * recordCount t
 unfolding recordCount empty
 numbers-few t = omega (arith, spent t .issued, size-records t)
 
@@ -63,5 +63,5 @@ mapped-rising t = falling-rising (falling t)
 -- ── the sizing call ──
 
 -- for every tree there is a figure within the bounds
-pub figure : (t : Tree statement) → Figure t (4 * recordCount t)
+pub figure : (t : Tree statement) → Figure t (recordOperators * recordCount t)
 figure t = record { enough = operators-few t; few = le-refl _ }

@@ -1,6 +1,6 @@
 -- A union arm: its clauses from nothing, then both operands, then the union. Assumes nothing.
 use mathlib.Core.Path.{_≡_, refl, sym, ap, _∙_}
-use Prim.Native.Nat.{ℕ, suc, _+_, _-_, _*_, _≤_, _<_}
+use Prim.Native.Nat.{ℕ, suc, _+_, _-_, _≤_, _<_}
 use native.Mathlib.Omega.{arith}
 use mathlib.Core.List.{List, [], _∷_}
 use mathlib.Core.Option.{Option, none, some}
@@ -22,7 +22,7 @@ use Rattle.lower.specs.Shows.{InBounds, shows-union}
 use Rattle.lower.specs.Rep.{State, Mem, mem, Written, Rep}
 use Rattle.lower.specs.Chains.{OrSource}
 use Rattle.lower.specs.Clauses.{MovedTwice, BothBlank, Leaves}
-use Rattle.projections.specs.Ready.{Ready}
+use Rattle.projections.specs.Ready.{Ready, maxFound}
 use Rattle.lower.specs.State.{to-then, to-wider, push-to}
 use Rattle.words.specs.Fits.{tree-low}
 use Rattle.clauses.specs.Turns.{inTurn}
@@ -41,7 +41,7 @@ pub some-clauses : {sheet : Bytes} {a b : List ℕ} {n d i : ℕ} → Roomy a b 
 some-clauses room en x = let v = an-arm room (x .tree) (x .is) in rw (en ∙ sym (v .many)) (record { trees = v .clauses; are = v .held })
 
 -- behind its clauses
-pub few-below : {i j e : ℕ} {m m₁ : Mem} → Ready i m → MovedTwice j e m m₁ → i ≤ j → m₁ .ctx .ops ≤ 8 * maxRecords
+pub few-below : {i j e : ℕ} {m m₁ : Mem} → Ready i m → MovedTwice j e m m₁ → i ≤ j → m₁ .ctx .ops ≤ maxFound
 few-below g p l = omega (arith, g .few, p .few, p .here)
 
 -- the definition, step by step

@@ -1,6 +1,6 @@
 -- What the room that there is allows: the operator before a clause, and the numbers of its variables. Assumes nothing.
 use mathlib.Core.Path.{_≡_, refl, ap, _∙_}
-use Prim.Native.Nat.{ℕ, _+_, _*_, _≤_}
+use Prim.Native.Nat.{ℕ, _+_, _≤_}
 use native.Mathlib.Omega.{arith}
 use lib.ListN.{length}
 use Rattle.model.specs.Lower.{Lowering}
@@ -13,7 +13,7 @@ use Rattle.context.specs.declared.Before.the-variants as before
 use Rattle.lower.specs.Rep.{Mem, Moved}
 use Rattle.lower.specs.Chains.{OrSource}
 use Rattle.lower.specs.Clauses.{Stands}
-use Rattle.projections.specs.Ready.{Ready}
+use Rattle.projections.specs.Ready.{Ready, maxPassed}
 
 -- ── the operator before ──
 
@@ -35,7 +35,7 @@ under-stands m (before.Op k) h = h .op k refl
 -- ── behind the operator before, or a source of everything, and then one pass ──
 
 module _ {o : ℕ} {L : Lowering ℕ} {k i j e : ℕ} {m m₁ m₂ : Mem} (g : Ready i m) (q : OrSource o L k m m₁) (p : Moved j e m₁ m₂) (l : i ≤ j) where
-  pub few-sourced : m₂ .ctx .ops ≤ 12 * maxRecords
+  pub few-sourced : m₂ .ctx .ops ≤ maxPassed
   few-sourced = omega (arith, g .few, q .few, p .few, p .here, p .up)
 
   pub can-number : {place : ℕ} → place ≡ i + 1 → i ≤ maxRecords → CanNumber (m₂ .ctx) place (m₂ .rest)

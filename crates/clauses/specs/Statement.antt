@@ -4,7 +4,7 @@ use Prim.Native.Nat.{ℕ, suc, _*_, _≤_}
 use mathlib.Core.List.{List, []}
 use mathlib.Core.Option.{Option}
 use lib.ListN.{length}
-use Rattle.model.specs.Call.{workWords, maxDepth}
+use Rattle.model.specs.Call.{workWords, maxDepth, recordOperators}
 use Rattle.model.specs.Text.{Bytes}
 use Rattle.model.specs.Kind.{statement}
 use Rattle.model.specs.Tree.{Tree}
@@ -61,7 +61,7 @@ pub record Represented (sheet : Bytes) (a b : List ℕ) (t : Tree statement) (m 
 -- the statement that is held is lowered, from nothing, and the counts stay within the tables' bounds
 pub record LowersStatement (sheet : Bytes) (a b : List ℕ) (m : Mem) : Type 0 where
   pub met : m .ctx .mapped ≤ maxVars
-  pub few : m .ctx .ops ≤ 4 * maxRecords
+  pub few : m .ctx .ops ≤ recordOperators * maxRecords
   pub in-ops : workWords ≤ length (m .ops)
   pub in-rest : workWords ≤ length (m .rest)
   pub run : (t : Tree statement) → Held sheet a b t maxDepth 0 → Represented sheet a b t m

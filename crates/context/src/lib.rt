@@ -29,7 +29,7 @@ pub const MAX_VARS: usize = 5119;
 
 pub const MAX_INDEXED: usize = 2048;
 
-pub const LINKS_AT: usize = 10238;
+pub const LINKS_AT: usize = 2 * MAX_VARS;
 
 // A word of links has two halves, each below this.
 pub const HALF_WORD: u32 = 65536;

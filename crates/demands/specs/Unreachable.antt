@@ -20,7 +20,7 @@ use Rattle.model.specs.Lower.{NodeStep, RelStep, Step, ofNode, ofRel, Chain, st
 use Rattle.model.specs.Lower.{nodeRelNode, other, shapeOf, lowerShaped, lowerPatternPart, lowerParts, optionalJoin, lowerMatchPattern, Lowered, exprStep, elementStep, made, lowerPattern, lowerClause, lowerClauses, lowerArms, lower, lowerStatement}
 use Rattle.demands.specs.Sheets.{WellFormed, ReadOnly}
 use Rattle.demands.specs.Within.{Within, Checked, checked-within, both-fine, TakenExpr, NodeFirst, own-expr, own-elements}
-use Rattle.model.specs.Call.{recordCount, maxDepth}
+use Rattle.model.specs.Call.{recordCount, recordOperators, recordNumbers, maxDepth}
 use Rattle.laws.specs.SheetLaws.{sheet-sound}
 use Rattle.bounds.specs.Counts.{numbers-few, operators-few}
 use Rattle.bounds.specs.Ended.{orElse-none}
@@ -367,8 +367,8 @@ any-write (node statement line k f (cs ▸ arms ▸ end)) r d =
 -- ── the Rust's counters of 32 bits do not overflow ──
 
 pub record Counts (c : LowerCtx) : Type 0 where
-  pub numbers : c .scope .nextVar ≤ 2 * maxLines
-  pub operators : length (c .ops) ≤ 4 * maxLines
+  pub numbers : c .scope .nextVar ≤ recordNumbers * maxLines
+  pub operators : length (c .ops) ≤ recordOperators * maxLines
 
 pub counts-small : (sheet : Bytes) (t : Tree statement) → WellFormed sheet t → Counts (lowerStatement t)
 unfolding recordCount

@@ -3,19 +3,19 @@ use mathlib.Core.Path.{_≡_, refl, _∙_, ap, ap₂, subst}
 use mathlib.Core.Bool.{Bool, true, false, _&&_}
 use mathlib.Core.List.{List, [], _∷_, _++_}
 use mathlib.Core.Option.{Option, none, some, Option·some-injective, Option·none-ne-some}
-use Prim.Native.Nat.{ℕ, _≤_}
+use Prim.Native.Nat.{ℕ, _<_, _≤_}
 use native.Mathlib.Omega.{arith}
 use lib.Dec.{leb}
 use lib.ListN.{take, drop, take-append-drop}
 use lib.ListN as ListN
 use lib.Seq.{take-at, drop-at}
 use borrow.Author.Tests.{leb-true}
-use Rattle.model.specs.Text.{Bytes, bytesFrom, bytes, same, sameBy, decimal}
-use Rattle.model.specs.Field.{Form, num, flag, var, varOrAbsent, numOrAbsent, number, numberOrAbsent, int, float, text, alias, span, length, u32, u64, Val, Span, RelLength, Single, Variable, width, spellFlag, spellOption, spellAlias, spellLength, spell, fitsOption, fitsLength, fits, optionValue, aliasValue, lengthValue, piece, meaning, read, Fields, spellFields, both, readFields}
+use Rattle.model.specs.Text.{Bytes, minus, dash, equals, digit0, digit1, bytesFrom, bytes, same, sameBy, decimal}
+use Rattle.model.specs.Field.{Form, num, flag, var, varOrAbsent, numOrAbsent, number, numberOrAbsent, int, float, text, alias, span, length, u32, u64, floatDigits, Val, Span, RelLength, Single, Variable, width, spellFlag, spellOption, spellAlias, spellLength, spell, fitsOption, fitsLength, fits, optionValue, aliasValue, lengthValue, piece, meaning, read, Fields, spellFields, both, readFields}
 use Rattle.laws.specs.TextLaws.{and-left, and-right, pieces-sound, pieces-refl, Each, each[], _each∷_, each-append, every, Free, above-free, Separator, separator-low}
 use Rattle.laws.specs.NumberLaws.{decimal-value, decimal-free, signed-value, signed-free, hex-value, hex-free, unescape-escape, escape-free}
 
--- no limit is above 64 bits, so that 20 digits are enough
+-- no limit is above 64 bits, so that `maxDigits` are enough
 unfoldable pub limited : Form → Bool
 limited (num l) = leb l u64
 limited flag = true
@@ -51,7 +51,7 @@ spell-width length Single = refl
 spell-width length (Variable min max) = refl
 
 -- a number is no dash
-no-dash : (s : Bytes) → Free 45 s → same s (45 ∷ []) ≡ false
+no-dash : (s : Bytes) → Free minus s → same s dash ≡ false
 unfolding same sameBy
 no-dash [] h = refl
 no-dash (b ∷ s) (p each∷ ps) = rw p
@@ -59,7 +59,7 @@ no-dash (b ∷ s) (p each∷ ps) = rw p
 option-value : (l : ℕ) → l ≤ u64 → (o : Option ℕ) → fitsOption l o ≡ true → optionValue (spellOption o) ≡ o
 unfolding optionValue spellOption fitsOption same sameBy
 option-value l h none e = refl
-option-value l h (some n) e = rw (no-dash (decimal n) (decimal-free 45 (omega arith) n), decimal-value n (omega (arith, leb-true n l e)))
+option-value l h (some n) e = rw (no-dash (decimal n) (decimal-free minus (omega arith) n), decimal-value n (omega (arith, leb-true n l e)))
 
 alias-value : (a : Option Bytes) → aliasValue (spellAlias a) ≡ a
 unfolding aliasValue spellAlias same sameBy
@@ -104,25 +104,25 @@ read-spell f ps v e = go (fits f (meaning f ps)) refl (sameBy (λ s t. same s t)
     go false p b q = absurd (Option·none-ne-some _ (rw p at e))
 
 -- a spelled field holds no separator
-option-free : (sep : ℕ) → sep ≤ 44 → (o : Option ℕ) → Free sep (spellOption o)
+option-free : (sep : ℕ) → sep < minus → (o : Option ℕ) → Free sep (spellOption o)
 unfolding spellOption every
-option-free sep h none = above-free 44 sep h (45 ∷ []) refl
+option-free sep h none = above-free minus sep h dash refl
 option-free sep h (some n) = decimal-free sep (omega arith) n
 
 alias-free : {sep : ℕ} → Separator sep → (a : Option Bytes) → Free sep (spellAlias a)
 unfolding spellAlias every
-alias-free {sep} q none = above-free 44 sep (separator-low q) (45 ∷ []) refl
-alias-free {sep} q (some t) = each-append (above-free 44 sep (separator-low q) (61 ∷ []) refl) (escape-free q t)
+alias-free {sep} q none = above-free minus sep (separator-low q) dash refl
+alias-free {sep} q (some t) = each-append (above-free minus sep (separator-low q) (equals ∷ []) refl) (escape-free q t)
 
-flag-free : (sep : ℕ) → sep ≤ 44 → (b : Bool) → Free sep (spellFlag b)
+flag-free : (sep : ℕ) → sep < minus → (b : Bool) → Free sep (spellFlag b)
 unfolding spellFlag every
-flag-free sep h false = above-free 44 sep h (48 ∷ []) refl
-flag-free sep h true = above-free 44 sep h (49 ∷ []) refl
+flag-free sep h false = above-free minus sep h (digit0 ∷ []) refl
+flag-free sep h true = above-free minus sep h (digit1 ∷ []) refl
 
-length-free : (sep : ℕ) → sep ≤ 44 → (l : RelLength) → Each (Free sep) (spellLength l)
+length-free : (sep : ℕ) → sep < minus → (l : RelLength) → Each (Free sep) (spellLength l)
 unfolding spellLength spellOption bytesFrom bytes every
-length-free sep h Single = above-free 44 sep h (bytes "one") refl each∷ option-free sep h none each∷ option-free sep h none each∷ each[]
-length-free sep h (Variable min max) = above-free 44 sep h (bytes "var") refl each∷ option-free sep h min each∷ option-free sep h max each∷ each[]
+length-free sep h Single = above-free minus sep h (bytes "one") refl each∷ option-free sep h none each∷ option-free sep h none each∷ each[]
+length-free sep h (Variable min max) = above-free minus sep h (bytes "var") refl each∷ option-free sep h min each∷ option-free sep h max each∷ each[]
 
 pub spell-free : {sep : ℕ} → Separator sep → (f : Form) (v : Val f) → Each (Free sep) (spell f v)
 unfolding spell
@@ -134,7 +134,7 @@ spell-free {sep} q (numOrAbsent l) o = option-free sep (separator-low q) o each�
 spell-free {sep} q (number n) k = decimal-free sep (omega (arith, separator-low q)) k each∷ each[]
 spell-free {sep} q (numberOrAbsent n) o = option-free sep (separator-low q) o each∷ each[]
 spell-free {sep} q int z = signed-free sep (separator-low q) z each∷ each[]
-spell-free {sep} q float n = hex-free sep (omega (arith, separator-low q)) 16 n each∷ each[]
+spell-free {sep} q float n = hex-free sep (omega (arith, separator-low q)) floatDigits n each∷ each[]
 spell-free q text t = escape-free q t each∷ each[]
 spell-free q alias a = alias-free q a each∷ each[]
 spell-free {sep} q span s = decimal-free sep (omega (arith, separator-low q)) (s .start) each∷ decimal-free sep (omega (arith, separator-low q)) (s .end) each∷ each[]

@@ -4,8 +4,8 @@ use mathlib.Core.Bool.{Bool, true, false, _&&_}
 use mathlib.Core.List.{List, [], _∷_}
 use mathlib.Core.Option.{some, Option·some-injective, Option·none-ne-some}
 use Prim.Native.Nat.{ℕ}
-use lib.Dec.{ltb}
-use Rattle.model.specs.Text.{Bytes, bytesFrom, bytes, sameBy, same}
+use lib.Dec.{leb}
+use Rattle.model.specs.Text.{Bytes, minus, bytesFrom, bytes, sameBy, same}
 use Rattle.model.specs.Kind.{Sort, PlanSort, Kind, PlanKind, Clause, PatternElement, Same, Expr, ReadOp, PlanExpr}
 use Rattle.model.specs.Kind.{statement, unionArm, clause, projection, orderItem, patternPart, patternElement, name, yieldItem, entry, expr, inPlan}
 use Rattle.model.specs.Kind.{plan, readOp, relSpec, nodeSpec, planProjection, aggExpr, orderKey, pathElement, mapped, planEntry, planExpr}
@@ -125,7 +125,7 @@ passes s test h k = named-passes s test (keyword s k) (kinds s) k h (kind-named 
 
 -- the keyword's bytes are above the separators
 letters : Bytes → Bool
-letters w = every (λ b. ltb 44 b) w
+letters w = every (λ b. leb minus b) w
 
 -- a kind's keyword and the limits of its numbers
 sound : (s : Sort) → Kind s → Bool
@@ -167,4 +167,4 @@ forms-limited s k = and-right (letters (keyword s k)) _ (passes s (λ j. sound s
 
 pub keyword-free : {sep : ℕ} → Separator sep → (s : Sort) (k : Kind s) → Free sep (keyword s k)
 unfolding sound letters
-keyword-free {sep} q s k = above-free 44 sep (separator-low q) (keyword s k) (and-left _ (allLimited (forms s k)) (passes s (λ j. sound s j) (table-sound s) k))
+keyword-free {sep} q s k = above-free minus sep (separator-low q) (keyword s k) (and-left _ (allLimited (forms s k)) (passes s (λ j. sound s j) (table-sound s) k))

@@ -2,11 +2,11 @@
 use mathlib.Core.Path.{_≡_, refl, sym, ap, ap₂}
 use mathlib.Core.Bool.{Bool, true, false, _&&_, false≢true}
 use mathlib.Core.List.{List, [], _∷_, _++_, append-nil}
-use Prim.Native.Nat.{ℕ, _≤_}
+use Prim.Native.Nat.{ℕ, _<_}
 use native.Mathlib.Omega.{arith}
-use lib.Dec.{eqb, ltb}
-use borrow.Author.Tests.{eqb-true, eq-eqb, ne-eqb, ltb-true}
-use Rattle.model.specs.Text.{Bytes, Pieces, sameBy, same, split, behind, join, tab, lineFeed}
+use lib.Dec.{eqb, leb}
+use borrow.Author.Tests.{eqb-true, eq-eqb, ne-eqb, leb-true}
+use Rattle.model.specs.Text.{Bytes, Pieces, sameBy, same, split, behind, join, tab, lineFeed, minus}
 
 -- what a conjunction says
 pub and-left : (a b : Bool) → (a && b) ≡ true → a ≡ true
@@ -87,8 +87,8 @@ pub data Separator : ℕ → Type 0 where
   between-fields : Separator tab
   between-lines : Separator lineFeed
 
--- both stand below the bytes of numbers and keywords, of which the least is the minus sign, 45
-pub separator-low : {sep : ℕ} → Separator sep → sep ≤ 44
+-- both stand below the bytes of numbers and keywords, of which the least is the minus sign
+pub separator-low : {sep : ℕ} → Separator sep → sep < minus
 separator-low between-fields = omega arith
 separator-low between-lines = omega arith
 
@@ -103,10 +103,10 @@ every test [] = true
 every test (a ∷ l) = test a && every test l
 
 -- bytes above a separator are free of it
-pub above-free : (low sep : ℕ) → sep ≤ low → (s : Bytes) → every (λ b. ltb low b) s ≡ true → Free sep s
+pub above-free : (low sep : ℕ) → sep < low → (s : Bytes) → every (λ b. leb low b) s ≡ true → Free sep s
 unfolding every
 above-free low sep h [] e = each[]
-above-free low sep h (b ∷ s) e = ne-eqb b sep (omega (arith, ltb-true low b (and-left (ltb low b) _ e))) each∷ above-free low sep h s (and-right (ltb low b) _ e)
+above-free low sep h (b ∷ s) e = ne-eqb b sep (omega (arith, leb-true low b (and-left (leb low b) _ e))) each∷ above-free low sep h s (and-right (leb low b) _ e)
 
 -- a text in front that is free of the separator goes to the first piece
 pub split-append : (sep : ℕ) (s t : Bytes) → Free sep s → split sep (s ++ t) ≡ record { first = s ++ split sep t .first; more = split sep t .more }

@@ -11,20 +11,20 @@ use lib.ListN.{getD}
 use Rattle.words.specs.Words.{part, cell, recordWords, two32}
 use Rattle.words.specs.Places.{kindCount}
 use Rattle.words.specs.Held.{total}
-use Rattle.words.specs.Table.{countOf, groupCount, groupNumbers, groupSource, groupAt, groupsFrom, groupsOf}
+use Rattle.words.specs.Table.{sourceCount, fixedSources, sourceShift, countOf, groupCount, groupNumbers, groupSource, groupAt, groupsFrom, groupsOf}
 use Rattle.words.specs.GroupLaws.{part-cell, entries-low, groups-few, none-counted}
 use Rattle.line.specs.LineRead.{Alike}
 
 module _ (ws : List ℕ) (c s : ℕ) (e : c ≡ s) where
-  pub count-fixed : c < 3 → c ≡ countOf ws s
-  count-fixed h = rw (← e, lt-ltb c 3 h)
+  pub count-fixed : c < fixedSources → c ≡ countOf ws s
+  count-fixed h = rw (← e, lt-ltb c fixedSources h)
 
-  pub count-word : 3 ≤ c → (r : ℕ) → r ≡ getD ws (c + c - 4) 0 → r ≡ countOf ws s
-  count-word h r q = rw (← e, le-ltb c 3 h) q
+  pub count-word : fixedSources ≤ c → (r : ℕ) → r ≡ getD ws (c + c - sourceShift) 0 → r ≡ countOf ws s
+  count-word h r q = rw (← e, le-ltb c fixedSources h) q
 
 -- the same of a record of two slices
-pub count-cell : (a b : List ℕ) (i c s : ℕ) → c ≡ s → 3 ≤ c → c < 8 → (r : ℕ) → r ≡ cell a b i (c + c - 4) → r ≡ countOf (part a b i) s
-count-cell a b i c s e h k r q = count-word (part a b i) c s e h r (q ∙ sym (part-cell a b i (c + c - 4) (omega arith)))
+pub count-cell : (a b : List ℕ) (i c s : ℕ) → c ≡ s → fixedSources ≤ c → c < sourceCount → (r : ℕ) → r ≡ cell a b i (c + c - sourceShift) → r ≡ countOf (part a b i) s
+count-cell a b i c s e h k r q = count-word (part a b i) c s e h r (q ∙ sym (part-cell a b i (c + c - sourceShift) (omega arith)))
 
 -- ── all groups ──
 
@@ -61,11 +61,11 @@ module _ (n : ℕ) (ws : List ℕ) (known : n < kindCount) where
 
   -- words that differ behind the fields alone count the same
   same-group : (g : ℕ) (vs : List ℕ) → Alike ws vs → g < groupCount → countOf vs (groupSource n g) ≡ countOf ws (groupSource n g)
-  same-group g vs al l = go (ltb (groupSource n g) 3) refl
+  same-group g vs al l = go (ltb (groupSource n g) fixedSources) refl
     where
-      go : (t : Bool) → ltb (groupSource n g) 3 ≡ t → cond t (groupSource n g) (getD vs (groupSource n g + groupSource n g - 4) 0) ≡ cond t (groupSource n g) (getD ws (groupSource n g + groupSource n g - 4) 0)
+      go : (t : Bool) → ltb (groupSource n g) fixedSources ≡ t → cond t (groupSource n g) (getD vs (groupSource n g + groupSource n g - sourceShift) 0) ≡ cond t (groupSource n g) (getD ws (groupSource n g + groupSource n g - sourceShift) 0)
       go true q = refl
-      go false q = al (groupSource n g + groupSource n g - 4) (omega (arith, entries-low n g known l .1))
+      go false q = al (groupSource n g + groupSource n g - sourceShift) (omega (arith, entries-low n g known l .1))
 
   same-groups : (vs : List ℕ) → Alike ws vs → (g k : ℕ) → g + k ≤ groupCount → total (groupsFrom n vs g k) ≡ total (groupsFrom n ws g k)
   unfolding groupsFrom

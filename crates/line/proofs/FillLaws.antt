@@ -16,7 +16,7 @@ use Rattle.model.specs.Field.{Form, num, flag, var, varOrAbsent, numOrAbsent, n
 use Rattle.model.specs.Field
 use Rattle.words.specs.Words.{fieldOf, fieldsOf, piecesOf, recordWords}
 use Rattle.words.specs.Held.{Flag, Flags, Text, Texts}
-use Rattle.words.specs.Table.{codes, codeAt, formOf, formsIn, formsFrom, formsAt}
+use Rattle.words.specs.Table.{maxFields, codes, codeAt, formOf, formsIn, formsFrom, formsAt}
 use Rattle.words.specs.TableLaws.{code-row}
 use Rattle.record.specs.Place.{LineEnd, separates}
 use Rattle.record.proofs.PlaceLaws.{separates-is}
@@ -116,7 +116,7 @@ pub record Filling (n : ℕ) (sheet : Bytes) (p e : ℕ) (ws₀ ws : List ℕ) (
   pub low : n < kindCount
   pub code : form ≡ codeAt n g
   pub long : length ws ≡ recordWords
-  pub room : g + length (formsFrom n g) ≤ 6
+  pub room : g + length (formsFrom n g) ≤ maxFields
   pub kept : Kept ws₀ ws
   pub from : p ≤ at
   pub to : at ≤ e
@@ -161,7 +161,7 @@ module _ (n : ℕ) (sheet : Bytes) (p e : ℕ) (line : LineEnd sheet p e) (ws₀
         row-more (getD codes n []) g in-row (λ z. h (f .code ∙ z))
         ∙ ap (λ c. formOf c ∷ formsIn (drop (suc g) (getD codes n []))) (sym (f .code))
 
-    pub fill-room : g < 6
+    pub fill-room : g < maxFields
     fill-room = omega (arith, f .room, ap length rest-is)
 
     pub fill-less : length (formsFrom n (g + 1)) < length (formsFrom n g)

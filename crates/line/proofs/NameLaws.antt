@@ -8,7 +8,7 @@ use native.Mathlib.Numerals.{add-one}
 use native.Mathlib.Omega.{arith}
 use lib.ListN.{length}
 use lib.Seq.{slice, slice-cons, length-slice}
-use Rattle.model.specs.Text.{Bytes, unescape, escape}
+use Rattle.model.specs.Text.{Bytes, unescape, escape, equals}
 use Rattle.model.specs.Field.{text, alias, read, spell, spellAlias}
 use Rattle.laws.specs.TextLaws.{between-fields}
 use Rattle.laws.specs.NumberLaws.{escape-free}
@@ -17,7 +17,6 @@ use Rattle.record.specs.Answer.{aliasOf}
 use Rattle.record.specs.AnswerLaws.{read-none, text-value, alias-value}
 use Rattle.record.specs.declared.AliasAt.{AliasAt}
 use Rattle.record.specs.declared.TextAt.{TextAt}
-use Rattle.record.specs.Name.{equals}
 use Rattle.record.specs.Place.{Ends}
 use Rattle.record.specs.InPlace.{isText, aliasIn, NameAt, AliasReadAt}
 use Rattle.record.proofs.PlaceLaws.{ends-alike}

@@ -11,58 +11,58 @@ use lib.ListN.{length, getD}
 use lib.Seq.{slice, slice-empty, length-slice}
 use Rattle.model.specs.Text.{Bytes, same}
 use Rattle.laws.specs.TextLaws.{and-left, and-right, same-sound, same-refl}
-use Rattle.words.specs.Table.{packOn, packed}
+use Rattle.words.specs.Table.{byteValues, maxKeyword, packOn, packed}
 use Rattle.words.specs.TableLaws.{eachBelow, short}
 use Rattle.record.specs.Place.{Fed, separates, Ends}
 use Rattle.record.proofs.PlaceLaws.{fed-in, along-back, ends-later, Passing, pass-start, pass-on, pass-done, slice-snoc}
-use Rattle.line.specs.Kinds.{maxKeyword, Packed, KeywordAt}
+use Rattle.line.specs.Kinds.{Packed, KeywordAt}
 
 -- ── unpacking ──
 
 -- the bytes of a number, up to k of them, before others
 unpackOn : ℕ → ℕ → Bytes → Bytes
 unpackOn zero n t = t
-unpackOn (suc k) n t = cond (ltb n 256) t (unpackOn k (n / 256) (n % 256 ∷ t))
+unpackOn (suc k) n t = cond (ltb n byteValues) t (unpackOn k (n / byteValues) (n % byteValues ∷ t))
 
-unpack-step : (j v b : ℕ) (t : Bytes) → 0 < v → b < 256 → unpackOn (suc j) (v * 256 + b) t ≡ unpackOn j v (b ∷ t)
+unpack-step : (j v b : ℕ) (t : Bytes) → 0 < v → b < byteValues → unpackOn (suc j) (v * byteValues + b) t ≡ unpackOn j v (b ∷ t)
 unfolding unpackOn
 unpack-step j v b t p h =
-    let up : 256 ≤ v * 256 + b = omega arith in
-    let over : (v * 256 + b) / 256 ≡ v = mul-add-div-right (omega arith) v b ∙ rw (div-eq-of-lt h) (add-zero v) in
-    let low : (v * 256 + b) % 256 ≡ b = mul-add-mod-self-right v 256 b ∙ mod-eq-of-lt h in
+    let up : byteValues ≤ v * byteValues + b = omega arith in
+    let over : (v * byteValues + b) / byteValues ≡ v = mul-add-div-right (omega arith) v b ∙ rw (div-eq-of-lt h) (add-zero v) in
+    let low : (v * byteValues + b) % byteValues ≡ b = mul-add-mod-self-right v byteValues b ∙ mod-eq-of-lt h in
     rw (le-ltb _ _ up, over, low)
 
-unpack-pack : (s t : Bytes) (v j : ℕ) → 0 < v → eachBelow 256 s ≡ true → unpackOn (length s + j) (packOn v s) t ≡ unpackOn j v (s ++ t)
+unpack-pack : (s t : Bytes) (v j : ℕ) → 0 < v → eachBelow byteValues s ≡ true → unpackOn (length s + j) (packOn v s) t ≡ unpackOn j v (s ++ t)
 unfolding packOn eachBelow
 unpack-pack [] t v j p h = rw zero-plus
   where
     zero-plus : 0 + j ≡ j
     zero-plus = omega arith
 unpack-pack (b ∷ s) t v j p h =
-    let low : b < 256 = ltb-true b 256 (and-left (ltb b 256) (eachBelow 256 s) h) in
+    let low : b < byteValues = ltb-true b byteValues (and-left (ltb b byteValues) (eachBelow byteValues s) h) in
     let count : suc (length s) + j ≡ length s + suc j = omega arith in
-    rw count (unpack-pack s t (v * 256 + b) (suc j) (omega arith) (and-right (ltb b 256) (eachBelow 256 s) h) ∙ unpack-step j v b (s ++ t) p low)
+    rw count (unpack-pack s t (v * byteValues + b) (suc j) (omega arith) (and-right (ltb b byteValues) (eachBelow byteValues s) h) ∙ unpack-step j v b (s ++ t) p low)
 
 unpack-one : (j : ℕ) (t : Bytes) → unpackOn j 1 t ≡ t
 unfolding unpackOn
 unpack-one zero t = refl
 unpack-one (suc j) t = refl
 
-unpack : (s : Bytes) → short s ≡ true → unpackOn 7 (packed s) [] ≡ s
+unpack : (s : Bytes) → short s ≡ true → unpackOn maxKeyword (packed s) [] ≡ s
 unfolding packed short
 unpack s h =
-    let few : length s ≤ 7 = leb-true (length s) 7 (and-left (leb (length s) 7) (eachBelow 256 s) h) in
-    let sum : length s + (7 - length s) ≡ 7 = omega arith in
-    rw (← sum) (unpack-pack s [] 1 (7 - length s) (omega arith) (and-right (leb (length s) 7) (eachBelow 256 s) h) ∙ unpack-one (7 - length s) (s ++ []) ∙ append-nil s)
+    let few : length s ≤ maxKeyword = leb-true (length s) maxKeyword (and-left (leb (length s) maxKeyword) (eachBelow byteValues s) h) in
+    let sum : length s + (maxKeyword - length s) ≡ maxKeyword = omega arith in
+    rw (← sum) (unpack-pack s [] 1 (maxKeyword - length s) (omega arith) (and-right (leb (length s) maxKeyword) (eachBelow byteValues s) h) ∙ unpack-one (maxKeyword - length s) (s ++ []) ∙ append-nil s)
 
-short-few : (s : Bytes) → short s ≡ true → length s ≤ 7
+short-few : (s : Bytes) → short s ≡ true → length s ≤ maxKeyword
 unfolding short
-short-few s h = leb-true (length s) 7 (and-left (leb (length s) 7) (eachBelow 256 s) h)
+short-few s h = leb-true (length s) maxKeyword (and-left (leb (length s) maxKeyword) (eachBelow byteValues s) h)
 
 packOn-up : (s : Bytes) (v : ℕ) → 0 < v → 0 < packOn v s
 unfolding packOn
 packOn-up [] v h = h
-packOn-up (b ∷ s) v h = packOn-up s (v * 256 + b) (omega arith)
+packOn-up (b ∷ s) v h = packOn-up s (v * byteValues + b) (omega arith)
 
 packed-up : (s : Bytes) → 0 < packed s
 unfolding packed
@@ -88,12 +88,12 @@ packed-tells s h =
           go (eqb (packed s) (packed w)) refl;
     }
 
-pub long-tells : (s : Bytes) → 7 < length s → Packed s 0
+pub long-tells : (s : Bytes) → maxKeyword < length s → Packed s 0
 long-tells s h =
     record {
       tells = λ w k.
           rw (ne-eqb 0 (packed w) (λ e. absurd (omega (arith, packed-up w, e))))
-          (sym (same-not s w (λ q. let few : length w ≤ 7 = short-few w k in absurd (omega (arith, ap length q)))));
+          (sym (same-not s w (λ q. let few : length w ≤ maxKeyword = short-few w k in absurd (omega (arith, ap length q)))));
     }
 
 -- ── the loop ──
@@ -101,20 +101,20 @@ long-tells s h =
 packOn-append : (v : ℕ) (s t : Bytes) → packOn v (s ++ t) ≡ packOn (packOn v s) t
 unfolding packOn
 packOn-append v [] t = refl
-packOn-append v (b ∷ s) t = packOn-append (v * 256 + b) s t
+packOn-append v (b ∷ s) t = packOn-append (v * byteValues + b) s t
 
-bytes-append : (s t : Bytes) → eachBelow 256 s ≡ true → eachBelow 256 t ≡ true → eachBelow 256 (s ++ t) ≡ true
+bytes-append : (s t : Bytes) → eachBelow byteValues s ≡ true → eachBelow byteValues t ≡ true → eachBelow byteValues (s ++ t) ≡ true
 unfolding eachBelow
 bytes-append [] t p q = q
-bytes-append (b ∷ s) t p q = rw (and-left (ltb b 256) (eachBelow 256 s) p) (bytes-append s t (and-right (ltb b 256) (eachBelow 256 s) p) q)
+bytes-append (b ∷ s) t p q = rw (and-left (ltb b byteValues) (eachBelow byteValues s) p) (bytes-append s t (and-right (ltb b byteValues) (eachBelow byteValues s) p) q)
 
 -- the bytes passed from p on, packed
 pub record Packing (s : Bytes) (p v i : ℕ) : Type 0 where
   pub pass : Passing s p i
   pub few : i ≤ p + maxKeyword
   pub is : v ≡ packOn 1 (slice p i s)
-  pub bytes : eachBelow 256 (slice p i s) ≡ true
-  pub low : v < 2 * 256 ^ (i - p)
+  pub bytes : eachBelow byteValues (slice p i s) ≡ true
+  pub low : v < 2 * byteValues ^ (i - p)
 
 pub pack-none : (s : Bytes) (p : ℕ) → Fed s p → Packing s p 1 p
 unfolding packOn eachBelow
@@ -137,7 +137,7 @@ module _ (s : Bytes) (p v i : ℕ) (g : Packing s p v i) (t : Bool) (e : t ≡ s
   pub pack-done : not t ≡ false → KeywordAt s p v i
   unfolding short packed
   pack-done z =
-      let plain : short (slice p i s) ≡ true = rw (le-leb (length (slice p i s)) 7 (omega (arith, counted, g .few))) (g .bytes) in
+      let plain : short (slice p i s) ≡ true = rw (le-leb (length (slice p i s)) maxKeyword (omega (arith, counted, g .few))) (g .bytes) in
       record { ends = pass-done s p i (g .pass) t e z; packed = rw (g .is) (packed-tells (slice p i s) plain) }
 
   -- ── it goes on ──
@@ -152,13 +152,13 @@ module _ (s : Bytes) (p v i : ℕ) (g : Packing s p v i) (t : Bool) (e : t ≡ s
         record { ends = whole; packed = long-tells (slice p r s) (omega (arith, length-slice p r s (omega (arith, h .to)))) }
 
     module _ (n : i ≡ p + maxKeyword → ⊥) where
-      pub pack-room : v < 2 * 256 ^ (maxKeyword - 1)
+      pub pack-room : v < 2 * byteValues ^ (maxKeyword - 1)
       pack-room =
-          let six : i - p ≤ 6 = omega (arith, g .few, n) in
-          let up : 256 ^ (i - p) ≤ 256 ^ (maxKeyword - 1) = pow-le-pow-right (omega arith) six in
+          let six : i - p ≤ maxKeyword - 1 = omega (arith, g .few, n) in
+          let up : byteValues ^ (i - p) ≤ byteValues ^ (maxKeyword - 1) = pow-le-pow-right (omega arith) six in
           omega (arith, g .low)
 
-      pub pack-more : (b : ℕ) → b ≡ getD s i 0 → b < 256 → Packing s p (v * 256 + b) (i + 1)
+      pub pack-more : (b : ℕ) → b ≡ getD s i 0 → b < byteValues → Packing s p (v * byteValues + b) (i + 1)
       unfolding packOn eachBelow
       pack-more b q l =
           let one : slice p (i + 1) s ≡ slice p i s ++ (getD s i 0 ∷ []) = slice-snoc p i s 0 from inside in

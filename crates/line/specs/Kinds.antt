@@ -16,10 +16,6 @@ use Rattle.words.specs.TableLaws.{short}
 use Rattle.line.specs.declared.kind.KindFound.{KindFound}
 use Rattle.line.specs.declared.kind.KindFound.the-variants.{Is, Not}
 
--- no keyword has more bytes
-abbrev pub maxKeyword : ℕ
-maxKeyword = 7
-
 -- a number that tells a text from every short one
 pub record Packed (s : Bytes) (n : ℕ) : Type 0 where
   pub tells : (w : Bytes) → short w ≡ true → eqb n (packed w) ≡ same s w

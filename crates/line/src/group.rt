@@ -5,9 +5,15 @@ ghost use lib.ListN.{length};
 ghost use Rattle.words.specs.Words.{Roomy, part, maxRecords, recordWords, two32};
 ghost use Rattle.words.specs.Places.{kindCount, sortCount};
 ghost use Rattle.words.specs.Held.{total};
-ghost use Rattle.words.specs.Table.{groupSort, groupSource, countOf, groupCount, groupsOf};
+ghost use Rattle.words.specs.Table.{groupSort, groupSource, countOf, groupCount, sourceCount, groupsOf};
 use words::table::group_entry;
 use words::table::groups_of;
+
+// A source below this is itself the count; from it on it stands for field 0, 1, ..
+const FIXED_SOURCES: u32 = 3;
+
+// Twice such a source less this is the place of the field's first word.
+const SOURCE_SHIFT: usize = 4;
 
 // The sort of group g.
 pub fn group_sort(kind: u32, g: usize) -> u32
@@ -20,7 +26,7 @@ pub fn group_sort(kind: u32, g: usize) -> u32
 // Where the count of group g is from.
 fn group_source(kind: u32, g: usize) -> u32
     requires { ⌜ (kind < kindCount) × (g < groupCount) ⌝ }
-    ensures { λ r. ⌜ (r ≡ groupSource kind g) × (r < 8) ⌝ }
+    ensures { λ r. ⌜ (r ≡ groupSource kind g) × (r < sourceCount) ⌝ }
 {
     group_entry(kind, g * 2 + 1)
 }
@@ -33,11 +39,11 @@ pub fn group_count(a: &[u32], b: &[u32], i: usize, kind: u32, g: usize) -> u32
     ensures { λ r. ⌜ r ≡ countOf (part (now (a .entry)) (now (b .entry)) i) (groupSource kind g) ⌝ }
 {
     let c = group_source(kind, g);
-    if c < 3 {
+    if c < FIXED_SOURCES {
         return c;
     }
     let at = c as usize;
-    words::word(a, b, i, at + at - 4)
+    words::word(a, b, i, at + at - SOURCE_SHIFT)
 }
 
 // The same by the words of the record.
@@ -47,11 +53,11 @@ fn count_in(part: &[u32], kind: u32, g: usize) -> u32
     ensures { λ r. ⌜ r ≡ countOf (now (part .entry)) (groupSource kind g) ⌝ }
 {
     let c = group_source(kind, g);
-    if c < 3 {
+    if c < FIXED_SOURCES {
         return c;
     }
     let at = c as usize;
-    part[at + at - 4]
+    part[at + at - SOURCE_SHIFT]
 }
 
 // A word as a number of 64 bits.

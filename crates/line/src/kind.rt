@@ -10,6 +10,7 @@ ghost use Rattle.record.specs.Place.{Fed};
 ghost use Rattle.line.specs.Kinds.{Packed, KeywordAt, Named, keyed};
 use record::piece::piece_end;
 use record::piece::separates;
+use words::BYTE_VALUES;
 use words::key;
 use words::kind;
 use words::sort;
@@ -48,7 +49,7 @@ pub fn read_keyword(s: &[u8], p: usize) -> Keyword
             let end = piece_end(s, i);
             return Keyword { word: 0, end: end };
         }
-        v = v * 256 + wide(s[i]);
+        v = v * BYTE_VALUES + wide(s[i]);
         i += 1;
     }
     Keyword { word: v, end: i }

@@ -31,7 +31,7 @@ use Rattle.context.specs.declared.LowerCtx.{LowerCtx}
 use Rattle.context.specs.declared.Numbered.{Numbered}
 use Rattle.model.specs.Lower.{Lowering, endpointVar}
 use Rattle.context.specs.Ops.{Fits}
-use Rattle.lower.specs.Rep.{atPlace, Mem, mem, RoomFor, maxBefore}
+use Rattle.lower.specs.Rep.{atPlace, Mem, mem, RoomFor, maxBefore, passOperators}
 use Rattle.model.specs.Call.{workWords}
 use Rattle.words.specs.Words.{maxRecords}
 use Rattle.context.specs.Tables.{secondPass}
@@ -96,7 +96,7 @@ good-at e g = rw e at g
 pub fits : {base i d : ℕ} → base ≤ secondPass → i ≤ maxRecords → d ≤ deepest → Fits (atPlace base i d)
 fits lb li ld = record { base = omega arith; i = omega arith; left = omega arith }
 
-pub few-ops : {d i : ℕ} {m : Mem} → RoomFor d i m → m .ctx .ops ≤ maxBefore + 2 * maxRecords
+pub few-ops : {d i : ℕ} {m : Mem} → RoomFor d i m → m .ctx .ops ≤ maxBefore + passOperators * maxRecords
 few-ops g = let x = g .few in let y = g .here in omega arith
 
 pub prop-some : {a b : List ℕ} {d i : ℕ} → Roomy a b → SomeTree a b patternElement d i → cell a b i kindAt ≡ relKind → (n j : ℕ) → n ≡ cell a b i relPropsAt → j ≡ i + 1 + cell a b i relTypesAt → SomeCarried a b n 0 (d - 1) j
@@ -144,7 +144,7 @@ module _ {o : ℕ} {L : Lowering ℕ} {k d i : ℕ} {c c′ : LowerCtx} {os os�
   pub source-number : (base place j : ℕ) → base ≤ secondPass → j ≤ maxRecords → place ≡ base + j → CanNumber c′ place rs
   source-number base place j lb lj e = record { met = omega (arith, g .met, g .here, q .mapped); low = omega (arith, g .low, g .here, q .numbers); noted = omega arith; long = g .in-rest; index = rw (q .mapped) (g .index) }
 
-  pub source-few : (c′ .ops ≤ maxBefore + 2 * maxRecords + 1) × (k ≤ maxBefore + 2 * maxRecords)
+  pub source-few : (c′ .ops ≤ maxBefore + passOperators * maxRecords + 1) × (k ≤ maxBefore + passOperators * maxRecords)
   source-few = (let x = g .few in let y = g .here in let z = q .few in omega arith, let x = g .few in let y = g .here in let z = q .few in let w = q .low in omega arith)
 
 -- the rel that waits

@@ -8,6 +8,7 @@ use Rattle.model.specs.Text.{Bytes}
 use Rattle.model.specs.Kind.{clause}
 use Rattle.model.specs.Tree.{Tree}
 use Rattle.model.specs.Lower.{Lowering, lowerClause}
+use Rattle.model.specs.Call.{recordOperators, recordNumbers}
 use Rattle.words.specs.Held.{Held, size}
 use Rattle.lower.specs.Side.{Side, side}
 use Rattle.lower.specs.Rep.{State, Mem, Written, Blank, Rep, To, Indexes}
@@ -19,9 +20,9 @@ pub record MovedTwice (i e : ℕ) (m m′ : Mem) : Type 0 where
   pub up : i ≤ e
   pub here : e ≤ maxRecords
   pub grow : m .ctx .ops ≤ m′ .ctx .ops
-  pub few : m′ .ctx .ops + 4 * i ≤ m .ctx .ops + 4 * e
-  pub low : m′ .ctx .numbers + 2 * i ≤ m .ctx .numbers + 2 * e
-  pub met : m′ .ctx .mapped + 2 * i ≤ m .ctx .mapped + 2 * e
+  pub few : m′ .ctx .ops + recordOperators * i ≤ m .ctx .ops + recordOperators * e
+  pub low : m′ .ctx .numbers + recordNumbers * i ≤ m .ctx .numbers + recordNumbers * e
+  pub met : m′ .ctx .mapped + recordNumbers * i ≤ m .ctx .mapped + recordNumbers * e
   pub in-ops : length (m′ .ops) ≡ length (m .ops)
   pub in-rest : length (m′ .rest) ≡ length (m .rest)
   pub index : Indexes m → Indexes m′

@@ -109,9 +109,13 @@ maxBefore = 30000
 abbrev pub maxMet : ℕ
 maxMet = maxRecords + deepest - 2
 
--- there is room at record i, for what is at most d deep: two operators and one number for each record, and one for each level
+-- one pass over a record makes at most so many operators, and one number
+abbrev pub passOperators : ℕ
+passOperators = 2
+
+-- there is room at record i, for what is at most d deep: what a pass makes of each record, and one for each level
 pub record RoomFor (d i : ℕ) (m : Mem) : Type 0 where
-  pub few : m .ctx .ops + d ≤ maxBefore + 2 * i
+  pub few : m .ctx .ops + d ≤ maxBefore + passOperators * i
   pub low : m .ctx .numbers + d ≤ maxBefore + i
   pub met : m .ctx .mapped + d ≤ maxMet + i
   pub here : i ≤ maxRecords
@@ -124,7 +128,7 @@ pub record Moved (i e : ℕ) (m m′ : Mem) : Type 0 where
   pub up : i ≤ e
   pub here : e ≤ maxRecords
   pub grow : m .ctx .ops ≤ m′ .ctx .ops
-  pub few : m′ .ctx .ops + 2 * i ≤ m .ctx .ops + 2 * e
+  pub few : m′ .ctx .ops + passOperators * i ≤ m .ctx .ops + passOperators * e
   pub low : m′ .ctx .numbers + i ≤ m .ctx .numbers + e
   pub met : m′ .ctx .mapped + i ≤ m .ctx .mapped + e
   pub in-ops : length (m′ .ops) ≡ length (m .ops)

@@ -110,10 +110,17 @@ lowerCall work sheet slice = outcome slice (planned maxDepth work sheet)
 unfoldable pub recordCount : Tree statement → ℕ
 recordCount t = length (records t)
 
+-- a plan has at most so many operators, and numbers of variables, for each record
+abbrev pub recordOperators : ℕ
+recordOperators = 4
+
+abbrev pub recordNumbers : ℕ
+recordNumbers = 2
+
 -- the figure is left free within its bounds
 pub record Figure (t : Tree statement) (n : ℕ) : Type 0 where
   pub enough : length (lowerStatement t .ops) ≤ n
-  pub few : n ≤ 4 * recordCount t
+  pub few : n ≤ recordOperators * recordCount t
 
 pub data Sized : Test (Tree statement) → Answer → Type 0 where
   refusal : {r : Refusal} → Sized (refuse r) (valuesOf r)

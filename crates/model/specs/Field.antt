@@ -6,7 +6,7 @@ use mathlib.Core.Option.{Option, none, some}
 use lib.Dec.{leb}
 use lib.IntN.{ℤ, pos, negsuc}
 use lib.ListN.{take, drop}
-use Rattle.model.specs.Text.{Bytes, bytes, same, sameBy, decimal, value, signed, signedValue, hexDigits, hexValue, escape, unescape}
+use Rattle.model.specs.Text.{Bytes, dash, equals, digit0, digit1, bytes, same, sameBy, decimal, value, signed, signedValue, hexDigits, hexValue, escape, unescape}
 
 abbrev pub u32 : ℕ
 u32 = 4294967295
@@ -17,6 +17,10 @@ u64 = 18446744073709551615
 -- the largest signed number of 64 bits
 abbrev pub i64 : ℕ
 i64 = 9223372036854775807
+
+-- a float has so many hexadecimal digits
+abbrev pub floatDigits : ℕ
+floatDigits = 16
 
 -- what a plan numbers
 pub data Numbered : Type 0 where
@@ -84,19 +88,19 @@ width span = 2
 width length = 3
 
 unfoldable pub spellFlag : Bool → Bytes
-spellFlag false = 48 ∷ []
-spellFlag true = 49 ∷ []
+spellFlag false = digit0 ∷ []
+spellFlag true = digit1 ∷ []
 
 unfoldable pub spellOption : Option ℕ → Bytes
-spellOption none = 45 ∷ []
+spellOption none = dash
 spellOption (some n) = decimal n
 
 unfoldable pub spellAlias : Option Bytes → Bytes
-spellAlias none = 45 ∷ []
-spellAlias (some t) = 61 ∷ escape t
+spellAlias none = dash
+spellAlias (some t) = equals ∷ escape t
 
 unfoldable pub spellLength : RelLength → List Bytes
-spellLength Single = bytes "one" ∷ (45 ∷ []) ∷ (45 ∷ []) ∷ []
+spellLength Single = bytes "one" ∷ dash ∷ dash ∷ []
 spellLength (Variable min max) = bytes "var" ∷ spellOption min ∷ spellOption max ∷ []
 
 unfoldable pub spell : (f : Form) → Val f → List Bytes
@@ -108,7 +112,7 @@ spell (numOrAbsent l) o = spellOption o ∷ []
 spell (number n) k = decimal k ∷ []
 spell (numberOrAbsent n) o = spellOption o ∷ []
 spell int z = signed z ∷ []
-spell float n = hexDigits 16 n ∷ []
+spell float n = hexDigits floatDigits n ∷ []
 spell text t = escape t ∷ []
 spell alias a = spellAlias a ∷ []
 spell span s = decimal (s .start) ∷ decimal (s .end) ∷ []
@@ -144,10 +148,10 @@ fits length l = fitsLength l
 
 -- what the pieces could mean at best
 unfoldable pub optionValue : Bytes → Option ℕ
-optionValue s = cond (same s (45 ∷ [])) none (some (value s))
+optionValue s = cond (same s dash) none (some (value s))
 
 unfoldable pub aliasValue : Bytes → Option Bytes
-aliasValue s = cond (same s (45 ∷ [])) none (some (unescape (tail s)))
+aliasValue s = cond (same s dash) none (some (unescape (tail s)))
 
 unfoldable pub lengthValue : Bytes → Bytes → Bytes → RelLength
 lengthValue k min max = cond (same k (bytes "one")) Single (Variable (optionValue min) (optionValue max))
@@ -160,7 +164,7 @@ piece (suc i) (p ∷ ps) = piece i ps
 
 unfoldable pub meaning : (f : Form) → List Bytes → Val f
 meaning (num l) ps = value (piece 0 ps)
-meaning flag ps = same (piece 0 ps) (49 ∷ [])
+meaning flag ps = same (piece 0 ps) (digit1 ∷ [])
 meaning var ps = value (piece 0 ps)
 meaning varOrAbsent ps = optionValue (piece 0 ps)
 meaning (numOrAbsent l) ps = optionValue (piece 0 ps)

@@ -424,9 +424,18 @@ lowerProjections (node projection line k (alias, _) (e ∷ᵗ []ᵗ ▸ end) ∷
   ss ← lowerProjections ps
   ret (item (aliasOr alias (synthesiseAlias e)) rs ++ ss)
 
--- ASCII capitals as small letters
+-- ASCII capitals, and how far a small letter is behind its capital
+abbrev pub capitalA : ℕ
+capitalA = 65
+
+abbrev pub capitalZ : ℕ
+capitalZ = 90
+
+abbrev pub toSmall : ℕ
+toSmall = 32
+
 unfoldable pub lowercase : ℕ → ℕ
-lowercase b = cond (leb 65 b) (cond (leb b 90) (b + 32) b) b
+lowercase b = cond (leb capitalA b) (cond (leb b capitalZ) (b + toSmall) b) b
 
 unfoldable pub aggregates : List Bytes
 aggregates = bytes "count" ∷ bytes "sum" ∷ bytes "avg" ∷ bytes "min" ∷ bytes "max" ∷ bytes "collect" ∷ bytes "stdev" ∷ bytes "stdevp" ∷ bytes "percentilecont" ∷ bytes "percentiledisc" ∷ []

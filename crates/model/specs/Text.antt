@@ -4,7 +4,7 @@ use Prim.Native.String.{String, len, charAt}
 use Prim.Native.Char.{code}
 use mathlib.Core.Bool.{Bool, true, false, cond, not, _&&_}
 use mathlib.Core.List.{List, [], _∷_, _++_}
-use lib.Dec.{eqb, ltb}
+use lib.Dec.{eqb, ltb, leb}
 use lib.IntN.{ℤ, pos, negsuc}
 
 abbrev pub Bytes : Type 0
@@ -27,6 +27,38 @@ lineFeed = 10
 
 abbrev pub backslash : ℕ
 backslash = 92
+
+-- the letters that stand for tab and line feed behind a backslash
+abbrev pub letterT : ℕ
+letterT = 116
+
+abbrev pub letterN : ℕ
+letterN = 110
+
+-- the minus sign
+abbrev pub minus : ℕ
+minus = 45
+
+-- what stands for something absent
+abbrev pub dash : Bytes
+dash = minus ∷ []
+
+-- what a name that is given stands behind
+abbrev pub equals : ℕ
+equals = 61
+
+abbrev pub digit0 : ℕ
+digit0 = 48
+
+abbrev pub digit1 : ℕ
+digit1 = 49
+
+abbrev pub digit9 : ℕ
+digit9 = 57
+
+-- the byte of a hexadecimal letter is so far above its value
+abbrev pub letterBase : ℕ
+letterBase = 87
 
 -- two lists are the same, element by element
 unfoldable pub sameBy : {A : Type 0} → (A → A → Bool) → List A → List A → Bool
@@ -60,23 +92,25 @@ join sep p = p .first ++ behind sep (p .more)
 -- decimal, with no spare zero; k is a bound on the digits
 unfoldable pub digits : ℕ → ℕ → Bytes
 digits zero n = []
-digits (suc k) n = cond (ltb n 10) ((48 + n) ∷ []) (digits k (n / 10) ++ ((48 + n % 10) ∷ []))
+digits (suc k) n = cond (ltb n 10) ((digit0 + n) ∷ []) (digits k (n / 10) ++ ((digit0 + n % 10) ∷ []))
 
--- no number of a sheet has more than 64 bits, so 20 digits are enough
+-- no number of a sheet has more than 64 bits, so that this many digits are enough
+abbrev pub maxDigits : ℕ
+maxDigits = 20
+
 unfoldable pub decimal : ℕ → Bytes
-decimal n = digits 20 n
+decimal n = digits maxDigits n
 
 unfoldable pub valueOn : ℕ → Bytes → ℕ
 valueOn v [] = v
-valueOn v (b ∷ s) = valueOn (v * 10 + (b - 48)) s
+valueOn v (b ∷ s) = valueOn (v * 10 + (b - digit0)) s
 
 unfoldable pub value : Bytes → ℕ
 value s = valueOn 0 s
 
--- a signed number; 45 is the minus sign
 unfoldable pub signed : ℤ → Bytes
 signed (pos n) = decimal n
-signed (negsuc n) = 45 ∷ decimal (suc n)
+signed (negsuc n) = minus ∷ decimal (suc n)
 
 unfoldable pub negative : ℕ → ℤ
 negative zero = pos 0
@@ -84,18 +118,18 @@ negative (suc n) = negsuc n
 
 unfoldable pub signedValue : Bytes → ℤ
 signedValue [] = pos 0
-signedValue (b ∷ s) = cond (eqb b 45) (negative (value s)) (pos (value (b ∷ s)))
+signedValue (b ∷ s) = cond (eqb b minus) (negative (value s)) (pos (value (b ∷ s)))
 
 -- k hexadecimal digits, lower case
 unfoldable pub hexDigit : ℕ → ℕ
-hexDigit d = cond (ltb d 10) (48 + d) (87 + d)
+hexDigit d = cond (ltb d 10) (digit0 + d) (letterBase + d)
 
 unfoldable pub hexDigits : ℕ → ℕ → Bytes
 hexDigits zero n = []
 hexDigits (suc k) n = hexDigits k (n / 16) ++ (hexDigit (n % 16) ∷ [])
 
 unfoldable pub hexDigitValue : ℕ → ℕ
-hexDigitValue b = cond (ltb b 58) (b - 48) (b - 87)
+hexDigitValue b = cond (leb b digit9) (b - digit0) (b - letterBase)
 
 unfoldable pub hexValueOn : ℕ → Bytes → ℕ
 hexValueOn v [] = v
@@ -107,8 +141,8 @@ hexValue s = hexValueOn 0 s
 -- a name: tab, line feed and backslash are escaped, and no other byte is
 unfoldable pub escapeByte : ℕ → Bytes
 escapeByte b =
-    cond (eqb b tab) (backslash ∷ 116 ∷ [])
-    (cond (eqb b lineFeed) (backslash ∷ 110 ∷ [])
+    cond (eqb b tab) (backslash ∷ letterT ∷ [])
+    (cond (eqb b lineFeed) (backslash ∷ letterN ∷ [])
     (cond (eqb b backslash) (backslash ∷ backslash ∷ [])
     (b ∷ [])))
 
@@ -118,7 +152,7 @@ escape (b ∷ t) = escapeByte b ++ escape t
 
 -- the byte that a letter stands for behind a backslash
 unfoldable pub unescapeByte : ℕ → ℕ
-unescapeByte c = cond (eqb c 116) tab (cond (eqb c 110) lineFeed c)
+unescapeByte c = cond (eqb c letterT) tab (cond (eqb c letterN) lineFeed c)
 
 -- what a byte adds to the name; `after` says that a backslash stands before it
 unfoldable pub meant : Bool → ℕ → Bytes

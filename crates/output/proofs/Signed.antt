@@ -1,7 +1,7 @@
 -- A signed number's sign and magnitude, from the test and the arithmetic that the code makes on its 64 bits. Assumes nothing: every law is proved.
 use mathlib.Core.Path.{_≡_, refl, _∙_}
 use mathlib.Core.Bool.{true, false}
-use mathlib.Core.List.{[], _∷_, _++_}
+use mathlib.Core.List.{_++_}
 use Prim.Native.Nat.{ℕ, suc, _+_, _-_, _<_}
 use native.Mathlib.Omega.{arith}
 use native.Mathlib.Numerals.{add-one}
@@ -12,7 +12,7 @@ use lib.Signed.{ltZ, mag, nonNeg}
 use mir.Syntax.{w64}
 use mir.Val.{Fits, SFits, toZ, ofZ}
 use mir.Facts.{toZ-ofZ}
-use Rattle.model.specs.Text.{decimal, signed}
+use Rattle.model.specs.Text.{dash, decimal, signed}
 use Rattle.output.specs.Page.{Page, Puts}
 use Rattle.output.specs.Writes.{_⨾_}
 
@@ -34,7 +34,7 @@ not-below : (z : ℤ) → ltZ z (pos 0) ≡ false → (T (nonNeg z)) × (natAbs 
 not-below (pos n) h = (tt, refl)
 not-below (negsuc n) h = let e : _≡_ {A = ℕ} 0 1 = cc in absurd (omega arith)
 
-minus : (z : ℤ) → ltZ z (pos 0) ≡ true → signed z ≡ (45 ∷ []) ++ decimal (natAbs z)
+minus : (z : ℤ) → ltZ z (pos 0) ≡ true → signed z ≡ dash ++ decimal (natAbs z)
 unfolding signed
 minus (pos n) h = let z : n < 0 = ltb-true n 0 h in absurd (omega arith)
 minus (negsuc n) h = refl
@@ -71,7 +71,7 @@ module _ (z : ℤ) (f : SFits w64 z) where
     pub magnitude-below : natAbs (held (negsuc 0 -ℤ held z)) + 1 ≡ natAbs z
     magnitude-below = rw held-distance (up z below)
 
-    pub put-minus : {m : ℕ} {g g′ g″ : Page} → m ≡ natAbs (held z) → Puts (45 ∷ []) g g′ → Puts (decimal m) g′ g″ → Puts (signed z) g g″
+    pub put-minus : {m : ℕ} {g g′ g″ : Page} → m ≡ natAbs (held z) → Puts dash g g′ → Puts (decimal m) g′ g″ → Puts (signed z) g g″
     put-minus e a b = rw (minus z below) (a ⨾ rw (e, toZ-ofZ f) at b)
 
   -- at least 0

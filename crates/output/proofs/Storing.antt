@@ -6,7 +6,7 @@ use native.Mathlib.Omega.{arith}
 use native.Mathlib.Numerals.{add-one}
 use lib.ListN.{length, set, getD, take, length-set}
 use lib.Seq.{sets, set-comm, take-suc, take-all}
-use Rattle.model.specs.Text.{Bytes}
+use Rattle.model.specs.Text.{Bytes, digit0}
 use Rattle.output.specs.Wide.{tens}
 use Rattle.output.specs.Writes.{sets-append}
 
@@ -51,7 +51,7 @@ module _ {d n : ℕ} {p : Bytes} {at : ℕ} where
   pub fill-start : Filling d n p at d n p
   fill-start = record { low = omega arith; long = refl; tail = []; text = append-nil (tens d n); page = refl }
 
-  pub fill-more : (k : ℕ) {v x : ℕ} {q : Bytes} → (k ≡ 0 → ⊥) → Filling d n p at k v q → x ≡ 48 + v % 10 → Filling d n p at (k - 1) (v / 10) (set q (at + (k - 1)) x)
+  pub fill-more : (k : ℕ) {v x : ℕ} {q : Bytes} → (k ≡ 0 → ⊥) → Filling d n p at k v q → x ≡ digit0 + v % 10 → Filling d n p at (k - 1) (v / 10) (set q (at + (k - 1)) x)
   unfolding tens
   fill-more zero some c e = absurd (some refl)
   fill-more (suc k) {v} {x} {q} some c e =
@@ -61,7 +61,7 @@ module _ {d n : ℕ} {p : Bytes} {at : ℕ} where
         low = omega (arith, c .low);
         long = length-set q (at + k) x ∙ c .long;
         tail = x ∷ c .tail;
-        text = rw e (sym (append-assoc (tens k (v / 10)) ((48 + v % 10) ∷ []) (c .tail)) ∙ c .text);
+        text = rw e (sym (append-assoc (tens k (v / 10)) ((digit0 + v % 10) ∷ []) (c .tail)) ∙ c .text);
         page = rw (c .page, behind) (set-before (c .tail) p (at + k) (suc (at + k)) x (omega arith));
       })
 

@@ -1,22 +1,24 @@
 -- Numbers in so many digits, and how many a decimal number has. Assumes nothing: every law is proved.
 use mathlib.Core.Path.{_≡_, refl}
+use mathlib.Core.Bool.{Bool, true, false}
 use mathlib.Core.List.{[], _∷_, _++_}
-use Prim.Native.Nat.{ℕ, zero, suc, _+_, _*_, _/_, _%_, _<_, _≤_}
+use Prim.Native.Nat.{ℕ, zero, suc, _+_, _-_, _*_, _/_, _%_, _<_, _≤_}
 use native.Mathlib.Omega.{arith}
+use lib.Dec.{ltb}
 use lib.ListN.{length, length-append}
-use borrow.Author.Tests.{lt-ltb, le-ltb}
-use Rattle.model.specs.Text.{Bytes, tab, digits, decimal}
-use Rattle.output.specs.Page.{Page, Puts}
+use borrow.Author.Tests.{lt-ltb, le-ltb, ltb-true, ltb-false}
+use Rattle.model.specs.Text.{Bytes, tab, digit0, digits, maxDigits, decimal}
+use Rattle.output.specs.Page.{Page, most, Puts}
 
 -- the last k decimal digits of n
 unfoldable pub tens : ℕ → ℕ → Bytes
 tens zero n = []
-tens (suc k) n = tens k (n / 10) ++ ((48 + n % 10) ∷ [])
+tens (suc k) n = tens k (n / 10) ++ ((digit0 + n % 10) ∷ [])
 
 pub length-tens : (k n : ℕ) → k ≡ length (tens k n)
 unfolding tens
 length-tens zero n = refl
-length-tens (suc k) n = let e = length-tens k (n / 10) in let l = length-append (tens k (n / 10)) ((48 + n % 10) ∷ []) in omega arith
+length-tens (suc k) n = let e = length-tens k (n / 10) in let l = length-append (tens k (n / 10)) ((digit0 + n % 10) ∷ []) in omega arith
 
 -- b to the power k
 abbrev pub power : ℕ → ℕ → ℕ
@@ -46,19 +48,56 @@ digits-tens (suc k) (suc d) n few low high =
     let ten : 10 ≤ n = omega arith in
     rw (le-ltb n 10 ten, digits-tens k d (n / 10) (omega arith) (omega arith) (omega arith))
 
--- a number is spelled in r digits
+-- n has r digits, one of them behind those before it
 pub record Counted (n r : ℕ) : Type 0 where
-  pub few : r ≤ 20
-  pub spelled : decimal n ≡ tens r n
+  pub before : ℕ
+  pub is : r ≡ suc before
+  pub few : before < maxDigits
+  pub low : least before ≤ n
+  pub high : n < power 10 (suc before)
 
-pub counted-by : (d : ℕ) {n : ℕ} → d < 20 → least d ≤ n → n < power 10 (suc d) → Counted n (suc d)
+pub counted-by : (d : ℕ) {n : ℕ} → d < maxDigits → least d ≤ n → n < power 10 (suc d) → Counted n (suc d)
+counted-by d few low high = record { before = d; is = refl; few = few; low = low; high = high }
+
+spelled : {n r : ℕ} → Counted n r → decimal n ≡ tens r n
 unfolding decimal
-counted-by d {n} few low high = record { few = omega arith; spelled = digits-tens 20 d n few low high }
+spelled {n} c = rw (c .is) (digits-tens maxDigits (c .before) n (c .few) (c .low) (c .high))
+
+power-grows : (k d : ℕ) → k ≤ d → power 10 k ≤ power 10 d
+power-grows zero d h = let some = power-some d in omega arith
+power-grows (suc k) zero h = absurd (omega arith)
+power-grows (suc k) (suc d) h = let g = power-grows k d (omega arith) in omega arith
+
+power-below : (k d : ℕ) → power 10 d < power 10 k → d < k
+power-below k d h = go (ltb d k) refl
+  where
+    go : (t : Bool) → ltb d k ≡ t → d < k
+    go true e = ltb-true d k e
+    go false e = let g = power-grows k d (ltb-false d k e) in absurd (omega arith)
+
+-- so many digits are counted at a time
+abbrev pub step : ℕ
+step = 4
+
+-- the first digits of a number of 64 bits, and `step` behind them
+pub counted-more : {n r : ℕ} → least step ≤ n → n ≤ most → Counted (n / least step) r → Counted n (r + step)
+counted-more {n} {r} l m c = go (c .before) (c .is) (c .few) (c .low) (c .high)
+  where
+    go : (d : ℕ) → r ≡ suc d → d < maxDigits → least d ≤ n / least step → n / least step < power 10 (suc d) → Counted n (r + step)
+    go zero e few low high = record { before = step; is = omega arith; few = omega arith; low = l; high = omega arith }
+    go (suc d) e few low high =
+        record {
+          before = suc (suc (suc (suc (suc d))));
+          is = omega arith;
+          few = let f = power-below (maxDigits - step) (suc d) (omega arith) in omega arith;
+          low = omega arith;
+          high = omega arith;
+        }
 
 -- a text of so many digits put is the number put
 module _ (n : ℕ) {g g′ : Page} where
   pub spell-decimal : {r : ℕ} → Counted n r → Puts (tens r n) g g′ → Puts (decimal n) g g′
-  spell-decimal c a = rw (c .spelled) a
+  spell-decimal c a = rw (spelled c) a
 
   pub spell-tabbed : {r : ℕ} → Counted n r → Puts (tab ∷ tens r n) g g′ → Puts (tab ∷ decimal n) g g′
-  spell-tabbed c a = rw (c .spelled) a
+  spell-tabbed c a = rw (spelled c) a

@@ -58,68 +58,35 @@ pub fn put_part(plan: &mut [u8], out: usize, s: &[u8]) -> usize
     end
 }
 
+// The least numbers of two, three, four and five digits.
+const TWO_DIGITS: u64 = 10;
+
+const THREE_DIGITS: u64 = 100;
+
+const FOUR_DIGITS: u64 = 1000;
+
+const FIVE_DIGITS: u64 = 10000;
+
+// The digits that a number loses if it is divided by the least of five.
+const STEP: usize = 4;
+
 // How many decimal digits a number has.
 fn count(n: u64) -> usize
     ensures { λ r. ⌜ Counted n r ⌝ }
 {
-    if n < 10 {
+    if n < TWO_DIGITS {
         return 1;
     }
-    if n < 100 {
+    if n < THREE_DIGITS {
         return 2;
     }
-    if n < 1000 {
+    if n < FOUR_DIGITS {
         return 3;
     }
-    if n < 10000 {
+    if n < FIVE_DIGITS {
         return 4;
     }
-    if n < 100000 {
-        return 5;
-    }
-    if n < 1000000 {
-        return 6;
-    }
-    if n < 10000000 {
-        return 7;
-    }
-    if n < 100000000 {
-        return 8;
-    }
-    if n < 1000000000 {
-        return 9;
-    }
-    if n < 10000000000 {
-        return 10;
-    }
-    if n < 100000000000 {
-        return 11;
-    }
-    if n < 1000000000000 {
-        return 12;
-    }
-    if n < 10000000000000 {
-        return 13;
-    }
-    if n < 100000000000000 {
-        return 14;
-    }
-    if n < 1000000000000000 {
-        return 15;
-    }
-    if n < 10000000000000000 {
-        return 16;
-    }
-    if n < 100000000000000000 {
-        return 17;
-    }
-    if n < 1000000000000000000 {
-        return 18;
-    }
-    if n < 10000000000000000000 {
-        return 19;
-    }
-    20
+    count(n / FIVE_DIGITS) + STEP
 }
 
 // The last d decimal digits of n, inside the slice.

@@ -6,6 +6,7 @@ use lib.Dec.{eqb}
 use lib.ListN.{getD}
 use lib.Seq.{slice}
 use Rattle.model.specs.Text.{Bytes, bytes}
+use Rattle.words.specs.Table.{byteValues}
 
 -- of expressions, of operators, and of what stands below those
 unfoldable pub letters : Bytes
@@ -155,7 +156,11 @@ numbers =
     ∷ 0x646c656979  -- yield
     ∷ []
 
+-- a number of 64 bits has so many bytes
+abbrev pub numberBytes : ℕ
+numberBytes = 8
+
 -- the bytes of a number from the lowest on, up to a 0 and at most some
 unfoldable pub unpacked : ℕ → ℕ → Bytes
 unpacked zero w = []
-unpacked (suc n) w = cond (eqb w 0) [] (w % 256 ∷ unpacked n (w / 256))
+unpacked (suc n) w = cond (eqb w 0) [] (w % byteValues ∷ unpacked n (w / byteValues))

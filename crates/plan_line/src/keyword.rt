@@ -2,9 +2,10 @@
 ghost use mathlib.Core.Path.{_≡_};
 ghost use Prim.Native.Nat.{_+_, _<_, _≤_};
 ghost use lib.ListN.{length, getD};
-ghost use lib.Seq.{slice, sets};
+ghost use lib.Seq.{sets};
 ghost use Rattle.output.specs.Page.{on, Puts};
-ghost use Rattle.plan_line.specs.Keywords.{word, wordCount, numbers, unpacked};
+ghost use Rattle.plan_line.specs.Keywords.{word, wordCount, numbers, numberBytes, unpacked};
+use words::BYTE_VALUES;
 
 // Keyword k as one number, its first byte the lowest. A number and no byte string, since the compiler writes a byte string anew at each use and reads the arms of a match from constant data.
 fn keyword_number(k: usize) -> u64
@@ -45,54 +46,72 @@ fn keyword_number(k: usize) -> u64
     }
 }
 
+// The least numbers of two to eight bytes.
+const TWO_BYTES: u64 = 256;
+
+const THREE_BYTES: u64 = 65536;
+
+const FOUR_BYTES: u64 = 16777216;
+
+const FIVE_BYTES: u64 = 4294967296;
+
+const SIX_BYTES: u64 = 1099511627776;
+
+const SEVEN_BYTES: u64 = 281474976710656;
+
+const EIGHT_BYTES: u64 = 72057594037927936;
+
+// A number of 64 bits has so many bytes.
+const NUMBER_BYTES: usize = 8;
+
 // How many bytes a number has.
 fn packed_count(w: u64) -> usize
-    ensures { λ r. ⌜ r ≡ length (unpacked 8 w) ⌝ }
+    ensures { λ r. ⌜ r ≡ length (unpacked numberBytes w) ⌝ }
 {
     if w == 0 {
         return 0;
     }
-    if w < 256 {
+    if w < TWO_BYTES {
         return 1;
     }
-    if w < 65536 {
+    if w < THREE_BYTES {
         return 2;
     }
-    if w < 16777216 {
+    if w < FOUR_BYTES {
         return 3;
     }
-    if w < 4294967296 {
+    if w < FIVE_BYTES {
         return 4;
     }
-    if w < 1099511627776 {
+    if w < SIX_BYTES {
         return 5;
     }
-    if w < 281474976710656 {
+    if w < SEVEN_BYTES {
         return 6;
     }
-    if w < 72057594037927936 {
+    if w < EIGHT_BYTES {
         return 7;
     }
-    8
+    NUMBER_BYTES
 }
 
 // The bytes of a number from the lowest on, up to a 0, inside the slice.
 fn store_packed(plan: &mut [u8], at: usize, w: u64)
-    requires { ⌜ at + length (unpacked 8 w) ≤ length (now plan) ⌝ }
-    ensures { λ r. ⌜ now (plan .exit) ≡ sets (now (plan .entry)) at (unpacked 8 w) ⌝ }
+    requires { ⌜ at + length (unpacked numberBytes w) ≤ length (now plan) ⌝ }
+    ensures { λ r. ⌜ now (plan .exit) ≡ sets (now (plan .entry)) at (unpacked numberBytes w) ⌝ }
 {
     let mut k = at;
     let mut v = w;
     while v != 0 {
-        plan[k] = (v % 256) as u8;
+        plan[k] = (v % BYTE_VALUES) as u8;
         k += 1;
-        v = v / 256;
+        v = v / BYTE_VALUES;
     }
 }
 
 // The bytes of a number from the lowest on, up to a 0.
 fn put_packed(plan: &mut [u8], out: usize, w: u64) -> usize
-    ensures { λ r. ⌜ Puts (unpacked 8 w) (on (now (plan .entry)) out) (on (now (plan .exit)) r) ⌝ }
+    ensures { λ r. ⌜ Puts (unpacked numberBytes w) (on (now (plan .entry)) out) (on (now (plan .exit)) r) ⌝ }
 {
     let end = output::more(out, packed_count(w));
     if plan.len() < end {

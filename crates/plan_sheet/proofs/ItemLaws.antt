@@ -8,7 +8,7 @@ use mathlib.Core.Option.{none, some}
 use borrow.Author.Tests.{ne-eqb, ltb-true}
 use lib.Dec.{ltb}
 use lib.Seq.{slice}
-use Rattle.model.specs.Text.{Bytes, behind, decimal, digits, bytes, bytesFrom, escapeByte, escape, unescape, tab, lineFeed}
+use Rattle.model.specs.Text.{Bytes, behind, decimal, digits, bytes, bytesFrom, escapeByte, escape, unescape, tab, lineFeed, backslash, digit0, maxDigits}
 use Rattle.model.specs.Field.{Fields, text, spell, spellFields}
 use Rattle.model.specs.Kind.{Same, Expr, projection, expr}
 use Rattle.model.specs.Record.{forms, sameForms, exprForms, kinds, sames, keyword, planKeyword, spellRec}
@@ -28,22 +28,22 @@ use Rattle.words.specs.Places.{fnKind, itemAliasAt, kindAt, nameAt, propKind, v
 
 -- ── digits are not escaped ──
 
-digit-plain : (d : ℕ) → d < 10 → escapeByte (48 + d) ≡ (48 + d) ∷ []
+digit-plain : (d : ℕ) → d < 10 → escapeByte (digit0 + d) ≡ (digit0 + d) ∷ []
 unfolding escapeByte
-digit-plain d h = rw (ne-eqb (48 + d) 9 (λ e. omega arith), ne-eqb (48 + d) 10 (λ e. omega arith), ne-eqb (48 + d) 92 (λ e. omega arith))
+digit-plain d h = rw (ne-eqb (digit0 + d) tab (λ e. omega arith), ne-eqb (digit0 + d) lineFeed (λ e. omega arith), ne-eqb (digit0 + d) backslash (λ e. omega arith))
 
 escape-append : (s t : Bytes) → escape (s ++ t) ≡ escape s ++ escape t
 unfolding escape
 escape-append [] t = refl
 escape-append (b ∷ s) t = ap (λ (u : Bytes). escapeByte b ++ u) (escape-append s t) ∙ sym (append-assoc (escapeByte b) (escape s) (escape t))
 
-digit-escape : (d : ℕ) → d < 10 → escape ((48 + d) ∷ []) ≡ (48 + d) ∷ []
+digit-escape : (d : ℕ) → d < 10 → escape ((digit0 + d) ∷ []) ≡ (digit0 + d) ∷ []
 unfolding escape
 digit-escape d h = rw (digit-plain d h)
 
-more-escape : (s : Bytes) (n : ℕ) → escape s ≡ s → (t : Bool) → ltb n 10 ≡ t → escape (cond t ((48 + n) ∷ []) (s ++ ((48 + n % 10) ∷ []))) ≡ cond t ((48 + n) ∷ []) (s ++ ((48 + n % 10) ∷ []))
+more-escape : (s : Bytes) (n : ℕ) → escape s ≡ s → (t : Bool) → ltb n 10 ≡ t → escape (cond t ((digit0 + n) ∷ []) (s ++ ((digit0 + n % 10) ∷ []))) ≡ cond t ((digit0 + n) ∷ []) (s ++ ((digit0 + n % 10) ∷ []))
 more-escape s n h true e = digit-escape n (ltb-true n 10 e)
-more-escape s n h false e = escape-append s ((48 + n % 10) ∷ []) ∙ rw (h, digit-escape (n % 10) (omega arith))
+more-escape s n h false e = escape-append s ((digit0 + n % 10) ∷ []) ∙ rw (h, digit-escape (n % 10) (omega arith))
 
 digits-escape : (k n : ℕ) → escape (digits k n) ≡ digits k n
 unfolding digits escape
@@ -58,7 +58,7 @@ named-is t name e = named-rec (namedRec t) itemWord name [] refl (rw e)
 
 id-escape : (id : ℕ) → escape (bytes "_v" ++ decimal id) ≡ bytes "_v" ++ decimal id
 unfolding escape escapeByte bytes bytesFrom decimal
-id-escape id = rw (digits-escape 20 id)
+id-escape id = rw (digits-escape maxDigits id)
 
 no-escape : escape (bytes "_") ≡ bytes "_"
 unfolding escape escapeByte bytes bytesFrom

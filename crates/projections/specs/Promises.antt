@@ -21,7 +21,7 @@ use Rattle.context.specs.declared.LowerCtx.{LowerCtx}
 use Rattle.lower.specs.Side.{Side, side}
 use Rattle.lower.specs.Render.{Notes, Ops, BelowOf, keyRecs, aggRecs}
 use Rattle.lower.specs.Shows.{shift}
-use Rattle.lower.specs.Rep.{State, Mem, Written, Blank, Future, Rep, To, Rooted, Moved, Indexes}
+use Rattle.lower.specs.Rep.{State, Mem, Written, Blank, Future, Rep, To, Rooted, Moved, Indexes, passOperators}
 use Rattle.lower.specs.Clauses.{MovedTwice}
 use Rattle.projections.specs.declared.trailers.Trailer.{Trailer}
 use Rattle.projections.specs.declared.trailers.Trailer.the-variants as trailer
@@ -110,7 +110,7 @@ pub record LowersPass (sheet : Bytes) (a b : List ℕ) (n d base i e k : ℕ) (L
   pub up : i ≤ e
   pub here : e ≤ maxRecords
   pub grow : m .ctx .ops ≤ m′ .ctx .ops
-  pub few : m′ .ctx .ops + 2 * i ≤ m .ctx .ops + 2 + 2 * e
+  pub few : m′ .ctx .ops + passOperators * i ≤ m .ctx .ops + 2 + passOperators * e
   pub fresh : m′ .ctx .numbers + i ≤ m .ctx .numbers + e
   pub met : m′ .ctx .mapped + i ≤ m .ctx .mapped + e
   pub in-ops : length (m′ .ops) ≡ length (m .ops)

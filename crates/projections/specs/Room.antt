@@ -1,6 +1,6 @@
 -- The room that clauses have: what it allows of a call below, and how the steps of a clause add up. Assumes nothing.
 use mathlib.Core.Path.{_≡_, refl, _∙_}
-use Prim.Native.Nat.{ℕ, _+_, _*_, _≤_, _<_}
+use Prim.Native.Nat.{ℕ, _+_, _≤_, _<_}
 use native.Mathlib.Nat.{le-refl}
 use native.Mathlib.Omega.{arith}
 use mathlib.Core.List.{List}
@@ -20,7 +20,7 @@ use Rattle.context.specs.declared.op.Op.{Op}
 use Rattle.context.specs.declared.LowerCtx.{LowerCtx}
 use Rattle.lower.specs.Rep.{Mem, mem, atPlace, RoomFor, Moved}
 use Rattle.lower.specs.Clauses.{MovedTwice}
-use Rattle.projections.specs.Ready.{Ready}
+use Rattle.projections.specs.Ready.{Ready, maxFound, maxPassed}
 use Rattle.lower.specs.Patterns.{SomeTrees}
 use Rattle.words.specs.Fits.{trees-fits}
 use Rattle.lower.specs.Pieces.{SomeTree}
@@ -70,7 +70,7 @@ ready-after p g = record { few = omega (arith, p .few, g .few); low = omega (ari
 pub ready-from : {i j : ℕ} {m : Mem} → i ≤ j → j ≤ maxRecords → Ready i m → Ready j m
 ready-from l h g = record { few = omega (arith, g .few); low = omega (arith, g .low); met = omega (arith, g .met); here = h; in-ops = g .in-ops; in-rest = g .in-rest; index = g .index }
 
-pub few : {i : ℕ} {m : Mem} → Ready i m → m .ctx .ops ≤ 8 * maxRecords
+pub few : {i : ℕ} {m : Mem} → Ready i m → m .ctx .ops ≤ maxFound
 few g = omega (arith, g .few, g .here)
 
 -- the numbers of a function that lowers a clause
@@ -78,7 +78,7 @@ pub record Bounds (d i ops : ℕ) : Type 0 where
   pub low : i < maxRecords
   pub deep : 1 ≤ d
   pub shallow : d ≤ deepest
-  pub few : ops ≤ 8 * maxRecords
+  pub few : ops ≤ maxFound
 
 pub bounds-of : {a b : List ℕ} {s : Sort} {d i : ℕ} {m : Mem} → SomeTree a b s d i → Ready i m → d ≤ deepest → Bounds d i (m .ctx .ops)
 bounds-of x g h = record { low = low x; deep = deep x; shallow = h; few = few g }
@@ -101,7 +101,7 @@ twice-pushed p l q lo = record { up = p .up; here = p .here; grow = omega (arith
 -- ── behind one pass over records that are ready ──
 
 module _ {i j e : ℕ} {m m′ : Mem} (g : Ready i m) (p : Moved j e m m′) (l : i ≤ j) where
-  pub few-after : m′ .ctx .ops ≤ 12 * maxRecords
+  pub few-after : m′ .ctx .ops ≤ maxPassed
   few-after = let x = g .few in let y = p .few in let h = p .here in let u = p .up in omega arith
 
   pub ops-after : workWords ≤ length (m′ .ops)
@@ -114,7 +114,7 @@ module _ {o : ℕ} {L : Lowering ℕ} {k i : ℕ} {m m₁ : Mem} (g : Ready i m)
   good-source d l h ld = record { few = omega (arith, g .few, q .few); low = omega (arith, g .low, q .numbers); met = omega (arith, g .met, q .mapped); here = h; in-ops = rw (q .in-ops) (g .in-ops); in-rest = rw (q .rest) (g .in-rest); index = rw (q .mapped, q .rest) (g .index) }
 
   -- its number is small
-  pub few-source : k ≤ 8 * maxRecords
+  pub few-source : k ≤ maxFound
   few-source = omega (arith, g .few, g .here, q .few, q .low)
 
 pub can-source : {i : ℕ} {m : Mem} → Ready i m → (m .ctx .ops < maxCount) × (workWords ≤ length (m .ops))

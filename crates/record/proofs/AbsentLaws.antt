@@ -9,7 +9,7 @@ use borrow.Author.Tests.{ne-eqb}
 use lib.Dec.{eqb, leb}
 use lib.ListN.{length, getD}
 use lib.Seq.{slice}
-use Rattle.model.specs.Text.{Bytes, lineFeed, same, sameBy, decimal, value}
+use Rattle.model.specs.Text.{Bytes, lineFeed, same, sameBy, decimal, value, dash, minus}
 use Rattle.model.specs.Field.{num, u32, numOrAbsent, read, meaning, piece, spell, spellOption, fits, fitsOption, optionValue}
 use Rattle.laws.specs.TextLaws.{same-sound}
 use Rattle.record.specs.declared.Decimal.{Decimal}
@@ -17,7 +17,6 @@ use Rattle.record.specs.declared.OptDecimal.{OptDecimal}
 use Rattle.record.specs.declared.DecimalAt.{DecimalAt}
 use Rattle.record.specs.declared.OptDecimalAt.{OptDecimalAt}
 use Rattle.record.specs.Answer.{decimalOf, optDecimalOf}
-use Rattle.record.specs.Number.{minus, dash}
 use Rattle.record.specs.Place.{Fed, separates, Ends}
 use Rattle.record.specs.InPlace.{NumberAt, OptNumberAt}
 use Rattle.record.proofs.PlaceLaws.{byte-past, byte-fed, byte-alone, ends-next, ends-cons, ends-none}

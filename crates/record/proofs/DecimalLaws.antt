@@ -10,7 +10,7 @@ use borrow.Author.Tests.{le-leb, leb-true, leb-false, lt-ltb, le-ltb, ltb-true, 
 use lib.Dec.{eqb, leb, ltb}
 use lib.ListN.{length, getD}
 use lib.Seq.{slice}
-use Rattle.model.specs.Text.{Bytes, valueOn, value, digits, decimal, lineFeed}
+use Rattle.model.specs.Text.{Bytes, valueOn, value, digits, maxDigits, decimal, lineFeed, digit0, digit9}
 use Rattle.model.specs.Field.{num, u32, u64, read, spell, fits}
 use Rattle.laws.specs.TextLaws.{and-left, and-right}
 use Rattle.laws.specs.NumberLaws.{decimal-value}
@@ -18,7 +18,7 @@ use Rattle.laws.specs.FieldLaws.{limited}
 use Rattle.record.specs.declared.Decimal.{Decimal}
 use Rattle.record.specs.declared.Decimal.the-variants.{Is, Not}
 use Rattle.record.specs.Answer.{decimalOf}
-use Rattle.record.specs.Number.{digit, digit0, digit9, allDigits, digitsOn}
+use Rattle.record.specs.Number.{digit, allDigits, digitsOn}
 use Rattle.record.specs.declared.DecimalAt.{DecimalAt}
 use Rattle.record.specs.Place.{Fed, separates, Ends, EndsAt}
 use Rattle.record.specs.InPlace.{decimalIn, decimalEnd, DigitsAt, NumberAt}
@@ -84,13 +84,13 @@ spelled [] e h = absurd (false≢true e)
 spelled (b ∷ []) e h =
     let d = digit-bounds b e in
     let v : value (b ∷ []) ≡ b - digit0 = unfold valueOn in value-cons b [] in
-    ap (λ n. digits 20 n) v ∙ one-digit b (d .0) (d .1) 19
+    ap (λ n. digits maxDigits n) v ∙ one-digit b (d .0) (d .1) (maxDigits - 1)
 spelled (b ∷ c ∷ s) e h =
     let z = eqb-false b digit0 (not-true (eqb b digit0) (and-left (not (eqb b digit0)) (allDigits (b ∷ c ∷ s)) e)) in
     let a : (digit b && allDigits (c ∷ s)) ≡ true = unfold allDigits in and-right (not (eqb b digit0)) (digit b && allDigits (c ∷ s)) e in
     let d = digit-bounds b (and-left (digit b) (allDigits (c ∷ s)) a) in
-    ap (λ n. digits 20 n) (value-cons b (c ∷ s))
-    ∙ digits-on 19 0 (b - digit0) (c ∷ s) (omega arith) (omega arith) (omega (arith, value-cons b (c ∷ s))) (and-right (digit b) (allDigits (c ∷ s)) a)
+    ap (λ n. digits maxDigits n) (value-cons b (c ∷ s))
+    ∙ digits-on (maxDigits - 1) 0 (b - digit0) (c ∷ s) (omega arith) (omega arith) (omega (arith, value-cons b (c ∷ s))) (and-right (digit b) (allDigits (c ∷ s)) a)
     ∙ ap (λ t. t ++ (c ∷ s)) (one-digit b (d .0) (d .1) 0)
 
 -- ── what is spelled is digits with no spare zero ──
@@ -133,9 +133,9 @@ pub decimal-plain : (n : ℕ) → n ≤ u64 → plain (decimal n) ≡ true
 unfolding decimal
 decimal-plain n h = go (eqb n 0) refl
   where
-    go : (t : Bool) → eqb n 0 ≡ t → plain (digits 20 n) ≡ true
+    go : (t : Bool) → eqb n 0 ≡ t → plain (digits maxDigits n) ≡ true
     go true e = rw (eqb-true n 0 e) (unfold plain digits in refl)
-    go false e = let z = eqb-false n 0 e in lead-plain (digits 20 n) (digits-lead 19 n (omega arith) (omega arith))
+    go false e = let z = eqb-false n 0 e in lead-plain (digits maxDigits n) (digits-lead (maxDigits - 1) n (omega arith) (omega arith))
 
 -- ── what is read ──
 

@@ -8,11 +8,11 @@ use native.Mathlib.Omega.{arith}
 use borrow.Author.Tests.{eqb-true, eqb-false, ne-eqb, ltb-true, ltb-false, leb-true}
 use lib.Dec.{eqb, ltb}
 use lib.ListN.{length}
-use Rattle.model.specs.Text.{Bytes, same, sameBy, digits, decimal, valueOn}
+use Rattle.model.specs.Text.{Bytes, same, sameBy, digits, decimal, valueOn, digit0, digit1, digit9}
 use Rattle.model.specs.Field.{num, flag, read, meaning, piece, spell, spellFlag, fits}
 use Rattle.record.specs.declared.Decimal.{Decimal}
 use Rattle.record.specs.Answer.{decimalOf, flagOf}
-use Rattle.record.specs.Number.{digit0, digit1, digit9, allDigits, digitsOn}
+use Rattle.record.specs.Number.{allDigits, digitsOn}
 use Rattle.record.proofs.ReadLaws.{refused, piece-is}
 use Rattle.record.proofs.GatherLaws.{byte-below, byte-above, byte-over}
 use Rattle.record.proofs.DecimalLaws.{none-of, one-of}

@@ -9,11 +9,11 @@ use borrow.Author.Tests.{le-leb, lt-leb}
 use lib.Dec.{leb}
 use lib.ListN.{length, drop, getD, drop-of-length-le}
 use lib.Seq.{slice, drop-cons}
-use Rattle.model.specs.Text.{Bytes, valueOn}
+use Rattle.model.specs.Text.{Bytes, valueOn, digit0, digit9}
 use Rattle.record.specs.declared.Decimal.{Decimal}
 use Rattle.record.specs.declared.Decimal.the-variants.{Is, Not}
 use Rattle.record.specs.declared.DecimalAt.{DecimalAt}
-use Rattle.record.specs.Number.{digit0, digit9, allDigits, digitsOn}
+use Rattle.record.specs.Number.{allDigits, digitsOn}
 use Rattle.record.specs.Place.{Fed, separates, Ends}
 use Rattle.record.specs.InPlace.{DigitsAt}
 use Rattle.record.proofs.PlaceLaws.{separates-other, no-feed, fed-on, Along, along-start, along-on, along-back, along-ends, ends-here, ends-cons, ends-none}

@@ -7,18 +7,17 @@ use Prim.Native.Nat.{ℕ, zero, suc, _+_, _*_, _-_, _/_, _%_, _^_, _≤_, _<_}
 use native.Mathlib.Nat.{pow-suc, pow-le-pow-right, add-zero}
 use native.Mathlib.Numerals.{add-one}
 use native.Mathlib.Omega.{arith}
-use borrow.Author.Tests.{le-leb, lt-ltb, le-ltb, ltb-true, ltb-false}
+use borrow.Author.Tests.{lt-leb, le-leb, lt-ltb, le-ltb, ltb-true, ltb-false}
 use lib.Dec.{ltb}
 use lib.ListN.{length, drop, getD, drop-of-length-le, length-append}
 use lib.Seq.{drop-cons}
-use Rattle.model.specs.Text.{Bytes, hexDigit, hexDigits, hexDigitValue, hexValueOn}
-use Rattle.model.specs.Field.{float, u64, read, spell, fits}
+use Rattle.model.specs.Text.{Bytes, hexDigit, hexDigits, hexDigitValue, hexValueOn, digit0, digit9, letterBase}
+use Rattle.model.specs.Field.{float, floatDigits, u64, read, spell, fits}
 use Rattle.laws.specs.TextLaws.{and-left, and-right}
 use Rattle.laws.specs.FieldLaws.{limited}
 use Rattle.record.specs.declared.Decimal.{Decimal}
 use Rattle.record.specs.Answer.{decimalOf}
-use Rattle.record.specs.Number.{digit0, digit9}
-use Rattle.record.specs.Hex.{hexBase, before0, beforeA, letterF, letterBase, digit, allHex, hexOn}
+use Rattle.record.specs.Hex.{hexBase, before0, beforeA, letterF, digit, allHex, hexOn}
 use Rattle.record.proofs.ReadLaws.{accepted, refused, piece-is}
 
 -- ── one digit ──
@@ -27,7 +26,7 @@ use Rattle.record.proofs.ReadLaws.{accepted, refused, piece-is}
 data Range (b : ℕ) : Type 0 where
   number : before0 < b → b ≤ digit9 → digit b ≡ b - digit0 → Range b
   letter : beforeA < b → b ≤ letterF → digit b ≡ b - letterBase → Range b
-  other : digit b ≡ 16 → Range b
+  other : digit b ≡ hexBase → Range b
 
 range : (b : ℕ) → Range b
 unfolding digit
@@ -46,8 +45,8 @@ unfolding hexDigitValue
 digit-value b h = go (range b)
   where
     go : Range b → hexDigitValue b ≡ digit b
-    go (number l u e) = rw (e, lt-ltb b 58 (omega arith))
-    go (letter l u e) = rw (e, le-ltb b 58 (omega arith))
+    go (number l u e) = rw (e, le-leb b digit9 (omega arith))
+    go (letter l u e) = rw (e, lt-leb b digit9 (omega arith))
     go (other e) = absurd (omega arith)
 
 digit-spells : (b : ℕ) → digit b < hexBase → hexDigit (digit b) ≡ b
@@ -59,11 +58,11 @@ digit-spells b h = go (range b)
     go (letter l u e) = rw (e, le-ltb (b - letterBase) 10 (omega arith)) (omega arith)
     go (other e) = absurd (omega arith)
 
-digit-of : (d : ℕ) → d < 16 → digit (hexDigit d) < 16
+digit-of : (d : ℕ) → d < hexBase → digit (hexDigit d) < hexBase
 unfolding hexDigit digit
 digit-of d h = go (ltb d 10) refl
   where
-    go : (t : Bool) → ltb d 10 ≡ t → digit (hexDigit d) < 16
+    go : (t : Bool) → ltb d 10 ≡ t → digit (hexDigit d) < hexBase
     go true e =
         let k = ltb-true d 10 e in
         rw e (rw (le-ltb letterF (digit0 + d) (omega arith), le-ltb beforeA (digit0 + d) (omega arith), le-ltb digit9 (digit0 + d) (omega arith), lt-ltb before0 (digit0 + d) (omega arith)) (omega arith))
@@ -84,7 +83,7 @@ all-tail b s e = and-right (ltb (digit b) hexBase) (allHex s) e
 all-snoc : (s : Bytes) (b : ℕ) → allHex s ≡ true → digit b < hexBase → allHex (s ++ (b ∷ [])) ≡ true
 unfolding allHex
 all-snoc [] b e h = rw (lt-ltb (digit b) hexBase h)
-all-snoc (a ∷ s) b e h = rw (lt-ltb (digit a) 16 (all-head a s e), all-snoc s b (all-tail a s e) h)
+all-snoc (a ∷ s) b e h = rw (lt-ltb (digit a) hexBase (all-head a s e), all-snoc s b (all-tail a s e) h)
 
 -- one digit more
 step : (j v b : ℕ) → digit b < hexBase → hexDigits (suc j) (v * 16 + hexDigitValue b) ≡ hexDigits j v ++ (b ∷ [])
@@ -127,7 +126,7 @@ no-digits : (n : ℕ) → hexDigits 0 n ≡ []
 unfolding hexDigits
 no-digits n = refl
 
-spelled : (s : Bytes) → length s ≡ 16 → allHex s ≡ true → hexDigits 16 (hexValueOn 0 s) ≡ s
+spelled : (s : Bytes) → length s ≡ floatDigits → allHex s ≡ true → hexDigits floatDigits (hexValueOn 0 s) ≡ s
 spelled s h e = rw (h, no-digits 0) at (hex-on 0 0 s e)
 
 hexOn-cons : (v b : ℕ) (s : Bytes) → digit b < hexBase → hexOn v (b ∷ s) ≡ hexOn (v * 16 + digit b) s
@@ -137,21 +136,21 @@ hexOn-cons v b s h = rw (lt-ltb (digit b) hexBase h) (ap (λ x. hexOn (v * 16 + 
 -- ── what is read ──
 
 module _ (s : Bytes) where
-  float-none : (length s ≡ 16 → ⊥) → read float (s ∷ []) ≡ none
+  float-none : (length s ≡ floatDigits → ⊥) → read float (s ∷ []) ≡ none
   unfolding spell
-  float-none h = refused float (s ∷ []) (λ n t f. h (sym (ap length (piece-is t)) ∙ spelled-length 16 n))
+  float-none h = refused float (s ∷ []) (λ n t f. h (sym (ap length (piece-is t)) ∙ spelled-length floatDigits n))
 
   float-bad : allHex s ≡ false → read float (s ∷ []) ≡ none
   unfolding spell
-  float-bad e = refused float (s ∷ []) (λ n t f. false≢true (sym e ∙ (rw (piece-is t) at (spelled-hex 16 n))))
+  float-bad e = refused float (s ∷ []) (λ n t f. false≢true (sym e ∙ (rw (piece-is t) at (spelled-hex floatDigits n))))
 
-  float-read : length s ≡ 16 → allHex s ≡ true → read float (s ∷ []) ≡ some (hexValueOn 0 s)
+  float-read : length s ≡ floatDigits → allHex s ≡ true → read float (s ∷ []) ≡ some (hexValueOn 0 s)
   unfolding spell fits limited
   float-read h e =
       let b : hexValueOn 0 s < 16 ^ (0 + length s) = hex-bound 0 0 s e (omega arith) in
       accepted float (s ∷ []) refl (hexValueOn 0 s) (ap (λ t. t ∷ []) (spelled s h e)) (le-leb (hexValueOn 0 s) u64 (omega (arith, rw h at b)))
 
-  float-answer : length s ≡ 16 → hexOn 0 s ≡ decimalOf (read float (s ∷ []))
+  float-answer : length s ≡ floatDigits → hexOn 0 s ≡ decimalOf (read float (s ∷ []))
   unfolding hexOn
   float-answer h = go (allHex s) refl
     where
@@ -161,10 +160,10 @@ module _ (s : Bytes) where
 
   -- ── the code ──
 
-  pub hex-not : (length s ≡ 16 → ⊥) → Decimal.Not ≡ decimalOf (read float (s ∷ []))
+  pub hex-not : (length s ≡ floatDigits → ⊥) → Decimal.Not ≡ decimalOf (read float (s ∷ []))
   hex-not h = rw (float-none h)
 
-  module _ (n : length s ≡ 16) (i v : ℕ) (inv : hexOn v (drop i s) ≡ hexOn 0 s) where
+  module _ (n : length s ≡ floatDigits) (i v : ℕ) (inv : hexOn v (drop i s) ≡ hexOn 0 s) where
     pub hex-of : length s ≤ i → Decimal.Is v ≡ decimalOf (read float (s ∷ []))
     unfolding hexOn allHex hexValueOn
     hex-of h = (rw (drop-of-length-le s h) at inv) ∙ float-answer n
@@ -172,14 +171,14 @@ module _ (s : Bytes) where
     module _ (h : i < length s) (d : ℕ) (e : d ≡ digit (getD s i 0)) where
       pub hex-bad : hexBase ≤ d → Decimal.Not ≡ decimalOf (read float (s ∷ []))
       unfolding hexOn allHex
-      hex-bad k = (rw (drop-cons s i 0 h, ← e, le-ltb d 16 k) at inv) ∙ float-answer n
+      hex-bad k = (rw (drop-cons s i 0 h, ← e, le-ltb d hexBase k) at inv) ∙ float-answer n
 
       pub hex-more : d < hexBase → hexOn (v * 16 + d) (drop (i + 1) s) ≡ hexOn 0 s
       hex-more k = rw (add-one i, e) (sym (hexOn-cons v (getD s i 0) (drop (suc i) s) (omega arith)) ∙ (rw (drop-cons s i 0 h) at inv))
 
 -- the number fits as long as there are digits to come
-pub room : (i v : ℕ) → i < 16 → v < 16 ^ i → v ≤ 1152921504606846975
-room i v h k = omega (arith, pow-le-pow-right {n = 16} (omega arith) {i = i} {j = 15} (omega arith))
+pub room : (i v : ℕ) → i < floatDigits → v < 16 ^ i → v < 16 ^ (floatDigits - 1)
+room i v h k = omega (arith, pow-le-pow-right {n = 16} (omega arith) {i = i} {j = floatDigits - 1} (omega arith))
 
 pub grown : (i v d : ℕ) → v < 16 ^ i → d < hexBase → v * 16 + d < 16 ^ (i + 1)
 grown i v d h k = rw (add-one i) (omega (arith, pow-suc 16 i))

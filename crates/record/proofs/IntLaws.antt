@@ -12,7 +12,7 @@ use lib.ListN.{length, getD, take, drop}
 use mir.Syntax.{w64}
 use mir.Val.{toZ, ofZ, SFits}
 use mir.ValLaws.{toZ-pos, toZ-ofZ}
-use Rattle.model.specs.Text.{Bytes, same, sameBy, digits, decimal, value, signed, signedValue}
+use Rattle.model.specs.Text.{Bytes, same, sameBy, digits, decimal, value, signed, signedValue, minus}
 use Rattle.model.specs.Field.{num, int, u64, i64, read, meaning, piece, spell, fits, fitsInt}
 use Rattle.laws.specs.TextLaws.{each-head}
 use Rattle.laws.specs.NumberLaws.{decimal-value, decimal-free}
@@ -20,7 +20,7 @@ use Rattle.laws.specs.FieldLaws.{limited, read-spell}
 use Rattle.record.specs.declared.Decimal.{Decimal}
 use Rattle.record.specs.declared.Signed.{Signed}
 use Rattle.record.specs.Answer.{decimalOf, signedOf}
-use Rattle.record.specs.Number.{minus, mostBelow}
+use Rattle.record.specs.Number.{mostBelow}
 use Rattle.record.specs.AnswerLaws.{numberIn, decimal-read}
 use Rattle.record.proofs.ReadLaws.{accepted, refused, piece-is, headed}
 

@@ -9,12 +9,11 @@ use borrow.Author.Tests.{eq-eqb, ne-eqb}
 use lib.Dec.{eqb}
 use lib.ListN as ListN
 use lib.ListN.{getD}
-use Rattle.model.specs.Text.{Bytes, bytesFrom, bytes, same, sameBy}
+use Rattle.model.specs.Text.{Bytes, bytesFrom, bytes, same, sameBy, dash}
 use Rattle.model.specs.Field.{Single, Variable, numOrAbsent, length, u64, read, meaning, piece, spell, spellOption, spellLength, fits, fitsOption, fitsLength, optionValue, lengthValue}
 use Rattle.laws.specs.TextLaws.{same-sound}
 use Rattle.record.specs.declared.OptDecimal.{OptDecimal}
 use Rattle.record.specs.Answer.{isRead, optDecimalOf}
-use Rattle.record.specs.Number.{dash}
 
 -- ── three letters ──
 

@@ -9,13 +9,12 @@ use borrow.Author.Tests.{eqb-true, eq-eqb, ne-eqb, not-true, not-false}
 use lib.Dec.{eqb}
 use lib.ListN.{getD}
 use lib.Seq.{slice}
-use Rattle.model.specs.Text.{Bytes, tab, lineFeed, backslash, same, sameBy, escape, escapeByte, unescape, unescapeOn, unescapeByte, meant}
+use Rattle.model.specs.Text.{Bytes, tab, lineFeed, backslash, same, sameBy, escape, escapeByte, unescape, unescapeOn, unescapeByte, meant, dash, equals, letterN, letterT, minus}
 use Rattle.model.specs.Field.{read, text, alias, meaning, piece, spell, spellAlias, aliasValue, fits}
 use Rattle.record.specs.declared.AliasAt.{AliasAt}
 use Rattle.record.specs.declared.TextAt.{TextAt}
 use Rattle.record.specs.Answer.{isRead, aliasOf}
-use Rattle.record.specs.Number.{minus, dash}
-use Rattle.record.specs.Name.{Seen, Plain, Escape, Bad, CharAt, bare-one, escaped, broken, equals, letterN, letterT, bare, letter, step, seenOn, isPlain}
+use Rattle.record.specs.Name.{Seen, Plain, Escape, Bad, CharAt, bare-one, escaped, broken, bare, letter, step, seenOn, isPlain}
 use Rattle.record.specs.Place.{Fed, separates, Ends}
 use Rattle.record.specs.InPlace.{isText, NameAt, AliasReadAt}
 use Rattle.record.proofs.PlaceLaws.{separates-other, no-feed, fed-on, byte-past, byte-fed, Along, along-start, along-on, along-back, along-ends, ends-here, ends-next, ends-cons, ends-none}

@@ -6,12 +6,11 @@ use mathlib.Core.Option.{Option, none, some}
 use Prim.Native.Nat.{ℕ}
 use native.Mathlib.Omega.{arith}
 use lib.IntN.{ℤ}
-use Rattle.model.specs.Text.{Bytes, same, sameBy, unescape}
+use Rattle.model.specs.Text.{Bytes, same, sameBy, unescape, dash}
 use Rattle.model.specs.Field.{Form, Val, num, var, varOrAbsent, numOrAbsent, text, alias, u32, read, meaning, piece, spell, fits, aliasValue}
 use Rattle.record.specs.declared.Decimal.{Decimal}
 use Rattle.record.specs.declared.OptDecimal.{OptDecimal}
 use Rattle.record.specs.declared.Signed.{Signed}
-use Rattle.record.specs.Number.{dash}
 use Rattle.record.specs.Answer.{isRead, decimalOf, optDecimalOf, signedOf, aliasOf}
 
 -- an id is a number of 32 bits

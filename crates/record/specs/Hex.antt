@@ -3,8 +3,7 @@ use Prim.Native.Nat.{ℕ, _-_}
 use mathlib.Core.Bool.{Bool, true, cond, _&&_}
 use mathlib.Core.List.{[], _∷_}
 use lib.Dec.{ltb}
-use Rattle.model.specs.Text.{Bytes, hexValueOn}
-use Rattle.record.specs.Number.{digit0, digit9}
+use Rattle.model.specs.Text.{Bytes, hexValueOn, digit0, digit9, letterBase}
 use Rattle.record.specs.declared.Decimal.{Decimal}
 
 abbrev pub before0 : ℕ
@@ -15,10 +14,6 @@ beforeA = 96
 
 abbrev pub letterF : ℕ
 letterF = 102
-
--- a letter's byte is so far above its value
-abbrev pub letterBase : ℕ
-letterBase = 87
 
 -- the value of a digit is below this; that of a byte that is none is this
 abbrev pub hexBase : ℕ

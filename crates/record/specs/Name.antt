@@ -5,7 +5,7 @@ use mathlib.Core.Bool.{Bool, true, false, cond}
 use mathlib.Core.List.{[], _∷_}
 use lib.Dec.{eqb}
 use lib.ListN.{getD}
-use Rattle.model.specs.Text.{Bytes, tab, lineFeed, backslash}
+use Rattle.model.specs.Text.{Bytes, tab, lineFeed, backslash, letterN, letterT}
 
 -- what the bytes before have come to: nothing open, a backslash that waits for its letter, or a byte that may not stand there
 pub data Seen : Type 0 where
@@ -16,16 +16,6 @@ pub data Seen : Type 0 where
 -- no tab and no line feed stands bare
 unfoldable pub bare : ℕ → Seen
 bare b = cond (eqb b tab) Bad (cond (eqb b lineFeed) Bad (cond (eqb b backslash) Escape Plain))
-
--- what a name that is given stands behind
-abbrev pub equals : ℕ
-equals = 61
-
-abbrev pub letterN : ℕ
-letterN = 110
-
-abbrev pub letterT : ℕ
-letterT = 116
 
 -- behind a backslash stands one of three letters
 unfoldable pub letter : ℕ → Seen

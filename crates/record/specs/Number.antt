@@ -3,29 +3,13 @@ use Prim.Native.Nat.{ℕ}
 use mathlib.Core.Bool.{Bool, true, cond, _&&_}
 use mathlib.Core.List.{[], _∷_}
 use lib.Dec.{leb}
-use Rattle.model.specs.Text.{Bytes, valueOn}
+use Rattle.model.specs.Text.{Bytes, valueOn, digit0, digit9}
 use Rattle.record.specs.declared.Decimal.{Decimal}
 use Rattle.record.specs.declared.Decimal.the-variants.{Is, Not}
-
-abbrev pub minus : ℕ
-minus = 45
-
-abbrev pub digit0 : ℕ
-digit0 = 48
-
-abbrev pub digit1 : ℕ
-digit1 = 49
-
-abbrev pub digit9 : ℕ
-digit9 = 57
 
 -- the size of the smallest signed number of 64 bits
 abbrev pub mostBelow : ℕ
 mostBelow = 9223372036854775808
-
--- what stands for something absent
-abbrev pub dash : Bytes
-dash = minus ∷ []
 
 abbrev pub digit : ℕ → Bool
 digit b = leb digit0 b && leb b digit9

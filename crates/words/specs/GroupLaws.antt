@@ -6,8 +6,8 @@ use mathlib.Core.Bool.{Bool, true, false, cond, _&&_}
 use mathlib.Core.List.{List, [], _∷_, _++_, append-assoc}
 use mathlib.Core.Option.{some}
 use native.Mathlib.Omega.{arith}
-use borrow.Author.Tests.{ltb-true, le-ltb, eqb-true}
-use lib.Dec.{eqb, ltb}
+use borrow.Author.Tests.{ltb-true, le-ltb, leb-true, eqb-true}
+use lib.Dec.{eqb, ltb, leb}
 use lib.Seq.{slice, getD-take, getD-drop}
 use lib.ListN.{length, getD, take, replicate, length-append, length-replicate, replicate-append-replicate}
 use Rattle.words.specs.Places.{kindCount, sortCount, withKind, returnKind, nodeKind, relKind, sliceKind, caseKind, listPredicateKind}
@@ -16,41 +16,41 @@ use Rattle.model.specs.Kind.{Sort, Kind, Clause, PatternElement, Same, Expr, cl
 use Rattle.model.specs.Record.{Group, one, forms, kinds, sames, children}
 use Rattle.words.specs.Words.{part, cell, firstKind, kindOf, fieldOf, fieldsOf, recordWords, firstRecords}
 use Rattle.words.specs.Held.{Flags, total}
-use Rattle.words.specs.Table.{groupCount, groupNumbers, sorts, sortOf, groupSort, groupSource, groupsFrom, groupsOf}
+use Rattle.words.specs.Table.{groupCount, sourceCount, groupNumbers, sorts, sortOf, groupSort, groupSource, groupsFrom, groupsOf}
 use Rattle.words.specs.TableLaws.{and-left, and-right, passesTo, passes-at, Rows, done, _▸_, kind-row}
 
 -- ── entries of the table ──
 
 -- group by group, the sort is one of eleven and the source is a count or a field
 entryTest : ℕ → Bool
-entryTest i = ltb (groupSort (i / 5) (i % 5)) sortCount && ltb (groupSource (i / 5) (i % 5)) 8
+entryTest i = ltb (groupSort (i / groupCount) (i % groupCount)) sortCount && ltb (groupSource (i / groupCount) (i % groupCount)) sourceCount
 
-pub entries-low : (n g : ℕ) → n < kindCount → g < groupCount → (groupSort n g < sortCount) × (groupSource n g < 8)
+pub entries-low : (n g : ℕ) → n < kindCount → g < groupCount → (groupSort n g < sortCount) × (groupSource n g < sourceCount)
 unfolding entryTest passesTo
 entries-low n g h k =
-    let over : (n * 5 + g) / 5 ≡ n = mul-add-div-right (omega arith) n g ∙ rw (div-eq-of-lt k) (add-zero n) in
-    let left : (n * 5 + g) % 5 ≡ g = mul-add-mod-self-right n 5 g ∙ mod-eq-of-lt k in
-    let test : (ltb (groupSort n g) sortCount && ltb (groupSource n g) 8) ≡ true = rw (over, left) at (passes-at entryTest (kindCount * groupCount) refl (n * 5 + g) (omega arith)) in
-    (ltb-true (groupSort n g) sortCount (and-left _ _ test), ltb-true (groupSource n g) 8 (and-right (ltb (groupSort n g) sortCount) _ test))
+    let over : (n * groupCount + g) / groupCount ≡ n = mul-add-div-right (omega arith) n g ∙ rw (div-eq-of-lt k) (add-zero n) in
+    let left : (n * groupCount + g) % groupCount ≡ g = mul-add-mod-self-right n groupCount g ∙ mod-eq-of-lt k in
+    let test : (ltb (groupSort n g) sortCount && ltb (groupSource n g) sourceCount) ≡ true = rw (over, left) at (passes-at entryTest (kindCount * groupCount) refl (n * groupCount + g) (omega arith)) in
+    (ltb-true (groupSort n g) sortCount (and-left _ _ test), ltb-true (groupSource n g) sourceCount (and-right (ltb (groupSort n g) sortCount) _ test))
 
 -- kind by kind, the groups behind its last are groups of none
 behindTest : ℕ → Bool
-behindTest i = cond (ltb (i % 5) (getD groupNumbers (i / 5) 0)) true (eqb (groupSource (i / 5) (i % 5)) 0)
+behindTest i = cond (ltb (i % groupCount) (getD groupNumbers (i / groupCount) 0)) true (eqb (groupSource (i / groupCount) (i % groupCount)) 0)
 
 pub none-behind : (n g : ℕ) → n < kindCount → getD groupNumbers n 0 ≤ g → g < groupCount → groupSource n g ≡ 0
 unfolding behindTest passesTo
 none-behind n g h b k =
-    let over : (n * 5 + g) / 5 ≡ n = mul-add-div-right (omega arith) n g ∙ rw (div-eq-of-lt k) (add-zero n) in
-    let left : (n * 5 + g) % 5 ≡ g = mul-add-mod-self-right n 5 g ∙ mod-eq-of-lt k in
-    let test : cond (ltb g (getD groupNumbers n 0)) true (eqb (groupSource n g) 0) ≡ true = rw (over, left) at (passes-at behindTest (kindCount * groupCount) refl (n * 5 + g) (omega arith)) in
+    let over : (n * groupCount + g) / groupCount ≡ n = mul-add-div-right (omega arith) n g ∙ rw (div-eq-of-lt k) (add-zero n) in
+    let left : (n * groupCount + g) % groupCount ≡ g = mul-add-mod-self-right n groupCount g ∙ mod-eq-of-lt k in
+    let test : cond (ltb g (getD groupNumbers n 0)) true (eqb (groupSource n g) 0) ≡ true = rw (over, left) at (passes-at behindTest (kindCount * groupCount) refl (n * groupCount + g) (omega arith)) in
     eqb-true (groupSource n g) 0 (rw (le-ltb g (getD groupNumbers n 0) b) at test)
 
 numberTest : ℕ → Bool
-numberTest n = ltb (getD groupNumbers n 0) 6
+numberTest n = leb (getD groupNumbers n 0) groupCount
 
 pub groups-few : (n : ℕ) → n < kindCount → getD groupNumbers n 0 ≤ groupCount
 unfolding numberTest passesTo
-groups-few n h = let low : getD groupNumbers n 0 < 6 = ltb-true _ 6 (passes-at numberTest kindCount refl n h) in omega arith
+groups-few n h = leb-true _ groupCount (passes-at numberTest kindCount refl n h)
 
 -- word c of a record's sixteen
 pub part-cell : (a b : List ℕ) (i c : ℕ) → c < recordWords → getD (part a b i) c 0 ≡ cell a b i c

@@ -27,10 +27,18 @@ first = stmtKind ∷ armKind ∷ matchKind ∷ itemKind ∷ keyKind ∷ partKind
 
 -- ── keywords ──
 
+-- a byte has so many values
+abbrev pub byteValues : ℕ
+byteValues = 256
+
+-- no keyword has more bytes
+abbrev pub maxKeyword : ℕ
+maxKeyword = 7
+
 -- bytes as digits behind a number
 unfoldable pub packOn : ℕ → Bytes → ℕ
 packOn v [] = v
-packOn v (b ∷ s) = packOn (v * 256 + b) s
+packOn v (b ∷ s) = packOn (v * byteValues + b) s
 
 unfoldable pub packed : Bytes → ℕ
 packed s = packOn 1 s
@@ -91,9 +99,13 @@ inDigits ds = digitsOn 0 ds
 
 -- ── fields ──
 
+-- the last binary operator
+abbrev pub lastBinary : ℕ
+lastBinary = 19
+
 -- the numbers' limits, from the code of a number on
 abbrev pub limits : List ℕ
-limits = u32 ∷ 1 ∷ 2 ∷ 3 ∷ 19 ∷ []
+limits = u32 ∷ 1 ∷ 2 ∷ 3 ∷ lastBinary ∷ []
 
 -- so many
 abbrev pub limitCount : ℕ
@@ -106,6 +118,10 @@ otherForms = flag ∷ flag ∷ var ∷ varOrAbsent ∷ int ∷ float ∷ text �
 unfoldable pub formOf : ℕ → Form
 unfolding otherForms
 formOf c = cond (ltb c numberForm) (getD otherForms c flag) (num (getD limits (c - numberForm) 0))
+
+-- a record has at most so many fields
+abbrev pub maxFields : ℕ
+maxFields = 6
 
 -- a row of forms has so many codes
 abbrev pub fieldCount : ℕ
@@ -239,9 +255,20 @@ groupSort n g = getD (getD groups n []) (g * 2) 0
 abbrev pub groupSource : ℕ → ℕ → ℕ
 groupSource n g = getD (getD groups n []) (g * 2 + 1) 0
 
--- a small source is itself the count; from 3 on it is the first word of field 0, 1, ..
+-- a source is below this
+abbrev pub sourceCount : ℕ
+sourceCount = 8
+
+-- a source below this is itself the count; from it on it stands for field 0, 1, ..
+abbrev pub fixedSources : ℕ
+fixedSources = 3
+
+-- twice such a source less this is the place of the field's first word
+abbrev pub sourceShift : ℕ
+sourceShift = 4
+
 abbrev pub countOf : List ℕ → ℕ → ℕ
-countOf ws c = cond (ltb c 3) c (getD ws (c + c - 4) 0)
+countOf ws c = cond (ltb c fixedSources) c (getD ws (c + c - sourceShift) 0)
 
 -- group g of a record of kind n
 abbrev pub groupAt : ℕ → List ℕ → ℕ → Group

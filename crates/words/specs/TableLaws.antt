@@ -14,7 +14,7 @@ use Rattle.model.specs.Kind.{Sort, Kind}
 use Rattle.model.specs.Record.{forms, kinds, sames, keyword, sameKeyword, exprKeyword, clauseKeyword, elementKeyword}
 use Rattle.words.specs.Words.{firstKind, nth, kindOf}
 use Rattle.words.specs.Places.{kindCount, sortCount, formCount}
-use Rattle.words.specs.Table.{fieldCount, sorts, sortOf, first, packOn, packed, keys, codes, codeAt, otherForms, formOf, formsIn, formsFrom, formsAt}
+use Rattle.words.specs.Table.{fieldCount, maxFields, maxKeyword, byteValues, sorts, sortOf, first, packOn, packed, keys, codes, codeAt, otherForms, formOf, formsIn, formsFrom, formsAt}
 
 -- both of two tests pass
 pub and-left : (a b : Bool) → (a && b) ≡ true → a ≡ true
@@ -36,9 +36,9 @@ below-at m [] e i h = absurd (omega arith)
 below-at m (b ∷ s) e zero h = ltb-true b m (and-left (ltb b m) (eachBelow m s) e)
 below-at m (b ∷ s) e (suc i) h = below-at m s (and-right (ltb b m) (eachBelow m s) e) i (omega arith)
 
--- at most seven bytes
+-- bytes, and few enough for a keyword
 unfoldable pub short : Bytes → Bool
-short s = leb (length s) 7 && eachBelow 256 s
+short s = leb (length s) maxKeyword && eachBelow byteValues s
 
 -- row n of the tables is that of a kind
 pub record Row (s : Sort) (n : ℕ) (k : Kind s) : Type 0 where
@@ -101,14 +101,14 @@ passes-at f (suc n) e i h = go (λ k. passes-at f n (and-right (f n) (passesTo f
     go r true q = rw (eqb-true i n q) (and-left (f n) (passesTo f n) e)
     go r false q = r (omega (arith, eqb-false i n q))
 
--- row n has seven codes, each below 15, and at most six forms
+-- row n has its codes, each of a form, and not too many forms
 pub record CodeRow (n : ℕ) : Type 0 where
   pub long : length (getD codes n []) ≡ fieldCount
   pub low : (g : ℕ) → g < fieldCount → codeAt n g < formCount
-  pub few : length (formsAt n) ≤ 6
+  pub few : length (formsAt n) ≤ maxFields
 
 rowTest : ℕ → Bool
-rowTest n = eqb (length (getD codes n [])) fieldCount && (eachBelow formCount (getD codes n []) && leb (length (formsAt n)) 6)
+rowTest n = eqb (length (getD codes n [])) fieldCount && (eachBelow formCount (getD codes n []) && leb (length (formsAt n)) maxFields)
 
 pub code-row : (n : ℕ) → n < kindCount → CodeRow n
 unfolding rowTest passesTo eachBelow formsAt formsFrom formsIn formOf otherForms
@@ -119,7 +119,7 @@ code-row n h =
     record {
       long = long;
       low = λ g k. below-at formCount (getD codes n []) (and-left _ _ rest) g (omega (arith, long));
-      few = leb-true (length (formsAt n)) 6 (and-right (eachBelow formCount (getD codes n [])) _ rest);
+      few = leb-true (length (formsAt n)) maxFields (and-right (eachBelow formCount (getD codes n [])) _ rest);
     }
 
 -- ── a kind by its number ──

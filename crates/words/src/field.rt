@@ -61,8 +61,6 @@ pub const PROJECTION_SPAN: usize = 12;
 // of what stands below clauses
 pub const ITEM_ALIAS: usize = 2;
 
-pub const KEY_DESCENDING: usize = 2;
-
 pub const YIELD_NAME: usize = 2;
 
 pub const YIELD_VAR: usize = 4;

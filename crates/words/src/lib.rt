@@ -29,6 +29,9 @@ pub const WORK_WORDS: usize = 16384;
 // The first lowering takes trees of at most this depth; `stmt` has depth 1.
 pub const MAX_DEPTH: usize = 64;
 
+// A byte has so many values.
+pub const BYTE_VALUES: u64 = 256;
+
 // The largest number of 32 bits.
 pub const MAX_U32: u64 = 4294967295;
 

@@ -1,4 +1,4 @@
-// The sorts of records, by number: what may stand at a place of a sheet.
+// The sorts of records, by number: what may stand at a place of a sheet. The next one, 10, is an expression: what is left where all of these are told apart.
 
 pub const STATEMENT: u32 = 0;
 
@@ -19,5 +19,3 @@ pub const NAME: u32 = 7;
 pub const YIELD_ITEM: u32 = 8;
 
 pub const ENTRY: u32 = 9;
-
-pub const EXPR: u32 = 10;

@@ -75,6 +75,9 @@ pub fn form_code(kind: usize, g: usize) -> u32
     ((row >> (TOP_FORM - DIGIT_BITS * g)) % DIGITS) as u32
 }
 
+// The last binary operator.
+const LAST_BINARY: u64 = 19;
+
 // The limits of the numbers, by how far a code is above that of a number.
 pub fn limit(code: u32) -> u64
     requires { ⌜ code < limitCount ⌝ }
@@ -85,7 +88,7 @@ pub fn limit(code: u32) -> u64
         1 => 1,
         2 => 2,
         3 => 3,
-        _ => 19,
+        _ => LAST_BINARY,
     }
 }
 

@@ -5,9 +5,6 @@ use Rattle.plan_writer.specs.Whole.{answerOf}
 use Rattle.output.specs.Whole.{refuses, accepts}
 use Rattle.plan_writer.proofs.write_plan.Statement.{statement}
 use Rattle.plan_writer.proofs.write_plan.Tie as tie
-use Rattle.plan_writer.proofs.write_plan.Reads as reads
-use Rattle.plan_writer.proofs.write_plan.Lts as lts
-use Rattle.plan_writer.proofs.write_sheet.Reads as write-sheet-reads
 
 returns : tie.Need-returns
 unfolding answerOf

@@ -4,8 +4,6 @@ use Rattle.plan_sheet.proofs.BehindLaws
 use borrow.Author.Needs.{needs}
 use Rattle.plan_sheet.proofs.behind.first_of.Statement.{statement}
 use Rattle.plan_sheet.proofs.behind.first_of.Tie as tie
-use Rattle.plan_sheet.proofs.behind.first_of.Reads as reads
-use Rattle.plan_sheet.proofs.behind.first_of.Lts as lts
 
 -- src/behind.rt:48:14
 add-result : tie.Need-add-result

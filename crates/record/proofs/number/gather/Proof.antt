@@ -3,7 +3,8 @@ use native.Mathlib.Omega.{arith}
 use mathlib.Core.Path.{_≡_, refl}
 use Prim.Native.Nat.{_+_, _*_, _-_, _≤_, _<_}
 use lib.ListN.{length, drop}
-use Rattle.record.specs.Number.{digit0, digitsOn}
+use Rattle.model.specs.Text.{digit0}
+use Rattle.record.specs.Number.{digitsOn}
 use Rattle.record.proofs.GatherLaws.{gathered, below, above, on, over}
 use borrow.Author.Needs.{needs}
 use Rattle.record.proofs.number.gather.Statement.{statement}
