@@ -104,6 +104,7 @@ pub fn put_op(
     let kind = w.kind;
     match kind {
         op::SOURCE_ALL => row::put_row2(plan, out, word::SOURCE, w.x, 0),
+        op::SOURCE_NO_PARTS => row::put_row2(plan, out, word::SOURCE, w.x, 0),
         op::SOURCE => put_source(plan, out, a, b, w.idx as usize, w.x),
         op::FILTER => row::put_row1(plan, out, word::FILTER, w.input),
         op::EXPAND => put_expand(plan, out, rest, w),
