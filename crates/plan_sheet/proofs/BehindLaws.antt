@@ -1,6 +1,6 @@
 -- What stands behind an operator's first line: its expressions by their number and place, then its labels, path or yields. Assumes nothing: every law is proved.
 use mathlib.Core.Path.{_≡_, refl, sym, ap, subst, _∙_}
-use Prim.Native.Nat.{ℕ, suc, _+_, _-_, _≤_, _<_}
+use Prim.Native.Nat.{ℕ, suc, _+_, _-_, _<_}
 use native.Mathlib.Omega.{arith}
 use mathlib.Core.Bool.{false, true}
 use mathlib.Core.List.{List, [], _∷_, _++_, append-nil}
@@ -27,7 +27,7 @@ use Rattle.lower.specs.Side.{side}
 use Rattle.lower.specs.Render.{Notes, Ops, render, renderOf, recsOver, Below, keptFrom}
 use Rattle.lower.specs.Shows.{shift, Shows, OverExpr, ByLabels, ByPath, ByWith, ByCall, shows-all, shows-no-parts, shows-source, shows-filter, shows-expand, shows-short, shows-path, shows-optional, shows-with, shows-project, shows-aggregate, shows-order, shows-skip, shows-limit, shows-distinct, shows-unwind, shows-union, shows-call}
 use Rattle.plan_line.specs.Keywords.{word, letters, yieldWord}
-use Rattle.plan_line.specs.Row.{namedText}
+use Rattle.plan_line.specs.Row.{namedText, NamedAsked}
 use Rattle.plan_sheet.specs.Due.{noted, SomePlan, Names, namesRecs, Carried, carriedRecs, carriedEnd, Many, WroteMany, WroteFirst, textAt}
 use Rattle.plan_sheet.specs.Path.{Elements, WrotePath}
 use Rattle.plan_sheet.specs.Behind.{manyBy, manyOf, firstBy, firstOf, Yields, no-yields, yield-more, yieldsRecs, WroteYields, Tail, SomeTail, WroteTail}
@@ -80,9 +80,9 @@ yield-line : {sheet : Bytes} {a b : List ℕ} {i : ℕ} (n : ℕ) {f : Fields (f
 unfolding keyword word letters bytes bytesFrom spellFields spell fieldsOf fieldOf
 yield-line {sheet} {a} {b} {i} n room h = named-rec _ yieldWord (textAt sheet a b i yieldNameAt) (n ∷ []) refl (rw (shown room h .fields) (rw (place-escape (yield-place room h))))
 
-pub yield-in : {sheet : Bytes} {a b : List ℕ} {n i s e : ℕ} → Roomy a b → s ≡ cell a b i yieldNameAt → e ≡ cell a b i (yieldNameAt + 1) → (n ≡ 0 → ⊥) → Yields sheet a b n i → (s ≤ e) × (e ≤ length sheet)
+pub yield-in : {sheet : Bytes} {a b : List ℕ} {n i s e : ℕ} → Roomy a b → s ≡ cell a b i yieldNameAt → e ≡ cell a b i (yieldNameAt + 1) → (n ≡ 0 → ⊥) → Yields sheet a b n i → NamedAsked yieldWord sheet s e
 yield-in room p q z no-yields = absurd (z refl)
-yield-in room p q z (yield-more f h c) = let y = yield-place room h in rw (p, q) (y .from, y .to)
+yield-in room p q z (yield-more f h c) = let y = yield-place room h in rw (p, q) (record { keyword = omega arith; from = y .from; to = y .to })
 
 pub yield-low : {sheet : Bytes} {a b : List ℕ} {n i : ℕ} → (n ≡ 0 → ⊥) → Yields sheet a b n i → i < maxRecords
 yield-low z no-yields = absurd (z refl)

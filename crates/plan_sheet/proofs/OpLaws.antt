@@ -25,7 +25,7 @@ use Rattle.lower.specs.Render.{Notes, Ops, specRecs}
 use Rattle.lower.specs.Shows.{shift, InBounds, Shows, Stored, OverExpr, ByLabels, ByRel, ByShortest, ByPath, ByWith, ByItems, ByParted, ByKeys, ByCall, shows-all, shows-no-parts, shows-source, shows-filter, shows-expand, shows-short, shows-path, shows-optional, shows-with, shows-project, shows-aggregate, shows-order, shows-skip, shows-limit, shows-distinct, shows-unwind, shows-union, shows-call}
 use Rattle.plan_line.specs.Keywords.{word, letters, sourceWord, filterWord, expandWord, shortWord, pathWord, optionalWord, withWord, projectWord, aggWord, orderWord, skipWord, limitWord, distinctWord, unwindWord, unionWord, callWord}
 use Rattle.plan_line.specs.Row.{numbersText, rowText, callText}
-use Rattle.plan_sheet.specs.Due.{noted, Tabled, SomePlan, OpShown, WroteFirst, Element, WroteElement, WroteOp, TextIn, allShortest, textAt}
+use Rattle.plan_sheet.specs.Due.{noted, Tabled, SomePlan, OpShown, WroteFirst, Element, WroteElement, WroteOp, TextAsked, NotesIn, FirstAsked, allShortest, textAt}
 use Rattle.plan_line.proofs.RowLaws.{flag-decimal, record-line, row-rec, place-escape}
 use Rattle.plan_sheet.proofs.HeadLaws.{texts-at}
 use Rattle.plan_sheet.proofs.DueLaws.{tabled-less, spell-append}
@@ -166,6 +166,9 @@ unfolding spellFlag decimal digits
 bool-decimal false = refl
 bool-decimal true = refl
 
+pub notes-in : {sheet : Bytes} {a b rest : List ℕ} {o : Op} → FirstAsked sheet a b rest o → NotesIn rest o
+notes-in h = let w = h .shown .stored .bounded in record { in-rest = h .in-rest; near = w .near; low = w .low }
+
 module _ {sheet : Bytes} {a b rest : List ℕ} {o : Op} (h : OpShown sheet a b rest o) where
   pub all-line : o .kind ≡ sourceAllKind → spellRecs (take 1 (h .recs)) ≡ rowText sourceWord (o .x ∷ 0 ∷ [])
   unfolding source keyword planKeyword opKeyword word letters bytes bytesFrom spellFields spell
@@ -187,8 +190,8 @@ module _ {sheet : Bytes} {a b rest : List ℕ} {o : Op} (h : OpShown sheet a b r
   filter-line e = first-rec (of-kind filterKind e (h .stored .shows) .is) ∙ row-rec _ filterWord (o .input ∷ []) refl refl
 
   module _ (c : o .kind ≡ expandKind) where
-    pub expand-low : (o .idx < maxRecords) × (o .y < maxRecords)
-    expand-low = let s = of-kind expandKind c (h .stored .shows) in (element-low sheet a b (o .left) (o .idx) (s .rel) (s .held-rel), element-low sheet a b (o .left) (o .y) (s .far) (s .held-far))
+    pub far-low : o .y < maxRecords
+    far-low = let s = of-kind expandKind c (h .stored .shows) in element-low sheet a b (o .left) (o .y) (s .far) (s .held-far)
 
     pub expand-line : spellRecs (take 1 (h .recs)) ≡ rowText expandWord (o .input ∷ o .x ∷ noteOf rest (o .base) (o .idx) ∷ noteOf rest (o .base) (o .y) ∷ [])
     unfolding keyword planKeyword opKeyword word letters bytes bytesFrom spellFields spell
@@ -265,8 +268,8 @@ module _ {sheet : Bytes} {a b rest : List ℕ} {o : Op} (room : Roomy a b) (h : 
   call-text : PlaceAt text sheet (cell a b (o .idx) callNameAt) (cell a b (o .idx) (callNameAt + 1))
   call-text = texts-at room (of-kind procedureCallKind e (h .stored .shows) .at) .0
 
-  pub procedure-in : TextIn sheet a b (o .idx) callNameAt
-  procedure-in = (call-text .from, call-text .to)
+  pub procedure-in : TextAsked sheet a b (o .idx) callNameAt
+  procedure-in = record { words = room; low = h .stored .bounded .low; from = call-text .from; to = call-text .to }
 
   pub call-line : spellRecs (take 1 (h .recs)) ≡ callText (beforeOf (callInput o)) (textAt sheet a b (o .idx) callNameAt) (cell a b (o .idx) callArgsAt) (cell a b (o .idx) callYieldsAt) (cell a b (o .idx) callOptionalAt)
   unfolding spellRec keyword planKeyword opKeyword word letters bytes bytesFrom spellFields spell fieldsOf fieldOf callText numbersText

@@ -75,35 +75,25 @@ ruleset ways = (
 put-source-requires : tie.Need-put-source-requires
 put-source-requires c κs =
     let start : tie.Start = search ways in
-    (start .pre .0, (start .pre .1 .1) .stored .bounded .low)
+    (start .pre .words, start .pre .shown .stored .bounded .low)
 
 put-expand-requires : tie.Need-put-expand-requires
 put-expand-requires c κs =
     let at-match-keys5 : tie.At-match-keys5 = search ways in
     let start : tie.Start = search ways in
-    let l = OpLaws.expand-low (start .pre .1 .1) (at-match-keys5 .match .keys5) in
-    ((l .0, l .1, (start .pre .1 .1) .stored .bounded .near), start .pre .1 .0)
+    (OpLaws.notes-in (start .pre), OpLaws.far-low (start .pre .shown) (at-match-keys5 .match .keys5))
 
 put-short-requires : tie.Need-put-short-requires
 put-short-requires c κs =
     let at-match-keys6 : tie.At-match-keys6 = search ways in
-    let start : tie.Start = search ways in (
-      start .pre .0,
-      (
-        (
-          (start .pre .1 .1) .stored .bounded .low,
-          (start .pre .1 .1) .stored .bounded .far (at-match-keys6 .match .keys6),
-          (start .pre .1 .1) .stored .bounded .near,
-        ),
-        start .pre .1 .0,
-      ),
-    )
+    let start : tie.Start = search ways in
+    record { words = start .pre .words; notes = OpLaws.notes-in (start .pre); due = start .pre .shown .stored .bounded .far (at-match-keys6 .match .keys6) }
 
 put-clause-op-requires : tie.Need-put-clause-op-requires
 put-clause-op-requires c κs =
     let at-match-rest : tie.At-match-rest = search ways in
     let start : tie.Start = search ways in
-    (start .pre .0, (OpLaws.of-clause _ (at-match-rest .match .rest), start .pre .1 .1))
+    (start .pre, OpLaws.of-clause _ (at-match-rest .match .rest))
 
 returns : tie.Need-returns
 returns c =
