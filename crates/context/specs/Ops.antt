@@ -39,53 +39,56 @@ pub record Fits (at : At) : Type 0 where
 abbrev pub sourceAllKind : ℕ
 sourceAllKind = 0
 
+abbrev pub sourceNoPartsKind : ℕ
+sourceNoPartsKind = 1
+
 abbrev pub sourceKind : ℕ
-sourceKind = 1
+sourceKind = 2
 
 abbrev pub filterKind : ℕ
-filterKind = 2
+filterKind = 3
 
 abbrev pub expandKind : ℕ
-expandKind = 3
+expandKind = 4
 
 abbrev pub shortestPathKind : ℕ
-shortestPathKind = 4
+shortestPathKind = 5
 
 abbrev pub bindPathKind : ℕ
-bindPathKind = 5
+bindPathKind = 6
 
 abbrev pub optionalJoinKind : ℕ
-optionalJoinKind = 6
+optionalJoinKind = 7
 
 abbrev pub withKind : ℕ
-withKind = 7
+withKind = 8
 
 abbrev pub projectKind : ℕ
-projectKind = 8
+projectKind = 9
 
 abbrev pub aggregateKind : ℕ
-aggregateKind = 9
+aggregateKind = 10
 
 abbrev pub orderByKind : ℕ
-orderByKind = 10
+orderByKind = 11
 
 abbrev pub skipKind : ℕ
-skipKind = 11
+skipKind = 12
 
 abbrev pub limitKind : ℕ
-limitKind = 12
+limitKind = 13
 
 abbrev pub distinctKind : ℕ
-distinctKind = 13
+distinctKind = 14
 
 abbrev pub unwindKind : ℕ
-unwindKind = 14
+unwindKind = 15
 
 abbrev pub unionKind : ℕ
-unionKind = 15
+unionKind = 16
 
 abbrev pub procedureCallKind : ℕ
-procedureCallKind = 16
+procedureCallKind = 17
 
 -- ── operators ──
 
@@ -99,6 +102,9 @@ opAlone kind i input x y = record { kind = kind; idx = i; input = input; x = x; 
 
 abbrev pub sourceAllOp : ℕ → Op
 sourceAllOp bind = opAlone sourceAllKind 0 0 bind 0
+
+abbrev pub sourceNoPartsOp : ℕ → Op
+sourceNoPartsOp bind = opAlone sourceNoPartsKind 0 0 bind 0
 
 abbrev pub sourceOp : At → ℕ → Op
 sourceOp at bind = opOver sourceKind at 0 bind 0

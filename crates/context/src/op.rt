@@ -2,6 +2,7 @@
 //
 // kind            idx                input   x                     y                  left and base
 // SOURCE_ALL      -                  -       number it binds       -                  -
+// SOURCE_NO_PARTS -                  -       number it binds       -                  -
 // SOURCE          its node           -       number it binds       -                  of its labels
 // FILTER          its predicate      input   -                     -                  of its predicate
 // EXPAND          its rel            input   number it starts at   its far node       of rel and node
@@ -25,7 +26,7 @@ ghost use lib.ListN.{length, getD};
 ghost use Rattle.model.specs.Call.{workWords};
 ghost use Rattle.words.specs.Words.{two32};
 ghost use Rattle.context.specs.Tables.{opAt, maxStored, opWords};
-ghost use Rattle.context.specs.Ops.{Fits, Under, sourceAllOp, sourceOp, filterOp, expandOp, shortestPathOp, bindPathOp, optionalJoinOp, withOp, projectOp, aggregateOp, orderByOp, skipOp, limitOp, distinctOp, unwindOp, unionOp, procedureCallOp, callInput};
+ghost use Rattle.context.specs.Ops.{Fits, Under, sourceAllOp, sourceNoPartsOp, sourceOp, filterOp, expandOp, shortestPathOp, bindPathOp, optionalJoinOp, withOp, projectOp, aggregateOp, orderByOp, skipOp, limitOp, distinctOp, unwindOp, unionOp, procedureCallOp, callInput};
 use crate::At;
 use crate::Before;
 use crate::OP_WORDS;
@@ -47,37 +48,39 @@ pub const BASE_WORD: usize = 7;
 
 pub const SOURCE_ALL: u32 = 0;
 
-pub const SOURCE: u32 = 1;
+pub const SOURCE_NO_PARTS: u32 = 1;
 
-pub const FILTER: u32 = 2;
+pub const SOURCE: u32 = 2;
 
-pub const EXPAND: u32 = 3;
+pub const FILTER: u32 = 3;
 
-pub const SHORTEST_PATH: u32 = 4;
+pub const EXPAND: u32 = 4;
 
-pub const BIND_PATH: u32 = 5;
+pub const SHORTEST_PATH: u32 = 5;
 
-pub const OPTIONAL_JOIN: u32 = 6;
+pub const BIND_PATH: u32 = 6;
 
-pub const WITH: u32 = 7;
+pub const OPTIONAL_JOIN: u32 = 7;
 
-pub const PROJECT: u32 = 8;
+pub const WITH: u32 = 8;
 
-pub const AGGREGATE: u32 = 9;
+pub const PROJECT: u32 = 9;
 
-pub const ORDER_BY: u32 = 10;
+pub const AGGREGATE: u32 = 10;
 
-pub const SKIP: u32 = 11;
+pub const ORDER_BY: u32 = 11;
 
-pub const LIMIT: u32 = 12;
+pub const SKIP: u32 = 12;
 
-pub const DISTINCT: u32 = 13;
+pub const LIMIT: u32 = 13;
 
-pub const UNWIND: u32 = 14;
+pub const DISTINCT: u32 = 14;
 
-pub const UNION: u32 = 15;
+pub const UNWIND: u32 = 15;
 
-pub const PROCEDURE_CALL: u32 = 16;
+pub const UNION: u32 = 16;
+
+pub const PROCEDURE_CALL: u32 = 17;
 
 pub struct Op {
     pub kind: u32,
@@ -95,6 +98,20 @@ pub fn source_all(bind: u32) -> Op
 {
     Op {
         kind: SOURCE_ALL,
+        idx: 0,
+        input: 0,
+        x: bind,
+        y: 0,
+        left: 0,
+        base: 0,
+    }
+}
+
+pub fn source_no_parts(bind: u32) -> Op
+    ensures { λ r. ⌜ r ≡ sourceNoPartsOp bind ⌝ }
+{
+    Op {
+        kind: SOURCE_NO_PARTS,
         idx: 0,
         input: 0,
         x: bind,

@@ -22,7 +22,7 @@ use Rattle.context.specs.declared.Numbered.{Numbered}
 use Rattle.words.specs.Cells.{shown}
 use Rattle.context.specs.declared.Before.{Before}
 use Rattle.context.specs.declared.Before.the-variants as before
-use Rattle.context.specs.Ops.{beforeOf, Under, Since, bindPathOp, sourceAllOp}
+use Rattle.context.specs.Ops.{beforeOf, Under, Since, bindPathOp, sourceAllKind, sourceAllOp}
 use Rattle.lower.specs.Side.{side}
 use Rattle.lower.specs.Shows.{shows-all, shows-path}
 use Rattle.lower.specs.Rep.{atPlace, State, Mem, mem, Written, Sub, Blank, Rep, Rooted}
@@ -34,7 +34,7 @@ use Rattle.lower.specs.declared.Last.the-variants as last
 use Rattle.lower.specs.declared.Chain.{Chain}
 use Rattle.lower.specs.State.{sub-more, sub-within, blank-within, blank-before, back, to-refl, to-then, to-wider, push-to, Given, number-to, upcoming-number}
 use Rattle.words.specs.Fits.{tree-low}
-use Rattle.lower.proofs.Parts.{all-bounded}
+use Rattle.lower.proofs.Parts.{source-bounded}
 use Rattle.words.specs.Places.{partNamedAt, partVarAt, partShortestAt, partElementsAt}
 
 -- ── the operator before, or a source of everything ──
@@ -57,7 +57,7 @@ source-new current m c os e p lo = record {
   rest = refl;
   in-ops = lo;
   low = omega (arith, p .count);
-  run = λ S W s h r. rw e (record { to = push-to m c os (sourceAllOp (m .ctx .numbers)) (source (s .scope .nextVar) []) r p (λ N A f. record { bounded = all-bounded (m .ctx .numbers); shows = shows-all refl (ap (λ (x : ℕ). source x []) (sym (upcoming-number m r))) }); root = r .count });
+  run = λ S W s h r. rw e (record { to = push-to m c os (sourceAllOp (m .ctx .numbers)) (source (s .scope .nextVar) []) r p (λ N A f. record { bounded = source-bounded sourceAllKind (m .ctx .numbers); shows = shows-all refl (ap (λ (x : ℕ). source x []) (sym (upcoming-number m r))) }); root = r .count });
 }
 
 -- a root as the code has it

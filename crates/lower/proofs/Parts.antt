@@ -14,9 +14,9 @@ use Rattle.words.specs.Held.{Held, HeldOf, size, sizeOf}
 use Rattle.context.specs.Tables.{Pushed}
 use Rattle.context.specs.declared.LowerCtx.{LowerCtx}
 use Rattle.context.specs.declared.Numbered.{Numbered}
-use Rattle.context.specs.Ops.{sourceAllOp}
+use Rattle.context.specs.Ops.{opAlone, sourceNoPartsKind, sourceNoPartsOp}
 use Rattle.lower.specs.Side.{Side, side}
-use Rattle.lower.specs.Shows.{InBounds, shows-all}
+use Rattle.lower.specs.Shows.{InBounds, shows-no-parts}
 use Rattle.lower.specs.Rep.{State, Mem, mem, Written, Blank, Rep, Rooted, RoomFor, Moved}
 use Rattle.lower.specs.Pieces.{SomeTree}
 use Rattle.lower.specs.Patterns.{partsL, partL, SomeTrees, LowersParts, LowersPart}
@@ -96,16 +96,17 @@ first-law i p q = record { moved = moved-within (omega arith) (le-refl _) (q .mo
 
 -- ── no parts ──
 
-pub all-bounded : (number : ℕ) → InBounds (sourceAllOp number)
-all-bounded number = record { shallow = omega arith; near = omega arith; low = omega arith; far = λ e. absurd (omega arith); flagged = λ e. absurd (omega arith) }
+-- a source at no record, of either kind
+pub source-bounded : (kind number : ℕ) → InBounds (opAlone kind 0 0 number 0)
+source-bounded kind number = record { shallow = omega arith; near = omega arith; low = omega arith; far = λ e. omega arith; flagged = λ e. omega arith }
 
-module _ {a b : List ℕ} (d base i : ℕ) (m : Mem) (f : Numbered) (c : LowerCtx) (os : List ℕ) (li : i < maxRecords) (fr : (f .number ≡ m .ctx .numbers) × (f .ctx .ops ≡ m .ctx .ops) × (f .ctx .numbers ≡ m .ctx .numbers + 1) × (f .ctx .mapped ≡ m .ctx .mapped)) (ps : Pushed (f .ctx) c (m .ops) os (sourceAllOp (f .number))) (lo : length os ≡ length (m .ops)) where
+module _ {a b : List ℕ} (d base i : ℕ) (m : Mem) (f : Numbered) (c : LowerCtx) (os : List ℕ) (li : i < maxRecords) (fr : (f .number ≡ m .ctx .numbers) × (f .ctx .ops ≡ m .ctx .ops) × (f .ctx .numbers ≡ m .ctx .numbers + 1) × (f .ctx .mapped ≡ m .ctx .mapped)) (ps : Pushed (f .ctx) c (m .ops) os (sourceNoPartsOp (f .number))) (lo : length os ≡ length (m .ops)) where
   no-run : (sheet : Bytes) {first : ℕ} (ts : Trees patternPart 0) (W : Written) (s : State) → Rep (side sheet a b first) W s m → Rooted (side sheet a b first) W (partsL ts) (m .ctx .ops) base (suc (i + 1)) (suc (i + 1)) s m (mem c os (m .rest))
   unfolding lowerParts toList fold _>>=_ push
   no-run sheet []ᵗ W s r =
       let x = fresh-to m (f .ctx) r (fr .1) (fr .2) (fr .3) in
       let n : f .number ≡ Lower.fresh s .0 = fr .0 ∙ fresh-number m r in
-      let y = push-to (mem (f .ctx) (m .ops) (m .rest)) c os (sourceAllOp (f .number)) (source (Lower.fresh s .0) []) (x .rep) ps (λ N A z. record { bounded = all-bounded (f .number); shows = shows-all refl (ap (λ (q : ℕ). source q []) (sym n)) }) in
+      let y = push-to (mem (f .ctx) (m .ops) (m .rest)) c os (sourceNoPartsOp (f .number)) (source (Lower.fresh s .0) []) (x .rep) ps (λ N A z. record { bounded = source-bounded sourceNoPartsKind (f .number); shows = shows-no-parts refl (ap (λ (q : ℕ). source q []) (sym n)) }) in
       record { to = to-wider (sub-more (base + suc (i + 1), base + suc (i + 1)) W) (to-then x y); root = sym (fr .1) ∙ x .rep .count; low = let e : c .ops ≡ f .ctx .ops + 1 = ps .count in let e′ = fr .1 in omega arith }
 
   pub no-law : LowersParts a b 0 d base i (i + 1) (m .ctx .ops) m (mem c os (m .rest))

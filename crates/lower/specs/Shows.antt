@@ -13,7 +13,7 @@ use Rattle.model.specs.Lower.{Recs, op, source, pathElements}
 use Rattle.words.specs.Words.{cell, maxRecords}
 use Rattle.words.specs.Held.{Held, HeldOf, RecordAt, sizeOf}
 use Rattle.context.specs.declared.op.Op.{Op}
-use Rattle.context.specs.Ops.{beforeOf, callInput, sourceAllKind, sourceKind, filterKind, expandKind, shortestPathKind, bindPathKind, optionalJoinKind, withKind, projectKind, aggregateKind, orderByKind, skipKind, limitKind, distinctKind, unwindKind, unionKind, procedureCallKind}
+use Rattle.context.specs.Ops.{beforeOf, callInput, sourceAllKind, sourceNoPartsKind, sourceKind, filterKind, expandKind, shortestPathKind, bindPathKind, optionalJoinKind, withKind, projectKind, aggregateKind, orderByKind, skipKind, limitKind, distinctKind, unwindKind, unionKind, procedureCallKind}
 use Rattle.lower.specs.Side.{Side}
 use Rattle.lower.specs.Render.{Notes, Ops, render, renderOf, Below, BelowOf, specRecs, KidsBelow, keptFrom, keyRecs, aggRecs}
 use Rattle.words.specs.Places.{kindAt, nodeKind, relKind, nodeLabelsAt, partShortestAt, partElementsAt, itemsAt, withFilterAt}
@@ -130,6 +130,7 @@ module _ (S : Side) (N : Notes) (A : Ops) (k : ℕ) (o : Op) where
   -- operator k
   pub data Shows (recs : Recs) : Type 0 where
     shows-all : o .kind ≡ sourceAllKind → recs ≡ source (o .x) [] → Shows recs
+    shows-no-parts : o .kind ≡ sourceNoPartsKind → recs ≡ source (o .x) [] → Shows recs
     shows-source : o .kind ≡ sourceKind → ByLabels recs → Shows recs
     shows-filter : o .kind ≡ filterKind → OverExpr (op ReadOp.Filter (o .input, tt)) recs → Shows recs
     shows-expand : o .kind ≡ expandKind → ByRel recs → Shows recs

@@ -168,7 +168,7 @@ fn lower_no_parts(ops: &mut [u32], ctx: LowerCtx, i: usize) -> Root
     let k = ctx.ops;
     let f = ctx.fresh();
     let c = f.ctx;
-    let z = c.push(ops, op::source_all(f.number));
+    let z = c.push(ops, op::source_no_parts(f.number));
     Root {
         next: i + 1,
         op: k,

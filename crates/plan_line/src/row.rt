@@ -1,12 +1,11 @@
 // Lines of numbers, and lines of a name and numbers.
 ghost use mathlib.Core.List.{[], _∷_, _++_};
-ghost use Prim.Native.Nat.{_<_, _≤_};
-ghost use lib.ListN.{length};
+ghost use Prim.Native.Nat.{_<_};
 ghost use lib.Seq.{slice};
 ghost use Rattle.model.specs.Text.{lineFeed};
 ghost use Rattle.output.specs.Page.{on, Puts};
 ghost use Rattle.plan_line.specs.Keywords.{wordCount};
-ghost use Rattle.plan_line.specs.Row.{numbersText, rowText, namedText};
+ghost use Rattle.plan_line.specs.Row.{numbersText, rowText, namedText, NamedAsked};
 use crate::field::put_number;
 use crate::field::put_text;
 use crate::keyword::put_keyword;
@@ -102,8 +101,7 @@ pub fn put_row5(
 
 // Keyword k and a part of the sheet.
 pub fn put_named0(plan: &mut [u8], out: usize, k: usize, sheet: &[u8], s: u32, e: u32) -> usize
-    requires { ⌜ k < wordCount ⌝ }
-    requires { ⌜ (s ≤ e) × (e ≤ length (now sheet)) ⌝ }
+    requires { ⌜ NamedAsked k (now sheet) s e ⌝ }
     ensures { λ r. ⌜ Puts (namedText k (slice s e (now (sheet .entry))) []) (on (now (plan .entry)) out) (on (now (plan .exit)) r) ⌝ }
 {
     let o = put_keyword(plan, out, k);
@@ -121,8 +119,7 @@ pub fn put_named1(
     e: u32,
     x: u32,
 ) -> usize
-    requires { ⌜ k < wordCount ⌝ }
-    requires { ⌜ (s ≤ e) × (e ≤ length (now sheet)) ⌝ }
+    requires { ⌜ NamedAsked k (now sheet) s e ⌝ }
     ensures { λ r. ⌜ Puts (namedText k (slice s e (now (sheet .entry))) (x ∷ [])) (on (now (plan .entry)) out) (on (now (plan .exit)) r) ⌝ }
 {
     let o = put_keyword(plan, out, k);
@@ -142,8 +139,7 @@ pub fn put_named2(
     x: u32,
     y: u32,
 ) -> usize
-    requires { ⌜ k < wordCount ⌝ }
-    requires { ⌜ (s ≤ e) × (e ≤ length (now sheet)) ⌝ }
+    requires { ⌜ NamedAsked k (now sheet) s e ⌝ }
     ensures { λ r. ⌜ Puts (namedText k (slice s e (now (sheet .entry))) (x ∷ y ∷ [])) (on (now (plan .entry)) out) (on (now (plan .exit)) r) ⌝ }
 {
     let o = put_keyword(plan, out, k);

@@ -1,6 +1,6 @@
 -- What stands behind an operator's first line: its expressions by their number and place, then its labels, path or yields. Assumes nothing: every law is proved.
 use mathlib.Core.Path.{_≡_, refl, sym, ap, subst, _∙_}
-use Prim.Native.Nat.{ℕ, suc, _+_, _-_, _≤_, _<_}
+use Prim.Native.Nat.{ℕ, suc, _+_, _-_, _<_}
 use native.Mathlib.Omega.{arith}
 use mathlib.Core.Bool.{false, true}
 use mathlib.Core.List.{List, [], _∷_, _++_, append-nil}
@@ -25,9 +25,9 @@ use Rattle.context.specs.Read.{noteOf}
 use Rattle.context.specs.declared.op.Op.{Op}
 use Rattle.lower.specs.Side.{side}
 use Rattle.lower.specs.Render.{Notes, Ops, render, renderOf, recsOver, Below, keptFrom}
-use Rattle.lower.specs.Shows.{shift, Shows, OverExpr, ByLabels, ByPath, ByWith, ByCall, shows-all, shows-source, shows-filter, shows-expand, shows-short, shows-path, shows-optional, shows-with, shows-project, shows-aggregate, shows-order, shows-skip, shows-limit, shows-distinct, shows-unwind, shows-union, shows-call}
+use Rattle.lower.specs.Shows.{shift, Shows, OverExpr, ByLabels, ByPath, ByWith, ByCall, shows-all, shows-no-parts, shows-source, shows-filter, shows-expand, shows-short, shows-path, shows-optional, shows-with, shows-project, shows-aggregate, shows-order, shows-skip, shows-limit, shows-distinct, shows-unwind, shows-union, shows-call}
 use Rattle.plan_line.specs.Keywords.{word, letters, yieldWord}
-use Rattle.plan_line.specs.Row.{namedText}
+use Rattle.plan_line.specs.Row.{namedText, NamedAsked}
 use Rattle.plan_sheet.specs.Due.{noted, SomePlan, Names, namesRecs, Carried, carriedRecs, carriedEnd, Many, WroteMany, WroteFirst, textAt}
 use Rattle.plan_sheet.specs.Path.{Elements, WrotePath}
 use Rattle.plan_sheet.specs.Behind.{manyBy, manyOf, firstBy, firstOf, Yields, no-yields, yield-more, yieldsRecs, WroteYields, Tail, SomeTail, WroteTail}
@@ -38,7 +38,7 @@ use Rattle.plan_sheet.proofs.HeadLaws.{texts-at}
 use Rattle.plan_sheet.proofs.DueLaws.{Made, exprs-made, keys-made, items-made, joined, spell-append}
 use Rattle.plan_sheet.proofs.NameLaws.{names-made}
 use Rattle.plan_sheet.proofs.OpLaws.{here, shown-at, tabled-below, first-more}
-use Rattle.context.specs.Ops.{aggregateKind, bindPathKind, expandKind, filterKind, limitKind, optionalJoinKind, orderByKind, procedureCallKind, projectKind, shortestPathKind, skipKind, sourceKind, unwindKind, withKind, sourceAllKind, distinctKind, unionKind}
+use Rattle.context.specs.Ops.{aggregateKind, bindPathKind, expandKind, filterKind, limitKind, optionalJoinKind, orderByKind, procedureCallKind, projectKind, shortestPathKind, skipKind, sourceKind, unwindKind, withKind, sourceAllKind, sourceNoPartsKind, distinctKind, unionKind}
 use Rattle.words.specs.Places.{callArgsAt, callYieldsAt, nodeLabelsAt, partElementsAt, yieldNameAt}
 use Rattle.words.specs.Numbers.{Others, among, other-than}
 
@@ -80,9 +80,9 @@ yield-line : {sheet : Bytes} {a b : List ℕ} {i : ℕ} (n : ℕ) {f : Fields (f
 unfolding keyword word letters bytes bytesFrom spellFields spell fieldsOf fieldOf
 yield-line {sheet} {a} {b} {i} n room h = named-rec _ yieldWord (textAt sheet a b i yieldNameAt) (n ∷ []) refl (rw (shown room h .fields) (rw (place-escape (yield-place room h))))
 
-pub yield-in : {sheet : Bytes} {a b : List ℕ} {n i s e : ℕ} → Roomy a b → s ≡ cell a b i yieldNameAt → e ≡ cell a b i (yieldNameAt + 1) → (n ≡ 0 → ⊥) → Yields sheet a b n i → (s ≤ e) × (e ≤ length sheet)
+pub yield-in : {sheet : Bytes} {a b : List ℕ} {n i s e : ℕ} → Roomy a b → s ≡ cell a b i yieldNameAt → e ≡ cell a b i (yieldNameAt + 1) → (n ≡ 0 → ⊥) → Yields sheet a b n i → NamedAsked yieldWord sheet s e
 yield-in room p q z no-yields = absurd (z refl)
-yield-in room p q z (yield-more f h c) = let y = yield-place room h in rw (p, q) (y .from, y .to)
+yield-in room p q z (yield-more f h c) = let y = yield-place room h in rw (p, q) (record { keyword = omega arith; from = y .from; to = y .to })
 
 pub yield-low : {sheet : Bytes} {a b : List ℕ} {n i : ℕ} → (n ≡ 0 → ⊥) → Yields sheet a b n i → i < maxRecords
 yield-low z no-yields = absurd (z refl)
@@ -229,7 +229,7 @@ pub record Inside (sheet : Bytes) (a b rest : List ℕ) (first : ℕ) (A : Ops) 
 
 module _ {sheet : Bytes} {a b rest : List ℕ} {o : Op} where
   no-tail : (n : ℕ) → o .kind ≡ n → eqb n sourceKind ≡ false → eqb n bindPathKind ≡ false → eqb n procedureCallKind ≡ false → (i : ℕ) → Tail sheet a b rest o i []
-  no-tail n q x y z i = Behind.nothing (λ e. eqb-false n 1 x (sym q ∙ e)) (λ e. eqb-false n 5 y (sym q ∙ e)) (λ e. eqb-false n 16 z (sym q ∙ e))
+  no-tail n q x y z i = Behind.nothing (λ e. eqb-false n sourceKind x (sym q ∙ e)) (λ e. eqb-false n bindPathKind y (sym q ∙ e)) (λ e. eqb-false n procedureCallKind z (sym q ∙ e))
 
   labels-tail : {n i : ℕ} → o .kind ≡ sourceKind → n ≡ cell a b (o .idx) nodeLabelsAt → (y : Names sheet a b n i) → Tail sheet a b rest o i (namesRecs y)
   labels-tail {n} {i} e c = subst (λ (n : ℕ). (y : Names sheet a b n i) → Tail sheet a b rest o i (namesRecs y)) (sym c) (λ y. Behind.labels e y)
@@ -292,6 +292,7 @@ module _ {sheet : Bytes} {a b rest : List ℕ} {first : ℕ} {A : Ops} {k : ℕ}
   pub inside : Roomy a b → Others (o .kind) ownWays → Shows (side sheet a b first) (noted rest) A k o recs → Inside sheet a b rest first A k o recs (manyOf a b o) (firstOf o)
   unfolding manyBy firstBy source fieldsOf fieldOf
   inside room z (shows-all q r) = by-words (rw q) (rw q) (bare (o .idx + 1) _ [] (no-tail sourceAllKind q refl refl refl (o .idx + 1)) r)
+  inside room z (shows-no-parts q r) = by-words (rw q) (rw q) (bare (o .idx + 1) _ [] (no-tail sourceNoPartsKind q refl refl refl (o .idx + 1)) r)
   inside room z (shows-source q r) = by-words (rw q) (rw q) (by-labels q r)
   inside room z (shows-filter q r) = by-words (rw q) (rw q) (over-expr (no-tail filterKind q refl refl refl) r)
   inside room z (shows-expand q r) = absurd (z .0 .0 .0 .1 q)

@@ -23,7 +23,7 @@ use Rattle.words.specs.Numbers.{Others, other-than, exprNumber}
 use Rattle.plan_line.specs.Keywords.{word, letters, varWord, existsWord, nullWord, listPredicateWord, fnWord}
 use Rattle.plan_line.specs.Copy.{SomeRecord, Copied}
 use Rattle.plan_line.specs.Row.{rowText, namedText, intText, intLowAt, intHighAt}
-use Rattle.plan_sheet.specs.Due.{ExprAt, ItemAt, namedRec, itemName, Line, TextIn, textAt}
+use Rattle.plan_sheet.specs.Due.{ExprAt, ItemAt, namedRec, itemName, Line, TextAsked, textAt}
 use Rattle.plan_line.proofs.RowLaws.{flag-decimal, row-rec, named-rec, int-rec, place-escape}
 
 -- ── expressions ──
@@ -112,8 +112,8 @@ module _ {sheet : Bytes} {a b : List ℕ} {i : ℕ} (room : Roomy a b) where
     unfolding kindOf firstKind nth kinds sames
     call-place e = at-kind Expr.Call (h .kind) (λ k f. RecordAt sheet a b i expr k f → PlaceAt text sheet (cell a b i nameAt) (cell a b i (nameAt + 1))) (kind-is h fnKind Expr.Call e refl) (λ f at. texts-at at .0) (h .fields) (h .at)
 
-    pub call-in : cell a b i kindAt ≡ fnKind → TextIn sheet a b i nameAt
-    call-in e = let p = call-place e in (p .from, p .to)
+    pub call-in : cell a b i kindAt ≡ fnKind → TextAsked sheet a b i nameAt
+    call-in e = let p = call-place e in record { words = room; low = h .at .low; from = p .from; to = p .to }
 
     call-fields : PlaceAt text sheet (cell a b i nameAt) (cell a b i (nameAt + 1)) → (f : Fields (exprForms Expr.Call)) → RecordAt sheet a b i expr Expr.Call f → spellRec (exprHead n Expr.Call f) ≡ namedText fnWord (textAt sheet a b i nameAt) (cell a b i fnArgsAt ∷ [])
     unfolding keyword planKeyword planExprKeyword word letters bytes bytesFrom spellFields spell fieldsOf fieldOf

@@ -21,7 +21,7 @@ use Rattle.words.specs.Cells.{shown}
 use Rattle.words.specs.Numbers.{sameNumber, exprNumber, Others}
 use Rattle.plan_line.specs.Keywords.{word, letters, itemWord}
 use Rattle.plan_line.specs.Row.{numbersText, namedText}
-use Rattle.plan_sheet.specs.Due.{ExprAt, ItemAt, namedRec, itemName, TextIn, textAt}
+use Rattle.plan_sheet.specs.Due.{ExprAt, ItemAt, namedRec, itemName, TextAsked, textAt}
 use Rattle.plan_line.proofs.RowLaws.{named-rec, place-escape}
 use Rattle.plan_sheet.proofs.HeadLaws.{at-kind, texts-at, number-is, kind-is, call-place}
 use Rattle.words.specs.Places.{fnKind, itemAliasAt, kindAt, nameAt, propKind, varIdAt, varKind}
@@ -112,8 +112,8 @@ module _ {sheet : Bytes} {a b : List ℕ} {i : ℕ} (room : Roomy a b) (h : Expr
   unfolding kindOf firstKind nth kinds sames
   prop-place e = at-kind (Expr.Over Same.Prop) (h .kind) (λ k f. RecordAt sheet a b i expr k f → PlaceAt text sheet (cell a b i nameAt) (cell a b i (nameAt + 1))) (kind-is room h propKind (Expr.Over Same.Prop) e refl) (λ f at. texts-at room at .0) (h .fields) (h .at)
 
-  pub prop-in : cell a b i kindAt ≡ propKind → TextIn sheet a b i nameAt
-  prop-in e = let p = prop-place e in (p .from, p .to)
+  pub prop-in : cell a b i kindAt ≡ propKind → TextAsked sheet a b i nameAt
+  prop-in e = let p = prop-place e in record { words = room; low = h .at .low; from = p .from; to = p .to }
 
   pub prop-named : cell a b i kindAt ≡ propKind → spellRec (namedRec (exprAlias (h .kind) (h .fields))) ≡ namedText itemWord (textAt sheet a b i nameAt) []
   unfolding kindOf firstKind nth kinds sames sameAlias fieldsOf fieldOf
@@ -149,8 +149,8 @@ module _ {sheet : Bytes} {a b : List ℕ} {i : ℕ} (room : Roomy a b) (h : Item
   alias-place : (cell a b i itemAliasAt ≡ 0 → ⊥) → PlaceAt text sheet (cell a b i itemAliasAt) (cell a b i (itemAliasAt + 1))
   alias-place z = texts-at room (h .at) .0 (omega arith)
 
-  pub alias-in : (cell a b i itemAliasAt ≡ 0 → ⊥) → TextIn sheet a b i itemAliasAt
-  alias-in z = let p = alias-place z in (p .from, p .to)
+  pub alias-in : (cell a b i itemAliasAt ≡ 0 → ⊥) → TextAsked sheet a b i itemAliasAt
+  alias-in z = let p = alias-place z in record { words = room; low = h .at .low; from = p .from; to = p .to }
 
   pub alias-named : (cell a b i itemAliasAt ≡ 0 → ⊥) → spellRec (namedRec (itemName h)) ≡ namedText itemWord (textAt sheet a b i itemAliasAt) []
   unfolding aliasOr

@@ -1,6 +1,6 @@
 -- Names one after another, and the line of a pattern's element. Assumes nothing: every law is proved.
 use mathlib.Core.Path.{_≡_, refl, sym, ap, _∙_}
-use Prim.Native.Nat.{ℕ, suc, _+_, _-_, _≤_}
+use Prim.Native.Nat.{ℕ, suc, _+_, _-_, _≤_, _<_}
 use native.Mathlib.Omega.{arith}
 use mathlib.Core.List.{List, [], _∷_, _++_, append-nil, append-assoc}
 use lib.ListN.{length}
@@ -20,10 +20,10 @@ use Rattle.words.specs.Cells.{shown}
 use Rattle.lower.specs.Render.{Notes, Ops, recsOver, render, renderOf, specRec}
 use Rattle.words.proofs.Counting.{innerNumber, inner-number}
 use Rattle.words.specs.Numbers.{elementNumber}
-use Rattle.plan_line.specs.Keywords.{word, letters, toWord, relWord}
+use Rattle.plan_line.specs.Keywords.{word, letters, wordCount, toWord, relWord}
 use Rattle.plan_line.specs.Copy.{SomeRecord, Copied}
-use Rattle.plan_line.specs.Row.{rowText, relText}
-use Rattle.plan_sheet.specs.Due.{Names, no-names, name-more, namesRecs, ElementAt, TextIn, textAt}
+use Rattle.plan_line.specs.Row.{rowText, relText, NamedAsked}
+use Rattle.plan_sheet.specs.Due.{Names, no-names, name-more, namesRecs, ElementAt, TextAsked, textAt}
 use Rattle.plan_line.proofs.RowLaws.{flag-decimal, behind-append, place-text, record-line, row-rec}
 use Rattle.plan_sheet.proofs.HeadLaws.{some-record, texts-at}
 use Rattle.words.specs.Places.{kindAt, nodeKind, nodeLabelsAt, nodePropsAt, relDirectionAt, relKind, relLengthAt, relPropsAt, relTypesAt}
@@ -142,8 +142,8 @@ module _ {sheet : Bytes} {a b : List ℕ} {i : ℕ} (room : Roomy a b) where
     pub node-line : cell a b i kindAt ≡ nodeKind → spellRec (specRec (h .kind) (h .fields)) ≡ rowText toWord (cell a b i nodeLabelsAt ∷ cell a b i nodePropsAt ∷ [])
     node-line e = node-fields (h .kind) (h .fields) (h .at) (sym (element-number h) ∙ e)
 
-    pub rel-in : (cell a b i kindAt ≡ nodeKind → ⊥) → TextIn sheet a b i relLengthAt
-    rel-in e = let p = rel-place (h .kind) (h .fields) (h .at) (λ x. e (element-number h ∙ x)) in (p .from, p .to)
+    pub rel-in : (cell a b i kindAt ≡ nodeKind → ⊥) → TextAsked sheet a b i relLengthAt
+    rel-in e = let p = rel-place (h .kind) (h .fields) (h .at) (λ x. e (element-number h ∙ x)) in record { words = room; low = h .at .low; from = p .from; to = p .to }
 
     pub rel-line : (cell a b i kindAt ≡ nodeKind → ⊥) → spellRec (specRec (h .kind) (h .fields)) ≡ relText (cell a b i relTypesAt) (cell a b i relDirectionAt) (textAt sheet a b i relLengthAt) (cell a b i relPropsAt)
     rel-line e =
@@ -158,5 +158,9 @@ number-as e p = rw e at p
 pub text-as : (sheet : Bytes) {s e x y : ℕ} {g g′ : Page} → s ≡ x → e ≡ y → Puts (tab ∷ slice s e sheet) g g′ → Puts (tab ∷ slice x y sheet) g g′
 text-as sheet p q w = rw (p, q) at w
 
-pub within-as : {n s e x y : ℕ} → s ≡ x → e ≡ y → (x ≤ y) × (y ≤ n) → (s ≤ e) × (e ≤ n)
-within-as p q h = rw (p, q) h
+module _ {sheet : Bytes} {a b : List ℕ} {i c s e : ℕ} (from : s ≡ cell a b i c) (to : e ≡ cell a b i (c + 1)) (t : TextAsked sheet a b i c) where
+  pub text-in : (s ≤ e) × (e ≤ length sheet)
+  text-in = rw (from, to) (t .from, t .to)
+
+  pub named-in : {k : ℕ} → k < wordCount → NamedAsked k sheet s e
+  named-in l = rw (from, to) (record { keyword = l; from = t .from; to = t .to })

@@ -23,10 +23,10 @@ use Rattle.context.specs.Read.{noteOf}
 use Rattle.context.specs.declared.op.Op.{Op}
 use Rattle.lower.specs.Side.{Side, side}
 use Rattle.lower.specs.Render.{Notes, Ops, specRecs}
-use Rattle.lower.specs.Shows.{shift, InBounds, Shows, Stored, OverExpr, ByLabels, ByRel, ByShortest, ByPath, ByWith, ByItems, ByParted, ByKeys, ByCall, shows-all, shows-source, shows-filter, shows-expand, shows-short, shows-path, shows-optional, shows-with, shows-project, shows-aggregate, shows-order, shows-skip, shows-limit, shows-distinct, shows-unwind, shows-union, shows-call}
+use Rattle.lower.specs.Shows.{shift, InBounds, Shows, Stored, OverExpr, ByLabels, ByRel, ByShortest, ByPath, ByWith, ByItems, ByParted, ByKeys, ByCall, shows-all, shows-no-parts, shows-source, shows-filter, shows-expand, shows-short, shows-path, shows-optional, shows-with, shows-project, shows-aggregate, shows-order, shows-skip, shows-limit, shows-distinct, shows-unwind, shows-union, shows-call}
 use Rattle.plan_line.specs.Keywords.{word, letters, sourceWord, filterWord, expandWord, shortWord, pathWord, optionalWord, withWord, projectWord, aggWord, orderWord, skipWord, limitWord, distinctWord, unwindWord, unionWord, callWord}
 use Rattle.plan_line.specs.Row.{numbersText, rowText, callText}
-use Rattle.plan_sheet.specs.Due.{noted, Room, Near, Tabled, SomePlan, OpShown, WroteFirst, Many, WroteMany, Element, WroteElement, WroteOp, TextIn, allShortest, textAt}
+use Rattle.plan_sheet.specs.Due.{noted, Room, Near, Tabled, SomePlan, OpShown, WroteFirst, Many, WroteMany, Element, WroteElement, WroteOp, TextAsked, NotesIn, FirstAsked, allShortest, textAt}
 use Rattle.plan_sheet.specs.Parted.{Items, WroteItems}
 use Rattle.plan_sheet.specs.Asked.{elementOf, ExprsAsked, ExprsWrote, ElementAsked, ElementWrote, ItemsAsked, ItemsWrote}
 use Rattle.plan_sheet.specs.declared.write.At.{At}
@@ -35,15 +35,15 @@ use Rattle.plan_line.proofs.RowLaws.{flag-decimal, record-line, row-rec, place-
 use Rattle.plan_sheet.proofs.HeadLaws.{texts-at}
 use Rattle.plan_sheet.proofs.DueLaws.{tabled-less, spell-append}
 use Rattle.plan_sheet.proofs.NameLaws.{names-made}
-use Rattle.context.specs.Ops.{beforeOf, callInput, aggregateKind, bindPathKind, distinctKind, expandKind, filterKind, limitKind, optionalJoinKind, orderByKind, procedureCallKind, projectKind, shortestPathKind, skipKind, sourceAllKind, sourceKind, unionKind, unwindKind, withKind}
+use Rattle.context.specs.Ops.{beforeOf, callInput, aggregateKind, bindPathKind, distinctKind, expandKind, filterKind, limitKind, optionalJoinKind, orderByKind, procedureCallKind, projectKind, shortestPathKind, skipKind, sourceAllKind, sourceNoPartsKind, sourceKind, unionKind, unwindKind, withKind}
 use Rattle.words.specs.Places.{callArgsAt, callNameAt, callOptionalAt, callYieldsAt, itemsAt, nodeLabelsAt, partShortestAt, withFilterAt}
-use Rattle.words.specs.Numbers.{Others, other-than}
+use Rattle.words.specs.Numbers.{Others, among, other-than}
 
 -- ── by kind ──
 
 -- the kinds that a pattern makes, and all that a clause makes but the last, as a `match` leaves them behind its arms
 abbrev pub patternOps : List ℕ
-patternOps = bindPathKind ∷ shortestPathKind ∷ expandKind ∷ filterKind ∷ sourceKind ∷ sourceAllKind ∷ []
+patternOps = bindPathKind ∷ shortestPathKind ∷ expandKind ∷ filterKind ∷ sourceKind ∷ sourceNoPartsKind ∷ sourceAllKind ∷ []
 
 abbrev pub clauseOps : List ℕ
 clauseOps =
@@ -66,6 +66,7 @@ module _ (S : Side) (N : Notes) (A : Ops) (k : ℕ) (o : Op) (recs : Recs) where
   abbrev pub byKind : Types
   byKind =
       (recs ≡ source (o .x) []) or
+      (recs ≡ source (o .x) []) or
       (ByLabels S N A k o recs) or
       (OverExpr S N A k o (op ReadOp.Filter (o .input, tt)) recs) or
       (ByRel S N A k o recs) or
@@ -86,6 +87,7 @@ module _ (S : Side) (N : Notes) (A : Ops) (k : ℕ) (o : Op) (recs : Recs) where
 module _ {S : Side} {N : Notes} {A : Ops} {k : ℕ} {o : Op} {recs : Recs} where
   told : Shows S N A k o recs → typeAt (byKind S N A k o recs) (o .kind)
   told (shows-all q r) = subst (λ (n : ℕ). typeAt (byKind S N A k o recs) n) (sym q) r
+  told (shows-no-parts q r) = subst (λ (n : ℕ). typeAt (byKind S N A k o recs) n) (sym q) r
   told (shows-source q r) = subst (λ (n : ℕ). typeAt (byKind S N A k o recs) n) (sym q) r
   told (shows-filter q r) = subst (λ (n : ℕ). typeAt (byKind S N A k o recs) n) (sym q) r
   told (shows-expand q r) = subst (λ (n : ℕ). typeAt (byKind S N A k o recs) n) (sym q) r
@@ -109,6 +111,7 @@ module _ {S : Side} {N : Notes} {A : Ops} {k : ℕ} {o : Op} {recs : Recs} where
   -- the last kind
   last-kind : Shows S N A k o recs → bindPathKind < o .kind → Others (o .kind) clauseOps → o .kind ≡ procedureCallKind
   last-kind (shows-all q r) l z = absurd (omega arith)
+  last-kind (shows-no-parts q r) l z = absurd (omega arith)
   last-kind (shows-source q r) l z = absurd (omega arith)
   last-kind (shows-filter q r) l z = absurd (omega arith)
   last-kind (shows-expand q r) l z = absurd (omega arith)
@@ -131,7 +134,23 @@ past : (m n : ℕ) → m ≤ n → (n ≡ m → ⊥) → suc m ≤ n
 past m n l z = omega arith
 
 pub of-clause : (n : ℕ) → Others n patternOps → bindPathKind < n
-of-clause n z = past 5 n (past 4 n (past 3 n (past 2 n (past 1 n (past 0 n (omega arith) (z .0 .0 .0 .0 .0 .1)) (z .0 .0 .0 .0 .1)) (z .0 .0 .0 .1)) (z .0 .0 .1)) (z .0 .1)) (z .1)
+of-clause n z =
+    past bindPathKind n
+    (past shortestPathKind n
+    (past expandKind n
+    (past filterKind n
+    (past sourceKind n
+    (past sourceNoPartsKind n
+    (past sourceAllKind n (omega arith) (none sourceAllKind refl))
+    (none sourceNoPartsKind refl))
+    (none sourceKind refl))
+    (none filterKind refl))
+    (none expandKind refl))
+    (none shortestPathKind refl))
+    (none bindPathKind refl)
+  where
+    none : (k : ℕ) → among k patternOps ≡ true → n ≡ k → ⊥
+    none k e = other-than n k patternOps z e
 
 -- ── the first line ──
 
@@ -152,10 +171,17 @@ unfolding spellFlag decimal digits
 bool-decimal false = refl
 bool-decimal true = refl
 
+pub notes-in : {sheet : Bytes} {a b rest : List ℕ} {o : Op} → FirstAsked sheet a b rest o → NotesIn rest o
+notes-in h = let w = h .shown .stored .bounded in record { in-rest = h .in-rest; near = w .near; low = w .low }
+
 module _ {sheet : Bytes} {a b rest : List ℕ} {o : Op} (h : OpShown sheet a b rest o) where
   pub all-line : o .kind ≡ sourceAllKind → spellRecs (take 1 (h .recs)) ≡ rowText sourceWord (o .x ∷ 0 ∷ [])
   unfolding source keyword planKeyword opKeyword word letters bytes bytesFrom spellFields spell
   all-line e = first-rec (of-kind sourceAllKind e (h .stored .shows)) ∙ row-rec _ sourceWord (o .x ∷ 0 ∷ []) refl refl
+
+  pub no-parts-line : o .kind ≡ sourceNoPartsKind → spellRecs (take 1 (h .recs)) ≡ rowText sourceWord (o .x ∷ 0 ∷ [])
+  unfolding source keyword planKeyword opKeyword word letters bytes bytesFrom spellFields spell
+  no-parts-line e = first-rec (of-kind sourceNoPartsKind e (h .stored .shows)) ∙ row-rec _ sourceWord (o .x ∷ 0 ∷ []) refl refl
 
   pub source-line : o .kind ≡ sourceKind → spellRecs (take 1 (h .recs)) ≡ rowText sourceWord (o .x ∷ cell a b (o .idx) nodeLabelsAt ∷ [])
   unfolding source keyword planKeyword opKeyword word letters bytes bytesFrom spellFields spell
@@ -169,8 +195,8 @@ module _ {sheet : Bytes} {a b rest : List ℕ} {o : Op} (h : OpShown sheet a b r
   filter-line e = first-rec (of-kind filterKind e (h .stored .shows) .is) ∙ row-rec _ filterWord (o .input ∷ []) refl refl
 
   module _ (c : o .kind ≡ expandKind) where
-    pub expand-low : (o .idx < maxRecords) × (o .y < maxRecords)
-    expand-low = let s = of-kind expandKind c (h .stored .shows) in (element-low sheet a b (o .left) (o .idx) (s .rel) (s .held-rel), element-low sheet a b (o .left) (o .y) (s .far) (s .held-far))
+    pub far-low : o .y < maxRecords
+    far-low = let s = of-kind expandKind c (h .stored .shows) in element-low sheet a b (o .left) (o .y) (s .far) (s .held-far)
 
     pub expand-line : spellRecs (take 1 (h .recs)) ≡ rowText expandWord (o .input ∷ o .x ∷ noteOf rest (o .base) (o .idx) ∷ noteOf rest (o .base) (o .y) ∷ [])
     unfolding keyword planKeyword opKeyword word letters bytes bytesFrom spellFields spell
@@ -247,8 +273,8 @@ module _ {sheet : Bytes} {a b rest : List ℕ} {o : Op} (room : Roomy a b) (h : 
   call-text : PlaceAt text sheet (cell a b (o .idx) callNameAt) (cell a b (o .idx) (callNameAt + 1))
   call-text = texts-at room (of-kind procedureCallKind e (h .stored .shows) .at) .0
 
-  pub procedure-in : TextIn sheet a b (o .idx) callNameAt
-  procedure-in = (call-text .from, call-text .to)
+  pub procedure-in : TextAsked sheet a b (o .idx) callNameAt
+  procedure-in = record { words = room; low = h .stored .bounded .low; from = call-text .from; to = call-text .to }
 
   pub call-line : spellRecs (take 1 (h .recs)) ≡ callText (beforeOf (callInput o)) (textAt sheet a b (o .idx) callNameAt) (cell a b (o .idx) callArgsAt) (cell a b (o .idx) callYieldsAt) (cell a b (o .idx) callOptionalAt)
   unfolding spellRec keyword planKeyword opKeyword word letters bytes bytesFrom spellFields spell fieldsOf fieldOf callText numbersText

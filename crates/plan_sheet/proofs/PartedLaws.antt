@@ -23,7 +23,7 @@ use Rattle.lower.specs.Shows.{shift}
 use Rattle.words.specs.Count.{Ends}
 use Rattle.aggregate.specs.Names.{SomeExpr}
 use Rattle.plan_line.specs.Keywords.{word, letters, aggFnWord}
-use Rattle.plan_sheet.specs.Due.{noted, SomePlan, One, Carried, carriedRecs, carriedEnd, Many, WroteOne, WroteMany, WroteFirst, TextIn, textAt}
+use Rattle.plan_sheet.specs.Due.{noted, SomePlan, One, Carried, carriedRecs, carriedEnd, Many, WroteOne, WroteMany, WroteFirst, TextAsked, textAt}
 use Rattle.plan_sheet.specs.Parted.{aggText, partRecs, partsRecs, Items, WrotePart, WroteParts, WroteItems}
 use Rattle.plan_line.proofs.RowLaws.{flag-decimal, named-rec, place-escape}
 use Rattle.plan_sheet.proofs.HeadLaws.{texts-at}
@@ -125,8 +125,8 @@ module _ {sheet : Bytes} {a b os rest : List ℕ} {below base left i : ℕ} wher
     pub agg-is : Agg sheet a b (shift (noted rest) base) (h .first) below left i (h .tree)
     agg-is = agg sheet a b (shift (noted rest) base) (h .first) below left i room (h .tree) (h .held) (h .under) (sym (told left (h .tree) (h .held)) ∙ e)
 
-    pub agg-in : TextIn sheet a b i nameAt
-    agg-in = (agg-is .place .from, agg-is .place .to)
+    pub agg-in : TextAsked sheet a b i nameAt
+    agg-in = record { words = room; low = agg-is .low; from = agg-is .place .from; to = agg-is .place .to }
 
     pub args : {n : ℕ} → n ≡ cell a b i fnArgsAt → Many sheet a b os rest below base (left - 1) n (i + 1)
     args q = rw q (record { first = h .first; ops = h .ops; tabled = h .tabled; list = agg-is .list })

@@ -12,6 +12,7 @@ use Rattle.model.specs.Tree.{Tree}
 use Rattle.model.specs.Lower.{Recs, exprAlias, aliasOr}
 use Rattle.output.specs.Page.{Page, Puts}
 use Rattle.words.specs.Words.{Roomy, cell, maxRecords}
+use Rattle.words.specs.Places.{kindAt}
 use Rattle.words.specs.Held.{Held, RecordAt, size}
 use Rattle.context.specs.Tables.{opAt, maxStored, secondPass, deepest}
 use Rattle.context.specs.declared.op.Op.{Op}
@@ -46,12 +47,28 @@ pub record Tabled (sheet : Bytes) (a b os rest : List ℕ) (first n : ℕ) (A : 
   pub few : n ≤ maxStored
   pub stored : (k : ℕ) → first ≤ k → k < n → Stored (side sheet a b first) (noted rest) A k (opAt os k) (A k)
 
--- the text whose place stands in word c of record i and in the next one, and that it is inside the sheet
+-- the text whose place stands in word c of record i and in the next one
 abbrev pub textAt : Bytes → List ℕ → List ℕ → (i c : ℕ) → Bytes
 textAt sheet a b i c = slice (cell a b i c) (cell a b i (c + 1)) sheet
 
-abbrev pub TextIn : Bytes → List ℕ → List ℕ → (i c : ℕ) → Type 0
-TextIn sheet a b i c = (cell a b i c ≤ cell a b i (c + 1)) × (cell a b i (c + 1) ≤ length sheet)
+-- what a line with such a text asks
+pub record TextAsked (sheet : Bytes) (a b : List ℕ) (i c : ℕ) : Type 0 where
+  pub words : Roomy a b
+  pub low : i < maxRecords
+  pub from : cell a b i c ≤ cell a b i (c + 1)
+  pub to : cell a b i (c + 1) ≤ length sheet
+
+-- what the line of a record asks whose kind was read, X being what stands there
+pub record KindAsked (a b : List ℕ) (i kind : ℕ) (X : Type 0) : Type 0 where
+  pub words : Roomy a b
+  pub at : X
+  pub told : kind ≡ cell a b i kindAt
+
+-- what a part of an operator asks whose notes are read, X being what is due
+pub record NotedAsked (a b rest : List ℕ) (o : Op) (X : Type 0) : Type 0 where
+  pub words : Roomy a b
+  pub notes : NotesIn rest o
+  pub due : X
 
 -- a part that asks for all shortest paths, and not for one
 abbrev pub allShortest : ℕ
@@ -162,7 +179,12 @@ pub record OpShown (sheet : Bytes) (a b rest : List ℕ) (o : Op) : Type 0 where
   pub recs : Recs
   pub stored : Stored (side sheet a b first) (noted rest) ops number o recs
 
--- its first line is written
+-- what its first line asks, and that it is written
+pub record FirstAsked (sheet : Bytes) (a b rest : List ℕ) (o : Op) : Type 0 where
+  pub words : Roomy a b
+  pub in-rest : workWords ≤ length rest
+  pub shown : OpShown sheet a b rest o
+
 abbrev pub WroteFirst : (sheet : Bytes) (a b rest : List ℕ) → Op → Page → Page → Type 0
 WroteFirst sheet a b rest o p q = (h : OpShown sheet a b rest o) → Puts (spellRecs (take 1 (h .recs))) p q
 

@@ -4,7 +4,7 @@ ghost use Prim.Native.Nat.{_+_, _<_};
 ghost use Rattle.output.specs.Page.{on};
 ghost use Rattle.words.specs.Words.{Roomy, cell, maxRecords};
 ghost use Rattle.words.specs.Places.{callYieldsAt};
-ghost use Rattle.plan_sheet.specs.Due.{NotesIn};
+ghost use Rattle.plan_sheet.specs.Due.{NotedAsked};
 ghost use Rattle.plan_sheet.specs.Asked.{exprsOf, itemsOf, elementOf};
 ghost use Rattle.plan_sheet.specs.Behind.{manyOf, firstOf, Yields, WroteYields, SomeTail, WroteTail};
 use crate::write::At;
@@ -112,9 +112,7 @@ fn put_yields(
     w: Op,
     i: usize,
 ) -> usize
-    requires { ⌜ Roomy (now a) (now b) ⌝ }
-    requires { ⌜ NotesIn (now rest) w ⌝ }
-    requires { ⌜ Yields (now sheet) (now a) (now b) (cell (now a) (now b) (w .idx) callYieldsAt) i ⌝ }
+    requires { ⌜ NotedAsked (now a) (now b) (now rest) w (Yields (now sheet) (now a) (now b) (cell (now a) (now b) (w .idx) callYieldsAt) i) ⌝ }
     ensures { λ r. ⌜ WroteYields (now (sheet .entry)) (now (a .entry)) (now (b .entry)) (now (rest .entry)) (w .base) (cell (now (a .entry)) (now (b .entry)) (w .idx) callYieldsAt) i (on (now (plan .entry)) out) (on (now (plan .exit)) r) ⌝ }
 {
     let base = w.base as usize;
@@ -143,9 +141,7 @@ pub fn put_tail(
     w: Op,
     i: usize,
 ) -> usize
-    requires { ⌜ Roomy (now a) (now b) ⌝ }
-    requires { ⌜ NotesIn (now rest) w ⌝ }
-    requires { ⌜ SomeTail (now sheet) (now a) (now b) (now rest) w i ⌝ }
+    requires { ⌜ NotedAsked (now a) (now b) (now rest) w (SomeTail (now sheet) (now a) (now b) (now rest) w i) ⌝ }
     ensures { λ r. ⌜ WroteTail (now (sheet .entry)) (now (a .entry)) (now (b .entry)) (now (rest .entry)) w i (on (now (plan .entry)) out) (on (now (plan .exit)) r) ⌝ }
 {
     let kind = w.kind;

@@ -9,7 +9,7 @@ ghost use Rattle.words.specs.Places.{itemsAt, withFilterAt, callArgsAt, callYie
 ghost use Rattle.context.specs.Ops.{beforeOf, bindPathKind};
 ghost use Rattle.plan_line.specs.Keywords.{withWord, projectWord};
 ghost use Rattle.plan_line.specs.Row.{numbersText, rowText, callText};
-ghost use Rattle.plan_sheet.specs.Due.{OpShown, WroteFirst, TextIn, textAt};
+ghost use Rattle.plan_sheet.specs.Due.{FirstAsked, WroteFirst, TextAsked, textAt};
 use context::Before;
 use context::op;
 use context::op::Op;
@@ -74,9 +74,7 @@ fn put_procedure(
     i: usize,
     input: Before,
 ) -> usize
-    requires { ⌜ Roomy (now a) (now b) ⌝ }
-    requires { ⌜ i < maxRecords ⌝ }
-    requires { ⌜ TextIn (now sheet) (now a) (now b) i callNameAt ⌝ }
+    requires { ⌜ TextAsked (now sheet) (now a) (now b) i callNameAt ⌝ }
     ensures { λ r. ⌜ Puts (callText (beforeOf input) (textAt (now (sheet .entry)) (now (a .entry)) (now (b .entry)) i callNameAt) (cell (now (a .entry)) (now (b .entry)) i callArgsAt) (cell (now (a .entry)) (now (b .entry)) i callYieldsAt) (cell (now (a .entry)) (now (b .entry)) i callOptionalAt)) (on (now (plan .entry)) out) (on (now (plan .exit)) r) ⌝ }
 {
     let s = words::word(a, b, i, field::CALL_NAME);
@@ -97,9 +95,8 @@ pub fn put_clause_op(
     rest: &[u32],
     w: Op,
 ) -> usize
-    requires { ⌜ Roomy (now a) (now b) ⌝ }
+    requires { ⌜ FirstAsked (now sheet) (now a) (now b) (now rest) w ⌝ }
     requires { ⌜ bindPathKind < w .kind ⌝ }
-    requires { ⌜ OpShown (now sheet) (now a) (now b) (now rest) w ⌝ }
     ensures { λ r. ⌜ WroteFirst (now (sheet .entry)) (now (a .entry)) (now (b .entry)) (now (rest .entry)) w (on (now (plan .entry)) out) (on (now (plan .exit)) r) ⌝ }
 {
     let kind = w.kind;

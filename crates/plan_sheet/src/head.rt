@@ -5,11 +5,11 @@ ghost use Prim.Native.Nat.{_<_};
 ghost use Rattle.model.specs.Record.{spellRec};
 ghost use Rattle.output.specs.Page.{on, Puts};
 ghost use Rattle.words.specs.Words.{Roomy, cell, maxRecords};
-ghost use Rattle.words.specs.Places.{kindAt, fnArgsAt, listPredicateKindAt, listPredicatePredAt, nameAt};
+ghost use Rattle.words.specs.Places.{fnArgsAt, listPredicateKindAt, listPredicatePredAt, nameAt};
 ghost use Rattle.plan_line.specs.Keywords.{fnWord, listPredicateWord};
 ghost use Rattle.plan_line.specs.Row.{rowText, namedText};
 ghost use Rattle.model.specs.Lower.{exprHead};
-ghost use Rattle.plan_sheet.specs.Due.{ExprAt, SomeLine, WroteLine, TextIn, textAt};
+ghost use Rattle.plan_sheet.specs.Due.{ExprAt, SomeLine, WroteLine, TextAsked, KindAsked, textAt};
 use plan_line::copy::put_copied;
 use plan_line::field::put_int;
 use plan_line::row;
@@ -25,9 +25,7 @@ pub struct Wrote {
 
 // A function's name and how many arguments it has.
 fn put_call(plan: &mut [u8], out: usize, sheet: &[u8], a: &[u32], b: &[u32], i: usize) -> usize
-    requires { ⌜ Roomy (now a) (now b) ⌝ }
-    requires { ⌜ i < maxRecords ⌝ }
-    requires { ⌜ TextIn (now sheet) (now a) (now b) i nameAt ⌝ }
+    requires { ⌜ TextAsked (now sheet) (now a) (now b) i nameAt ⌝ }
     ensures { λ r. ⌜ Puts (namedText fnWord (textAt (now (sheet .entry)) (now (a .entry)) (now (b .entry)) i nameAt) (cell (now (a .entry)) (now (b .entry)) i fnArgsAt ∷ [])) (on (now (plan .entry)) out) (on (now (plan .exit)) r) ⌝ }
 {
     let s = words::word(a, b, i, field::NAME);
@@ -58,9 +56,7 @@ pub fn put_expr(
     kind: u32,
     n: u32,
 ) -> usize
-    requires { ⌜ Roomy (now a) (now b) ⌝ }
-    requires { ⌜ ExprAt (now sheet) (now a) (now b) i ⌝ }
-    requires { ⌜ kind ≡ cell (now a) (now b) i kindAt ⌝ }
+    requires { ⌜ KindAsked (now a) (now b) i kind (ExprAt (now sheet) (now a) (now b) i) ⌝ }
     ensures { λ r. ⌜ ((h : ExprAt (now (sheet .entry)) (now (a .entry)) (now (b .entry)) i) → Puts (spellRec (exprHead n (h .kind) (h .fields))) (on (now (plan .entry)) out) (on (now (plan .exit)) r)) ⌝ }
 {
     match kind {

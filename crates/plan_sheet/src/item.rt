@@ -1,16 +1,16 @@
 // The line of an item: its alias, or a name by its expression; and that of an aggregate.
 ghost use mathlib.Core.List.{[], _++_};
-ghost use Prim.Native.Nat.{_+_, _<_};
+ghost use Prim.Native.Nat.{_+_};
 ghost use Rattle.model.specs.Text.{bytes, decimal};
 ghost use Rattle.model.specs.Record.{spellRec};
 ghost use Rattle.output.specs.Page.{on, Puts};
-ghost use Rattle.words.specs.Words.{Roomy, maxRecords};
+ghost use Rattle.words.specs.Words.{Roomy};
 ghost use Rattle.words.specs.Places.{nameAt};
 ghost use Rattle.plan_line.specs.Keywords.{itemWord};
 ghost use Rattle.plan_line.specs.Row.{namedText};
 ghost use Rattle.model.specs.Lower.{exprAlias};
 ghost use Rattle.plan_sheet.specs.Parted.{aggText};
-ghost use Rattle.plan_sheet.specs.Due.{ExprAt, ItemAt, namedRec, itemName, TextIn, textAt};
+ghost use Rattle.plan_sheet.specs.Due.{ExprAt, ItemAt, namedRec, itemName, TextAsked, textAt};
 use output::put_byte;
 use plan_line::keyword::put_keyword;
 use plan_line::row;
@@ -20,9 +20,7 @@ use words::kind;
 
 // The name that record i has: an item's alias, a property, a function.
 fn put_own_name(plan: &mut [u8], out: usize, sheet: &[u8], a: &[u32], b: &[u32], i: usize) -> usize
-    requires { ⌜ Roomy (now a) (now b) ⌝ }
-    requires { ⌜ i < maxRecords ⌝ }
-    requires { ⌜ TextIn (now sheet) (now a) (now b) i nameAt ⌝ }
+    requires { ⌜ TextAsked (now sheet) (now a) (now b) i nameAt ⌝ }
     ensures { λ r. ⌜ Puts (namedText itemWord (textAt (now (sheet .entry)) (now (a .entry)) (now (b .entry)) i nameAt) []) (on (now (plan .entry)) out) (on (now (plan .exit)) r) ⌝ }
 {
     let s = words::word(a, b, i, field::NAME);
@@ -90,9 +88,7 @@ pub fn put_item(plan: &mut [u8], out: usize, sheet: &[u8], a: &[u32], b: &[u32],
 
 // An aggregate: its function's name, how many arguments it has, and whether they are distinct.
 pub fn put_agg(plan: &mut [u8], out: usize, sheet: &[u8], a: &[u32], b: &[u32], i: usize) -> usize
-    requires { ⌜ Roomy (now a) (now b) ⌝ }
-    requires { ⌜ i < maxRecords ⌝ }
-    requires { ⌜ TextIn (now sheet) (now a) (now b) i nameAt ⌝ }
+    requires { ⌜ TextAsked (now sheet) (now a) (now b) i nameAt ⌝ }
     ensures { λ r. ⌜ Puts (aggText (now (sheet .entry)) (now (a .entry)) (now (b .entry)) i) (on (now (plan .entry)) out) (on (now (plan .exit)) r) ⌝ }
 {
     let s = words::word(a, b, i, field::NAME);

@@ -6,8 +6,8 @@ ghost use Rattle.model.specs.Record.{spellRec, spellRecs};
 ghost use Rattle.output.specs.Page.{on, Puts};
 ghost use Rattle.words.specs.Words.{Roomy, cell, maxRecords};
 ghost use Rattle.lower.specs.Render.{specRec};
-ghost use Rattle.plan_sheet.specs.Due.{Names, namesRecs, ElementAt, TextIn, textAt};
-ghost use Rattle.words.specs.Places.{kindAt, nodeLabelsAt, nodePropsAt, relTypesAt, relDirectionAt, relLengthAt, relPropsAt};
+ghost use Rattle.plan_sheet.specs.Due.{Names, namesRecs, ElementAt, TextAsked, KindAsked, textAt};
+ghost use Rattle.words.specs.Places.{nodeLabelsAt, nodePropsAt, relTypesAt, relDirectionAt, relLengthAt, relPropsAt};
 ghost use Rattle.plan_line.specs.Keywords.{toWord};
 ghost use Rattle.plan_line.specs.Row.{rowText, relText};
 use crate::head::Wrote;
@@ -46,9 +46,7 @@ pub fn put_names(
 
 // A rel without its variable and its span.
 fn put_rel(plan: &mut [u8], out: usize, sheet: &[u8], a: &[u32], b: &[u32], i: usize) -> usize
-    requires { ⌜ Roomy (now a) (now b) ⌝ }
-    requires { ⌜ i < maxRecords ⌝ }
-    requires { ⌜ TextIn (now sheet) (now a) (now b) i relLengthAt ⌝ }
+    requires { ⌜ TextAsked (now sheet) (now a) (now b) i relLengthAt ⌝ }
     ensures { λ r. ⌜ Puts (relText (cell (now (a .entry)) (now (b .entry)) i relTypesAt) (cell (now (a .entry)) (now (b .entry)) i relDirectionAt) (textAt (now (sheet .entry)) (now (a .entry)) (now (b .entry)) i relLengthAt) (cell (now (a .entry)) (now (b .entry)) i relPropsAt)) (on (now (plan .entry)) out) (on (now (plan .exit)) r) ⌝ }
 {
     let types = words::word(a, b, i, field::REL_TYPES);
@@ -85,9 +83,7 @@ pub fn put_element(
     i: usize,
     kind: u32,
 ) -> usize
-    requires { ⌜ Roomy (now a) (now b) ⌝ }
-    requires { ⌜ ElementAt (now sheet) (now a) (now b) i ⌝ }
-    requires { ⌜ kind ≡ cell (now a) (now b) i kindAt ⌝ }
+    requires { ⌜ KindAsked (now a) (now b) i kind (ElementAt (now sheet) (now a) (now b) i) ⌝ }
     ensures { λ r. ⌜ ((h : ElementAt (now (sheet .entry)) (now (a .entry)) (now (b .entry)) i) → Puts (spellRec (specRec (h .kind) (h .fields))) (on (now (plan .entry)) out) (on (now (plan .exit)) r)) ⌝ }
 {
     if kind == kind::NODE {

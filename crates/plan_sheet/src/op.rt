@@ -2,9 +2,8 @@
 ghost use mathlib.Core.Path.{_≡_};
 ghost use mathlib.Core.Bool.{cond};
 ghost use mathlib.Core.List.{[], _∷_};
-ghost use Prim.Native.Nat.{_+_, _<_, _≤_};
+ghost use Prim.Native.Nat.{_+_, _<_};
 ghost use lib.Dec.{eqb};
-ghost use lib.ListN.{length};
 ghost use Rattle.model.specs.Record.{one};
 ghost use Rattle.output.specs.Page.{on, Puts};
 ghost use Rattle.words.specs.Words.{Roomy, cell, maxRecords};
@@ -12,9 +11,7 @@ ghost use Rattle.words.specs.Places.{nodeKind, nodePropsAt, relPropsAt, nodeLab
 ghost use Rattle.context.specs.Read.{noteOf};
 ghost use Rattle.plan_line.specs.Keywords.{sourceWord, expandWord, shortWord};
 ghost use Rattle.plan_line.specs.Row.{rowText};
-ghost use Rattle.plan_sheet.specs.Due.{OpShown, WroteFirst, allShortest};
-ghost use Rattle.context.specs.Tables.{secondPass};
-ghost use Rattle.model.specs.Call.{workWords};
+ghost use Rattle.plan_sheet.specs.Due.{NotesIn, NotedAsked, FirstAsked, WroteFirst, allShortest};
 use context::op;
 use context::op::Op;
 use context::read::note_of;
@@ -40,8 +37,8 @@ pub fn props_of(a: &[u32], b: &[u32], i: usize, kind: u32) -> usize
 
 // The first line of an expand, whose numbers are noted at the rel and its far node.
 fn put_expand(plan: &mut [u8], out: usize, rest: &[u32], w: Op) -> usize
-    requires { ⌜ (w .idx < maxRecords) × (w .y < maxRecords) × (w .base ≤ secondPass) ⌝ }
-    requires { ⌜ workWords ≤ length (now rest) ⌝ }
+    requires { ⌜ NotesIn (now rest) w ⌝ }
+    requires { ⌜ w .y < maxRecords ⌝ }
     ensures { λ r. ⌜ Puts (rowText expandWord (w .input ∷ w .x ∷ noteOf (now (rest .entry)) (w .base) (w .idx) ∷ noteOf (now (rest .entry)) (w .base) (w .y) ∷ [])) (on (now (plan .entry)) out) (on (now (plan .exit)) r) ⌝ }
 {
     let base = w.base as usize;
@@ -62,9 +59,7 @@ fn is_all(x: u32) -> u32
 
 // The first line of a shortest part, which notes the path's number; its first node is the record behind it.
 fn put_short(plan: &mut [u8], out: usize, a: &[u32], b: &[u32], rest: &[u32], w: Op) -> usize
-    requires { ⌜ Roomy (now a) (now b) ⌝ }
-    requires { ⌜ (w .idx < maxRecords) × (w .y < maxRecords) × (w .base ≤ secondPass) ⌝ }
-    requires { ⌜ workWords ≤ length (now rest) ⌝ }
+    requires { ⌜ NotedAsked (now a) (now b) (now rest) w (w .y < maxRecords) ⌝ }
     ensures { λ r. ⌜ Puts (rowText shortWord (w .input ∷ noteOf (now (rest .entry)) (w .base) (w .idx + 1) ∷ noteOf (now (rest .entry)) (w .base) (w .y) ∷ noteOf (now (rest .entry)) (w .base) (w .idx) ∷ one (eqb (cell (now (a .entry)) (now (b .entry)) (w .idx) partShortestAt) allShortest) ∷ [])) (on (now (plan .entry)) out) (on (now (plan .exit)) r) ⌝ }
 {
     let base = w.base as usize;
@@ -96,14 +91,13 @@ pub fn put_op(
     rest: &[u32],
     w: Op,
 ) -> usize
-    requires { ⌜ Roomy (now a) (now b) ⌝ }
-    requires { ⌜ workWords ≤ length (now rest) ⌝ }
-    requires { ⌜ OpShown (now sheet) (now a) (now b) (now rest) w ⌝ }
+    requires { ⌜ FirstAsked (now sheet) (now a) (now b) (now rest) w ⌝ }
     ensures { λ r. ⌜ WroteFirst (now (sheet .entry)) (now (a .entry)) (now (b .entry)) (now (rest .entry)) w (on (now (plan .entry)) out) (on (now (plan .exit)) r) ⌝ }
 {
     let kind = w.kind;
     match kind {
         op::SOURCE_ALL => row::put_row2(plan, out, word::SOURCE, w.x, 0),
+        op::SOURCE_NO_PARTS => row::put_row2(plan, out, word::SOURCE, w.x, 0),
         op::SOURCE => put_source(plan, out, a, b, w.idx as usize, w.x),
         op::FILTER => row::put_row1(plan, out, word::FILTER, w.input),
         op::EXPAND => put_expand(plan, out, rest, w),

@@ -3,11 +3,11 @@ ghost use Prim.Native.Nat.{_<_};
 ghost use Rattle.model.specs.Record.{spellRecs};
 ghost use Rattle.model.specs.Lower.{pathElements};
 ghost use Rattle.output.specs.Page.{on, Puts};
-ghost use Rattle.words.specs.Words.{Roomy, cell, maxRecords};
+ghost use Rattle.words.specs.Words.{cell, maxRecords};
 ghost use Rattle.words.specs.Places.{partElementsAt};
 ghost use Rattle.lower.specs.Render.{keptRel};
 ghost use Rattle.lower.specs.Shows.{shift};
-ghost use Rattle.plan_sheet.specs.Due.{noted, NotesIn};
+ghost use Rattle.plan_sheet.specs.Due.{noted, NotedAsked};
 ghost use Rattle.plan_sheet.specs.Path.{waitsOf, StepAsked, Stepped, Elements, WrotePath};
 use context::op::Op;
 use context::read::note_of;
@@ -80,9 +80,7 @@ pub fn put_path(
     w: Op,
     i: usize,
 ) -> usize
-    requires { ⌜ Roomy (now a) (now b) ⌝ }
-    requires { ⌜ NotesIn (now rest) w ⌝ }
-    requires { ⌜ Elements (now sheet) (now a) (now b) (cell (now a) (now b) (w .idx) partElementsAt) i ⌝ }
+    requires { ⌜ NotedAsked (now a) (now b) (now rest) w (Elements (now sheet) (now a) (now b) (cell (now a) (now b) (w .idx) partElementsAt) i) ⌝ }
     ensures { λ r. ⌜ WrotePath (now (sheet .entry)) (now (a .entry)) (now (b .entry)) (now (rest .entry)) (w .base) (cell (now (a .entry)) (now (b .entry)) (w .idx) partElementsAt) i (on (now (plan .entry)) out) (on (now (plan .exit)) r) ⌝ }
 {
     let base = w.base as usize;

@@ -40,36 +40,26 @@ ruleset ways = (
 count-requires : tie.Need-count-requires
 count-requires c κs =
     let start : tie.Start = search ways in
-    (start .pre .1 .0 .low, (omega arith, start .pre .0))
+    (start .pre .notes .low, (omega arith, start .pre .words))
 
 put-names-requires : tie.Need-put-names-requires
 put-names-requires c κs =
     let at-match-keys1 : tie.At-match-keys1 = search ways in
     let after-count : tie.After-count = search ways in
     let start : tie.Start = search ways in
-    (start .pre .0, BehindLaws.labels-there (at-match-keys1 .match .keys1) (after-count .count .ensures .0) (start .pre .1 .1))
+    (start .pre .words, BehindLaws.labels-there (at-match-keys1 .match .keys1) (after-count .count .ensures .0) (start .pre .due))
 
 put-path-requires : tie.Need-put-path-requires
 put-path-requires c κs =
     let at-match-keys2 : tie.At-match-keys2 = search ways in
-    let start : tie.Start = search ways in (
-      start .pre .0,
-      (
-        start .pre .1 .0,
-        BehindLaws.path-there (at-match-keys2 .match .keys2) (start .pre .1 .1),
-      ),
-    )
+    let start : tie.Start = search ways in
+    record { words = start .pre .words; notes = start .pre .notes; due = BehindLaws.path-there (at-match-keys2 .match .keys2) (start .pre .due) }
 
 put-yields-requires : tie.Need-put-yields-requires
 put-yields-requires c κs =
     let at-match-keys3 : tie.At-match-keys3 = search ways in
-    let start : tie.Start = search ways in (
-      start .pre .0,
-      (
-        start .pre .1 .0,
-        BehindLaws.yields-there (at-match-keys3 .match .keys3) (start .pre .1 .1),
-      ),
-    )
+    let start : tie.Start = search ways in
+    record { words = start .pre .words; notes = start .pre .notes; due = BehindLaws.yields-there (at-match-keys3 .match .keys3) (start .pre .due) }
 
 returns : tie.Need-returns
 returns c =

@@ -50,30 +50,30 @@ low l = BehindLaws.yield-low (l .loop-test .taken) (l .before .loop .inv .some)
 word-requires : here tie.Need-word-requires
 word-requires c κs =
     let start : here tie.Start = search ways depth 8 in
-    (start .pre .1 .0 .low, (omega arith, start .pre .0))
+    (start .pre .notes .low, (omega arith, start .pre .words))
 
 loop-holds : here tie.Need-loop-holds
 loop-holds c =
     let start : here tie.Start = search ways depth 8 in
-    BehindLaws.yields-going (rw (c .word .ensures) (start .pre .1 .1))
+    BehindLaws.yields-going (rw (c .word .ensures) (start .pre .due))
 
 word-requires-2 : here tie.Need-word-requires-2
 word-requires-2 c κs =
     let in-loop : here tie.In-loop = search ways depth 8 in
     let start : here tie.Start = search ways depth 8 in
-    (low in-loop, (omega arith, start .pre .0))
+    (low in-loop, (omega arith, start .pre .words))
 
 word-requires-3 : here tie.Need-word-requires-3
 word-requires-3 c κs =
     let in-loop : here tie.In-loop = search ways depth 8 in
     let start : here tie.Start = search ways depth 8 in
-    (low in-loop, (omega arith, start .pre .0))
+    (low in-loop, (omega arith, start .pre .words))
 
 note-of-requires : here tie.Need-note-of-requires
 note-of-requires c κs =
     let in-loop : here tie.In-loop = search ways depth 8 in
     let start : here tie.Start = search ways depth 8 in
-    (start .pre .1 .0 .near, omega (arith, low in-loop), start .pre .1 .0 .in-rest)
+    (start .pre .notes .near, omega (arith, low in-loop), start .pre .notes .in-rest)
 
 put-named1-requires : here tie.Need-put-named1-requires
 put-named1-requires c κs =
@@ -82,7 +82,7 @@ put-named1-requires c κs =
     let in-loop : here tie.In-loop = search ways depth 8 in
     let at-loop : here tie.At-loop = search ways depth 8 in
     let start : here tie.Start = search ways depth 8 in
-    (omega arith, BehindLaws.yield-in (start .pre .0) (from .word2 .ensures) (to .word3 .ensures) (in-loop .loop-test .taken) (at-loop .loop .inv .some))
+    BehindLaws.yield-in (start .pre .words) (from .word2 .ensures) (to .word3 .ensures) (in-loop .loop-test .taken) (at-loop .loop .inv .some)
 
 add-at : here tie.Need-add-at
 add-at c =
@@ -99,7 +99,7 @@ loop-again c =
     let at-loop : here tie.At-loop = search ways depth 8 in
     let start : here tie.Start = search ways depth 8 in
     BehindLaws.yields-again
-    (start .pre .0)
+    (start .pre .words)
     (in-loop .loop-test .taken)
     (at-loop .loop .inv)
     (from .word2 .ensures)

@@ -103,27 +103,19 @@ ruleset ways = (
 put-with-requires : tie.Need-put-with-requires
 put-with-requires c κs =
     let start : tie.Start = search ways in
-    (start .pre .0, (start .pre .1 .1) .stored .bounded .low)
+    (start .pre .0 .words, start .pre .0 .shown .stored .bounded .low)
 
 put-project-requires : tie.Need-put-project-requires
 put-project-requires c κs =
     let start : tie.Start = search ways in
-    (start .pre .0, (start .pre .1 .1) .stored .bounded .low)
+    (start .pre .0 .words, start .pre .0 .shown .stored .bounded .low)
 
 put-procedure-requires : tie.Need-put-procedure-requires
 put-procedure-requires c κs =
     let at-match-rest : tie.At-match-rest = search ways in
     let start : tie.Start = search ways in
-    let r = at-match-rest .match .rest in (
-      start .pre .0,
-      (
-        (start .pre .1 .1) .stored .bounded .low,
-        OpLaws.procedure-in
-            (start .pre .0)
-            (start .pre .1 .1)
-            (OpLaws.is-call (start .pre .1 .1) (start .pre .1 .0) (at-match-rest .match .rest)),
-      ),
-    )
+    let asked = start .pre .0 in
+    OpLaws.procedure-in (asked .words) (asked .shown) (OpLaws.is-call (asked .shown) (start .pre .1) (at-match-rest .match .rest))
 
 returns : tie.Need-returns
 returns c =
@@ -194,9 +186,9 @@ returns-11 c =
     λ h.
     rw
     (OpLaws.call-line
-    (start .pre .0)
+    (start .pre .0 .words)
     h
-    (OpLaws.is-call (start .pre .1 .1) (start .pre .1 .0) (at-match-rest .match .rest)))
+    (OpLaws.is-call (start .pre .0 .shown) (start .pre .1) (at-match-rest .match .rest)))
     (rw (after-call-input .call-input .ensures) at (after-put-procedure .put-procedure .ensures))
 
 pub put-clause-op-spec : {M : Type 1} → statement M

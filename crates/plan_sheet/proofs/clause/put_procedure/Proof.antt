@@ -1,6 +1,7 @@
 -- `put_procedure` meets its contract. Assumes nothing.
 use Rattle.plan_line.specs.Row.{callText}
 use Rattle.output.specs.Writes.{_⨾_}
+use Rattle.plan_sheet.proofs.NameLaws.{text-in}
 use borrow.Author.Needs.{needs}
 use Rattle.plan_sheet.proofs.clause.put_procedure.Statement.{statement}
 use Rattle.plan_sheet.proofs.clause.put_procedure.Tie as tie
@@ -31,7 +32,7 @@ put-text-requires c κs =
     let start : tie.Start = search in
     let from : tie.After-word = search in
     let to : tie.After-word2 = search in
-    rw (from .word .ensures, to .word2 .ensures) (start .pre .1 .1)
+    text-in (from .word .ensures) (to .word2 .ensures) (start .pre)
 
 returns : tie.Need-returns
 unfolding callText

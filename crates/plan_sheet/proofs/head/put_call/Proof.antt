@@ -1,4 +1,6 @@
 -- `put_call` meets its contract. Assumes nothing.
+use Rattle.plan_sheet.proofs.NameLaws.{named-in}
+use native.Mathlib.Omega.{arith}
 use borrow.Author.Needs.{needs}
 use Rattle.plan_sheet.proofs.head.put_call.Statement.{statement}
 use Rattle.plan_sheet.proofs.head.put_call.Tie as tie
@@ -23,7 +25,7 @@ put-named1-requires c κs =
     let start : tie.Start = search in
     let after-word : tie.After-word = search in
     let after-word2 : tie.After-word2 = search in
-    rw (after-word .word .ensures, after-word2 .word2 .ensures) (search needs, start .pre .1 .1)
+    named-in (after-word .word .ensures) (after-word2 .word2 .ensures) (start .pre) (omega arith)
 
 returns : tie.Need-returns
 returns c =

@@ -1,4 +1,6 @@
 -- `put_agg` meets its contract. Assumes nothing.
+use Rattle.plan_sheet.proofs.NameLaws.{named-in}
+use native.Mathlib.Omega.{arith}
 use borrow.Author.Needs.{needs}
 use Rattle.plan_sheet.proofs.item.put_agg.Statement.{statement}
 use Rattle.plan_sheet.proofs.item.put_agg.Tie as tie
@@ -21,6 +23,13 @@ back-word c = search
 
 ruleset ways = (back-put-named2, back-word4, back-word3, back-word2, back-word)
 
+put-named2-requires : tie.Need-put-named2-requires
+put-named2-requires c κs =
+    let start : tie.Start = search in
+    let after-word : tie.After-word = search in
+    let after-word2 : tie.After-word2 = search in
+    named-in (after-word .word .ensures) (after-word2 .word2 .ensures) (start .pre) (omega arith)
+
 returns : tie.Need-returns
 returns c =
     let after-word : tie.After-word = search in
@@ -42,6 +51,6 @@ put-agg-spec =
     (λ c κs. search needs)
     (λ c κs. search needs)
     (λ c κs. search needs)
-    (λ c κs. search needs)
+    put-named2-requires
     (λ c. search needs)
     returns)

@@ -33,10 +33,8 @@ put-own-name-requires : tie.Need-put-own-name-requires
 put-own-name-requires c κs =
     let then1 : tie.Then1 = search ways in
     let after-word : tie.After-word = search ways in
-    let start : tie.Start = search ways in (
-      start .pre .0,
-      (start .pre .1 .at .low, ItemLaws.alias-in (start .pre .0) (start .pre .1) (λ e. (then1 .if1 .taken) ((after-word .word .ensures) ∙ e))),
-    )
+    let start : tie.Start = search ways in
+    ItemLaws.alias-in (start .pre .0) (start .pre .1) (λ e. (then1 .if1 .taken) ((after-word .word .ensures) ∙ e))
 
 returns : tie.Need-returns
 returns c =

@@ -65,19 +65,15 @@ put-own-name-requires : tie.Need-put-own-name-requires
 put-own-name-requires c κs =
     let at-match-keys1 : tie.At-match-keys1 = search ways in
     let after-word : tie.After-word = search ways in
-    let start : tie.Start = search ways in (
-      start .pre .0,
-      (start .pre .1 .at .low, ItemLaws.prop-in (start .pre .0) (start .pre .1) (sym (after-word .word .ensures) ∙ (at-match-keys1 .match .keys1))),
-    )
+    let start : tie.Start = search ways in
+    ItemLaws.prop-in (start .pre .0) (start .pre .1) (sym (after-word .word .ensures) ∙ (at-match-keys1 .match .keys1))
 
 put-own-name-requires-2 : tie.Need-put-own-name-requires-2
 put-own-name-requires-2 c κs =
     let at-match-keys3 : tie.At-match-keys3 = search ways in
     let after-word : tie.After-word = search ways in
-    let start : tie.Start = search ways in (
-      start .pre .0,
-      (start .pre .1 .at .low, HeadLaws.call-in (start .pre .0) 0 (start .pre .1) (sym (after-word .word .ensures) ∙ (at-match-keys3 .match .keys3))),
-    )
+    let start : tie.Start = search ways in
+    HeadLaws.call-in (start .pre .0) 0 (start .pre .1) (sym (after-word .word .ensures) ∙ (at-match-keys3 .match .keys3))
 
 returns : tie.Need-returns
 returns c =

@@ -23,29 +23,27 @@ ruleset ways = (back-put-rel, back-put-node, back-then1, back-else1)
 put-node-requires : tie.Need-put-node-requires
 put-node-requires c κs =
     let start : tie.Start = search ways in
-    (start .pre .0, start .pre .1 .0 .at .low)
+    (start .pre .words, start .pre .at .at .low)
 
 returns : tie.Need-returns
 returns c =
     let after-put-node : tie.After-put-node = search ways in
     let then1 : tie.Then1 = search ways in
     let start : tie.Start = search ways in
-    λ h. rw (NameLaws.node-line (start .pre .0) h (sym (start .pre .1 .1) ∙ (then1 .if1 .taken))) (after-put-node .put-node .ensures)
+    λ h. rw (NameLaws.node-line (start .pre .words) h (sym (start .pre .told) ∙ (then1 .if1 .taken))) (after-put-node .put-node .ensures)
 
 put-rel-requires : tie.Need-put-rel-requires
 put-rel-requires c κs =
     let else1 : tie.Else1 = search ways in
-    let start : tie.Start = search ways in (
-      start .pre .0,
-      (start .pre .1 .0 .at .low, NameLaws.rel-in (start .pre .0) (start .pre .1 .0) (λ e. (else1 .if1 .left) ((start .pre .1 .1) ∙ e))),
-    )
+    let start : tie.Start = search ways in
+    NameLaws.rel-in (start .pre .words) (start .pre .at) (λ e. (else1 .if1 .left) ((start .pre .told) ∙ e))
 
 returns-2 : tie.Need-returns-2
 returns-2 c =
     let after-put-rel : tie.After-put-rel = search ways in
     let else1 : tie.Else1 = search ways in
     let start : tie.Start = search ways in
-    λ h. rw (NameLaws.rel-line (start .pre .0) h (λ e. (else1 .if1 .left) ((start .pre .1 .1) ∙ e))) (after-put-rel .put-rel .ensures)
+    λ h. rw (NameLaws.rel-line (start .pre .words) h (λ e. (else1 .if1 .left) ((start .pre .told) ∙ e))) (after-put-rel .put-rel .ensures)
 
 pub put-element-spec : {M : Type 1} → statement M
 put-element-spec =

@@ -1,7 +1,7 @@
 -- `put_rel` meets its contract. Assumes nothing.
 use Rattle.plan_line.specs.Row.{relText}
 use Rattle.output.specs.Writes.{_⨾_}
-use Rattle.plan_sheet.proofs.NameLaws.{number-as, text-as, within-as}
+use Rattle.plan_sheet.proofs.NameLaws.{number-as, text-as, text-in}
 use borrow.Author.Needs.{needs}
 use Rattle.plan_sheet.proofs.names.put_rel.Statement.{statement}
 use Rattle.plan_sheet.proofs.names.put_rel.Tie as tie
@@ -59,7 +59,7 @@ put-text-requires c κs =
     let to : tie.After-word4 = search ways depth 12 in
     let from : tie.After-word3 = search ways depth 12 in
     let start : tie.Start = search ways depth 12 in
-    within-as (from .word3 .ensures) (to .word4 .ensures) (start .pre .1 .1)
+    text-in (from .word3 .ensures) (to .word4 .ensures) (start .pre)
 
 returns : tie.Need-returns
 unfolding relText

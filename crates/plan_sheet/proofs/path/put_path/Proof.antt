@@ -37,25 +37,25 @@ ruleset ways = (back-put-step, back-word2, back-in-loop, back-at-loop, back-word
 loop-holds : here tie.Need-loop-holds
 loop-holds c =
     let start : here tie.Start = search ways in
-    PathLaws.walking (rw (c .word .ensures) (start .pre .1 .1))
+    PathLaws.walking (rw (c .word .ensures) (start .pre .due))
 
 word-requires : here tie.Need-word-requires
 word-requires c κs =
     let start : here tie.Start = search ways in
-    (start .pre .1 .0 .low, (omega arith, start .pre .0))
+    (start .pre .notes .low, (omega arith, start .pre .words))
 
 word-requires-2 : here tie.Need-word-requires-2
 word-requires-2 c κs =
     let at-loop : here tie.At-loop = search ways in
     let start : here tie.Start = search ways in
-    (PathLaws.element-starts (c .loop-test .taken) (at-loop .loop .inv .some) .1, (omega arith, start .pre .0))
+    (PathLaws.element-starts (c .loop-test .taken) (at-loop .loop .inv .some) .1, (omega arith, start .pre .words))
 
 put-step-requires : here tie.Need-put-step-requires
 put-step-requires c κs =
     let in-loop : here tie.In-loop = search ways in
     let at-loop : here tie.At-loop = search ways in
     let start : here tie.Start = search ways in (
-      record { in-rest = start .pre .1 .0 .in-rest; near = start .pre .1 .0 .near; low = at-loop .loop .inv .low },
+      record { in-rest = start .pre .notes .in-rest; near = start .pre .notes .near; low = at-loop .loop .inv .low },
       PathLaws.element-starts (in-loop .loop-test .taken) (at-loop .loop .inv .some) .1,
     )
 
@@ -64,7 +64,7 @@ skip-requires c κs =
     let in-loop : here tie.In-loop = search ways in
     let at-loop : here tie.At-loop = search ways in
     let start : here tie.Start = search ways in
-    (start .pre .0, PathLaws.element-starts (in-loop .loop-test .taken) (at-loop .loop .inv .some) .0)
+    (start .pre .words, PathLaws.element-starts (in-loop .loop-test .taken) (at-loop .loop .inv .some) .0)
 
 loop-again : here tie.Need-loop-again
 loop-again c =
@@ -74,7 +74,7 @@ loop-again c =
     let at-loop : here tie.At-loop = search ways in
     let start : here tie.Start = search ways in
     PathLaws.walk-on
-    (start .pre .0)
+    (start .pre .words)
     (in-loop .loop-test .taken)
     (at-loop .loop .inv)
     (after-word2 .word2 .ensures)

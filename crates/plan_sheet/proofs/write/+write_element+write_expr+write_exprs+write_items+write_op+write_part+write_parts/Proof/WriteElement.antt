@@ -54,7 +54,7 @@ module _ (t : ℕ) where
   put-element-requires c κs =
       let kind : here lts.After-word = search ways depth 9 in
       let s : here lts.Start = search ways depth 9 in
-      (s .pre .1 .room .records, ((CycleLaws.element-is (s .pre .1 .room .records) (s .pre .1 .due)) .at, kind .word .ensures))
+      record { words = s .pre .1 .room .records; at = CycleLaws.element-is (s .pre .1 .room .records) (s .pre .1 .due) .at; told = kind .word .ensures }
 
   add-put-names : here lts.Need-add-put-names
   add-put-names c =

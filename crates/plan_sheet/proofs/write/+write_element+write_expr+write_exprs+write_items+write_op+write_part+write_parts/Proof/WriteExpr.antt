@@ -93,7 +93,7 @@ module _ (t : ℕ) where
       let line : here lts.After-put-before = search ways depth 12 in
       let s : here lts.Start = search ways depth 12 in
       let one = DueLaws.first-there (s .pre .1 .due) (line .put-before .ensures) in
-      (s .pre .1 .room .records, (CycleLaws.one-at one, kind .word .ensures))
+      record { words = s .pre .1 .room .records; at = CycleLaws.one-at one; told = kind .word .ensures }
 
   add-next : here lts.Need-add-next
   add-next c =

@@ -85,7 +85,7 @@ module _ (t : ℕ) where
   put-op-requires c κs =
       let w : here lts.After-read-op = search ways depth 9 in
       let s : here lts.Start = search ways depth 9 in
-      (s .pre .1 .0 .records, (s .pre .1 .0 .in-rest, OpLaws.shown-at _ (s .pre .1 .1) (w .read-op .ensures)))
+      record { words = s .pre .1 .0 .records; in-rest = s .pre .1 .0 .in-rest; shown = OpLaws.shown-at _ (s .pre .1 .1) (w .read-op .ensures) }
 
   write-element-requires : here lts.Need-write-element-requires
   write-element-requires c κs =
@@ -160,19 +160,18 @@ module _ (t : ℕ) where
       let arm : here lts.At-match-rest = search ways depth 9 in
       let w : here lts.After-read-op = search ways depth 9 in
       let s : here lts.Start = search ways depth 9 in
-      let v = OpLaws.bounded-at _ (s .pre .1 .1) (w .read-op .ensures) in (
-        s .pre .1 .0 .records,
-        (
-          record { in-rest = s .pre .1 .0 .in-rest; near = v .near; low = v .low },
-          BehindLaws.tail-there
-              _
-              (s .pre .1 .1)
-              (w .read-op .ensures)
-              (s .pre .1 .0 .records)
-              (arm .match .rest)
-              (OpLaws.exprs-written _ (s .pre .1 .1) (w .read-op .ensures) (place .exprs-of .ensures) (exprs .write-exprs .ensures)),
-        ),
-      )
+      let v = OpLaws.bounded-at _ (s .pre .1 .1) (w .read-op .ensures) in
+      record {
+        words = s .pre .1 .0 .records;
+        notes = record { in-rest = s .pre .1 .0 .in-rest; near = v .near; low = v .low };
+        due = BehindLaws.tail-there
+            _
+            (s .pre .1 .1)
+            (w .read-op .ensures)
+            (s .pre .1 .0 .records)
+            (arm .match .rest)
+            (OpLaws.exprs-written _ (s .pre .1 .1) (w .read-op .ensures) (place .exprs-of .ensures) (exprs .write-exprs .ensures));
+      }
 
   returns : here lts.Need-returns
   returns c =

@@ -54,13 +54,8 @@ module _ (t : ℕ) where
   put-agg-requires c κs =
       let then : here lts.Then2 = search ways depth 9 in
       let told : here lts.After-is-aggregate = search ways depth 9 in
-      let s : here lts.Start = search ways depth 9 in (
-        s .pre .1 .room .records,
-        (
-          CycleLaws.one-low (s .pre .1 .due),
-          PartedLaws.agg-in (s .pre .1 .room .records) (told .is-aggregate .ensures) (then .if2 .taken) (s .pre .1 .due),
-        ),
-      )
+      let s : here lts.Start = search ways depth 9 in
+      PartedLaws.agg-in (s .pre .1 .room .records) (told .is-aggregate .ensures) (then .if2 .taken) (s .pre .1 .due)
 
   add-first : here lts.Need-add-first
   add-first c =
