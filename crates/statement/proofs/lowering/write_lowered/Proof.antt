@@ -1,3 +1,4 @@
+-- `write_lowered` meets its contract: test 9 by the counts, and then the writer's answer. Assumes nothing.
 use Rattle.statement.specs.Tables.{full-ops, full-numbers, some-tables, no-room, fitted}
 use native.Mathlib.Omega.{arith}
 use borrow.Author.Needs.{needs}
