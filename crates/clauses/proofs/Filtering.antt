@@ -2,13 +2,13 @@
 use mathlib.Core.Path.{_≡_, refl, sym, ap, _∙_}
 use Prim.Native.Nat.{ℕ, suc, _+_, _-_}
 use native.Mathlib.Omega.{arith}
-use mathlib.Core.List.{List, _∷_}
+use mathlib.Core.List.{List}
 use mathlib.Core.Option.{Option, some}
 use lib.ListN.{length}
 use Rattle.model.specs.Text.{Bytes}
-use Rattle.model.specs.Kind.{ReadOp, clause, expr}
+use Rattle.model.specs.Kind.{clause, expr}
 use Rattle.model.specs.Tree.{Tree}
-use Rattle.model.specs.Lower.{Recs, _>>=_, ret, push, op, filter, orSourceAll, lowerExpr, lowerClause}
+use Rattle.model.specs.Lower.{Recs, _>>=_, ret, push, filter, orSourceAll, lowerExpr, lowerClause}
 use Rattle.words.specs.Held.{Held}
 use Rattle.words.specs.Places.{whereKind}
 use Rattle.context.specs.Tables.{Pushed}
@@ -21,7 +21,7 @@ use Rattle.lower.specs.Shows.{shift, shows-filter}
 use Rattle.lower.specs.Rep.{State, Mem, mem, atPlace, Written, Rep}
 use Rattle.lower.specs.Pieces.{SomeTree, LowersExpr}
 use Rattle.lower.specs.Clauses.{BothBlank, Leaves, LowersClause}
-use Rattle.lower.specs.State.{blank-within, back, to-then, push-to}
+use Rattle.lower.specs.State.{blank-within, back, to-then, push-to, filter-is}
 use Rattle.lower.specs.Below.{below-more}
 use Rattle.words.specs.Fits.{tree-low}
 use Rattle.projections.specs.Asked.{ClauseAsked}
@@ -32,10 +32,6 @@ use Rattle.clauses.proofs.Matching.{leaves}
 
 pub some-predicate : {a b : List ℕ} {at : At} {current : Before} {m : Mem} → ClauseAsked whereKind a b at current m → SomeTree a b expr (at .left - 1) (at .i + 1)
 some-predicate g = let v = a-where (g .words) (g .tree .tree) (g .tree .held) (g .kind) in record { sheet = g .tree .sheet; tree = v .tree; held = v .held }
-
-filter-is : (k k′ : ℕ) (rs rs′ : Recs) → k ≡ k′ → rs ≡ rs′ → filter k′ rs′ ≡ op ReadOp.Filter (k, tt) ∷ rs
-unfolding filter
-filter-is k k′ rs rs′ e e′ = rw (e, e′)
 
 -- the definition, step by step
 where-def : (tree : Tree expr) (o : Option ℕ) (s : State) → _≡_ {A = Option ℕ × State} ((lowerExpr tree >>= λ rs. orSourceAll o >>= λ input. push (filter input rs) >>= λ k. ret (some k)) s) (some (length (orSourceAll o (lowerExpr tree s .1) .1 .ops)), push (filter (orSourceAll o (lowerExpr tree s .1) .0) (lowerExpr tree s .0)) (orSourceAll o (lowerExpr tree s .1) .1) .1)

@@ -10,7 +10,7 @@ use lib.Seq.{take-all, getD-set-same, getD-set-other, drop-set-lt, drop-at, leng
 use lib.ListN.{List·getD-append, length-drop, drop-of-length-le}
 use borrow.Author.Tests.{eq-eqb, ne-eqb}
 use Rattle.model.specs.Lower.{lookup, issue, mapVar, numbered, fresh, endpointVar}
-use Rattle.context.specs.Tables.{varsOf, foundOf, Op, opAt, maxStored, opWords, Indexed, Issued, NoteWritten, Numbers, Pushed, varsAt}
+use Rattle.context.specs.Tables.{varsOf, namedWords, numberWord, foundOf, Op, opAt, maxStored, opWords, Indexed, Issued, NoteWritten, Numbers, Pushed, varsAt}
 use Rattle.context.specs.Ops.{bindOf}
 use Rattle.context.specs.declared.Bind.{Bind}
 use Rattle.context.specs.declared.Bind.the-variants as bind
@@ -25,19 +25,19 @@ use Rattle.model.specs.Call.{workWords}
 abbrev pub from : List ℕ → ℕ → ℕ → Found
 from vs k id = foundOf (lookup (varsOf k vs) id)
 
-pub hit-last : (vs : List ℕ) (k id : ℕ) → getD vs (k * 2) 0 ≡ id → At (getD vs (k * 2 + 1) 0) ≡ from vs (suc k) id
+pub hit-last : (vs : List ℕ) (k id : ℕ) → getD vs (k * namedWords) 0 ≡ id → At (getD vs (k * namedWords + numberWord) 0) ≡ from vs (suc k) id
 unfolding varsOf lookup foundOf
 hit-last vs k id e = rw (eq-eqb _ _ e)
 
-pub hit : (vs : List ℕ) (k id : ℕ) → ((k ≡ 0) → ⊥) → getD vs ((k - 1) * 2) 0 ≡ id → At (getD vs ((k - 1) * 2 + 1) 0) ≡ from vs k id
+pub hit : (vs : List ℕ) (k id : ℕ) → ((k ≡ 0) → ⊥) → getD vs ((k - 1) * namedWords) 0 ≡ id → At (getD vs ((k - 1) * namedWords + numberWord) 0) ≡ from vs k id
 hit vs zero id h e = absurd (h refl)
 hit vs (suc k) id h e = rw sub-one (hit-last vs k id (rw sub-one at e))
 
-pub pass : (vs : List ℕ) (k id : ℕ) → ((getD vs (k * 2) 0 ≡ id) → ⊥) → from vs (suc k) id ≡ from vs k id
+pub pass : (vs : List ℕ) (k id : ℕ) → ((getD vs (k * namedWords) 0 ≡ id) → ⊥) → from vs (suc k) id ≡ from vs k id
 unfolding varsOf lookup foundOf
 pass vs k id e = rw (ne-eqb _ _ e)
 
-pub miss : (vs : List ℕ) (k id : ℕ) → ((k ≡ 0) → ⊥) → ((getD vs ((k - 1) * 2) 0 ≡ id) → ⊥) → from vs k id ≡ from vs (k - 1) id
+pub miss : (vs : List ℕ) (k id : ℕ) → ((k ≡ 0) → ⊥) → ((getD vs ((k - 1) * namedWords) 0 ≡ id) → ⊥) → from vs k id ≡ from vs (k - 1) id
 miss vs zero id h e = absurd (h refl)
 miss vs (suc k) id h e = rw sub-one (pass vs k id (rw sub-one at e))
 
@@ -47,10 +47,10 @@ nothing vs k id e = rw e
 
 -- ── issuing ──
 
-pub vars-same : (n : ℕ) (vs vs′ : List ℕ) → ((q : ℕ) → q < n * 2 → getD vs′ q 0 ≡ getD vs q 0) → varsOf n vs′ ≡ varsOf n vs
+pub vars-same : (n : ℕ) (vs vs′ : List ℕ) → ((q : ℕ) → q < n * namedWords → getD vs′ q 0 ≡ getD vs q 0) → varsOf n vs′ ≡ varsOf n vs
 unfolding varsOf
 vars-same zero vs vs′ h = refl
-vars-same (suc n) vs vs′ h = rw (h (n * 2) (omega arith), h (n * 2 + 1) (omega arith), vars-same n vs vs′ (λ q l. h q (omega arith)))
+vars-same (suc n) vs vs′ h = rw (h (n * namedWords) (omega arith), h (n * namedWords + numberWord) (omega arith), vars-same n vs vs′ (λ q l. h q (omega arith)))
 
 Told : Found → Type 0
 Told (At n) = Unit {0}

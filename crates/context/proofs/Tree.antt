@@ -10,7 +10,7 @@ use lib.ListN.{length, getD, set, length-set}
 use lib.Dec.{eqb}
 use lib.Seq.{getD-set-same, getD-set-other}
 use borrow.Author.Tests.{eq-eqb, ne-eqb, eqb-true, eqb-false}
-use Rattle.context.specs.Tables.{linksAt, idOf, half, withHalf, childOf, Leads, here, on, Treed, Indexed, Kept, Descends, Descended, Joined, root, child, Entered, maxIndexed, varWords, halfWord}
+use Rattle.context.specs.Tables.{linksAt, idOf, half, withHalf, childOf, Leads, here, on, Treed, Indexed, Kept, Descends, Descended, Joined, root, child, Entered, maxIndexed, varWords, namedWords, numberWord, halfWord}
 use Rattle.context.specs.declared.index.Found.the-variants.{At, Nothing}
 use Rattle.context.proofs.Laws
 
@@ -102,13 +102,13 @@ ends-not : {vs : List ℕ} {id bits p j : ℕ} → ((idOf vs p ≡ id) → ⊥) 
 ends-not {vs = vs} d e (here z h) = d (ap (λ i. idOf vs i) z ∙ h)
 ends-not d e (on _ e′ _) = omega (arith, e, e′)
 
-found-only : (vs : List ℕ) (n id p : ℕ) → p < n → idOf vs p ≡ id → ((j : ℕ) → j < n → idOf vs j ≡ id → j ≡ p) → At (getD vs (p * 2 + 1) 0) ≡ Laws.from vs n id
+found-only : (vs : List ℕ) (n id p : ℕ) → p < n → idOf vs p ≡ id → ((j : ℕ) → j < n → idOf vs j ≡ id → j ≡ p) → At (getD vs (p * namedWords + numberWord) 0) ≡ Laws.from vs n id
 found-only vs zero id p l h f = absurd (omega arith)
 found-only vs (suc n) id p l h f =
     ⊎-elim
     (λ (e : idOf vs n ≡ id).
     let z : n ≡ p = f n (omega arith) e in
-    subst (λ i. At (getD vs (i * 2 + 1) 0) ≡ Laws.from vs (suc n) id) z (Laws.hit-last vs n id e))
+    subst (λ i. At (getD vs (i * namedWords + numberWord) 0) ≡ Laws.from vs (suc n) id) z (Laws.hit-last vs n id e))
     (λ (e : (idOf vs n ≡ id) → ⊥).
     let z : (p ≡ n) → ⊥ = λ (w : p ≡ n). e (ap (λ i. idOf vs i) (sym w) ∙ h) in
     found-only vs n id p (omega arith) h (λ j lj. f j (omega arith)) ∙ sym (Laws.pass vs n id e))
@@ -118,7 +118,7 @@ found-none : (vs : List ℕ) (n id : ℕ) → ((j : ℕ) → j < n → idOf vs j
 found-none vs zero id f = Laws.nothing vs 0 id refl
 found-none vs (suc n) id f = found-none vs n id (λ j l. f j (omega arith)) ∙ sym (Laws.pass vs n id (f n (omega arith)))
 
-pub found-at : (vs : List ℕ) (n id p bits : ℕ) → Descended vs n id p bits → idOf vs p ≡ id → At (getD vs (p * 2 + 1) 0) ≡ Laws.from vs n id
+pub found-at : (vs : List ℕ) (n id p bits : ℕ) → Descended vs n id p bits → idOf vs p ≡ id → At (getD vs (p * namedWords + numberWord) 0) ≡ Laws.from vs n id
 found-at vs n id p bits w h = found-only vs n id p (w .way .low) h (λ j l e. ends h (w .way .all j l e))
 
 pub found-not : (vs : List ℕ) (n id p bits : ℕ) → Descended vs n id p bits → ((idOf vs p ≡ id) → ⊥) → Nothing ≡ Laws.from vs n id

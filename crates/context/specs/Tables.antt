@@ -43,6 +43,13 @@ secondPass = 2048
 abbrev pub maxCount : ℕ
 maxCount = 65536
 
+-- a named variable has so many words: its id, and its number at this place behind it
+abbrev pub namedWords : ℕ
+namedWords = 2
+
+abbrev pub numberWord : ℕ
+numberWord = 1
+
 -- so many words at least stand behind the notes
 abbrev pub varWords : ℕ
 varWords = 12286
@@ -50,7 +57,7 @@ varWords = 12286
 -- the first n variables, the newest first
 unfoldable pub varsOf : ℕ → List ℕ → List (ℕ × ℕ)
 varsOf zero vs = []
-varsOf (suc n) vs = (getD vs (n * 2) 0, getD vs (n * 2 + 1) 0) ∷ varsOf n vs
+varsOf (suc n) vs = (getD vs (n * namedWords) 0, getD vs (n * namedWords + numberWord) 0) ∷ varsOf n vs
 
 -- ── the index ──
 
@@ -68,7 +75,7 @@ halfWord = 65536
 
 -- the id of a variable
 abbrev pub idOf : List ℕ → ℕ → ℕ
-idOf vs j = getD vs (j * 2) 0
+idOf vs j = getD vs (j * namedWords) 0
 
 -- The half of a word of links that the last bit of `bits` names: the lower half for 0, the upper one for 1.
 unfoldable pub half : ℕ → ℕ → ℕ

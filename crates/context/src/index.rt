@@ -7,6 +7,8 @@ ghost use Rattle.context.specs.Tables.{maxVars, maxIndexed, linksAt, var
 use crate::HALF_WORD;
 use crate::LINKS_AT;
 use crate::MAX_INDEXED;
+use crate::NAMED_WORDS;
+use crate::NUMBER_WORD;
 
 pub enum Found {
     At(u32),
@@ -51,7 +53,7 @@ fn descend(vars: &[u32], count: usize, id: u32) -> End
 {
     let mut p = 0;
     let mut bits = id;
-    while vars[p * 2] != id {
+    while vars[p * NAMED_WORDS] != id {
         let link = child(vars, p, bits);
         if link == 0 {
             return End {
@@ -78,10 +80,10 @@ fn find_indexed(vars: &[u32], count: usize, id: u32) -> Found
     }
     let end = descend(vars, count, id);
     let p = end.place;
-    if vars[p * 2] != id {
+    if vars[p * NAMED_WORDS] != id {
         return Found::Nothing;
     }
-    Found::At(vars[p * 2 + 1])
+    Found::At(vars[p * NAMED_WORDS + NUMBER_WORD])
 }
 
 // The number of a variable, the newest first: those behind the index one by one.
@@ -92,8 +94,8 @@ pub fn find(vars: &[u32], count: usize, id: u32) -> Found
     let mut k = count;
     while k > MAX_INDEXED {
         k -= 1;
-        if vars[k * 2] == id {
-            return Found::At(vars[k * 2 + 1]);
+        if vars[k * NAMED_WORDS] == id {
+            return Found::At(vars[k * NAMED_WORDS + NUMBER_WORD]);
         }
     }
     find_indexed(vars, k, id)

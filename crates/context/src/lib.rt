@@ -24,6 +24,11 @@ pub const SECOND_PASS: usize = 2048;
 
 pub const VARS_AT: usize = 4097;
 
+// A named variable has so many words: its id, and its number at this place behind it.
+pub const NAMED_WORDS: usize = 2;
+
+pub const NUMBER_WORD: usize = 1;
+
 // There is room for so many variables; so many of them are in the index, whose words begin at this word behind VARS_AT.
 pub const MAX_VARS: usize = 5119;
 
@@ -82,9 +87,9 @@ impl LowerCtx {
         ensures { λ r. ⌜ Issued (mapVar id) self (now (vars .entry)) (now (vars .exit)) r ⌝ }
     {
         index::enter(vars, self.mapped, id);
-        let at = self.mapped * 2;
+        let at = self.mapped * NAMED_WORDS;
         vars[at] = id;
-        vars[at + 1] = self.numbers;
+        vars[at + NUMBER_WORD] = self.numbers;
         Numbered {
             number: self.numbers,
             ctx: LowerCtx {

@@ -6,6 +6,8 @@ ghost use lib.ListN.{length, drop};
 ghost use Rattle.model.specs.Call.{workWords};
 ghost use Rattle.context.specs.Tables.{varsOf, varsAt, maxVars, secondPass, maxStored};
 ghost use Rattle.context.specs.Read.{noteOf};
+use crate::NAMED_WORDS;
+use crate::NUMBER_WORD;
 use crate::VARS_AT;
 
 // A named variable, and its number.
@@ -27,9 +29,9 @@ pub fn variable(rest: &[u32], k: usize) -> Named
     requires { ⌜ (k < maxVars) × (workWords ≤ length (now rest)) ⌝ }
     ensures { λ r. ⌜ varsOf (suc k) (drop varsAt (now (rest .entry))) ≡ (r .id, r .number) ∷ varsOf k (drop varsAt (now (rest .entry))) ⌝ }
 {
-    let at = VARS_AT + k * 2;
+    let at = VARS_AT + k * NAMED_WORDS;
     Named {
         id: rest[at],
-        number: rest[at + 1],
+        number: rest[at + NUMBER_WORD],
     }
 }

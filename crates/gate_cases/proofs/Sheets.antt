@@ -7,6 +7,7 @@ use native.Mathlib.Numerals.{add-one}
 use borrow.Author.Tests.{lt-ltb, le-ltb}
 use lib.ListN.{length}
 use Rattle.model.specs.Field.{Form, read}
+use Rattle.model.specs.Call.{maxBytes}
 use Rattle.record.specs.Answer.{decimalOf}
 use Rattle.record.specs.AnswerLaws.{decimal-read}
 use Rattle.record.specs.declared.Decimal.{Decimal}
@@ -37,11 +38,11 @@ module _ (t : Bytes) (head number part : ℕ) (h : head ≡ place star 0 t) (n :
   unfolding parted
   plain k a = rw (sheet-parted, le-ltb part (length t) k) a
 
-  module _ (k : part < length t) (r : Decimal) (d : r ≡ decimalOf (read (Form.num 32768) (between (head + 1) number t ∷ []))) where
+  module _ (k : part < length t) (r : Decimal) (d : r ≡ decimalOf (read (Form.num maxBytes) (between (head + 1) number t ∷ []))) where
     pub unread : {g g′ : Page} → r ≡ Decimal.Not → Puts t g g′ → Puts (sheetOf t) g g′
     unfolding parted repeated
-    unread e a = rw (sheet-parted, lt-ltb part (length t) k, decimal-read (read (Form.num 32768) (between (head + 1) number t ∷ [])) r d, e) a
+    unread e a = rw (sheet-parted, lt-ltb part (length t) k, decimal-read (read (Form.num maxBytes) (between (head + 1) number t ∷ [])) r d, e) a
 
     pub filled : (times : ℕ) {g g′ g″ g‴ : Page} → r ≡ Decimal.Is times → Puts (between 0 head t) g g′ → Puts (again times (between (number + 1) part t)) g′ g″ → Puts (between (part + 1) (length t) t) g″ g‴ → Puts (sheetOf t) g g‴
     unfolding parted repeated
-    filled times e a b c = rw (sheet-parted, lt-ltb part (length t) k, decimal-read (read (Form.num 32768) (between (head + 1) number t ∷ [])) r d, e) ((a ⨾ b) ⨾ c)
+    filled times e a b c = rw (sheet-parted, lt-ltb part (length t) k, decimal-read (read (Form.num maxBytes) (between (head + 1) number t ∷ [])) r d, e) ((a ⨾ b) ⨾ c)

@@ -8,6 +8,7 @@ use lib.ListN.{length, take, drop}
 use Rattle.bytes.specs.Bytes.{indexOf, slice}
 use Rattle.model.specs.Text.{Bytes}
 use Rattle.model.specs.Field.{Form, read}
+use Rattle.model.specs.Call.{maxBytes}
 
 -- a text so many times
 unfoldable pub again : ℕ → Bytes → Bytes
@@ -34,7 +35,7 @@ repeated text head part tail (some n) = (head ++ again n part) ++ tail
 unfoldable pub parted : (head number part : ℕ) → Bytes → Bytes
 parted head number part t =
     cond (ltb part (length t))
-    (repeated t (between 0 head t) (between (number + 1) part t) (between (part + 1) (length t) t) (read (Form.num 32768) (between (head + 1) number t ∷ [])))
+    (repeated t (between 0 head t) (between (number + 1) part t) (between (part + 1) (length t) t) (read (Form.num maxBytes) (between (head + 1) number t ∷ [])))
     t
 
 unfoldable pub sheetOf : Bytes → Bytes

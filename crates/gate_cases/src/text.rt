@@ -5,6 +5,7 @@ ghost use mathlib.Core.List.{[]};
 ghost use Prim.Native.Nat.{_+_, _≤_};
 ghost use lib.Dec.{ltb};
 ghost use lib.ListN.{length, take};
+ghost use Rattle.model.specs.Call.{maxBytes};
 ghost use Rattle.output.specs.Page.{on, Puts};
 ghost use Rattle.gate_cases.specs.Text.{again, place, sheetOf};
 use bytes::scan::find;
@@ -38,7 +39,7 @@ pub fn put_times(page: &mut [u8], out: usize, text: &[u8], times: u64) -> usize
 
 // The sheet that a text of the list stands for.
 fn put_sheet(page: &mut [u8], out: usize, text: &[u8]) -> usize
-    requires { ⌜ length (now text) ≤ 32768 ⌝ }
+    requires { ⌜ length (now text) ≤ maxBytes ⌝ }
     ensures { λ r. ⌜ Puts (sheetOf (now (text .entry))) (on (now (page .entry)) out) (on (now (page .exit)) r) ⌝ }
 {
     let head = next(text, 0, b'*');
@@ -47,7 +48,7 @@ fn put_sheet(page: &mut [u8], out: usize, text: &[u8]) -> usize
     if part >= text.len() {
         return put_part(page, out, text);
     }
-    let Decimal::Is(n) = decimal(&text[head + 1..number], 32768) else {
+    let Decimal::Is(n) = decimal(&text[head + 1..number], words::MAX_BYTES as u64) else {
         return put_part(page, out, text);
     };
     let begun = put_part(page, out, &text[0..head]);
@@ -57,7 +58,7 @@ fn put_sheet(page: &mut [u8], out: usize, text: &[u8]) -> usize
 
 // The same at the start of a page, and how long it is. A sheet that is longer than the page counts as one of no bytes.
 pub fn build_sheet(text: &[u8], page: &mut [u8]) -> usize
-    requires { ⌜ length (now text) ≤ 32768 ⌝ }
+    requires { ⌜ length (now text) ≤ maxBytes ⌝ }
     ensures { λ r. ⌜ r ≤ length (now (page .entry)) ⌝ }
     ensures { λ r. ⌜ take r (now (page .exit)) ≡ cond (ltb (length (now (page .entry))) (length (sheetOf (now (text .entry))))) [] (sheetOf (now (text .entry))) ⌝ }
 {

@@ -9,6 +9,7 @@ use libc::STDIN_FILENO;
 use libc::STDOUT_FILENO;
 use sheet::reader::Read;
 use sheet::reader::read_sheet;
+use values::refusal;
 
 // Writes a line.
 fn say(label: &[u8], number: u64, line: u64) {
@@ -27,10 +28,10 @@ fn show(label: &[u8], sheet: &[u8], a: &mut [u32], b: &mut [u32], stack: &mut [u
     requires { ⌜ workWords ≤ length (now stack) ⌝ }
 {
     match read_sheet(sheet, a, b, stack, words::MAX_DEPTH) {
-        Read::Records(n) => say(label, 0, n as u64),
-        Read::BadLine(l) => say(label, 3, l as u64),
-        Read::BigTree(l) => say(label, 4, l as u64),
-        Read::WriteClause(l) => say(label, 5, l as u64),
+        Read::Records(n) => say(label, refusal::ACCEPTED as u64, n as u64),
+        Read::BadLine(l) => say(label, refusal::BAD_LINE as u64, l as u64),
+        Read::BigTree(l) => say(label, refusal::BIG_TREE as u64, l as u64),
+        Read::WriteClause(l) => say(label, refusal::WRITE_CLAUSE as u64, l as u64),
     }
 }
 
@@ -74,11 +75,11 @@ fn show_list(list: &[u8], sheet: &mut [u8], a: &mut [u32], b: &mut [u32], stack:
 
 // The arrays are here, where nothing returns before they are used: elsewhere the compiler of the kit may lose a register while it makes room for them.
 fn main() {
-    let mut list = [0u8; 32768];
-    let mut sheet = [0u8; 32768];
-    let mut a = [0u32; 16384];
-    let mut b = [0u32; 16384];
-    let mut stack = [0u32; 16384];
+    let mut list = [0u8; words::MAX_BYTES];
+    let mut sheet = [0u8; words::MAX_BYTES];
+    let mut a = [0u32; words::WORK_WORDS];
+    let mut b = [0u32; words::WORK_WORDS];
+    let mut stack = [0u32; words::WORK_WORDS];
     let n = io::read_full(STDIN_FILENO, &mut list);
     show_list(&list[0..n], &mut sheet, &mut a, &mut b, &mut stack);
 }

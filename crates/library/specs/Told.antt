@@ -7,9 +7,27 @@ use lib.ListN.{length, drop}
 use Rattle.model.specs.Refusal.{Answer}
 use Rattle.model.specs.Call.{Outcome}
 
--- an answer has so many words
+-- an answer has so many words, and each value its place among them
 abbrev pub answerWords : ℕ
 answerWords = 6
+
+abbrev pub numberAt : ℕ
+numberAt = 0
+
+abbrev pub lineAt : ℕ
+lineAt = 1
+
+abbrev pub startAt : ℕ
+startAt = 2
+
+abbrev pub endAt : ℕ
+endAt = 3
+
+abbrev pub kindAt : ℕ
+kindAt = 4
+
+abbrev pub lengthAt : ℕ
+lengthAt = 5
 
 -- number, line, start, end, kind and length, and behind them what stood there
 abbrev pub noted : Answer → List ℕ → List ℕ

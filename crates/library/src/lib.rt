@@ -11,8 +11,20 @@ use statement::size_statement;
 use values::Values;
 use values::values_of;
 
-// An answer has so many words.
+// An answer has so many words, and each value its place among them.
 const ANSWER_WORDS: usize = 6;
+
+const NUMBER: usize = 0;
+
+const LINE: usize = 1;
+
+const START: usize = 2;
+
+const END: usize = 3;
+
+const KIND: usize = 4;
+
+const LENGTH: usize = 5;
 
 // Six words at the start of a slice.
 fn put(
@@ -27,12 +39,12 @@ fn put(
     requires { ⌜ answerWords ≤ length (now answer) ⌝ }
     ensures { λ _. ⌜ now (answer .exit) ≡ number ∷ line ∷ start ∷ end ∷ kind ∷ size ∷ drop answerWords (now (answer .entry)) ⌝ }
 {
-    answer[0] = number;
-    answer[1] = line;
-    answer[2] = start;
-    answer[3] = end;
-    answer[4] = kind;
-    answer[5] = size;
+    answer[NUMBER] = number;
+    answer[LINE] = line;
+    answer[START] = start;
+    answer[END] = end;
+    answer[KIND] = kind;
+    answer[LENGTH] = size;
 }
 
 // The six words of an answer.

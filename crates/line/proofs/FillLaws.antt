@@ -14,7 +14,7 @@ use Rattle.words.specs.Places.{kindCount, formCount}
 use Rattle.model.specs.Text.{Bytes, tab, lineFeed}
 use Rattle.model.specs.Field.{Form, num, flag, var, varOrAbsent, numOrAbsent, number, numberOrAbsent, int, float, text, alias, span, read, width, both, readFields}
 use Rattle.model.specs.Field
-use Rattle.words.specs.Words.{fieldOf, fieldsOf, piecesOf, recordWords}
+use Rattle.words.specs.Words.{fieldOf, fieldsOf, firstAt, secondAt, piecesOf, recordWords}
 use Rattle.words.specs.Held.{Flag, Flags, Text, Texts}
 use Rattle.words.specs.Table.{maxFields, codes, codeAt, formOf, formsIn, formsFrom, formsAt}
 use Rattle.words.specs.TableLaws.{code-row}
@@ -50,27 +50,27 @@ Agree n vs ws = (i : ℕ) → i < n → getD vs i 0 ≡ getD ws i 0
 
 -- field g written
 abbrev put : List ℕ → ℕ → ℕ → ℕ → List ℕ
-put ws g x y = set (set ws (g + g + 2) x) (g + g + 3) y
+put ws g x y = set (set ws (firstAt g) x) (secondAt g) y
 
-module _ (ws : List ℕ) (g x y : ℕ) (h : g + g + 3 < length ws) where
-  put-first : getD (put ws g x y) (g + g + 2) 0 ≡ x
-  put-first = getD-set-other (set ws (g + g + 2) x) (g + g + 3) (g + g + 2) y 0 (omega arith) ∙ getD-set-same ws (g + g + 2) x 0 (omega arith)
+module _ (ws : List ℕ) (g x y : ℕ) (h : secondAt g < length ws) where
+  put-first : getD (put ws g x y) (firstAt g) 0 ≡ x
+  put-first = getD-set-other (set ws (firstAt g) x) (secondAt g) (firstAt g) y 0 (omega arith) ∙ getD-set-same ws (firstAt g) x 0 (omega arith)
 
-  put-second : getD (put ws g x y) (g + g + 3) 0 ≡ y
-  put-second = getD-set-same (set ws (g + g + 2) x) (g + g + 3) y 0 (rw length-set h)
+  put-second : getD (put ws g x y) (secondAt g) 0 ≡ y
+  put-second = getD-set-same (set ws (firstAt g) x) (secondAt g) y 0 (rw length-set h)
 
-  put-other : (c : ℕ) → (c ≡ g + g + 2 → ⊥) → (c ≡ g + g + 3 → ⊥) → getD (put ws g x y) c 0 ≡ getD ws c 0
-  put-other c p q = getD-set-other (set ws (g + g + 2) x) (g + g + 3) c y 0 (λ e. q e) ∙ getD-set-other ws (g + g + 2) c x 0 (λ e. p e)
+  put-other : (c : ℕ) → (c ≡ firstAt g → ⊥) → (c ≡ secondAt g → ⊥) → getD (put ws g x y) c 0 ≡ getD ws c 0
+  put-other c p q = getD-set-other (set ws (firstAt g) x) (secondAt g) c y 0 (λ e. q e) ∙ getD-set-other ws (firstAt g) c x 0 (λ e. p e)
 
-  put-below : Agree (g + g + 2) (put ws g x y) ws
-  put-below i k = getD-set-other (set ws (g + g + 2) x) (g + g + 3) i y 0 (omega arith) ∙ getD-set-other ws (g + g + 2) i x 0 (omega arith)
+  put-below : Agree (firstAt g) (put ws g x y) ws
+  put-below i k = getD-set-other (set ws (firstAt g) x) (secondAt g) i y 0 (omega arith) ∙ getD-set-other ws (firstAt g) i x 0 (omega arith)
 
 -- ── fields ──
 
 module _ (sheet : Bytes) where
   -- the forms that are left, from field g on, and their pieces
   pub record Going (fs : List Form) (ps : List Bytes) (rest : List Form) (qs : List Bytes) (ws : List ℕ) (g : ℕ) : Type 0 where
-    pub some-so : (vs : List ℕ) → Agree (g + g + 2) vs ws → readFields rest qs ≡ some (fieldsOf rest sheet vs g) → Flags rest vs g → Texts rest sheet vs g → (readFields fs ps ≡ some (fieldsOf fs sheet vs 0)) × Flags fs vs 0 × Texts fs sheet vs 0
+    pub some-so : (vs : List ℕ) → Agree (firstAt g) vs ws → readFields rest qs ≡ some (fieldsOf rest sheet vs g) → Flags rest vs g → Texts rest sheet vs g → (readFields fs ps ≡ some (fieldsOf fs sheet vs 0)) × Flags fs vs 0 × Texts fs sheet vs 0
     pub none-so : readFields rest qs ≡ none → readFields fs ps ≡ none
 
   go-first : (fs : List Form) (ps : List Bytes) (ws : List ℕ) → Going fs ps fs ps ws 0
@@ -81,13 +81,13 @@ module _ (sheet : Bytes) where
     unfolding readFields both
     go-none e = s .none-so (rw e)
 
-    go-more : (x y : ℕ) → g + g + 3 < length ws → read f (take (width f) qs) ≡ some (fieldOf f sheet x y) → Flag f x → Text f sheet x y → Going fs ps rest (drop (width f) qs) (put ws g x y) (suc g)
+    go-more : (x y : ℕ) → secondAt g < length ws → read f (take (width f) qs) ≡ some (fieldOf f sheet x y) → Flag f x → Text f sheet x y → Going fs ps rest (drop (width f) qs) (put ws g x y) (suc g)
     unfolding readFields both fieldsOf
     go-more x y h e l d =
         record {
           some-so = λ vs a r k t.
-              let first : getD vs (g + g + 2) 0 ≡ x = a (g + g + 2) (omega arith) ∙ put-first ws g x y h in
-              let second : getD vs (g + g + 3) 0 ≡ y = a (g + g + 3) (omega arith) ∙ put-second ws g x y h in
+              let first : getD vs (firstAt g) 0 ≡ x = a (firstAt g) (omega arith) ∙ put-first ws g x y h in
+              let second : getD vs (secondAt g) 0 ≡ y = a (secondAt g) (omega arith) ∙ put-second ws g x y h in
               s .some-so vs (λ i q. a i (omega arith) ∙ put-below ws g x y h i q) (rw (e, r, first, second)) (rw first l, k) (rw (first, second) d, t);
           none-so = λ r. s .none-so (rw (e, r));
         }
@@ -199,14 +199,14 @@ module _ (n : ℕ) (sheet : Bytes) (p e : ℕ) (line : LineEnd sheet p e) (ws₀
         fill-more x y at₁ q form₁ c =
             let is = rw q at (k .words) in
             let behind = rw q at (k .behind) in
-            let fits : g + g + 3 < length ws = omega (arith, f .long, fill-room) in
-            let outside : (c : ℕ) → (firstWord ≤ c → fieldsEnd ≤ c) → (d : ℕ) → g + g + 2 ≤ d → d ≤ g + g + 3 → c ≡ d → ⊥ = λ c z d a b q. (let high : fieldsEnd ≤ c = z (omega arith) in omega (arith, fill-room)) in
+            let fits : secondAt g < length ws = omega (arith, f .long, fill-room) in
+            let outside : (c : ℕ) → (firstWord ≤ c → fieldsEnd ≤ c) → (d : ℕ) → firstAt g ≤ d → d ≤ secondAt g → c ≡ d → ⊥ = λ c z d a b q. (let high : fieldsEnd ≤ c = z (omega arith) in omega (arith, fill-room)) in
             record {
               low = f .low;
               code = c;
               long = rw (length-set, length-set) (f .long);
               room = rw (add-one g) (omega (arith, f .room, ap length rest-is));
-              kept = λ c z. put-other ws g x y fits c (λ q. outside c z (g + g + 2) (omega arith) (omega arith) q) (λ q. outside c z (g + g + 3) (omega arith) (omega arith) q) ∙ f .kept c z;
+              kept = λ c z. put-other ws g x y fits c (λ q. outside c z (firstAt g) (omega arith) (omega arith) q) (λ q. outside c z (secondAt g) (omega arith) (omega arith) q) ∙ f .kept c z;
               from = omega (arith, f .from, behind .from);
               to = behind .to;
               stop = behind .stop;

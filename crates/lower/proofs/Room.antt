@@ -22,7 +22,7 @@ use Rattle.model.specs.Record.{one}
 use Rattle.words.specs.Count.{Ends}
 use Rattle.lower.specs.Chains.{fromOf, from, ReadAt, LowersRel, LowersStart, OrSource, Anchored}
 use Rattle.lower.specs.declared.Chain.{Chain}
-use Rattle.model.specs.Tree.{Tree, node}
+use Rattle.model.specs.Tree.{Tree}
 use Rattle.words.specs.Words.{cell, Roomy, optionOf}
 use Rattle.words.specs.Held.{Held, size}
 use Rattle.context.specs.Tables.{Pushed, Issued, CanNumber, Numbers, varsAt, maxCount, deepest}
@@ -30,25 +30,15 @@ use Rattle.context.specs.declared.op.Op.{Op}
 use Rattle.context.specs.declared.LowerCtx.{LowerCtx}
 use Rattle.context.specs.declared.Numbered.{Numbered}
 use Rattle.model.specs.Lower.{Lowering, endpointVar}
-use Rattle.context.specs.Ops.{Fits}
 use Rattle.lower.specs.Rep.{atPlace, Mem, mem, RoomFor, maxBefore, passOperators}
 use Rattle.model.specs.Call.{workWords}
 use Rattle.words.specs.Words.{maxRecords}
 use Rattle.context.specs.Tables.{secondPass}
 use Rattle.context.specs.declared.At.{At}
+pub use Rattle.lower.specs.Standing.{low, deep, fits}
 use Rattle.lower.specs.Asked.{Asked, SomeElement, TreeAsked, ElementAsked, ChainAsked}
 use Rattle.lower.specs.Pieces.{SomeTree, SomeCarried, LowersExprs}
 use Rattle.words.specs.Places.{kindAt, nodeKind, relKind, elementNamedAt, elementVarAt, nodeLabelsAt, nodePropsAt, relTypesAt, relPropsAt}
-
-deep-by : {s : Sort} (sheet : List ℕ) (a b : List ℕ) (t : Tree s) (d i : ℕ) → Held sheet a b t d i → (i < maxRecords) × (1 ≤ d)
-unfolding Held
-deep-by sheet a b (node s line k f kids) d i h = (h .1 .low, h .2)
-
-pub low : {a b : List ℕ} {s : Sort} {d i : ℕ} → SomeTree a b s d i → i < maxRecords
-low {a} {b} {d = d} {i = i} x = deep-by (x .sheet) a b (x .tree) d i (x .held) .0
-
-pub deep : {a b : List ℕ} {s : Sort} {d i : ℕ} → SomeTree a b s d i → 1 ≤ d
-deep {a} {b} {d = d} {i = i} x = deep-by (x .sheet) a b (x .tree) d i (x .held) .1
 
 -- the numbers of a place
 pub record Bounds (at : At) : Type 0 where
@@ -91,10 +81,6 @@ module _ {d i : ℕ} {c : LowerCtx} {os rs : List ℕ} (g : RoomFor d i (mem c o
 
 pub good-at : {d i j : ℕ} {m : Mem} → i ≡ j → RoomFor d i m → RoomFor d j m
 good-at e g = rw e at g
-
--- a place's numbers fit into words
-pub fits : {base i d : ℕ} → base ≤ secondPass → i ≤ maxRecords → d ≤ deepest → Fits (atPlace base i d)
-fits lb li ld = record { base = omega arith; i = omega arith; left = omega arith }
 
 pub few-ops : {d i : ℕ} {m : Mem} → RoomFor d i m → m .ctx .ops ≤ maxBefore + passOperators * maxRecords
 few-ops g = let x = g .few in let y = g .here in omega arith

@@ -3,13 +3,13 @@ use mathlib.Core.Path.{_≡_, refl, sym, ap, _∙_}
 use Prim.Native.Nat.{ℕ, suc, _+_, _-_, _≤_}
 use native.Mathlib.Nat.{le-refl}
 use native.Mathlib.Omega.{arith}
-use mathlib.Core.List.{List, _∷_}
+use mathlib.Core.List.{List}
 use mathlib.Core.Option.{none, some}
 use lib.ListN.{length}
 use Rattle.model.specs.Text.{Bytes}
-use Rattle.model.specs.Kind.{ReadOp, patternElement, expr}
+use Rattle.model.specs.Kind.{patternElement, expr}
 use Rattle.model.specs.Tree.{Tree, toList, foldOf}
-use Rattle.model.specs.Lower.{Recs, Lowered, made, _>>=_, ret, push, op, source, filter, filterByProps, propsOf, lowerExpr, NodeStep, ofNode, at}
+use Rattle.model.specs.Lower.{Recs, Lowered, made, _>>=_, ret, push, source, filter, filterByProps, propsOf, lowerExpr, NodeStep, ofNode, at}
 use Rattle.words.specs.Words.{Roomy, cell, optionOf, maxRecords}
 use Rattle.words.specs.Held.{Held}
 use Rattle.context.specs.Tables.{Pushed, secondPass, deepest}
@@ -20,7 +20,7 @@ use Rattle.lower.specs.Shows.{shift, shows-source, shows-filter}
 use Rattle.lower.specs.Rep.{atPlace, State, Mem, mem, Written, Blank, Rep, To, Rooted}
 use Rattle.lower.specs.Pieces.{SomeTree, LowersExpr}
 use Rattle.lower.specs.Chains.{stepOf, startL, LowersStart}
-use Rattle.lower.specs.State.{sub-more, sub-within, blank-within, to-then, to-wider, push-to}
+use Rattle.lower.specs.State.{sub-more, sub-within, blank-within, to-then, to-wider, push-to, filter-is}
 use Rattle.words.specs.Fits.{tree-fits, tree-low}
 use Rattle.lower.proofs.Elements.{names-render, a-node, OneProp, one-prop, no-prop, same-node}
 use Rattle.words.specs.Places.{kindAt, nodeKind, elementNamedAt, elementVarAt, nodeLabelsAt, nodePropsAt}
@@ -56,10 +56,6 @@ sourced number n s = push (source number (n .labels)) s .1
 filter-root : (number : ℕ) (n : NodeStep) (e : Tree expr) (s : State) → n .props ≡ some (λ z. lowerExpr e z) → startL number n s ≡ push (filter (length (s .ops)) (lowerExpr e (sourced number n s) .0)) (lowerExpr e (sourced number n s) .1)
 unfolding _>>=_ push filterByProps
 filter-root number n e s h = rw h
-
-filter-is : (k k′ : ℕ) (rs rs′ : Recs) → k ≡ k′ → rs ≡ rs′ → filter k′ rs′ ≡ op ReadOp.Filter (k, tt) ∷ rs
-unfolding filter
-filter-is k k′ rs rs′ e e′ = rw (e, e′)
 
 module _ {a b : List ℕ} {base number : ℕ} {c : LowerCtx} {os′ : List ℕ} {m : Mem} (d i : ℕ) (room : Roomy a b) (is-node : cell a b i kindAt ≡ nodeKind) (sh : (d ≤ deepest) × (base ≤ secondPass)) (ps : Pushed (m .ctx) c (m .ops) os′ (sourceOp (atPlace base i (d - 1)) number)) (lo : length os′ ≡ length (m .ops)) where
   -- the source

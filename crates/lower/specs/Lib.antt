@@ -5,6 +5,7 @@ pub mod Rep
 pub mod Pieces
 pub mod Patterns
 pub mod Chains
+pub mod Standing
 pub mod Asked
 pub mod Below
 pub mod State

@@ -10,7 +10,8 @@ use native.Mathlib.Omega.{arith}
 use lib.ListN.{length, getD, drop}
 use lib.Dec.{ltb}
 use borrow.Author.Tests.{eq-eqb, ne-eqb, ltb-true, ltb-false}
-use Rattle.model.specs.Lower.{Recs, Lowering, at, push}
+use Rattle.model.specs.Kind.{ReadOp}
+use Rattle.model.specs.Lower.{Recs, Lowering, at, push, op, filter}
 use Rattle.model.specs.Lower
 use Rattle.context.specs.Tables.{stateOf, Noted, NoteWritten, Numbers, Pushed, varsAt}
 use Rattle.context.specs.declared.op.Op.{Op}
@@ -195,3 +196,8 @@ module _ {S : Side} {W : Written} {s : State} where
 
   pub upcoming-number : (m : Mem) → Rep S W s m → m .ctx .numbers ≡ s .scope .nextVar
   upcoming-number m r = ap (λ (x : State). x .scope .nextVar) (r .state)
+
+-- a filter by its input and its records
+pub filter-is : (k k′ : ℕ) (rs rs′ : Recs) → k ≡ k′ → rs ≡ rs′ → filter k′ rs′ ≡ op ReadOp.Filter (k, tt) ∷ rs
+unfolding filter
+filter-is k k′ rs rs′ e e′ = rw (e, e′)

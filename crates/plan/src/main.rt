@@ -2,12 +2,13 @@
 use libc::STDIN_FILENO;
 use libc::STDOUT_FILENO;
 use values::call::lower;
+use values::refusal;
 use values::text::write_refusal;
 
 // The plan, or a refusal, parted as a sheet's fields are; a refusal leaves the plan's slice free for its line.
 fn show(sheet: &[u8], a: &mut [u32], b: &mut [u32], c: &mut [u32], d: &mut [u32], plan: &mut [u8]) {
     let v = lower(sheet, a, b, c, d, plan);
-    if v.number != 0 {
+    if v.number != refusal::ACCEPTED {
         let n = write_refusal(plan, b'\t', v);
         io::write_all(STDOUT_FILENO, b"refused");
         io::write_all(STDOUT_FILENO, &plan[0..n]);

@@ -18,15 +18,9 @@ rowText k ns = word k ++ (numbersText ns ++ (lineFeed ∷ []))
 unfoldable pub namedText : ℕ → Bytes → List ℕ → Bytes
 namedText k name ns = word k ++ ((tab ∷ name) ++ (numbersText ns ++ (lineFeed ∷ [])))
 
--- a signed number, and the two words that it stands in
+-- a signed number
 unfoldable pub intText : ℤ → Bytes
 intText z = word intWord ++ ((tab ∷ signed z) ++ (lineFeed ∷ []))
-
-abbrev pub intLowAt : ℕ
-intLowAt = 2
-
-abbrev pub intHighAt : ℕ
-intHighAt = 3
 
 -- a rel's types, direction, length (as a sheet spells it) and props
 unfoldable pub relText : ℕ → ℕ → Bytes → ℕ → Bytes

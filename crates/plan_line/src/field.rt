@@ -7,14 +7,11 @@ ghost use lib.Seq.{slice};
 ghost use Rattle.model.specs.Text.{tab, decimal};
 ghost use Rattle.output.specs.Page.{on, Puts};
 ghost use Rattle.words.specs.Words.{Roomy, cell, intOf, maxRecords, two32};
-ghost use Rattle.plan_line.specs.Row.{intText, intLowAt, intHighAt};
+ghost use Rattle.words.specs.Places.{intLowAt, intHighAt};
+ghost use Rattle.plan_line.specs.Row.{intText};
 use crate::keyword::put_keyword;
 use output::put_byte;
-
-// The two words of an `int`'s number: its first field.
-const INT_LOW: usize = 2;
-
-const INT_HIGH: usize = 3;
+use words::field;
 
 // The 64 bits of two words.
 fn bits(low: u32, high: u32) -> u64
@@ -42,8 +39,8 @@ pub fn put_int(plan: &mut [u8], out: usize, a: &[u32], b: &[u32], i: usize) -> u
     requires { ⌜ i < maxRecords ⌝ }
     ensures { λ r. ⌜ Puts (intText (intOf (cell (now (a .entry)) (now (b .entry)) i intLowAt) (cell (now (a .entry)) (now (b .entry)) i intHighAt))) (on (now (plan .entry)) out) (on (now (plan .exit)) r) ⌝ }
 {
-    let low = words::word(a, b, i, INT_LOW);
-    let high = words::word(a, b, i, INT_HIGH);
+    let low = words::word(a, b, i, field::INT_LOW);
+    let high = words::word(a, b, i, field::INT_HIGH);
     let n = signed_of(low, high);
     let o = put_keyword(plan, out, crate::word::INT);
     let p = put_byte(plan, o, b'\t');

@@ -16,13 +16,13 @@ use Rattle.output.specs.Page.{Page, Puts}
 use Rattle.output.specs.Writes.{stay}
 use Rattle.words.specs.Words.{Roomy, cell, kindOf, firstKind, nth, fieldOf, fieldsOf, intOf, maxRecords}
 use Rattle.words.specs.Held.{RecordAt, Texts, PlaceAt}
-use Rattle.words.specs.Places.{kindAt, itemKind, keyKind, entryKind, nullKind, intKind, varKind, fnKind, patKind, listPredicateKind, unresKind, undesKind, nameAt, fnArgsAt, listPredicateKindAt, listPredicatePredAt}
+use Rattle.words.specs.Places.{kindAt, itemKind, keyKind, entryKind, nullKind, intKind, varKind, fnKind, patKind, listPredicateKind, unresKind, undesKind, nameAt, intLowAt, intHighAt, fnArgsAt, listPredicateKindAt, listPredicatePredAt}
 use Rattle.words.specs.Cells.{cells, part-cells, shown, numbered, number-of}
 use Rattle.words.proofs.Counting.{inner-number, innerNumber}
 use Rattle.words.specs.Numbers.{Others, other-than, exprNumber}
 use Rattle.plan_line.specs.Keywords.{word, letters, varWord, existsWord, nullWord, listPredicateWord, fnWord}
 use Rattle.plan_line.specs.Copy.{SomeRecord, Copied}
-use Rattle.plan_line.specs.Row.{rowText, namedText, intText, intLowAt, intHighAt}
+use Rattle.plan_line.specs.Row.{rowText, namedText, intText}
 use Rattle.plan_sheet.specs.Due.{ExprAt, ItemAt, namedRec, itemName, Line, TextAsked, textAt}
 use Rattle.plan_line.proofs.RowLaws.{flag-decimal, row-rec, named-rec, int-rec, place-escape}
 

@@ -28,7 +28,8 @@ use Rattle.words.specs.Fits.{tree-fits, trees-fits, tree-low}
 use Rattle.projections.specs.Items.{keysC, keys-lower, keys-size, keys-held, keys-render, keys-below}
 use Rattle.projections.specs.Asked.{OverAsked}
 use Rattle.projections.specs.Promises.{LowersOver, orderL, inputOf, headOf, trailerOp, overL, Tail, tailSize, SomeTail, LowersTail}
-use Rattle.projections.specs.Room.{tree-deep, twice-refl, twice-then, twice-pushed}
+use Rattle.lower.specs.Standing.{tree-deep}
+use Rattle.projections.specs.Room.{twice-refl, twice-then, twice-pushed}
 use Rattle.projections.specs.declared.trailers.Trailer.{Trailer}
 use Rattle.projections.specs.declared.trailers.Trailer.the-variants as trailer
 

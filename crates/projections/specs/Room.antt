@@ -8,39 +8,25 @@ use lib.ListN.{length}
 use Rattle.model.specs.Call.{workWords}
 use Rattle.model.specs.Text.{Bytes}
 use Rattle.model.specs.Kind.{Sort}
-use Rattle.model.specs.Tree.{Tree, node}
 use Rattle.model.specs.Lower.{Lowering}
 use Rattle.words.specs.Words.{maxRecords}
-use Rattle.words.specs.Held.{Held, HeldSome, HeldMany}
-use Rattle.context.specs.Tables.{Pushed, secondPass, maxCount, deepest}
-use Rattle.context.specs.Ops.{Fits}
+use Rattle.words.specs.Held.{HeldSome, HeldMany}
+use Rattle.context.specs.Tables.{Pushed, maxCount, deepest}
 use Rattle.context.specs.declared.At.{At}
 use Rattle.context.specs.declared.Before.{Before}
 use Rattle.context.specs.declared.op.Op.{Op}
 use Rattle.context.specs.declared.LowerCtx.{LowerCtx}
-use Rattle.lower.specs.Rep.{Mem, mem, atPlace, RoomFor, Moved}
+use Rattle.lower.specs.Rep.{Mem, mem, RoomFor, Moved}
 use Rattle.lower.specs.Clauses.{MovedTwice}
 use Rattle.projections.specs.Ready.{Ready, maxFound, maxPassed}
 use Rattle.lower.specs.Patterns.{SomeTrees}
 use Rattle.words.specs.Fits.{trees-fits}
 use Rattle.lower.specs.Pieces.{SomeTree}
+pub use Rattle.lower.specs.Standing.{low, deep, fits}
 use Rattle.lower.specs.Chains.{OrSource}
 use Rattle.projections.specs.Asked.{ClauseAsked}
 
 -- ── trees ──
-
-deep-by : {s : Sort} (sheet : Bytes) (a b : List ℕ) (t : Tree s) (d i : ℕ) → Held sheet a b t d i → (i < maxRecords) × (1 ≤ d)
-unfolding Held
-deep-by sheet a b (node s line k f kids) d i h = (h .1 .low, h .2)
-
-pub tree-deep : (sheet : Bytes) (a b : List ℕ) {s : Sort} (t : Tree s) (d i : ℕ) → Held sheet a b t d i → 1 ≤ d
-tree-deep sheet a b t d i h = deep-by sheet a b t d i h .1
-
-pub low : {a b : List ℕ} {s : Sort} {d i : ℕ} → SomeTree a b s d i → i < maxRecords
-low {a} {b} {d = d} {i = i} x = deep-by (x .sheet) a b (x .tree) d i (x .held) .0
-
-pub deep : {a b : List ℕ} {s : Sort} {d i : ℕ} → SomeTree a b s d i → 1 ≤ d
-deep {a} {b} {d = d} {i = i} x = deep-by (x .sheet) a b (x .tree) d i (x .held) .1
 
 -- so many trees are no more than the records
 pub few-trees : {a b : List ℕ} {s : Sort} {n d i : ℕ} → i ≤ maxRecords → SomeTrees a b s n d i → i + n ≤ maxRecords
@@ -52,11 +38,6 @@ some-tree {sheet} x = record { sheet = sheet; tree = x .tree; held = x .is }
 
 pub some-trees : {sheet : Bytes} {a b : List ℕ} {s : Sort} {n d i : ℕ} → HeldMany sheet a b s n d i → SomeTrees a b s n d i
 some-trees {sheet} x = record { sheet = sheet; trees = x .trees; held = x .are }
-
--- ── places ──
-
-pub fits : {base i d : ℕ} → base ≤ secondPass → i ≤ maxRecords → d ≤ deepest → Fits (atPlace base i d)
-fits lb li ld = record { base = omega arith; i = omega arith; left = omega arith }
 
 -- ── where a clause may begin ──
 

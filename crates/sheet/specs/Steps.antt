@@ -80,10 +80,10 @@ writes-kind m h n k e = kind-row (sortOf m) (λ n k. writes (sortOf m) k ≡ eqb
 
 -- ── room for the groups ──
 
-slack-low : (s : Sort) → slack s ≤ 6
+slack-low : (s : Sort) → slack s ≤ entrySlack
 slack-low s = at (beside s)
   where
-    at : (t : Bool) → cond t 6 0 ≤ 6
+    at : (t : Bool) → cond t entrySlack 0 ≤ entrySlack
     at true = omega arith
     at false = omega arith
 

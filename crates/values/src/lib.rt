@@ -6,6 +6,7 @@ ghost use Rattle.statement.specs.Answer.{answerOf, errorAnswer};
 ghost use Rattle.values.specs.Told.{told};
 
 pub mod call;
+pub mod refusal;
 pub mod text;
 
 use precheck::HirSpan;
@@ -53,9 +54,15 @@ fn error_values(e: PlanLowerError) -> Values
     ensures { λ r. ⌜ told r ≡ errorAnswer e ⌝ }
 {
     match e {
-        PlanLowerError::UnresolvedName { line, span } => in_tree(6, line, span, 0),
-        PlanLowerError::UndesugaredExpr { line, span, kind } => in_tree(7, line, span, kind),
-        PlanLowerError::EmptyPatternPart { line, span } => in_tree(8, line, span, 0),
+        PlanLowerError::UnresolvedName { line, span } => {
+            in_tree(refusal::UNRESOLVED_NAME, line, span, 0)
+        }
+        PlanLowerError::UndesugaredExpr { line, span, kind } => {
+            in_tree(refusal::UNDESUGARED_EXPR, line, span, kind)
+        }
+        PlanLowerError::EmptyPatternPart { line, span } => {
+            in_tree(refusal::EMPTY_PATTERN_PART, line, span, 0)
+        }
     }
 }
 
@@ -64,20 +71,20 @@ pub fn values_of(answer: Answer) -> Values
 {
     match answer {
         Answer::Accepted(n) => Values {
-            number: 0,
+            number: refusal::ACCEPTED,
             line: 0,
             start: 0,
             end: 0,
             kind: 0,
             length: n,
         },
-        Answer::ShortWork => at_line(1, 0),
-        Answer::LongSheet => at_line(2, 0),
-        Answer::BadLine(line) => at_line(3, line),
-        Answer::BigTree(line) => at_line(4, line),
-        Answer::WriteClause(line) => at_line(5, line),
+        Answer::ShortWork => at_line(refusal::SHORT_WORK, 0),
+        Answer::LongSheet => at_line(refusal::LONG_SHEET, 0),
+        Answer::BadLine(line) => at_line(refusal::BAD_LINE, line),
+        Answer::BigTree(line) => at_line(refusal::BIG_TREE, line),
+        Answer::WriteClause(line) => at_line(refusal::WRITE_CLAUSE, line),
         Answer::Refused(e) => error_values(e),
-        Answer::PlanFull => at_line(9, 0),
-        Answer::NoRoom => at_line(10, 0),
+        Answer::PlanFull => at_line(refusal::PLAN_FULL, 0),
+        Answer::NoRoom => at_line(refusal::NO_ROOM, 0),
     }
 }

@@ -14,7 +14,7 @@ use Rattle.model.specs.Record.{Group, rec, forms, children, beside, spellRec}
 use Rattle.model.specs.Tree.{Tree, Trees, Forest, node, []ᵗ, _∷ᵗ_, end, _▸_}
 unfoldable pub use Rattle.model.specs.Tree.{size, sizeOf, sizeIn}
 use Rattle.words.specs.Places.{lineStartAt, childrenAt, lineEndAt}
-use Rattle.words.specs.Words.{part, decode, fieldOf, piecesOf, maxRecords, two32}
+use Rattle.words.specs.Words.{part, decode, fieldOf, firstAt, secondAt, piecesOf, maxRecords, two32}
 
 -- a flag's word is 0 or 1
 abbrev pub Flag : Form → ℕ → Type 0
@@ -35,7 +35,7 @@ Flag Field.length x = Unit {0}
 -- so in the fields from field g on
 abbrev pub Flags : List Form → List ℕ → ℕ → Type 0
 Flags [] ws g = Unit {0}
-Flags (f ∷ fs) ws g = Flag f (getD ws (g + g + 2) 0) × Flags fs ws (suc g)
+Flags (f ∷ fs) ws g = Flag f (getD ws (firstAt g) 0) × Flags fs ws (suc g)
 
 -- a field that stands in the sheet from x up to y is spelled as the sheet has it
 pub record PlaceAt (f : Form) (sheet : Bytes) (x y : ℕ) : Type 0 where
@@ -62,7 +62,7 @@ Text Field.length sheet x y = PlaceAt Field.length sheet x y
 -- so in the fields from field g on
 abbrev pub Texts : List Form → Bytes → List ℕ → ℕ → Type 0
 Texts [] sheet ws g = Unit {0}
-Texts (f ∷ fs) sheet ws g = Text f sheet (getD ws (g + g + 2) 0) (getD ws (g + g + 3) 0) × Texts fs sheet ws (suc g)
+Texts (f ∷ fs) sheet ws g = Text f sheet (getD ws (firstAt g) 0) (getD ws (secondAt g) 0) × Texts fs sheet ws (suc g)
 
 -- how deep the children may be of a record that may be d deep: a map's key and its expression stand side by side
 abbrev pub roomIn : Sort → ℕ → ℕ

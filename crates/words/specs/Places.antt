@@ -350,6 +350,13 @@ elementVarAt = 3
 abbrev pub nameAt : ℕ
 nameAt = 2
 
+-- an int's number has two words
+abbrev pub intLowAt : ℕ
+intLowAt = 2
+
+abbrev pub intHighAt : ℕ
+intHighAt = 3
+
 abbrev pub sliceStartAt : ℕ
 sliceStartAt = 2
 

@@ -86,10 +86,17 @@ fieldOf alias sheet x y = aliasOf sheet x y
 fieldOf span sheet x y = record { start = x; end = y }
 fieldOf Field.length sheet x y = meaning Field.length (piecesOf (slice x y sheet))
 
+-- the two words of field g
+abbrev pub firstAt : ℕ → ℕ
+firstAt g = g + g + 2
+
+abbrev pub secondAt : ℕ → ℕ
+secondAt g = g + g + 3
+
 -- the fields from field g on
 unfoldable pub fieldsOf : (fs : List Form) → Bytes → List ℕ → ℕ → Fields fs
 fieldsOf [] sheet ws g = tt
-fieldsOf (f ∷ fs) sheet ws g = (fieldOf f sheet (getD ws (g + g + 2) 0) (getD ws (g + g + 3) 0), fieldsOf fs sheet ws (suc g))
+fieldsOf (f ∷ fs) sheet ws g = (fieldOf f sheet (getD ws (firstAt g) 0) (getD ws (secondAt g) 0), fieldsOf fs sheet ws (suc g))
 
 -- ── kinds ──
 

@@ -98,6 +98,11 @@ pub const ELEMENT_VAR: usize = 3;
 // of expressions
 pub const NAME: usize = 2;
 
+// an int's number has two words
+pub const INT_LOW: usize = 2;
+
+pub const INT_HIGH: usize = 3;
+
 pub const SLICE_START: usize = 2;
 
 pub const SLICE_END: usize = 4;

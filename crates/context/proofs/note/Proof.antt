@@ -1,3 +1,4 @@
+-- `note` meets its contract. Assumes nothing.
 use Rattle.context.proofs.Laws
 use borrow.Author.Needs.{needs}
 use Rattle.context.proofs.note.Statement.{statement}

@@ -1,4 +1,4 @@
--- `replay::sheet_end` is safe and ends, and lies within the file: each line begins behind the one before. Assumes nothing.
+-- `sheet_end` is safe and ends, and lies within the file: each line begins behind the one before. Assumes nothing.
 use Prim.Native.Nat.{_-_, _≤_}
 use native.Mathlib.Omega.{arith}
 use lib.ListN.{length}

@@ -1,4 +1,4 @@
--- `replay::show_all` is safe and ends: each sheet begins behind the one before, and the slices' lengths stay. Assumes nothing.
+-- `show_all` is safe and ends: each sheet begins behind the one before, and the slices' lengths stay. Assumes nothing.
 use mathlib.Core.Path.{_≡_, refl}
 use Prim.Native.Nat.{_-_}
 use native.Mathlib.Omega.{arith}

@@ -1,3 +1,4 @@
+-- `dresserhawk_lower` meets its contract: the call's answer in six words, or nothing written. Assumes nothing.
 use mathlib.Core.Path.{_∙_, ap}
 use Rattle.model.specs.Refusal.{Answer}
 use Rattle.model.specs.Call.{Outcome}

@@ -1,3 +1,4 @@
+-- `put` meets its contract: six words one after the other. Assumes nothing.
 use Rattle.library.specs.Six.{sets, second, third, fourth, fifth, sixth}
 use borrow.Author.Needs.{needs}
 use Rattle.library.proofs.put.Statement.{statement}

@@ -1,3 +1,4 @@
+-- `put_answer` meets its contract: each value in its place. Assumes nothing.
 use borrow.Author.Needs.{needs}
 use Rattle.library.proofs.put_answer.Statement.{statement}
 use Rattle.library.proofs.put_answer.Tie as tie

@@ -1,3 +1,4 @@
+-- The cycle of the lowering meets its contracts. A member's answers are in the file of its name, the measures in `Claims`. Assumes nothing.
 mod Claims
 mod ExpandTo
 mod LowerChain

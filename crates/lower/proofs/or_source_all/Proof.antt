@@ -1,3 +1,4 @@
+-- `or_source_all` meets its contract: the operator before, or a source of everything pushed. Assumes nothing.
 use Rattle.context.specs.OpLaws.{pushed-as}
 use Rattle.lower.proofs.Chaining
 use mathlib.Core.Path.{refl}

@@ -1,3 +1,4 @@
+-- `read_at` meets its contract: the words of an element. Assumes nothing.
 use native.Mathlib.Omega.{arith}
 use Prim.Native.Nat.{_+_}
 use mathlib.Core.Path.{ap}

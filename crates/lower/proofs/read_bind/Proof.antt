@@ -1,3 +1,4 @@
+-- `read_bind` meets its contract: the variable, if there is one. Assumes nothing.
 use Rattle.words.specs.Words.{optionOf}
 use Rattle.lower.proofs.Chaining.{option-some}
 use Rattle.lower.proofs.Reading

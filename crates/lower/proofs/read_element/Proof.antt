@@ -1,3 +1,4 @@
+-- `read_element` meets its contract: a node, or else a rel. Assumes nothing.
 use native.Mathlib.Omega.{arith}
 use mathlib.Core.Path.{refl, sym, _∙_}
 use Rattle.lower.specs.Chains.{node-at, rel-at}

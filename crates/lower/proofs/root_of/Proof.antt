@@ -1,3 +1,4 @@
+-- `root_of` meets its contract, case by case. Assumes nothing.
 use Rattle.context.specs.Ops.{beforeOf}
 use Rattle.model.specs.Lower.{rootOf}
 use borrow.Author.Needs.{needs}

@@ -1,3 +1,4 @@
+-- `size_checked` meets its contract: the check's verdict, or the figure. Assumes nothing.
 use Rattle.statement.specs.Sizing.{check-fine, check-refused}
 use borrow.Author.Needs.{needs}
 use Rattle.statement.proofs.size_checked.Statement.{statement}

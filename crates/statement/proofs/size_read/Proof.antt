@@ -1,3 +1,4 @@
+-- `size_read` meets its contract: test 2, the reader's answer, or the figure. Assumes nothing.
 use Rattle.statement.specs.Sizing.{size-long, held-few, held-some, size-tree, size-bad, size-big, size-write}
 use borrow.Author.Needs.{needs}
 use Rattle.statement.proofs.size_read.Statement.{statement}

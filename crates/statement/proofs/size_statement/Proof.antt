@@ -1,3 +1,4 @@
+-- `size_statement` meets its contract: test 1, and then the others. Assumes nothing.
 use Rattle.statement.specs.Sizing.{yes, none-short, no-size}
 use borrow.Author.Needs.{needs}
 use Rattle.statement.proofs.size_statement.Statement.{statement}

@@ -1,45 +1,36 @@
+-- `word` meets its contract: in the first slice, or in the second. Assumes nothing.
 use borrow.Author.Tests.{lt-ltb, le-ltb}
 use borrow.Author.Needs.{needs}
 use Rattle.words.proofs.word.Statement.{statement}
 use Rattle.words.proofs.word.Tie as tie
 
--- src/lib.rt:14:18
 mul-at : tie.Need-mul-at
 mul-at c = search needs
 
--- src/lib.rt:14:18
 add-at : tie.Need-add-at
 add-at c = search needs
 
--- src/lib.rt:15:16
 mul-result : tie.Need-mul-result
 mul-result c = search needs
 
--- src/lib.rt:15:16
 shared-slice-read-result : tie.Need-shared-slice-read-result
 shared-slice-read-result c = search needs
 
--- src/lib.rt:15:9
 returns : tie.Need-returns
 returns c = search (needs, lt-ltb)
 
--- src/lib.rt:17:14
 mul-at-2 : tie.Need-mul-at-2
 mul-at-2 c = search needs
 
--- src/lib.rt:17:14
 add-at-2 : tie.Need-add-at-2
 add-at-2 c = search needs
 
--- src/lib.rt:18:5
 mul-result-2 : tie.Need-mul-result-2
 mul-result-2 c = search needs
 
--- src/lib.rt:18:5
 shared-slice-read-result-2 : tie.Need-shared-slice-read-result-2
 shared-slice-read-result-2 c = search needs
 
--- src/lib.rt:7:1
 returns-2 : tie.Need-returns-2
 returns-2 c = search (needs, le-ltb)
 

@@ -1,3 +1,4 @@
+-- `endpoint_var` meets its contract: the number by the id, or the next one. Assumes nothing.
 use Rattle.context.proofs.Laws
 use borrow.Author.Needs.{needs}
 use Rattle.context.proofs.LowerCtx.endpoint_var.Statement.{statement}

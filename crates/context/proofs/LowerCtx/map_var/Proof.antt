@@ -1,3 +1,4 @@
+-- `map_var` meets its contract: the number that is found, or that of a new variable. Assumes nothing.
 use Rattle.context.proofs.Laws
 use mathlib.Core.Path.{sym, _∙_}
 use borrow.Author.Needs.{needs}

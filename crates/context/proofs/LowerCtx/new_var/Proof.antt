@@ -1,3 +1,4 @@
+-- `new_var` meets its contract: the variable stands behind the others, and in the index. Assumes nothing.
 use lib.ListN.{length-set}
 use native.Mathlib.Omega.{arith}
 use Rattle.context.proofs.Adding

@@ -1,3 +1,4 @@
+-- `number` meets its contract: the number is issued over the variables' words and noted before them. Assumes nothing.
 use mathlib.Core.Path.{refl}
 use Rattle.context.proofs.Laws
 use borrow.Author.Needs.{needs}

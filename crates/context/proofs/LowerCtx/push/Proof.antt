@@ -1,3 +1,4 @@
+-- `push` meets its contract: the operator is stored, or only counted. Assumes nothing.
 use Rattle.context.proofs.Laws
 use lib.ListN.{length-set}
 use mathlib.Core.Path.{refl}

@@ -1,3 +1,4 @@
+-- `child` meets its contract: the half of the word of links that the last bit names. Assumes nothing.
 use Rattle.context.proofs.Tree
 use native.Mathlib.Omega.{arith}
 use Prim.Native.Nat.{_+_}

@@ -1,3 +1,4 @@
+-- `descend` meets its contract. The loop's invariant: the way down has come to variable p. Assumes nothing.
 use Rattle.context.proofs.Tree
 use native.Mathlib.Omega.{arith}
 use Rattle.context.specs.Tables.{Descends}

@@ -1,3 +1,4 @@
+-- `enter` meets its contract: joined, with no child of its own; or beyond the index. Assumes nothing.
 use Rattle.context.proofs.Tree
 use native.Mathlib.Omega.{arith}
 use borrow.Author.Needs.{needs}

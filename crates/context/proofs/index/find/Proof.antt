@@ -1,3 +1,4 @@
+-- `find` meets its contract. The loop's invariant: among the first k variables the id is found as among all. Assumes nothing.
 use native.Mathlib.Omega.{arith}
 use mathlib.Core.Path.{_≡_, refl, sym, _∙_}
 use Prim.Native.Nat.{_≤_, _-_}

@@ -1,3 +1,4 @@
+-- `find_indexed` meets its contract: the variable at the end of the way down, if it has the id. Assumes nothing.
 use Rattle.context.proofs.Tree
 use Rattle.context.proofs.Laws
 use borrow.Author.Needs.{needs}

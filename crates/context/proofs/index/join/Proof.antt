@@ -1,3 +1,4 @@
+-- `join` meets its contract: the root, or the child at the end of the way down. Assumes nothing.
 use Rattle.context.proofs.Tree
 use Rattle.context.specs.Tables.{root, child}
 use mathlib.Core.Path.{refl}

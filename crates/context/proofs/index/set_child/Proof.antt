@@ -1,3 +1,4 @@
+-- `set_child` meets its contract: the half that was 0 is the link. Assumes nothing.
 use Rattle.context.proofs.Tree
 use native.Mathlib.Omega.{arith}
 use mathlib.Core.Path.{ap}

@@ -4,27 +4,21 @@ use borrow.Author.Needs.{needs}
 use Rattle.plan_line.proofs.copy.put_within.Statement.{statement}
 use Rattle.plan_line.proofs.copy.put_within.Tie as tie
 
--- src/copy.rt:19:33
 sub-put-part : tie.Need-sub-put-part
 sub-put-part c = search needs
 
--- src/copy.rt:19:33
 part-put-part-start : tie.Need-part-put-part-start
 part-put-part-start c = search needs
 
--- src/copy.rt:19:33
 part-put-part-end : tie.Need-part-put-part-end
 part-put-part-end c = search needs
 
--- src/copy.rt:19:5
 put-part-requires : tie.Need-put-part-requires
 put-part-requires c κs = search needs
 
--- src/copy.rt:15:1
 same-length : tie.Need-same-length
 same-length c = search needs
 
--- src/copy.rt:15:1
 returns : tie.Need-returns
 returns c = rw part-is at ((c .before .before .put-part .ensures))
 

@@ -4,31 +4,24 @@ use borrow.Author.Needs.{needs}
 use Rattle.plan_line.proofs.field.signed_of.Statement.{statement}
 use Rattle.plan_line.proofs.field.signed_of.Tie as tie
 
--- src/field.rt:38:13
 bits-requires : tie.Need-bits-requires
 bits-requires c κs = tt
 
--- src/field.rt:39:16
 cast-result : tie.Need-cast-result
 cast-result c = plain-fits _ _ _ (search needs) (c .before .if1 .taken) (c .bits .ensures)
 
--- src/field.rt:39:9
 returns : tie.Need-returns
 returns c = plain-is _ _ _ (search needs) (c .before .if1 .taken) (c .bits .ensures)
 
--- src/field.rt:41:9
 bits-requires-2 : tie.Need-bits-requires-2
 bits-requires-2 c κs = tt
 
--- src/field.rt:42:13
 cast-m : tie.Need-cast-m
 cast-m c = rest-fits _ _ _ (search needs) (c .before .if1 .left) (search needs) (c .bits2 .ensures)
 
--- src/field.rt:43:5
 sub-result : tie.Need-sub-result
 sub-result c = below-fits _ _ _ (search needs) (c .before .if1 .left) (search needs) (c .bits2 .ensures)
 
--- src/field.rt:34:1
 returns-2 : tie.Need-returns-2
 returns-2 c = below-is _ _ _ (search needs) (c .before .if1 .left) (search needs) (c .bits2 .ensures)
 

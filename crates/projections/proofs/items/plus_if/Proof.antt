@@ -1,3 +1,4 @@
+-- `plus_if` meets its contract. Assumes nothing.
 use borrow.Author.Needs.{needs}
 use Rattle.projections.proofs.items.plus_if.Statement.{statement}
 use Rattle.projections.proofs.items.plus_if.Tie as tie

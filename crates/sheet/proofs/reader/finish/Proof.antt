@@ -1,3 +1,4 @@
+-- `finish` meets its contract: a line too many, a write, or all records. Assumes nothing.
 use Rattle.sheet.specs.Reader.{ends-bad, ends-read, ends-write}
 use native.Mathlib.Omega.{arith}
 use borrow.Author.Needs.{needs}

@@ -1,3 +1,4 @@
+-- `read_next` meets its contract: one line by the law of a line, its groups on the stack, or a refusal. Assumes nothing.
 use Rattle.sheet.specs.Next.{top-room, top-sort, top-count, roomy-still, next-many, next-deep, next-unformed, next-low, next-space, next-more}
 use native.Mathlib.Omega.{arith}
 use borrow.Author.Needs.{needs}

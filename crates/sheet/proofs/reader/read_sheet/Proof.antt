@@ -1,3 +1,4 @@
+-- `read_sheet` meets its contract. The loop's invariant: what is left to read gives the whole answer. Assumes nothing.
 use mathlib.Core.Path.{_≡_}
 use Prim.Native.Nat.{_-_}
 use native.Mathlib.Omega.{arith}

@@ -1,3 +1,4 @@
+-- `room_below` meets its contract. Assumes nothing.
 use Rattle.sheet.specs.Steps.{room-entry, room-other}
 use borrow.Author.Needs.{needs}
 use Rattle.sheet.proofs.reader.room_below.Statement.{statement}

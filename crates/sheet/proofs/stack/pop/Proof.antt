@@ -1,3 +1,4 @@
+-- `pop` meets its contract: one record less is due of the topmost group. Assumes nothing.
 use Rattle.sheet.specs.Dues.{pop-last, pop-more}
 use native.Mathlib.Omega.{arith}
 use borrow.Author.Needs.{needs}

@@ -1,3 +1,4 @@
+-- `push` meets its contract: three words one after the other. Assumes nothing.
 use Rattle.sheet.specs.Dues.{push-is}
 use lib.ListN.{length-set}
 use native.Mathlib.Omega.{arith}
@@ -5,47 +6,36 @@ use borrow.Author.Needs.{needs}
 use Rattle.sheet.proofs.stack.push.Statement.{statement}
 use Rattle.sheet.proofs.stack.push.Tie as tie
 
--- src/stack.rt:12:14
 mul-at : tie.Need-mul-at
 mul-at c = search needs
 
--- src/stack.rt:13:5
 mul-stack : tie.Need-mul-stack
 mul-stack c = search needs
 
--- src/stack.rt:13:5
 slice-write-stack : tie.Need-slice-write-stack
 slice-write-stack c = search needs
 
--- src/stack.rt:14:11
 add-stack : tie.Need-add-stack
 add-stack c = search needs
 
--- src/stack.rt:14:5
 mul-stack-2 : tie.Need-mul-stack-2
 mul-stack-2 c = search needs
 
--- src/stack.rt:14:5
 slice-write-stack-2 : tie.Need-slice-write-stack-2
 slice-write-stack-2 c = simp length-set (omega arith)
 
--- src/stack.rt:15:11
 add-stack-2 : tie.Need-add-stack-2
 add-stack-2 c = search needs
 
--- src/stack.rt:15:5
 mul-stack-3 : tie.Need-mul-stack-3
 mul-stack-3 c = search needs
 
--- src/stack.rt:15:5
 slice-write-stack-3 : tie.Need-slice-write-stack-3
 slice-write-stack-3 c = simp length-set (omega arith)
 
--- src/stack.rt:8:1
 same-length : tie.Need-same-length
 same-length c = search needs
 
--- src/stack.rt:8:1
 returns : tie.Need-returns
 returns c = push-is _ _ _ _ _ ((c .pre))
 

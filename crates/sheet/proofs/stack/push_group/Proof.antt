@@ -1,3 +1,4 @@
+-- `push_group` meets its contract: the group on top, or none. Assumes nothing.
 use Rattle.sheet.specs.Dues.{grouped-none, grouped-push}
 use native.Mathlib.Omega.{arith}
 use mathlib.Core.Path.{sym, _∙_}

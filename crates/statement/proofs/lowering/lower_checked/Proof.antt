@@ -1,3 +1,4 @@
+-- `lower_checked` meets its contract: the check's verdict, or what the lowering gives. Assumes nothing.
 use Rattle.statement.specs.Lowering.{tree-fine, tree-refused}
 use Rattle.statement.specs.Tables.{lowered}
 use borrow.Author.Needs.{needs}

@@ -1,3 +1,4 @@
+-- `lower_read` meets its contract: test 2, the reader's answer, or what the check and the lowering give. Assumes nothing.
 use Rattle.statement.specs.Lowering.{lower-long, lower-bad, lower-big, lower-write, lower-tree, held-here}
 use borrow.Author.Needs.{needs}
 use Rattle.statement.proofs.lowering.lower_read.Statement.{statement}

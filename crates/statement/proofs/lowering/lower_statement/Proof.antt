@@ -1,3 +1,4 @@
+-- `lower_statement` meets its contract: test 1, and then the others. Assumes nothing.
 use Rattle.statement.specs.declared.Answer.{Answer}
 use Rattle.statement.specs.Lowering.{lower-short, called}
 use Rattle.statement.specs.Sizing.{yes, none-short}

@@ -1,4 +1,6 @@
+-- `write_lowered` meets its contract: test 9 by the counts, and then the writer's answer. Assumes nothing.
 use Rattle.statement.specs.Tables.{full-ops, full-numbers, some-tables, no-room, fitted}
+use native.Mathlib.Omega.{arith}
 use borrow.Author.Needs.{needs}
 use Rattle.statement.proofs.lowering.write_lowered.Statement.{statement}
 use Rattle.statement.proofs.lowering.write_lowered.Tie as tie
@@ -19,7 +21,7 @@ back-else1 c = search
 ruleset ways = (back-n, back-write-plan, back-else2, back-else1)
 
 returns : tie.Need-returns
-returns c = λ W s r. full-ops r _ (c .if1 .taken)
+returns c = λ W s r. full-ops r _ (omega (arith, c .if1 .taken))
 
 returns-2 : tie.Need-returns-2
 returns-2 c = λ W s r. full-numbers r _ (c .if2 .taken)

@@ -1,3 +1,4 @@
+-- `lower` meets its contract: the values of the call's answer. Assumes nothing.
 use Rattle.values.proofs.Numbers.{with-values}
 use mathlib.Core.Path.{ap}
 use native.Mathlib.Omega.{arith}

@@ -1,3 +1,4 @@
+-- `put_number` meets its contract: a separator and a number. Assumes nothing.
 use Rattle.output.specs.Writes.{_⨾_}
 use borrow.Author.Needs.{needs}
 use Rattle.values.proofs.text.put_number.Statement.{statement}

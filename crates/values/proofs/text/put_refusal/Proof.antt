@@ -1,3 +1,4 @@
+-- `put_refusal` meets its contract: five numbers one after the other. Assumes nothing.
 use Rattle.values.proofs.Numbers.{five}
 use mathlib.Core.Path.{_∙_}
 use borrow.Author.Needs.{needs}

@@ -1,3 +1,4 @@
+-- `write_refusal` meets its contract: the text, or nothing on a page that is too short. Assumes nothing.
 use Rattle.output.specs.Writes.{same}
 use Rattle.output.specs.Whole.{too-long, long-enough}
 use native.Mathlib.Omega.{arith}

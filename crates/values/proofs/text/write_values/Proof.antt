@@ -1,3 +1,4 @@
+-- `write_values` meets its contract: the text, or nothing on a page that is too short. Assumes nothing.
 use Rattle.output.specs.Writes.{same}
 use Rattle.values.proofs.Numbers.{six}
 use Rattle.output.specs.Whole.{too-long, long-enough}
