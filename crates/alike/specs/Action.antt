@@ -14,8 +14,8 @@ module _ (R : ℕ → ℕ → Type 0) where
     var~ : {a b n : ℕ} → R a b → Var~ (a, n) (b, n)
 
   pub data Ctx~ : LowerCtx → LowerCtx → Type 0 where
-    ctx~ : {ops : List Recs} {vs ws : List (ℕ × ℕ)} {next : ℕ} → List~ Var~ vs ws →
-        Ctx~ (record { ops = ops; scope = record { vars = vs; nextVar = next } }) (record { ops = ops; scope = record { vars = ws; nextVar = next } })
+    ctx~ : {ops : List Recs} {vs ws : List (ℕ × ℕ)} {number : ℕ} → List~ Var~ vs ws →
+        Ctx~ (record { ops = ops; scope = record { vars = vs; nextVar = number } }) (record { ops = ops; scope = record { vars = ws; nextVar = number } })
 
   -- results that W joins, and states alike
   pub data Ran~ {A : Type 0} (W : A → A → Type 0) : A × LowerCtx → A × LowerCtx → Type 0 where
@@ -62,7 +62,7 @@ module _ (R : ℕ → ℕ → Type 0) where
 
   -- an action alike is one that does alike on the parts of a state
   abbrev Parts~ : {A : Type 0} → (A → A → Type 0) → Lowering A → Lowering A → Type 0
-  Parts~ W m n = (ops : List Recs) (vs ws : List (ℕ × ℕ)) (next : ℕ) → List~ Var~ vs ws → Ran~ W (m (record { ops = ops; scope = record { vars = vs; nextVar = next } })) (n (record { ops = ops; scope = record { vars = ws; nextVar = next } }))
+  Parts~ W m n = (ops : List Recs) (vs ws : List (ℕ × ℕ)) (number : ℕ) → List~ Var~ vs ws → Ran~ W (m (record { ops = ops; scope = record { vars = vs; nextVar = number } })) (n (record { ops = ops; scope = record { vars = ws; nextVar = number } }))
 
   by-parts~ : {A : Type 0} {W : A → A → Type 0} (m n : Lowering A) → Parts~ W m n → Action~ W m n
   by-parts~ {W} m n h = record { run = go }
@@ -72,19 +72,19 @@ module _ (R : ℕ → ℕ → Type 0) where
 
   pub push~ : (op : Recs) → Does~ (push op) (push op)
   unfolding push
-  push~ op = by-parts~ _ _ λ ops vs ws next v. ran~ equal (ctx~ v)
+  push~ op = by-parts~ _ _ λ ops vs ws number v. ran~ equal (ctx~ v)
 
   pub copy~ : (k : ℕ) → Does~ (copy k) (copy k)
   unfolding copy
-  copy~ k = by-parts~ _ _ λ ops vs ws next v. ran~ equal (ctx~ v)
+  copy~ k = by-parts~ _ _ λ ops vs ws number v. ran~ equal (ctx~ v)
 
   pub fresh~ : Does~ fresh fresh
   unfolding fresh issue
-  fresh~ = by-parts~ _ _ λ ops vs ws next v. ran~ equal (ctx~ v)
+  fresh~ = by-parts~ _ _ λ ops vs ws number v. ran~ equal (ctx~ v)
 
   upcoming~ : Does~ upcoming upcoming
   unfolding upcoming issue
-  upcoming~ = by-parts~ _ _ λ ops vs ws next v. ran~ equal (ctx~ v)
+  upcoming~ = by-parts~ _ _ λ ops vs ws number v. ran~ equal (ctx~ v)
 
   pub pushSourceAll~ : Does~ pushSourceAll pushSourceAll
   unfolding pushSourceAll
@@ -113,12 +113,12 @@ module _ (R : ℕ → ℕ → Type 0) where
 
     numbered~ : (a b : ℕ) → R a b → (o p : Option ℕ) → Equal o p → Does~ (issue (λ s. numbered a o s)) (issue (λ s. numbered b p s))
     unfolding issue numbered
-    numbered~ a b r none p equal = by-parts~ _ _ λ ops vs ws next v. ran~ equal (ctx~ (var~ r ∷~ v))
-    numbered~ a b r (some n) p equal = by-parts~ _ _ λ ops vs ws next v. ran~ equal (ctx~ v)
+    numbered~ a b r none p equal = by-parts~ _ _ λ ops vs ws number v. ran~ equal (ctx~ (var~ r ∷~ v))
+    numbered~ a b r (some n) p equal = by-parts~ _ _ λ ops vs ws number v. ran~ equal (ctx~ v)
 
     pub mapVar~ : (a b : ℕ) → R a b → Does~ (mapVar a) (mapVar b)
     unfolding mapVar issue
-    mapVar~ a b r = by-parts~ _ _ λ ops vs ws next v. numbered~ a b r (lookup vs a) (lookup ws b) (lookup~ v a b r) .run _ _ (ctx~ v)
+    mapVar~ a b r = by-parts~ _ _ λ ops vs ws number v. numbered~ a b r (lookup vs a) (lookup ws b) (lookup~ v a b r) .run _ _ (ctx~ v)
 
     pub endpointVar~ : {o p : Option ℕ} → Option~ R o p → Does~ (endpointVar o) (endpointVar p)
     unfolding endpointVar

@@ -92,13 +92,13 @@ module _ (s t : List ℕ) where
   module _ (slice slice′ : Bytes) where
     full-or-not : {c d : LowerCtx} → Ctx~ (λ a b. Stands s t a b) c d → ((e : LowerCtx) → testPlan c ≡ pass e → length (planSheet e) ≤ length slice) → ((e : LowerCtx) → testPlan d ≡ pass e → length (planSheet e) ≤ length slice′) → AlikeOutcomes s t (outcome slice (testPlan c)) (outcome slice′ (testPlan d))
     unfolding outcome testPlan
-    full-or-not (ctx~ {ops = ops} {vs = vs} {ws = ws} {next = next} h) r r′ = go (ltb maxPlan (length ops) || ltb maxPlan next) r r′
+    full-or-not (ctx~ {ops = ops} {vs = vs} {ws = ws} {number = number} h) r r′ = go (ltb maxPlan (length ops) || ltb maxPlan number) r r′
       where
         c : LowerCtx
-        c = record { ops = ops; scope = record { vars = vs; nextVar = next } }
+        c = record { ops = ops; scope = record { vars = vs; nextVar = number } }
 
         d : LowerCtx
-        d = record { ops = ops; scope = record { vars = ws; nextVar = next } }
+        d = record { ops = ops; scope = record { vars = ws; nextVar = number } }
 
         go : (b : Bool) → ((e : LowerCtx) → cond b (refuse Refusal.PlanFull) (pass c) ≡ pass e → length (planSheet e) ≤ length slice) → ((e : LowerCtx) → cond b (refuse Refusal.PlanFull) (pass d) ≡ pass e → length (planSheet e) ≤ length slice′) → AlikeOutcomes s t (outcome slice (cond b (refuse Refusal.PlanFull) (pass c))) (outcome slice′ (cond b (refuse Refusal.PlanFull) (pass d)))
         go true x y = refusedAlike (record { refused = λ e. omega arith; number = refl; line = refl; kind = refl })

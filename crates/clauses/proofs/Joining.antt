@@ -31,8 +31,8 @@ use Rattle.projections.specs.Passes.{sub-before, both-next}
 use Rattle.clauses.proofs.Opened.{an-arm}
 use Rattle.clauses.proofs.Turning.{clauses-turns}
 
-union-sane : (i l r all : ℕ) → i < maxRecords → all ≤ 1 → InBounds (unionOp i l r all)
-union-sane i l r all h f = record { shallow = omega arith; near = omega arith; low = h; far = λ e. absurd (omega arith); flagged = λ e. f }
+union-bounded : (i l r all : ℕ) → i < maxRecords → all ≤ 1 → InBounds (unionOp i l r all)
+union-bounded i l r all h f = record { shallow = omega arith; near = omega arith; low = h; far = λ e. absurd (omega arith); flagged = λ e. f }
 
 union-is : (l l′ r r′ all : ℕ) → l ≡ l′ → r ≡ r′ → _≡_ {A = Recs} (op ReadOp.Union (l′, (r′, (eqb all 1, tt))) ∷ []) (op ReadOp.Union (l, (r, (eqb all 1, tt))) ∷ [])
 union-is l l′ r r′ all e e′ = rw (e, e′)
@@ -80,7 +80,7 @@ module _ {sheet : Bytes} {a b : List ℕ} {n e k k′ all : ℕ} {below : Option
       let recs : Recs = united (v .clauses) o below (cell a b i armAllAt) s s₁ in
       let s₃ : State = righted (v .clauses) o below (cell a b i armAllAt) s s₁ in
       let pu′ : Pushed (m₃ .ctx) c (m₃ .ops) os (unionOp i k k′ (cell a b i armAllAt)) = rw ea at pu in
-      let w = push-to m₃ c os (unionOp i k k′ (cell a b i armAllAt)) recs (z .to .rep) pu′ (λ N A f. record { bounded = union-sane i k k′ (cell a b i armAllAt) (tree-low sheet a b t d i hd) (v .low); shows = shows-union refl (union-is k _ k′ _ (cell a b i armAllAt) (y .root) (z .root)) }) in
+      let w = push-to m₃ c os (unionOp i k k′ (cell a b i armAllAt)) recs (z .to .rep) pu′ (λ N A f. record { bounded = union-bounded i k k′ (cell a b i armAllAt) (tree-low sheet a b t d i hd) (v .low); shows = shows-union refl (union-is k _ k′ _ (cell a b i armAllAt) (y .root) (z .root)) }) in
       let D = v .lower o s ∙ arm-def (v .clauses) o below (cell a b i armAllAt) s s₁ (left-by (v .clauses) below s (x .gives)) ∙ ap (λ (q : ℕ). (some q, push recs s₃ .1)) (sym (z .to .rep .count)) in
       record { to = rw D (to-wider (sub-before i e) (to-then (x .to) (to-then (y .to) (to-then (z .to) w)))); gives = ap (λ (q : Option ℕ × State). q .0) D }
 

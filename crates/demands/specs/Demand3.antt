@@ -75,20 +75,20 @@ pub data Earlier : ℕ → List Recs → Type 0 where
 first-below : {k : ℕ} {lines : Recs} {more : List Recs} → Earlier k (lines ∷ more) → InputsBelow k lines
 first-below (operator below e) = below
 
-rest-earlier : {k : ℕ} {lines : Recs} {more : List Recs} → Earlier k (lines ∷ more) → Earlier (suc k) more
-rest-earlier (operator below e) = e
+later-earlier : {k : ℕ} {lines : Recs} {more : List Recs} → Earlier k (lines ∷ more) → Earlier (suc k) more
+later-earlier (operator below e) = e
 
 all-first : {A : Type 0} {P : A → Type 0} {a : A} {l : List A} → All P (a ∷ l) → P a
 all-first (p ∷ᵃ ps) = p
 
-all-rest : {A : Type 0} {P : A → Type 0} {a : A} {l : List A} → All P (a ∷ l) → All P l
-all-rest (p ∷ᵃ ps) = ps
+all-later : {A : Type 0} {P : A → Type 0} {a : A} {l : List A} → All P (a ∷ l) → All P l
+all-later (p ∷ᵃ ps) = ps
 
 -- so a plan is ruled out in which operator 1 is an `optional` behind operator 0, and the copy inside it has the input 1
 pub copy-too : Earlier 0 ((op ReadOp.Source (0, (0, tt)) ∷ []) ∷ (op ReadOp.OptionalJoin (0, tt) ∷ op ReadOp.Distinct (1, tt) ∷ []) ∷ []) → ⊥
 unfolding InputsBelow
 copy-too e =
-    let copied : 1 < 1 = all-first (all-first (all-rest (first-below (rest-earlier e)))) in
+    let copied : 1 < 1 = all-first (all-first (all-later (first-below (later-earlier e)))) in
     omega arith
 
 -- The last operator is the one that the lowering ends on: its first line is the one that document 01 names, and its number is the lowering's result. A lowering that ends on none leaves no operator.

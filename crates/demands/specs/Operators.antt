@@ -103,13 +103,13 @@ stands-at c k later e = record {
   later = later;
   count = e;
   stands =
-      let rest = operatorLines (from (c .ops) (suc k) later) ++ mappedRecs (c .scope .vars) in
+      let behind = operatorLines (from (c .ops) (suc k) later) ++ mappedRecs (c .scope .vars) in
       plan-by-number c
       ∙ ap (λ l. spellRecs (firstRec c ∷ (operatorLines l ++ mappedRecs (c .scope .vars)))) (ap (λ n. from (c .ops) 0 n) e ∙ from-split (c .ops) 0 k (suc later) ∙ ap (λ j. from (c .ops) 0 k ++ from (c .ops) j (suc later)) (omega arith))
       ∙ ap (λ l. spellRecs (firstRec c ∷ (l ++ mappedRecs (c .scope .vars)))) (lines-append (from (c .ops) 0 k) (from (c .ops) k (suc later)))
       ∙ ap (λ l. spellRecs (firstRec c ∷ l)) (append-assoc (operatorLines (from (c .ops) 0 k)) (operatorLines (from (c .ops) k (suc later))) (mappedRecs (c .scope .vars)) ∙ ap (λ l. operatorLines (from (c .ops) 0 k) ++ l) (append-assoc (at (c .ops) k) (operatorLines (from (c .ops) (suc k) later)) (mappedRecs (c .scope .vars))))
-      ∙ spell-append (firstRec c ∷ operatorLines (from (c .ops) 0 k)) (at (c .ops) k ++ rest)
-      ∙ ap (λ b. spellRecs (firstRec c ∷ operatorLines (from (c .ops) 0 k)) ++ b) (spell-append (at (c .ops) k) rest);
+      ∙ spell-append (firstRec c ∷ operatorLines (from (c .ops) 0 k)) (at (c .ops) k ++ behind)
+      ∙ ap (λ b. spellRecs (firstRec c ∷ operatorLines (from (c .ops) 0 k)) ++ b) (spell-append (at (c .ops) k) behind);
 }
 
 pub operator-stands : (c : LowerCtx) (k : ℕ) → k < length (c .ops) → OperatorStands c k

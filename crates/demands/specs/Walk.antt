@@ -152,8 +152,8 @@ spanAt outside (r ∷ rs) = orSpan (ownSpan (r .sort) (r .kind) (r .fields)) (sp
 -- ── the first met ──
 
 unfoldable pub reportOr : (line : ℕ) → Span → Option Fault → Verdict → Verdict
-reportOr line s none rest = rest
-reportOr line s (some x) rest = violated (refusalAt line s x)
+reportOr line s none behind = behind
+reportOr line s (some x) behind = violated (refusalAt line s x)
 
 -- the first of some lines, the first of which has the number n, that is a fault
 unfoldable pub firstFault : (outside : Span) (n : ℕ) → List Line → Verdict

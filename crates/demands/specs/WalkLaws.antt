@@ -70,15 +70,15 @@ span-in (inPlan p) k f around = refl
 
 -- ── what the check says of a record is what its line is ──
 
-own-elements : {n : ℕ} (line m : ℕ) (above : List Rec) (ts : Trees patternElement n) (s : Span) (rest : List Line) (v : Verdict) → andThen (ofElements line (numberedOf ts m) s) v ≡ reportOr line s (partFault n ((linesOf above ts ++ []) ++ rest)) v
+own-elements : {n : ℕ} (line m : ℕ) (above : List Rec) (ts : Trees patternElement n) (s : Span) (behind : List Line) (v : Verdict) → andThen (ofElements line (numberedOf ts m) s) v ≡ reportOr line s (partFault n ((linesOf above ts ++ []) ++ behind)) v
 unfolding andThen ofElements reportOr partFault relNext isRel numbered lines
-own-elements line m above []ᵗ s rest v = refl
-own-elements line m above (node patternElement l PatternElement.Node f kids ∷ᵗ ts) s rest v = refl
-own-elements line m above (node patternElement l PatternElement.Rel f kids ∷ᵗ ts) s rest v = refl
+own-elements line m above []ᵗ s behind v = refl
+own-elements line m above (node patternElement l PatternElement.Node f kids ∷ᵗ ts) s behind v = refl
+own-elements line m above (node patternElement l PatternElement.Rel f kids ∷ᵗ ts) s behind v = refl
 
-own-part : {n : ℕ} (line m : ℕ) (above : List Rec) (x : Forest ((patternElement, n) ∷ [])) (s : Span) (rest : List Line) (v : Verdict) → andThen (ofPart line (numberedIn x m) s) v ≡ reportOr line s (partFault n (linesIn above x ++ rest)) v
+own-part : {n : ℕ} (line m : ℕ) (above : List Rec) (x : Forest ((patternElement, n) ∷ [])) (s : Span) (behind : List Line) (v : Verdict) → andThen (ofPart line (numberedIn x m) s) v ≡ reportOr line s (partFault n (linesIn above x ++ behind)) v
 unfolding ofPart numbered lines
-own-part line m above (ts ▸ end) s rest v = own-elements line m above ts s rest v
+own-part line m above (ts ▸ end) s behind v = own-elements line m above ts s behind v
 
 own-expr : (line : ℕ) (k : Expr) (f : Fields (exprForms k)) (s : Span) (v : Verdict) → andThen (ofExpr line k f s) v ≡ reportOr line s (exprFault k f) v
 unfolding andThen ofExpr reportOr exprFault
@@ -91,20 +91,20 @@ own-expr line Expr.ListPredicate f s v = refl
 own-expr line Expr.Unresolved f s v = refl
 own-expr line Expr.Undesugared f s v = refl
 
-own : (s : Sort) (line m : ℕ) (k : Kind s) (f : Fields (forms s k)) (above : List Rec) (kids : Forest (children s k f)) (x : Span) (rest : List Line) (v : Verdict) → andThen (ofRecord s line k f (numberedIn kids m) x) v ≡ reportOr line x (faultOf s k f (linesIn above kids ++ rest)) v
+own : (s : Sort) (line m : ℕ) (k : Kind s) (f : Fields (forms s k)) (above : List Rec) (kids : Forest (children s k f)) (x : Span) (behind : List Line) (v : Verdict) → andThen (ofRecord s line k f (numberedIn kids m) x) v ≡ reportOr line x (faultOf s k f (linesIn above kids ++ behind)) v
 unfolding andThen ofRecord reportOr faultOf
-own statement line m k f above kids x rest v = refl
-own unionArm line m k f above kids x rest v = refl
-own clause line m k f above kids x rest v = refl
-own projection line m k f above kids x rest v = refl
-own orderItem line m k f above kids x rest v = refl
-own patternPart line m k f above kids x rest v = own-part line m above kids x rest v
-own patternElement line m k f above kids x rest v = refl
-own name line m k f above kids x rest v = refl
-own yieldItem line m k f above kids x rest v = refl
-own entry line m k f above kids x rest v = refl
-own expr line m k f above kids x rest v = own-expr line k f x v
-own (inPlan p) line m k f above kids x rest v = refl
+own statement line m k f above kids x behind v = refl
+own unionArm line m k f above kids x behind v = refl
+own clause line m k f above kids x behind v = refl
+own projection line m k f above kids x behind v = refl
+own orderItem line m k f above kids x behind v = refl
+own patternPart line m k f above kids x behind v = own-part line m above kids x behind v
+own patternElement line m k f above kids x behind v = refl
+own name line m k f above kids x behind v = refl
+own yieldItem line m k f above kids x behind v = refl
+own entry line m k f above kids x behind v = refl
+own expr line m k f above kids x behind v = own-expr line k f x v
+own (inPlan p) line m k f above kids x behind v = refl
 
 andThen-assoc : (u v w : Verdict) → andThen (andThen u v) w ≡ andThen u (andThen v w)
 unfolding andThen
@@ -130,28 +130,28 @@ module _ (outside : Span) where
   mutual
     unfolding check lines numbered records firstFault faultAt spanAt
 
-    walk : {s : Sort} (t : Tree s) (n : ℕ) (above : List Rec) (rest : List Line) → andThen (check (numbered t n) (spanAt outside above)) (firstFault outside (n + length (records t)) rest) ≡ firstFault outside n (lines above t ++ rest)
-    walk (node s line k f kids) n above rest =
+    walk : {s : Sort} (t : Tree s) (n : ℕ) (above : List Rec) (behind : List Line) → andThen (check (numbered t n) (spanAt outside above)) (firstFault outside (n + length (records t)) behind) ≡ firstFault outside n (lines above t ++ behind)
+    walk (node s line k f kids) n above behind =
         let count : n + suc (length (recordsIn kids)) ≡ suc n + length (recordsIn kids) = omega arith in
         both-walk _ _ _ _ _
-        (ap₂ (λ x m. andThen (checkIn (numberedIn kids (suc n)) x) (firstFault outside m rest)) (span-in s k f (spanAt outside above)) count ∙ walkIn kids (suc n) (rec s k f ∷ above) rest)
-        (own s n (suc n) k f (rec s k f ∷ above) kids (spanAt outside above) rest _)
+        (ap₂ (λ x m. andThen (checkIn (numberedIn kids (suc n)) x) (firstFault outside m behind)) (span-in s k f (spanAt outside above)) count ∙ walkIn kids (suc n) (rec s k f ∷ above) behind)
+        (own s n (suc n) k f (rec s k f ∷ above) kids (spanAt outside above) behind _)
 
-    walkOf : {s : Sort} {m : ℕ} (ts : Trees s m) (n : ℕ) (above : List Rec) (rest : List Line) → andThen (checkOf (numberedOf ts n) (spanAt outside above)) (firstFault outside (n + length (recordsOf ts)) rest) ≡ firstFault outside n (linesOf above ts ++ rest)
-    walkOf []ᵗ n above rest = fine-then _ ∙ ap (λ m. firstFault outside m rest) (omega arith)
-    walkOf (t ∷ᵗ ts) n above rest =
+    walkOf : {s : Sort} {m : ℕ} (ts : Trees s m) (n : ℕ) (above : List Rec) (behind : List Line) → andThen (checkOf (numberedOf ts n) (spanAt outside above)) (firstFault outside (n + length (recordsOf ts)) behind) ≡ firstFault outside n (linesOf above ts ++ behind)
+    walkOf []ᵗ n above behind = fine-then _ ∙ ap (λ m. firstFault outside m behind) (omega arith)
+    walkOf (t ∷ᵗ ts) n above behind =
         let count : n + length (records t ++ recordsOf ts) ≡ n + length (records t) + length (recordsOf ts) = omega (arith, length-append (records t) (recordsOf ts)) in
         both-walk _ _ _ _ _
-        (ap (λ m. andThen (checkOf (numberedOf ts (n + length (records t))) (spanAt outside above)) (firstFault outside m rest)) count ∙ walkOf ts (n + length (records t)) above rest)
-        (walk t n above (linesOf above ts ++ rest) ∙ ap (λ l. firstFault outside n l) (sym (append-assoc (lines above t) (linesOf above ts) rest)))
+        (ap (λ m. andThen (checkOf (numberedOf ts (n + length (records t))) (spanAt outside above)) (firstFault outside m behind)) count ∙ walkOf ts (n + length (records t)) above behind)
+        (walk t n above (linesOf above ts ++ behind) ∙ ap (λ l. firstFault outside n l) (sym (append-assoc (lines above t) (linesOf above ts) behind)))
 
-    walkIn : {gs : List Group} (x : Forest gs) (n : ℕ) (above : List Rec) (rest : List Line) → andThen (checkIn (numberedIn x n) (spanAt outside above)) (firstFault outside (n + length (recordsIn x)) rest) ≡ firstFault outside n (linesIn above x ++ rest)
-    walkIn end n above rest = fine-then _ ∙ ap (λ m. firstFault outside m rest) (omega arith)
-    walkIn (ts ▸ x) n above rest =
+    walkIn : {gs : List Group} (x : Forest gs) (n : ℕ) (above : List Rec) (behind : List Line) → andThen (checkIn (numberedIn x n) (spanAt outside above)) (firstFault outside (n + length (recordsIn x)) behind) ≡ firstFault outside n (linesIn above x ++ behind)
+    walkIn end n above behind = fine-then _ ∙ ap (λ m. firstFault outside m behind) (omega arith)
+    walkIn (ts ▸ x) n above behind =
         let count : n + length (recordsOf ts ++ recordsIn x) ≡ n + length (recordsOf ts) + length (recordsIn x) = omega (arith, length-append (recordsOf ts) (recordsIn x)) in
         both-walk _ _ _ _ _
-        (ap (λ m. andThen (checkIn (numberedIn x (n + length (recordsOf ts))) (spanAt outside above)) (firstFault outside m rest)) count ∙ walkIn x (n + length (recordsOf ts)) above rest)
-        (walkOf ts n above (linesIn above x ++ rest) ∙ ap (λ l. firstFault outside n l) (sym (append-assoc (linesOf above ts) (linesIn above x) rest)))
+        (ap (λ m. andThen (checkIn (numberedIn x (n + length (recordsOf ts))) (spanAt outside above)) (firstFault outside m behind)) count ∙ walkIn x (n + length (recordsOf ts)) above behind)
+        (walkOf ts n above (linesIn above x ++ behind) ∙ ap (λ l. firstFault outside n l) (sym (append-assoc (linesOf above ts) (linesIn above x) behind)))
 
 -- ── no line is reported outside a clause ──
 

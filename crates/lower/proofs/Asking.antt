@@ -15,7 +15,7 @@ use mathlib.Core.Path.{_≡_}
 use Rattle.lower.specs.Rep.{Mem, mem, RoomFor}
 use Rattle.lower.specs.Chains.{LowersStart, LowersRel}
 use Rattle.lower.specs.Asked.{SomeElement, SpecialAsked}
-use Rattle.lower.specs.Exprs.{good-after}
+use Rattle.lower.specs.Exprs.{room-after}
 use Rattle.lower.proofs.Part
 use Rattle.lower.proofs.Room
 
@@ -38,7 +38,7 @@ module _ {a b : List ℕ} {at : At} {ends : NodeRelNode} {between : Read} {place
 
   module _ {base number e k : ℕ} {m′ : Mem} (p : LowersStart a b (at .left - 1) base (at .i + 1) number e k (mem (r .ctx) os rs′) m′) where
     pub rel-room : RoomFor (at .left - 1 - 1) (ends .rel) m′
-    rel-room = Room.good-at (Room.start-ends (first-of g .tree) p (g .special .first-end)) (good-after (p .moved) near-room)
+    rel-room = Room.room-at (Room.start-ends (first-of g .tree) p (g .special .first-end)) (room-after (p .moved) near-room)
 
 pub far-room : {a b : List ℕ} {at : At} {ends : NodeRelNode} {between : Read} {base e : ℕ} {c : LowerCtx} {os rs : List ℕ} {m m′ : Mem} (g : SpecialAsked a b at ends between m) → RoomFor (at .left - 1 - 1) (ends .rel) (mem c os rs) → LowersRel a b (at .left - 1) base (ends .rel) e c os rs m′ → RoomFor (at .left - 1 - 1) (ends .far) m′
 far-room {ends = ends} g r p =

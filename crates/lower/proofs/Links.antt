@@ -19,7 +19,7 @@ use Rattle.lower.specs.Patterns.{SomeTrees}
 use Rattle.lower.specs.Chains.{from, stepOf, SameChain, ChainInBounds, Anchored, ChainedAll, LowersElement, LowersElements}
 use Rattle.lower.specs.declared.Chain.{Chain}
 use Rattle.lower.specs.State.{sub-more, sub-within, blank-within, blank-behind, back, to-refl, to-then, to-wider}
-use Rattle.lower.specs.Exprs.{moved-refl, moved-then, good-after, narrow}
+use Rattle.lower.specs.Exprs.{moved-refl, moved-then, room-after, narrow}
 
 none-size : (ch : Chain) (ts : Trees patternElement 0) → ch .next ≡ ch .next + sizeOf ts
 unfolding size
@@ -76,7 +76,7 @@ module _ {a b : List ℕ} {n d base : ℕ} {ch ch₁ ch₂ : Chain} {os os₁ os
 -- k elements are left, and once they are lowered from here, all is done
 pub record Left (a b : List ℕ) (d base : ℕ) (Done : Chain → List ℕ → List ℕ → Type 0) (k : ℕ) (ch : Chain) (os rs : List ℕ) : Type 0 where
   pub some : SomeTrees a b patternElement k d (ch .next)
-  pub good : RoomFor d (from ch) (mem (ch .ctx) os rs)
+  pub roomFor : RoomFor d (from ch) (mem (ch .ctx) os rs)
   pub bounded : ChainInBounds ch
   pub anchored : Anchored a b d ch
   pub finish : (ch′ : Chain) (os′ rs′ : List ℕ) → LowersElements a b k d base ch ch′ os os′ rs rs′ → Done ch′ os′ rs′
@@ -101,7 +101,7 @@ module _ {a b : List ℕ} {d base : ℕ} {Done : Chain → List ℕ → List ℕ
   again {k = zero} h p q = absurd (h refl)
   again {k = suc k} h p q = less (record {
     some = behind (p .some .sheet) (p .some .trees) q (p .some .held);
-    good = good-after (q .moved) (p .good);
+    roomFor = room-after (q .moved) (p .roomFor);
     bounded = q .bounded;
     anchored = q .anchored;
     finish = λ ch′ os′ rs′ r. p .finish ch′ os′ rs′ (more-law (p .bounded) q r);

@@ -21,7 +21,7 @@ use Rattle.lower.specs.Rep.{State, Mem, mem, Written, Blank, Rep, Rooted
 use Rattle.lower.specs.Pieces.{SomeTree}
 use Rattle.lower.specs.Patterns.{partsL, partL, SomeTrees, LowersParts, LowersPart}
 use Rattle.lower.specs.State.{sub-more, sub-within, blank-within, blank-behind, to-refl, to-then, to-wider, push-to, fresh-to, fresh-number}
-use Rattle.lower.specs.Exprs.{moved-refl, moved-then, moved-within, good-after}
+use Rattle.lower.specs.Exprs.{moved-refl, moved-then, moved-within, room-after}
 use Rattle.words.specs.Words.{maxRecords}
 
 -- parts behind a part whose root is k
@@ -38,7 +38,7 @@ parts-def : {n : ℕ} (t : Tree patternPart) (ts : Trees patternPart n) (s : Sta
 unfolding lowerParts toList fold _>>=_
 parts-def t ts s = further-def (partL t s .0) ts (partL t s .1)
 
-pub record LowersFrom (a b : List ℕ) (n d base i e k₀ k : ℕ) (m m′ : Mem) : Type 0 where
+pub record LowersFurther (a b : List ℕ) (n d base i e k₀ k : ℕ) (m m′ : Mem) : Type 0 where
   pub moved : Moved i e m m′
   pub since : (o : ℕ) → o ≤ k₀ → o ≤ m .ctx .ops → o ≤ k
   pub low : k < m′ .ctx .ops
@@ -53,10 +53,10 @@ none-run : {S : Side} (base i k : ℕ) (m : Mem) (ts : Trees patternPart 0) (W :
 unfolding fromL ret
 none-run base i k m []ᵗ W s l r = record { to = to-wider (sub-more (base + suc i, base + suc i) W) (to-refl r); root = refl; low = l }
 
-pub from-nil : (a b : List ℕ) (d base i k : ℕ) (m : Mem) → i ≤ maxRecords → k < m .ctx .ops → LowersFrom a b 0 d base i i k k m m
+pub from-nil : (a b : List ℕ) (d base i k : ℕ) (m : Mem) → i ≤ maxRecords → k < m .ctx .ops → LowersFurther a b 0 d base i i k k m m
 from-nil a b d base i k m h l = record { moved = moved-refl h; since = λ o l₀ l₁. l₀; low = l; next = λ sheet ts hd. none-size i ts; run = λ sheet ts hd W s r bl. none-run base i k m ts W s l r }
 
-module _ {a b : List ℕ} {n d base i j e k₁ k : ℕ} {m m₁ m₂ : Mem} (p : LowersPart a b d base i j k₁ m m₁) (q : LowersFrom a b n d base j e k₁ k m₁ m₂) where
+module _ {a b : List ℕ} {n d base i j e k₁ k : ℕ} {m m₁ m₂ : Mem} (p : LowersPart a b d base i j k₁ m m₁) (q : LowersFurther a b n d base j e k₁ k m₁ m₂) where
   both-next : (sheet : Bytes) (ts : Trees patternPart (suc n)) → HeldOf sheet a b ts d i → e ≡ i + sizeOf ts
   unfolding Held size
   both-next sheet (t ∷ᵗ ts) h =
@@ -64,7 +64,7 @@ module _ {a b : List ℕ} {n d base i j e k₁ k : ℕ} {m m₁ m₂ : Mem} (p :
       let y = q .next sheet ts (rw x (h .1)) in
       omega arith
 
-module _ {a b : List ℕ} {n d base i j e k₁ k : ℕ} {m m₁ m₂ : Mem} (p : LowersPart a b d base i j k₁ m m₁) (q : LowersFrom a b n d base j e k₁ k m₁ m₂) where
+module _ {a b : List ℕ} {n d base i j e k₁ k : ℕ} {m m₁ m₂ : Mem} (p : LowersPart a b d base i j k₁ m m₁) (q : LowersFurther a b n d base j e k₁ k m₁ m₂) where
   both-run : (sheet : Bytes) {first : ℕ} (t : Tree patternPart) (ts : Trees patternPart n) → HeldOf sheet a b (t ∷ᵗ ts) d i → (W : Written) (s : State) → Rep (side sheet a b first) W s m → Blank W (base + suc i) (base + suc e) → Rooted (side sheet a b first) W (λ s. fromL (partL t s .0) ts (partL t s .1)) k base (suc i) (suc e) s m m₂
   unfolding Held
   both-run sheet {first} t ts h W s r bl =
@@ -76,12 +76,12 @@ module _ {a b : List ℕ} {n d base i j e k₁ k : ℕ} {m m₁ m₂ : Mem} (p :
       let z′ : Rooted (side sheet a b first) ((base + suc i, base + suc j) ∷ W) (fromL (partL t s .0) ts) k base (suc j) (suc e) (partL t s .1) m₁ m₂ = rw (y .root) at z in
       record { to = to-wider (sub-within (omega arith) (le-refl _) (sub-within (le-refl _) (omega arith) (sub-more (base + suc i, base + suc e) W))) (to-then (y .to) (z′ .to)); root = z′ .root; low = z′ .low }
 
-module _ {a b : List ℕ} {n d base i j e k₁ k : ℕ} {m m₁ m₂ : Mem} (k₀ : ℕ) (p : LowersPart a b d base i j k₁ m m₁) (q : LowersFrom a b n d base j e k₁ k m₁ m₂) where
+module _ {a b : List ℕ} {n d base i j e k₁ k : ℕ} {m m₁ m₂ : Mem} (k₀ : ℕ) (p : LowersPart a b d base i j k₁ m m₁) (q : LowersFurther a b n d base j e k₁ k m₁ m₂) where
   from-run : (sheet : Bytes) {first : ℕ} (ts : Trees patternPart (suc n)) → HeldOf sheet a b ts d i → (W : Written) (s : State) → Rep (side sheet a b first) W s m → Blank W (base + suc i) (base + suc e) → Rooted (side sheet a b first) W (fromL k₀ ts) k base (suc i) (suc e) s m m₂
   unfolding fromL
   from-run sheet (t ∷ᵗ ts) h W s r bl = both-run p q sheet t ts h W s r bl
 
-  pub from-cons : LowersFrom a b (suc n) d base i e k₀ k m m₂
+  pub from-cons : LowersFurther a b (suc n) d base i e k₀ k m m₂
   from-cons = record { moved = moved-then (p .moved) (q .moved); since = λ o l₀ l₁. q .since o (omega (arith, p .since)) (omega (arith, p .moved .grow)); low = q .low; next = both-next p q; run = from-run }
 
   first-run : (sheet : Bytes) {first : ℕ} (ts : Trees patternPart (suc n)) → HeldOf sheet a b ts d i → (W : Written) (s : State) → Rep (side sheet a b first) W s m → Blank W (base + suc i) (base + suc e) → Rooted (side sheet a b first) W (partsL ts) k base (suc i) (suc e) s m m₂
@@ -91,7 +91,7 @@ module _ {a b : List ℕ} {n d base i j e k₁ k : ℕ} {m m₁ m₂ : Mem} (k�
       record { to = rw z (x .to); root = x .root ∙ ap (λ (y : ℕ × State). y .0) (sym z); low = x .low }
 
 -- the first part, and those behind it
-pub first-law : {a b : List ℕ} {n d base j e k₁ k : ℕ} {m m₁ m₂ : Mem} (i : ℕ) → LowersPart a b d base (i + 1) j k₁ m m₁ → LowersFrom a b n d base j e k₁ k m₁ m₂ → LowersParts a b (suc n) d base i e k m m₂
+pub first-law : {a b : List ℕ} {n d base j e k₁ k : ℕ} {m m₁ m₂ : Mem} (i : ℕ) → LowersPart a b d base (i + 1) j k₁ m m₁ → LowersFurther a b n d base j e k₁ k m₁ m₂ → LowersParts a b (suc n) d base i e k m m₂
 first-law i p q = record { moved = moved-within (omega arith) (le-refl _) (q .moved .here) (moved-then (p .moved) (q .moved)); since = q .since _ (p .since) (p .moved .grow); low = q .low; next = both-next p q; run = first-run 0 p q }
 
 -- ── no parts ──
@@ -127,9 +127,9 @@ module _ {a b : List ℕ} (d base i : ℕ) (m : Mem) (f : Numbered) (c : LowerCt
 -- k parts are left behind one whose root is `root`, and once they are lowered from here, all is done
 pub record Left (a b : List ℕ) (d base : ℕ) (Done : ℕ → ℕ → Mem → Type 0) (k i root : ℕ) (m : Mem) : Type 0 where
   pub some : SomeTrees a b patternPart k d i
-  pub good : RoomFor d i m
+  pub roomFor : RoomFor d i m
   pub low : root < m .ctx .ops
-  pub finish : (e root′ : ℕ) (m′ : Mem) → LowersFrom a b k d base i e root root′ m m′ → Done e root′ m′
+  pub finish : (e root′ : ℕ) (m′ : Mem) → LowersFurther a b k d base i e root root′ m m′ → Done e root′ m′
 
 pub child-by : {a b : List ℕ} {d : ℕ} (i : ℕ) (sheet : Bytes) {k : ℕ} (ts : Trees patternPart k) → ((k ≡ 0) → ⊥) → HeldOf sheet a b ts d i → SomeTree a b patternPart d i
 unfolding Held
@@ -153,15 +153,15 @@ module _ {a b : List ℕ} {d base : ℕ} {Done : ℕ → ℕ → Mem → Type 0}
 
   pub again : {k i j root k₁ : ℕ} {m m₁ : Mem} → ((k ≡ 0) → ⊥) → Left a b d base Done k i root m → LowersPart a b d base i j k₁ m m₁ → Left a b d base Done (k - 1) j k₁ m₁
   again {k = zero} h p q = absurd (h refl)
-  again {k = suc k} {root = root} h p q = less (record { some = behind (p .some .sheet) (p .some .trees) q (p .some .held); good = good-after (q .moved) (p .good); low = q .low; finish = λ e k′ m′ r. p .finish e k′ m′ (from-cons root q r) })
+  again {k = suc k} {root = root} h p q = less (record { some = behind (p .some .sheet) (p .some .trees) q (p .some .held); roomFor = room-after (q .moved) (p .roomFor); low = q .low; finish = λ e k′ m′ r. p .finish e k′ m′ (from-cons root q r) })
 
   pub done : {k i root : ℕ} {m : Mem} → k ≡ 0 → Left a b d base Done k i root m → Done i root m
-  done {k} {i} {root} {m} h p = p .finish i root m (rw h (from-nil a b d base i root m (p .good .here) (p .low)))
+  done {k} {i} {root} {m} h p = p .finish i root m (rw h (from-nil a b d base i root m (p .roomFor .here) (p .low)))
 
 -- the first part and the loop behind it
-pub first-done : {a b : List ℕ} {n d base j e k₁ k : ℕ} {m m₁ m₂ : Mem} (i : ℕ) → ((n ≡ 0) → ⊥) → LowersPart a b d base (i + 1) j k₁ m m₁ → LowersFrom a b (n - 1) d base j e k₁ k m₁ m₂ → LowersParts a b n d base i e k m m₂
+pub first-done : {a b : List ℕ} {n d base j e k₁ k : ℕ} {m m₁ m₂ : Mem} (i : ℕ) → ((n ≡ 0) → ⊥) → LowersPart a b d base (i + 1) j k₁ m m₁ → LowersFurther a b (n - 1) d base j e k₁ k m₁ m₂ → LowersParts a b n d base i e k m m₂
 first-done {n = zero} i h p q = absurd (h refl)
 first-done {n = suc n} i h p q = let z : suc n - 1 ≡ n = omega arith in first-law i p (rw z at q)
 
-pub from-left : {a b : List ℕ} {n d base j k₁ : ℕ} {m m₁ : Mem} (i : ℕ) → ((n ≡ 0) → ⊥) → SomeTrees a b patternPart n d (i + 1) → RoomFor d (i + 1) m → LowersPart a b d base (i + 1) j k₁ m m₁ → Left a b d base (λ e k m′. LowersFrom a b (n - 1) d base j e k₁ k m₁ m′) (n - 1) j k₁ m₁
-from-left i h x g p = record { some = some-behind h x p; good = good-after (p .moved) g; low = p .low; finish = λ e k m′ q. q }
+pub from-left : {a b : List ℕ} {n d base j k₁ : ℕ} {m m₁ : Mem} (i : ℕ) → ((n ≡ 0) → ⊥) → SomeTrees a b patternPart n d (i + 1) → RoomFor d (i + 1) m → LowersPart a b d base (i + 1) j k₁ m m₁ → Left a b d base (λ e k m′. LowersFurther a b (n - 1) d base j e k₁ k m₁ m′) (n - 1) j k₁ m₁
+from-left i h x g p = record { some = some-behind h x p; roomFor = room-after (p .moved) g; low = p .low; finish = λ e k m′ q. q }

@@ -79,8 +79,8 @@ module _ {d i : ℕ} {c : LowerCtx} {os rs : List ℕ} (g : RoomFor d i (mem c o
   pub pushed-on : {x : Op} {c′ : LowerCtx} {os′ : List ℕ} (d′ j : ℕ) → Pushed c c′ os os′ x → length os′ ≡ length os → d′ ≤ d → i + 1 ≤ j → j ≤ maxRecords → RoomFor d′ j (mem c′ os′ rs)
   pushed-on d′ j p l ld lj h = record { few = let x = g .few in let y = p .count in omega arith; low = let x = g .low in let y = p .numbers in omega arith; met = let x = g .met in let y = p .mapped in omega arith; here = h; in-ops = rw l (g .in-ops); in-rest = g .in-rest; index = rw (p .mapped) (g .index) }
 
-pub good-at : {d i j : ℕ} {m : Mem} → i ≡ j → RoomFor d i m → RoomFor d j m
-good-at e g = rw e at g
+pub room-at : {d i j : ℕ} {m : Mem} → i ≡ j → RoomFor d i m → RoomFor d j m
+room-at e g = rw e at g
 
 pub few-ops : {d i : ℕ} {m : Mem} → RoomFor d i m → m .ctx .ops ≤ maxBefore + passOperators * maxRecords
 few-ops g = let x = g .few in let y = g .here in omega arith

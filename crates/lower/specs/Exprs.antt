@@ -30,11 +30,11 @@ moved-then p q = record { up = omega (arith, p .up, q .up); here = q .here; grow
 pub moved-within : {i j e f : ℕ} {m m′ : Mem} → i ≤ j → e ≤ f → f ≤ maxRecords → Moved j e m m′ → Moved i f m m′
 moved-within l l′ h p = record { up = omega (arith, p .up); here = h; grow = p .grow; few = omega (arith, p .few); low = omega (arith, p .low); met = omega (arith, p .met); in-ops = p .in-ops; in-rest = p .in-rest; index = p .index }
 
-pub good-after : {d i j : ℕ} {m m₁ : Mem} → Moved i j m m₁ → RoomFor d i m → RoomFor d j m₁
-good-after p g = record { few = omega (arith, p .few, g .few); low = omega (arith, p .low, g .low); met = omega (arith, p .met, g .met); here = p .here; in-ops = rw (p .in-ops) (g .in-ops); in-rest = rw (p .in-rest) (g .in-rest); index = p .index (g .index) }
+pub room-after : {d i j : ℕ} {m m₁ : Mem} → Moved i j m m₁ → RoomFor d i m → RoomFor d j m₁
+room-after p g = record { few = omega (arith, p .few, g .few); low = omega (arith, p .low, g .low); met = omega (arith, p .met, g .met); here = p .here; in-ops = rw (p .in-ops) (g .in-ops); in-rest = rw (p .in-rest) (g .in-rest); index = p .index (g .index) }
 
-pub good-from : {d d′ i j : ℕ} {m : Mem} → d′ ≤ d → i ≤ j → j ≤ maxRecords → RoomFor d i m → RoomFor d′ j m
-good-from ld l h g = record { few = omega (arith, g .few); low = omega (arith, g .low); met = omega (arith, g .met); here = h; in-ops = g .in-ops; in-rest = g .in-rest; index = g .index }
+pub room-from : {d d′ i j : ℕ} {m : Mem} → d′ ≤ d → i ≤ j → j ≤ maxRecords → RoomFor d i m → RoomFor d′ j m
+room-from ld l h g = record { few = omega (arith, g .few); low = omega (arith, g .low); met = omega (arith, g .met); here = h; in-ops = g .in-ops; in-rest = g .in-rest; index = g .index }
 
 -- what holds where more is written holds where less is
 pub narrow : {W W′ : Written} {s : State} {m : Mem} {N : Notes} {A : Ops} → Sub W W′ → Future W′ s m N A → Future W s m N A
@@ -90,7 +90,7 @@ module _ {a b : List ℕ} {n d base j e : ℕ} {m m₁ m₂ : Mem} (gap i : ℕ)
 -- k are left from record i on, and once they are lowered from here, all is done
 pub record Left (a b : List ℕ) (gap d base : ℕ) (Done : ℕ → Mem → Type 0) (k i : ℕ) (m : Mem) : Type 0 where
   pub some : SomeCarried a b k gap d i
-  pub good : RoomFor d i m
+  pub roomFor : RoomFor d i m
   pub finish : (e : ℕ) (m′ : Mem) → LowersExprs a b k gap d base i e m m′ → Done e m′
 
 child-by : {a b : List ℕ} {d : ℕ} (gap i : ℕ) (sheet : Bytes) {k : ℕ} (cs : Carried k) → ((k ≡ 0) → ⊥) → HeldC sheet a b gap cs d i → SomeTree a b expr d (i + gap)
@@ -113,9 +113,9 @@ module _ {a b : List ℕ} {gap d base : ℕ} {Done : ℕ → Mem → Type 0} whe
   again {k = zero} h p q = absurd (h refl)
   again {k = suc k} {i} {j} {m} {m₁} h p q = less (record {
     some = behind gap i (p .some .sheet) (p .some .list) q (p .some .held);
-    good = good-after (moved-within (omega arith) (le-refl _) (q .moved .here) (q .moved)) (p .good);
+    roomFor = room-after (moved-within (omega arith) (le-refl _) (q .moved .here) (q .moved)) (p .roomFor);
     finish = λ e m′ r. p .finish e m′ (cons-law gap i q r);
   })
 
   pub done : {k i : ℕ} {m : Mem} → k ≡ 0 → Left a b gap d base Done k i m → Done i m
-  done {k} {i} {m} h p = p .finish i m (rw h (nil-law a b gap d base i m (p .good .here)))
+  done {k} {i} {m} h p = p .finish i m (rw h (nil-law a b gap d base i m (p .roomFor .here)))

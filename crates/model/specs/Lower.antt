@@ -489,8 +489,8 @@ unfoldable pub splitProjectionsAgg : {n : ℕ} → Trees projection n → Loweri
 splitProjectionsAgg []ᵗ = ret noSplit
 splitProjectionsAgg (node projection line k f (e ∷ᵗ []ᵗ ▸ end) ∷ᵗ ps) = do
   add ← lowerItem e
-  rest ← splitProjectionsAgg ps
-  ret (add rest)
+  others ← splitProjectionsAgg ps
+  ret (add others)
 
 -- ── order, skip, limit ──
 
@@ -579,8 +579,8 @@ lowerClause (node clause line Clause.Write f kids) current = ret current
 unfoldable pub lowerClauses : {n : ℕ} → Trees clause n → Option ℕ → Lowering (Option ℕ)
 lowerClauses []ᵗ current = ret current
 lowerClauses (c ∷ᵗ cs) current = do
-  left ← lowerClause c current
-  lowerClauses cs left
+  previous ← lowerClause c current
+  lowerClauses cs previous
 
 -- ── the statement ──
 

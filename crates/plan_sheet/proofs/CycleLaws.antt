@@ -22,7 +22,7 @@ use Rattle.model.specs.Lower.{exprHead}
 use Rattle.plan_sheet.specs.Due.{noted, Near, SomePlan, ExprAt, ElementAt, One, oneText, Many, Element, elementText, Names, namesRecs, Line, carriedRecs, carriedEnd, WroteOne, WroteMany, WroteOp}
 use Rattle.plan_sheet.specs.Due
 use Rattle.plan_sheet.proofs.DueLaws.{expr-of, tabled-less, spell-append, none-wrote}
-use Rattle.plan_sheet.proofs.PartLaws.{Parts, parts, Copy, copied, deep, propsAt, ElementParts, element-parts}
+use Rattle.plan_sheet.proofs.PartLaws.{ExprParts, parts, Copy, copied, deep, propsAt, ElementParts, element-parts}
 
 -- one level down
 pub nearer : {base left : ℕ} → Near base left → Near base (left - 1)
@@ -71,7 +71,7 @@ module _ {sheet : Bytes} {a b os rest : List ℕ} {below base left i : ℕ} wher
 
   -- any other: what is below it
   module _ (room : Roomy a b) {m : ℕ} (count : m ≡ countAt a b i) (z : cell a b i kindAt ≡ patKind → ⊥) (h : One sheet a b os rest below base left i) where
-    kid-parts : Parts sheet a b (shift (noted rest) base) (h .first) below left i m (h .tree) (one-at h)
+    kid-parts : ExprParts sheet a b (shift (noted rest) base) (h .first) below left i m (h .tree) (one-at h)
     unfolding one-at
     kid-parts = parts (shift (noted rest) base) (h .first) below left i m room count (h .tree) (h .held) (h .under) z
 

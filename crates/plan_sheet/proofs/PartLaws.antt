@@ -30,7 +30,7 @@ use Rattle.plan_sheet.proofs.NameLaws.{NamesMade, names-made, names-ali
 -- ── expressions ──
 
 -- an expression as its first record and n expressions below it
-pub record Parts (sheet : Bytes) (a b : List ℕ) (N : Notes) (first below left i n : ℕ) (t : Tree expr) (at : ExprAt sheet a b i) : Type 0 where
+pub record ExprParts (sheet : Bytes) (a b : List ℕ) (N : Notes) (first below left i n : ℕ) (t : Tree expr) (at : ExprAt sheet a b i) : Type 0 where
   pub list : Carried sheet a b N first below (left - 1) n (i + 1)
   pub recs : (A : Ops) → render N A t ≡ exprHead (N (suc i)) (at .kind) (at .fields) ∷ carriedRecs A list
   pub stop : carriedEnd list ≡ i + size t
@@ -44,7 +44,7 @@ unfolding carriedRecs carriedEnd
 bare N first below d j e = rw e (record { list = Due.none; recs-are = λ A. refl; stop-is = refl })
 
 module _ {sheet : Bytes} {a b : List ℕ} (N : Notes) (first below left i n : ℕ) where
-  pub parts : Roomy a b → n ≡ countAt a b i → (t : Tree expr) (h : Held sheet a b t left i) → Below N first below t → (cell a b i kindAt ≡ patKind → ⊥) → Parts sheet a b N first below left i n t (expr-of left t i h)
+  pub parts : Roomy a b → n ≡ countAt a b i → (t : Tree expr) (h : Held sheet a b t left i) → Below N first below t → (cell a b i kindAt ≡ patKind → ⊥) → ExprParts sheet a b N first below left i n t (expr-of left t i h)
   unfolding Held Below render size belowIn copiesBelow recsOver exprRecs exprRest expr-of exprNumber
   parts room e (node expr line (Expr.Over o) f (ts ▸ end)) h u z =
       let m = grouped (e ∙ counted (h .1) (left - 1) (ts ▸ end) (h .3) ∙ add-zero (arity o f)) (exprs-made N first below (left - 1) ts (i + 1) (h .3 .0) (u .0)) in

@@ -21,7 +21,7 @@ use Rattle.lower.specs.Pieces.{exprPiece, SomeTree, LowersExpr}
 use Rattle.words.specs.Fits.{tree-low}
 use Rattle.lower.specs.Carry.{plain-lower}
 use Rattle.lower.specs.State.{sub-more, sub-within, blank-within, blank-behind, back, to-refl, to-then, to-wider}
-use Rattle.lower.specs.Exprs.{moved-refl, moved-then, moved-within, good-after, good-from, narrow}
+use Rattle.lower.specs.Exprs.{moved-refl, moved-then, moved-within, room-after, room-from, narrow}
 use Rattle.lower.specs.Below.{below-more}
 use Rattle.projections.specs.Items.{exprs-lower}
 use Rattle.projections.specs.Promises.{Splits, LowersSplit}
@@ -196,8 +196,8 @@ module _ {sheet : Bytes} {a b : List ℕ} {n d : ℕ} {Done : ℕ → ℕ → Me
   some-child h p = let x = child h p in record { sheet = sheet; tree = x .tree; held = x .is }
 
   -- there is room at its expression
-  pub child-good : {k i g : ℕ} {m : Mem} → ((k ≡ 0) → ⊥) → Left sheet a b n d Done k i g m → RoomFor (d - 1) (i + 1) m
-  child-good {i = i} h p = let x = child h p in let l = tree-low sheet a b (x .tree) (d - 1) (i + 1) (x .is) in good-from (omega arith) (omega arith) (omega arith) (p .room)
+  pub child-room : {k i g : ℕ} {m : Mem} → ((k ≡ 0) → ⊥) → Left sheet a b n d Done k i g m → RoomFor (d - 1) (i + 1) m
+  child-room {i = i} h p = let x = child h p in let l = tree-low sheet a b (x .tree) (d - 1) (i + 1) (x .is) in room-from (omega arith) (omega arith) (omega arith) (p .room)
 
   less : {k i g : ℕ} {m : Mem} → Left sheet a b n d Done k i g m → Left sheet a b n d Done (suc k - 1) i g m
   less {k} p = let e : suc k - 1 ≡ k = omega arith in rw e p
@@ -206,7 +206,7 @@ module _ {sheet : Bytes} {a b : List ℕ} {n d : ℕ} {Done : ℕ → ℕ → Me
   again {k = zero} agg h p is q = absurd (h refl)
   again {k = suc k} {i} {j} {g} {m} {m₁} agg h p is q = less (record {
     some = behind i (p .some .trees) q (p .some .are);
-    room = good-after (moved-within (omega arith) (le-refl _) (q .moved .here) (q .moved)) (p .room);
+    room = room-after (moved-within (omega arith) (le-refl _) (q .moved .here) (q .moved)) (p .room);
     few = plus-few agg g k n (p .few);
     finish = λ e x m′ r. subst (λ (z : ℕ). Done e z m′) (plus agg g x) (p .finish e (cond agg (suc x) x) m′ (cons-law i agg is q r));
   })

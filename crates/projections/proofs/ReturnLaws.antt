@@ -56,8 +56,8 @@ module _ {sheet : Bytes} {a b : List ℕ} {at : At} {current : Before} {m : Mem}
     first-end t v = first-as (v .n) (v .counted) .next (v .items) (v .held-items)
 
     -- there is (g .asked .words) for the second
-    pub good-second : {d′ : ℕ} → d′ ≤ deepest → RoomFor d′ (at .i + 1) m₁
-    good-second l =
+    pub room-second : {d′ : ℕ} → d′ ≤ deepest → RoomFor d′ (at .i + 1) m₁
+    room-second l =
         let r = g .asked .ready in
         let low = Room.low (g .asked .tree) in
         record { few = omega (arith, r .few, p .few, p .here); low = omega (arith, r .low, p .fresh, p .here); met = omega (arith, r .met, p .met, p .here); here = omega arith; in-ops = rw (p .in-ops) (r .in-ops); in-rest = rw (p .in-rest) (r .in-rest); index = p .index (r .index) }

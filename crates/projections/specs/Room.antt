@@ -42,8 +42,8 @@ some-trees {sheet} x = record { sheet = sheet; trees = x .trees; held = x .are }
 -- ── where a clause may begin ──
 
 -- room for what is at most d deep, from record j on
-pub ready-good : {d i j : ℕ} {m : Mem} → Ready i m → i ≤ j → j ≤ maxRecords → d ≤ deepest → RoomFor d j m
-ready-good g l h ld = record { few = omega (arith, g .few); low = omega (arith, g .low); met = omega (arith, g .met); here = h; in-ops = g .in-ops; in-rest = g .in-rest; index = g .index }
+pub ready-room : {d i j : ℕ} {m : Mem} → Ready i m → i ≤ j → j ≤ maxRecords → d ≤ deepest → RoomFor d j m
+ready-room g l h ld = record { few = omega (arith, g .few); low = omega (arith, g .low); met = omega (arith, g .met); here = h; in-ops = g .in-ops; in-rest = g .in-rest; index = g .index }
 
 pub ready-after : {i e : ℕ} {m m′ : Mem} → MovedTwice i e m m′ → Ready i m → Ready e m′
 ready-after p g = record { few = omega (arith, p .few, g .few); low = omega (arith, p .low, g .low); met = omega (arith, p .met, g .met); here = p .here; in-ops = rw (p .in-ops) (g .in-ops); in-rest = rw (p .in-rest) (g .in-rest); index = p .index (g .index) }
@@ -91,8 +91,8 @@ module _ {i j e : ℕ} {m m′ : Mem} (g : Ready i m) (p : Moved j e m m′) (l 
 -- ── behind the operator before, or a source of everything ──
 
 module _ {o : ℕ} {L : Lowering ℕ} {k i : ℕ} {m m₁ : Mem} (g : Ready i m) (q : OrSource o L k m m₁) where
-  pub good-source : {j : ℕ} (d : ℕ) → i + 1 ≤ j → j ≤ maxRecords → d ≤ deepest → RoomFor d j m₁
-  good-source d l h ld = record { few = omega (arith, g .few, q .few); low = omega (arith, g .low, q .numbers); met = omega (arith, g .met, q .mapped); here = h; in-ops = rw (q .in-ops) (g .in-ops); in-rest = rw (q .rest) (g .in-rest); index = rw (q .mapped, q .rest) (g .index) }
+  pub room-source : {j : ℕ} (d : ℕ) → i + 1 ≤ j → j ≤ maxRecords → d ≤ deepest → RoomFor d j m₁
+  room-source d l h ld = record { few = omega (arith, g .few, q .few); low = omega (arith, g .low, q .numbers); met = omega (arith, g .met, q .mapped); here = h; in-ops = rw (q .in-ops) (g .in-ops); in-rest = rw (q .rest) (g .in-rest); index = rw (q .mapped, q .rest) (g .index) }
 
   -- its number is small
   pub few-source : k ≤ maxFound

@@ -79,9 +79,9 @@ too-deep-at s line text (m ∷ ms) f g = refl
 
 -- groups that r reads as the definition reads them at some room
 module _ (d : ℕ) (r : (s : Sort) → Reader (Tree s)) where
-  abbrev pub Reads : List Group → Type 0
-  Reads [] = Unit {0}
-  Reads (g ∷ gs) = ((q : Place) → r (g .0) q ≡ readTree d (g .0) q) × Reads gs
+  abbrev pub ReadsGroups : List Group → Type 0
+  ReadsGroups [] = Unit {0}
+  ReadsGroups (g ∷ gs) = ((q : Place) → r (g .0) q ≡ readTree d (g .0) q) × ReadsGroups gs
 
   many-same : (s : Sort) (n : ℕ) → ((q : Place) → r s q ≡ readTree d s q) → (p : Place) → readMany (λ q. r s q) n p ≡ readMany (λ q. readTree d s q) n p
   unfolding readMany
@@ -100,7 +100,7 @@ module _ (d : ℕ) (r : (s : Sort) → Reader (Tree s)) where
       ∙ sym (mapped-thenRead _ (readGroups r gs p) _)
       ∙ ap (mapped (λ rs. recordsOf ts ++ rs)) e
 
-  groups-due : (st : List Due) (gs : List Group) → Reads gs → (p : Place) → thenRead (readGroups r gs p) (λ f q. mapped (λ rs. recordsIn f ++ rs) (readDue st q)) ≡ readDue (dueOf d gs ++ st) p
+  groups-due : (st : List Due) (gs : List Group) → ReadsGroups gs → (p : Place) → thenRead (readGroups r gs p) (λ f q. mapped (λ rs. recordsIn f ++ rs) (readDue st q)) ≡ readDue (dueOf d gs ++ st) p
   unfolding readGroups readDue dueOf thenRead recordsIn
   groups-due st [] h p = mapped-id (readDue st p)
   groups-due st (g ∷ gs) h p =
@@ -145,12 +145,12 @@ not-beside entry k f e = (refl, tt)
 not-beside expr k f e = absurd (false≢true e)
 not-beside (inPlan s) k f e = not-beside-plan s k f e
 
-beside-reads : (d : ℕ) (gs : List Group) → NotBeside gs → Reads (suc d) (readNode (λ c q. readTree d c q)) gs
+beside-reads : (d : ℕ) (gs : List Group) → NotBeside gs → ReadsGroups (suc d) (readNode (λ c q. readTree d c q)) gs
 unfolding readTree
 beside-reads d [] h = tt
 beside-reads d (g ∷ gs) h = (λ q. rw (h .0), beside-reads d gs (h .1))
 
-plain-reads : (d : ℕ) (gs : List Group) → Reads d (λ c q. readTree d c q) gs
+plain-reads : (d : ℕ) (gs : List Group) → ReadsGroups d (λ c q. readTree d c q) gs
 plain-reads d [] = tt
 plain-reads d (g ∷ gs) = (λ q. refl, plain-reads d gs)
 
@@ -169,7 +169,7 @@ put-before-thenRead (refused y) g k x ks = refl
 module _ (s : Sort) (n d e : ℕ) (st : List Due) (line : ℕ) (r : (c : Sort) → Reader (Tree c)) where
   forest-then :
       (k : Kind s) (f : Fields (forms s k))
-      → Reads e r (children s k f)
+      → ReadsGroups e r (children s k f)
       → (p : Place)
       → thenRead (thenRead (readGroups r (children s k f) p) (λ kids q. got (node s line k f kids) q)) (λ t q. thenRead (thenRead (readMany (λ z. readTree d s z) n q) (λ ts z. got (t ∷ᵗ ts) z)) (λ ts z. mapped (λ rs. recordsOf ts ++ rs) (readDue st z))) ≡ mapped (λ rs. rec s k f ∷ rs) (readDue (dueOf e (children s k f) ++ (due s n d ∷ st)) p)
   unfolding records readDue thenRead
@@ -183,7 +183,7 @@ module _ (s : Sort) (n d e : ℕ) (st : List Due) (line : ℕ) (r : (c : Sort) �
 below : ℕ → Bool → (c : Sort) → Reader (Tree c)
 below d b = cond b (readNode (λ c q. readTree d c q)) (λ c q. readTree d c q)
 
-below-reads : (d : ℕ) (s : Sort) (k : Kind s) (f : Fields (forms s k)) (b : Bool) → beside s ≡ b → Reads (cond b (suc d) d) (below d b) (children s k f)
+below-reads : (d : ℕ) (s : Sort) (k : Kind s) (f : Fields (forms s k)) (b : Bool) → beside s ≡ b → ReadsGroups (cond b (suc d) d) (below d b) (children s k f)
 unfolding below
 below-reads d s k f true h = beside-reads d (children s k f) (not-beside s k f h)
 below-reads d s k f false h = plain-reads d (children s k f)

@@ -68,8 +68,8 @@ lower-items-requires c κs =
     let n : tie.After-count = search ways depth 9 in
     let s : tie.Start = search ways depth 9 in
     let l = Room.bounds (s .pre) in
-    let good = Room.good-source (s .pre .ready) (q .or-source-all .ensures .source _) (s .args .at .left - 1) (le-refl _) (omega (arith, l .low)) (omega (arith, l .shallow)) in
-    record { words = s .pre .words; items = WithLaws.with-items (s .pre) (n .count .ensures .0); room = good; depth = omega (arith, l .shallow); pass = omega arith }
+    let roomFor = Room.room-source (s .pre .ready) (q .or-source-all .ensures .source _) (s .args .at .left - 1) (le-refl _) (omega (arith, l .low)) (omega (arith, l .shallow)) in
+    record { words = s .pre .words; items = WithLaws.with-items (s .pre) (n .count .ensures .0); room = roomFor; depth = omega (arith, l .shallow); pass = omega arith }
 
 lower-exprs-requires : tie.Need-lower-exprs-requires
 lower-exprs-requires c κs =
@@ -79,9 +79,9 @@ lower-exprs-requires c κs =
     let n : tie.After-count = search ways depth 9 in
     let s : tie.Start = search ways depth 9 in
     let l = Room.bounds (s .pre) in
-    let good = Room.good-source (s .pre .ready) (q .or-source-all .ensures .source _) (s .args .at .left - 1) (le-refl _) (omega (arith, l .low)) (omega (arith, l .shallow)) in
+    let roomFor = Room.room-source (s .pre .ready) (q .or-source-all .ensures .source _) (s .args .at .left - 1) (le-refl _) (omega (arith, l .low)) (omega (arith, l .shallow)) in
     let predicate = WithLaws.with-predicate (s .pre) (n .count .ensures .0) (i .lower-items .ensures) (n₂ .count2 .ensures .0) in
-    record { words = s .pre .words; tree = predicate; room = Exprs.good-after (i .lower-items .ensures .moved) good; depth = omega (arith, l .shallow); pass = omega arith }
+    record { words = s .pre .words; tree = predicate; room = Exprs.room-after (i .lower-items .ensures .moved) roomFor; depth = omega (arith, l .shallow); pass = omega arith }
 
 with-requires : tie.Need-with-requires
 with-requires c κs =
@@ -98,8 +98,8 @@ push-requires c κs =
     let q : tie.After-or-source-all = search ways depth 9 in
     let s : tie.Start = search ways depth 9 in
     let l = Room.bounds (s .pre) in
-    let good = Room.good-source (s .pre .ready) (q .or-source-all .ensures .source _) (s .args .at .left - 1) (le-refl _) (omega (arith, l .low)) (omega (arith, l .shallow)) in
-    let room = Room.can-push (Exprs.good-after (x .lower-exprs .ensures .moved) (Exprs.good-after (i .lower-items .ensures .moved) good)) in
+    let roomFor = Room.room-source (s .pre .ready) (q .or-source-all .ensures .source _) (s .args .at .left - 1) (le-refl _) (omega (arith, l .low)) (omega (arith, l .shallow)) in
+    let room = Room.can-push (Exprs.room-after (x .lower-exprs .ensures .moved) (Exprs.room-after (i .lower-items .ensures .moved) roomFor)) in
     (omega (arith, room .0), room .1)
 
 lower-trailers-requires : tie.Need-lower-trailers-requires

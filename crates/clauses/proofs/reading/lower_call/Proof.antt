@@ -58,7 +58,7 @@ lower-exprs-requires c κs =
     record {
       words = s .pre .words;
       tree = Calling.some-args (s .pre) (n .count .ensures .0);
-      room = Room.ready-good (s .pre .ready) (omega arith) (omega (arith, l .low)) (omega (arith, l .shallow));
+      room = Room.ready-room (s .pre .ready) (omega arith) (omega (arith, l .low)) (omega (arith, l .shallow));
       depth = omega (arith, l .shallow);
       pass = omega arith;
     }

@@ -47,7 +47,7 @@ lower-parts-requires c κs =
     record {
       words = s .pre .words;
       tree = record { low = l .low; trees = parts };
-      room = Room.ready-good (s .pre .ready) (le-refl _) (omega (arith, l .low)) (omega (arith, l .shallow));
+      room = Room.ready-room (s .pre .ready) (le-refl _) (omega (arith, l .low)) (omega (arith, l .shallow));
       depth = omega (arith, l .shallow);
       pass = omega arith;
     }

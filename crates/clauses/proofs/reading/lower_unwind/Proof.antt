@@ -58,7 +58,7 @@ lower-expr-requires c κs =
     record {
       words = s .pre .words;
       tree = Unwinding.some-list (s .pre);
-      room = Room.good-source (s .pre .ready) (q .or-source-all .ensures .source _) _ (omega arith) (omega (arith, l .low)) (omega (arith, l .shallow));
+      room = Room.room-source (s .pre .ready) (q .or-source-all .ensures .source _) _ (omega arith) (omega (arith, l .low)) (omega (arith, l .shallow));
       depth = omega (arith, l .shallow);
       pass = omega arith;
     }

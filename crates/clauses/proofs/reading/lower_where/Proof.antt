@@ -42,7 +42,7 @@ lower-expr-requires c κs =
     record {
       words = s .pre .words;
       tree = Filtering.some-predicate (s .pre);
-      room = Room.ready-good (s .pre .ready) (omega arith) (omega (arith, l .low)) (omega (arith, l .shallow));
+      room = Room.ready-room (s .pre .ready) (omega arith) (omega (arith, l .low)) (omega (arith, l .shallow));
       depth = omega (arith, l .shallow);
       pass = omega arith;
     }

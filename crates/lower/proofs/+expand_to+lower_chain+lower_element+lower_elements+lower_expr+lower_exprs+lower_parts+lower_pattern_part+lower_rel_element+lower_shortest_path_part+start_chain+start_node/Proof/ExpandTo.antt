@@ -62,7 +62,7 @@ module _ (t : ℕ) where
             words = start .pre .1 .chain .words;
             tree = Room.waiting-rel (start .pre .1 .chain .words) (start .pre .1 .waits) (start .pre .1 .chain .anchored);
             room =
-                Room.good-at
+                Room.room-at
                 (Room.from-rel (start .args .ch) (start .pre .1 .waits))
                 (Room.numbered
                 (start .pre .1 .chain .room)
@@ -114,7 +114,7 @@ module _ (t : ℕ) where
           room =
               Room.after-rel
               _
-              (Room.good-at (Room.from-rel (start .args .ch) (start .pre .1 .waits)) (Room.numbered
+              (Room.room-at (Room.from-rel (start .args .ch) (start .pre .1 .waits)) (Room.numbered
               (start .pre .1 .chain .room)
               (after-endpoint-var .endpoint-var .ensures .issued)
               (after-endpoint-var .endpoint-var .kept .1 .0)
@@ -154,11 +154,11 @@ module _ (t : ℕ) where
       let l₀′ = Room.names-low (start .pre .1 .chain .words) (start .pre .1 .chain .tree) in
       let n₀ = start .pre .1 .read .first in
       Room.can-push
-      (Exprs.good-after
+      (Exprs.room-after
       (after-lower-exprs .lower-exprs .ensures .moved)
       (Room.after-rel
       _
-      (Room.good-at (Room.from-rel (start .args .ch) (start .pre .1 .waits)) (Room.numbered
+      (Room.room-at (Room.from-rel (start .args .ch) (start .pre .1 .waits)) (Room.numbered
       (start .pre .1 .chain .room)
       (after-endpoint-var .endpoint-var .ensures .issued)
       (after-endpoint-var .endpoint-var .kept .1 .0)

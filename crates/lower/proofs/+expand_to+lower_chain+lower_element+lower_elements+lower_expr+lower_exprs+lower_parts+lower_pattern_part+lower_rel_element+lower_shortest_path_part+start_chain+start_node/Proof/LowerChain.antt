@@ -69,7 +69,7 @@ module _ (t : ℕ) where
         omega arith,
         Room.asked-on _ _ _ (start .pre .1) (omega arith)
             (record { low = l .low; trees = Chaining.some-elements (start .pre .1 .words) (after-count .count .ensures .0) (start .pre .1 .tree) })
-            (Exprs.good-from (omega arith) (omega arith) (omega arith) (start .pre .1 .room)),
+            (Exprs.room-from (omega arith) (omega arith) (omega arith) (start .pre .1 .room)),
       )
 
   root-of-requires : here lts.Need-root-of-requires
@@ -83,9 +83,9 @@ module _ (t : ℕ) where
       let l = Room.bounds (start .pre .1) in
       let x =
       Room.few-ops
-      (Exprs.good-after
+      (Exprs.room-after
       (after-lower-elements .lower-elements .ensures .moved)
-      (Exprs.good-from
+      (Exprs.room-from
       {d′ = (start .args .at .left) - 1}
       {j = (start .args .at .i) + 1}
       (omega arith)
@@ -95,9 +95,9 @@ module _ (t : ℕ) where
       in (
         (
           omega arith,
-          (Exprs.good-after
+          (Exprs.room-after
               (after-lower-elements .lower-elements .ensures .moved)
-              (Exprs.good-from
+              (Exprs.room-from
               {d′ = (start .args .at .left) - 1}
               {j = (start .args .at .i) + 1}
               (omega arith)
@@ -167,9 +167,9 @@ module _ (t : ℕ) where
       let start : here lts.Start = search ways depth 12 in
       let l = Room.bounds (start .pre .1) in
       Room.source-number
-      (Exprs.good-after
+      (Exprs.room-after
       (after-lower-elements .lower-elements .ensures .moved)
-      (Exprs.good-from {d′ = (start .args .at .left) - 1} {j = (start .args .at .i) + 1} (omega arith) (omega arith) (omega arith) (start .pre .1 .room)))
+      (Exprs.room-from {d′ = (start .args .at .left) - 1} {j = (start .args .at .i) + 1} (omega arith) (omega arith) (omega arith) (start .pre .1 .room)))
       (after-or-source-all .or-source-all .ensures .source _)
       _
       _
@@ -186,9 +186,9 @@ module _ (t : ℕ) where
       let l = Room.bounds (start .pre .1) in
       let x =
       Room.source-few
-      (Exprs.good-after
+      (Exprs.room-after
       (after-lower-elements .lower-elements .ensures .moved)
-      (Exprs.good-from
+      (Exprs.room-from
       {d′ = (start .args .at .left) - 1}
       {j = (start .args .at .i) + 1}
       (omega arith)
@@ -208,9 +208,9 @@ module _ (t : ℕ) where
       let l = Room.bounds (start .pre .1) in
       let x =
       Room.source-few
-      (Exprs.good-after
+      (Exprs.room-after
       (after-lower-elements .lower-elements .ensures .moved)
-      (Exprs.good-from
+      (Exprs.room-from
       {d′ = (start .args .at .left) - 1}
       {j = (start .args .at .i) + 1}
       (omega arith)
@@ -223,9 +223,9 @@ module _ (t : ℕ) where
         omega arith,
         rw
             (after-or-source-all .or-source-all .kept .0)
-            ((Exprs.good-after
+            ((Exprs.room-after
             (after-lower-elements .lower-elements .ensures .moved)
-            (Exprs.good-from
+            (Exprs.room-from
             {d′ = (start .args .at .left) - 1}
             {j = (start .args .at .i) + 1}
             (omega arith)

@@ -46,7 +46,7 @@ module _ (t : ℕ) where
       let l = start .pre .1 .tree .low in
       record {
         some = start .pre .1 .tree .trees;
-        good = Exprs.good-from (le-refl _) (omega arith) (omega arith) (start .pre .1 .room);
+        roomFor = Exprs.room-from (le-refl _) (omega arith) (omega arith) (start .pre .1 .room);
         bounded = Chaining.start-bounded _ _ (omega arith);
         anchored = Chaining.start-anchored (start .args .a .now) (start .args .b .now) (start .pre .1 .tree .trees .sheet) _ _ _;
         finish = λ ch′ os′ rs′ q. q;
@@ -61,7 +61,7 @@ module _ (t : ℕ) where
         record {
           words = start .pre .1 .words;
           tree = Links.child (in-loop .loop-test .taken) (at-loop .loop .inv);
-          room = at-loop .loop .inv .good;
+          room = at-loop .loop .inv .roomFor;
           depth = start .pre .1 .depth;
           pass = start .pre .1 .pass;
           bounded = at-loop .loop .inv .bounded;

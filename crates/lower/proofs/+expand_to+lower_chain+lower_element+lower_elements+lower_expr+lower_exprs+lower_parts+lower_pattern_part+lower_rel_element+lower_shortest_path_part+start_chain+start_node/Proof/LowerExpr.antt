@@ -136,7 +136,7 @@ module _ (t : ℕ) where
             (λ sheet t hd. Arms.mapped (start .pre .1 .words) t hd (sym (after-word .word .ensures) ∙ (at-match-keys2 .match .keys2)))
             (after-children .children .ensures .0)
             (start .pre .1 .tree))
-            (Exprs.good-from (omega arith) (omega arith) (omega arith) (start .pre .1 .room)),
+            (Exprs.room-from (omega arith) (omega arith) (omega arith) (start .pre .1 .room)),
       )
 
   lower-parts-requires : here lts.Need-lower-parts-requires
@@ -157,7 +157,7 @@ module _ (t : ℕ) where
                   (after-children .children .ensures .0)
                   (start .pre .1 .tree);
             })
-            (Exprs.good-from (omega arith) (omega arith) (omega arith) (start .pre .1 .room)),
+            (Exprs.room-from (omega arith) (omega arith) (omega arith) (start .pre .1 .room)),
       )
 
   cast-note : here lts.Need-cast-note
@@ -236,7 +236,7 @@ module _ (t : ℕ) where
             (λ e. (at-match-rest .match .rest .1) ((after-word .word .ensures) ∙ e)))
             (after-children .children .ensures .0)
             (start .pre .1 .tree))
-            (Exprs.good-from (omega arith) (omega arith) (omega arith) (start .pre .1 .room)),
+            (Exprs.room-from (omega arith) (omega arith) (omega arith) (start .pre .1 .room)),
       )
 
   same-length : here lts.Need-same-length

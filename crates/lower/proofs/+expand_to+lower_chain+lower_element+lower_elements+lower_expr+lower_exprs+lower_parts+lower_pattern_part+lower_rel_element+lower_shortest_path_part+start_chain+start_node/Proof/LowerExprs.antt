@@ -38,7 +38,7 @@ module _ (t : ℕ) where
   loop-holds : here lts.Need-loop-holds
   loop-holds c =
       let start : here lts.Start = search ways in
-      record { some = (start .pre .1 .tree); good = (start .pre .1 .room); finish = λ e m′ q. q }
+      record { some = (start .pre .1 .tree); roomFor = (start .pre .1 .room); finish = λ e m′ q. q }
 
   add-j : here lts.Need-add-j
   add-j c =
@@ -54,7 +54,7 @@ module _ (t : ℕ) where
       let start : here lts.Start = search ways in
       let x = Exprs.child (in-loop .loop-test .taken) (at-loop .loop .inv) in
       let l = Room.low x in
-      (omega arith, Room.asked-on _ _ _ (start .pre .1) (le-refl _) x (Exprs.good-from (le-refl _) (omega arith) (omega arith) (at-loop .loop .inv .good)))
+      (omega arith, Room.asked-on _ _ _ (start .pre .1) (le-refl _) x (Exprs.room-from (le-refl _) (omega arith) (omega arith) (at-loop .loop .inv .roomFor)))
 
   sub-m : here lts.Need-sub-m
   sub-m c =

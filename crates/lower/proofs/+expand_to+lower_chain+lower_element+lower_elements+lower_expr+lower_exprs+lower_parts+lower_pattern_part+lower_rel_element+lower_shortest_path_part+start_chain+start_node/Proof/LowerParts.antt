@@ -82,7 +82,7 @@ module _ (t : ℕ) where
         omega arith,
         Room.asked-on _ _ _ (start .pre .1) (le-refl _)
             (Parts.some-child (else1 .if1 .left) (start .pre .1 .tree .trees))
-            (Exprs.good-from (le-refl _) (omega arith) (omega arith) (start .pre .1 .room)),
+            (Exprs.room-from (le-refl _) (omega arith) (omega arith) (start .pre .1 .room)),
       )
 
   sub-m : here lts.Need-sub-m
@@ -101,7 +101,7 @@ module _ (t : ℕ) where
       _
       (else1 .if1 .left)
       (start .pre .1 .tree .trees)
-      (Exprs.good-from (le-refl _) (omega arith) (omega arith) (start .pre .1 .room))
+      (Exprs.room-from (le-refl _) (omega arith) (omega arith) (start .pre .1 .room))
       (after-lower-pattern-part .lower-pattern-part .ensures)
 
   lower-pattern-part-requires-2 : here lts.Need-lower-pattern-part-requires-2
@@ -109,7 +109,7 @@ module _ (t : ℕ) where
       let in-loop : here lts.In-loop = search ways depth 7 in
       let at-loop : here lts.At-loop = search ways depth 7 in
       let start : here lts.Start = search ways depth 7 in
-      (omega arith, Room.asked-on _ _ _ (start .pre .1) (le-refl _) (Parts.some-child (in-loop .loop-test .taken) (at-loop .loop .inv .some)) (at-loop .loop .inv .good))
+      (omega arith, Room.asked-on _ _ _ (start .pre .1) (le-refl _) (Parts.some-child (in-loop .loop-test .taken) (at-loop .loop .inv .some)) (at-loop .loop .inv .roomFor))
 
   sub-m-2 : here lts.Need-sub-m-2
   sub-m-2 c =

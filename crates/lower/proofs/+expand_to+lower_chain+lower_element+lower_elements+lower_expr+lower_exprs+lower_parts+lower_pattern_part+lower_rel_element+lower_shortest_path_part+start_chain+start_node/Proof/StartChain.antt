@@ -53,7 +53,7 @@ module _ (t : ℕ) where
             words = start .pre .1 .chain .words;
             tree = record { tree = start .pre .1 .chain .tree; is = start .pre .1 .is };
             room =
-                Exprs.good-from
+                Exprs.room-from
                 (le-refl _)
                 (start .pre .1 .chain .bounded .from)
                 (start .pre .1 .chain .bounded .next)

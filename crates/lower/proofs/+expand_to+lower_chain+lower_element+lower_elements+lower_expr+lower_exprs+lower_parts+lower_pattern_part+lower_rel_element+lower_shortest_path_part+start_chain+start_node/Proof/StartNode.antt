@@ -127,7 +127,7 @@ module _ (t : ℕ) where
       let l = Room.element-bounds (start .pre .1 .asked) in
       let n₀ = start .pre .1 .read .first in
       Room.can-push
-      (Exprs.good-after
+      (Exprs.room-after
       (after-lower-expr .lower-expr .ensures .moved)
       (Room.pushed-on (start .pre .1 .asked .room) _ _ (after-push .push .ensures) (after-push .push .kept .1 .0) (le-refl _) (omega arith) (omega arith)))
 

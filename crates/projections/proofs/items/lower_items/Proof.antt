@@ -33,7 +33,7 @@ lower-exprs-requires c κs =
     record {
       words = s .pre .words;
       tree = s .pre .items;
-      room = Exprs.good-from (omega arith) (le-refl _) (s .pre .room .here) (s .pre .room);
+      room = Exprs.room-from (omega arith) (le-refl _) (s .pre .room .here) (s .pre .room);
       depth = omega (arith, s .pre .depth);
       pass = s .pre .pass;
     }

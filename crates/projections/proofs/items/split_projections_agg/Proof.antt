@@ -64,8 +64,8 @@ lower-expr-requires c κs =
     let l : here tie.At-loop = search ways depth 7 in
     let s : here tie.Start = search ways depth 7 in
     let child = PartLaws.some-child (turn .loop-test .taken) (l .loop .inv) in
-    let good = PartLaws.child-good (turn .loop-test .taken) (l .loop .inv) in
-    record { words = s .pre .words; tree = child; room = good; depth = omega (arith, s .pre .depth); pass = omega arith }
+    let roomFor = PartLaws.child-room (turn .loop-test .taken) (l .loop .inv) in
+    record { words = s .pre .words; tree = child; room = roomFor; depth = omega (arith, s .pre .depth); pass = omega arith }
 
 plus-if-requires : here tie.Need-plus-if-requires
 plus-if-requires c κs =

@@ -34,8 +34,8 @@ split-projections-agg-requires : tie.Need-split-projections-agg-requires
 split-projections-agg-requires c κs =
     let q : tie.After-or-source-all = search ways in
     let s : tie.Start = search ways in
-    let good = Room.good-source (s .pre .ready) (q .or-source-all .ensures .source _) _ (le-refl _) (omega (arith, s .pre .low)) (s .pre .depth) in
-    record { words = s .pre .words; items = s .pre .items; room = good; depth = s .pre .depth }
+    let roomFor = Room.room-source (s .pre .ready) (q .or-source-all .ensures .source _) _ (le-refl _) (omega (arith, s .pre .low)) (s .pre .depth) in
+    record { words = s .pre .words; items = s .pre .items; room = roomFor; depth = s .pre .depth }
 
 sub-keys : tie.Need-sub-keys
 sub-keys c =
@@ -47,8 +47,8 @@ aggregate-if-requires c κs =
     let p : tie.After-split-projections-agg = search ways in
     let q : tie.After-or-source-all = search ways in
     let s : tie.Start = search ways in
-    let good = Room.good-source (s .pre .ready) (q .or-source-all .ensures .source _) _ (le-refl _) (omega (arith, s .pre .low)) (s .pre .depth) in
-    let room = Room.can-push (Exprs.good-after (p .split-projections-agg .ensures .0 .moved) good) in
+    let roomFor = Room.room-source (s .pre .ready) (q .or-source-all .ensures .source _) _ (le-refl _) (omega (arith, s .pre .low)) (s .pre .depth) in
+    let room = Room.can-push (Exprs.room-after (p .split-projections-agg .ensures .0 .moved) roomFor) in
     let few = Room.few-trees (omega (arith, s .pre .low)) (Room.some-trees (s .pre .items)) in
     let aggs = p .split-projections-agg .ensures .1 in
     let input = Room.few-source (s .pre .ready) (q .or-source-all .ensures .source _) in
@@ -72,8 +72,8 @@ returns c =
     let p : tie.After-split-projections-agg = search ways in
     let q : tie.After-or-source-all = search ways in
     let s : tie.Start = search ways in
-    let good = Room.good-source (s .pre .ready) (q .or-source-all .ensures .source _) _ (le-refl _) (omega (arith, s .pre .low)) (s .pre .depth) in
-    let room = Room.can-push (Exprs.good-after (p .split-projections-agg .ensures .0 .moved) good) in
+    let roomFor = Room.room-source (s .pre .ready) (q .or-source-all .ensures .source _) _ (le-refl _) (omega (arith, s .pre .low)) (s .pre .depth) in
+    let room = Room.can-push (Exprs.room-after (p .split-projections-agg .ensures .0 .moved) roomFor) in
     let law = PassLaws.first-law (s .pre) (q .or-source-all .ensures .source _) (p .split-projections-agg .ensures .0) (a .aggregate-if .ensures .1) in
     let input = Room.few-source (s .pre .ready) (q .or-source-all .ensures .source _) in
     (PassLaws.ends-at (a .aggregate-if .ensures .0) law, PassLaws.left-word (a .aggregate-if .ensures .1) (omega (arith, input)) (omega (arith, room .0)))

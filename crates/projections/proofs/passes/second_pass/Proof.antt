@@ -42,8 +42,8 @@ push-requires : tie.Need-push-requires
 push-requires c κs =
     let i : tie.After-lower-items = search ways in
     let s : tie.Start = search ways in
-    let good = Exprs.good-after (i .lower-items .ensures .moved) (s .pre .room) in
-    let room = Room.can-push good in
+    let roomFor = Exprs.room-after (i .lower-items .ensures .moved) (s .pre .room) in
+    let room = Room.can-push roomFor in
     (omega (arith, room .0), room .1)
 
 distinct-if-requires : tie.Need-distinct-if-requires
@@ -51,9 +51,9 @@ distinct-if-requires c κs =
     let p : tie.After-push = search ways in
     let i : tie.After-lower-items = search ways in
     let s : tie.Start = search ways in
-    let good = Exprs.good-after (i .lower-items .ensures .moved) (s .pre .room) in
-    let room = Room.push-again good (p .push .ensures) (p .push .kept .1 .0) in
-    (room .0, room .1, omega (arith, Room.can-push good .0))
+    let roomFor = Exprs.room-after (i .lower-items .ensures .moved) (s .pre .room) in
+    let room = Room.push-again roomFor (p .push .ensures) (p .push .kept .1 .0) in
+    (room .0, room .1, omega (arith, Room.can-push roomFor .0))
 
 same-length : tie.Need-same-length
 same-length c =

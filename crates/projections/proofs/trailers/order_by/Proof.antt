@@ -32,8 +32,8 @@ returns c =
 lower-items-requires : tie.Need-lower-items-requires
 lower-items-requires c κs =
     let s : tie.Start = search ways in
-    let good = Room.ready-good (s .pre .ready) (le-refl _) (s .pre .ready .here) (s .pre .depth) in
-    record { words = s .pre .words; items = TrailerLaws.keys-some (s .pre .trees); room = good; depth = s .pre .depth; pass = omega arith }
+    let roomFor = Room.ready-room (s .pre .ready) (le-refl _) (s .pre .ready .here) (s .pre .depth) in
+    record { words = s .pre .words; items = TrailerLaws.keys-some (s .pre .trees); room = roomFor; depth = s .pre .depth; pass = omega arith }
 
 order-by-requires : tie.Need-order-by-requires
 order-by-requires c κs =
@@ -45,8 +45,8 @@ push-requires : tie.Need-push-requires
 push-requires c κs =
     let i : tie.After-lower-items = search ways in
     let s : tie.Start = search ways in
-    let good = Room.ready-good (s .pre .ready) (le-refl _) (s .pre .ready .here) (s .pre .depth) in
-    let room = Room.can-push (Exprs.good-after (i .lower-items .ensures .moved) good) in
+    let roomFor = Room.ready-room (s .pre .ready) (le-refl _) (s .pre .ready .here) (s .pre .depth) in
+    let room = Room.can-push (Exprs.room-after (i .lower-items .ensures .moved) roomFor) in
     (omega (arith, room .0), room .1)
 
 same-length : tie.Need-same-length

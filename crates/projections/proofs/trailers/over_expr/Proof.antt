@@ -37,8 +37,8 @@ lower-expr-requires c κs =
     let some : tie.Else1 = search ways in
     let s : tie.Start = search ways in
     let asked = s .pre .0 in
-    let good = Room.ready-good (asked .ready) (le-refl _) (asked .ready .here) (asked .depth) in
-    record { words = asked .words; tree = TrailerLaws.expr-some (asked .trees) (s .pre .1) (some .if1 .left); room = good; depth = asked .depth; pass = omega arith }
+    let roomFor = Room.ready-room (asked .ready) (le-refl _) (asked .ready .here) (asked .depth) in
+    record { words = asked .words; tree = TrailerLaws.expr-some (asked .trees) (s .pre .1) (some .if1 .left); room = roomFor; depth = asked .depth; pass = omega arith }
 
 trailer-op-requires : tie.Need-trailer-op-requires
 trailer-op-requires c κs =
@@ -51,8 +51,8 @@ push-requires c κs =
     let x : tie.After-lower-expr = search ways in
     let s : tie.Start = search ways in
     let asked = s .pre .0 in
-    let good = Room.ready-good (asked .ready) (le-refl _) (asked .ready .here) (asked .depth) in
-    let room = Room.can-push (Exprs.good-after (x .lower-expr .ensures .moved) good) in
+    let roomFor = Room.ready-room (asked .ready) (le-refl _) (asked .ready .here) (asked .depth) in
+    let room = Room.can-push (Exprs.room-after (x .lower-expr .ensures .moved) roomFor) in
     (omega (arith, room .0), room .1)
 
 same-length : tie.Need-same-length
