@@ -1,4 +1,5 @@
--- How words hold records: sixteen words a record, the first 1,024 records in one slice and the others in a second. Word 0 is the number of the record's kind; words 1 and 15 say where its line stands, word 14 how many children it has; field g is words 2g + 2 and 2g + 3; a text is its place in the sheet. One function reads a record of a sort off its words, and the crates above cite that. Definitions only.
+-- How words hold records: sixteen words a record, the first 1,024 records in one slice and the others in a second. Word 0 is the number of the record's kind; words 1 and 15 say where its line stands, word 14 how many children it has; field g is words 2g + 2 and 2g + 3; a text is its place in the sheet.
+-- One function reads a record of a sort off its words, and the crates above cite that. Definitions only.
 use Prim.Native.Nat.{ℕ, zero, suc, _+_, _*_, _-_, _≤_}
 use mathlib.Core.Bool.{cond}
 use mathlib.Core.List.{List, [], _∷_}
