@@ -1,4 +1,4 @@
--- `lower_no_parts` meets its contract: a number is taken, and a source of everything pushed. Assumes nothing.
+-- `lower_no_parts` meets its contract: a number is taken, and a source that binds it pushed. Assumes nothing.
 use Rattle.lower.proofs.Parts
 use Rattle.context.specs.OpLaws.{pushed-as}
 use mathlib.Core.Path.{refl}
