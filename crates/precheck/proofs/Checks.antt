@@ -1,6 +1,6 @@
 -- The steps of the cycle: what each arm of the check of an expression, and each pass of a loop over parts or elements, has to do with the whole. Assumes nothing.
 use mathlib.Core.Path.{_≡_, refl, sym, _∙_}
-use Prim.Native.Nat.{ℕ, _+_, _-_}
+use Prim.Native.Nat.{ℕ, _+_, _-_, _<_, _≤_}
 use native.Mathlib.Numerals.{add-one}
 use native.Mathlib.Omega.{arith}
 use mathlib.Core.Bool.{Bool, true, false}
@@ -16,8 +16,6 @@ use Rattle.words.specs.Numbers.{Others, expr-number}
 use Rattle.words.specs.Count.{countAt, isLeaf}
 use Rattle.words.proofs.Counting.{leaf-not, leaf-count}
 use Rattle.precheck.specs.Stands.{At, Standing, SomeAt, Exprs, ownVerdict, verdictBelow, Own, Begins, Inside}
-use Rattle.precheck.specs.declared.Checked.{Checked}
-use Rattle.precheck.specs.declared.Checked.the-variants as Checked
 use Rattle.precheck.specs.declared.HirSpan.{HirSpan}
 use Rattle.precheck.specs.declared.PlanLowerError.{PlanLowerError}
 use Rattle.precheck.specs.declared.PlanLowerError.the-variants.{UnresolvedName, UndesugaredExpr, EmptyPatternPart}
@@ -59,30 +57,30 @@ module _ {P : ℕ → Stage} {n m i : ℕ} (e : n ≡ m) where
 
 -- ── the verdict at a record ──
 
-module _ {a b : List ℕ} {s : Sort} {d : ℕ} {span : Span} {i : ℕ} {r : Checked} (own : Own a b s i span r) where
+module _ {a b : List ℕ} {s : Sort} {d : ℕ} {span : Span} {i : ℕ} {r : Walk} (own : Own a b s i span r) where
   -- what a record is refused for by itself, its tree is refused for
-  pub own-refused : {x : PlanLowerError} → r ≡ Checked.Refused x → Walks (Refused x) (At a b s d span i)
-  own-refused {x} g = record { each = λ v e h. first-met (verdictBelow (h .tree) span) (h .verdict ∙ in-turn (h .tree) span) (rw g at (own .each (h .sheet) d (h .tree) (h .held))) }
+  pub own-refused : {x : PlanLowerError} → r ≡ Refused x → Walks r (At a b s d span i)
+  own-refused {x} g = record { each = λ v e h. (let f : Found x (ownVerdict (h .tree) span) = rw g at (own .each (h .sheet) d (h .tree) (h .held)) in rw g (first-met (verdictBelow (h .tree) span) (h .verdict ∙ in-turn (h .tree) span) f)) }
 
-  own-fine : r ≡ Checked.Fine → {v : Verdict} {e : ℕ} (h : At a b s d span i v e) → ownVerdict (h .tree) span ≡ fine
-  own-fine g h = rw g at (own .each (h .sheet) d (h .tree) (h .held))
+  own-fine : {k : ℕ} → r ≡ Go k → {v : Verdict} {e : ℕ} (h : At a b s d span i v e) → ownVerdict (h .tree) span ≡ fine
+  own-fine {k} g h = let f : Ends (Go k) (ownVerdict (h .tree) span) (i + 1) = rw g at (own .each (h .sheet) d (h .tree) (h .held)) in f .0
 
 module _ {a b : List ℕ} (room : Roomy a b) {i c : ℕ} (kind : c ≡ cell a b i kindAt) {span : HirSpan} where
-  pub own-unresolved : c ≡ unresKind → Own a b expr i (spanOf span) (Checked.Refused (UnresolvedName (i + 1) span))
+  pub own-other : c < unresKind → Own a b expr i (spanOf span) (Go (i + 1))
+  own-other k = record { each = λ sheet d t h. (in-expr (open-held room sheet d t (spanOf span) h) .other (λ z. omega arith) (λ z. omega arith), refl) }
+
+  pub own-unresolved : c ≡ unresKind → Own a b expr i (spanOf span) (Refused (UnresolvedName (i + 1) span))
   own-unresolved k = record { each = λ sheet d t h. let q = in-expr (open-held room sheet d t (spanOf span) h) .unresolved (sym kind ∙ k) in record { unresolved = q .0; is = rw add-one (q .1) } }
 
-  pub own-undesugared : {x : ℕ} → x ≡ cell a b i undesKindAt → c ≡ undesKind → Own a b expr i (spanOf span) (Checked.Refused (UndesugaredExpr (i + 1) span x))
-  own-undesugared q k = record { each = λ sheet d t h. record { unresolved = []; is = rw (add-one, q) (in-expr (open-held room sheet d t (spanOf span) h) .undesugared (sym kind ∙ k)) } }
-
-  pub own-other : Others c (undesKind ∷ unresKind ∷ []) → Own a b expr i (spanOf span) Checked.Fine
-  own-other k = record { each = λ sheet d t h. in-expr (open-held room sheet d t (spanOf span) h) .other (λ z. k .0 .1 (kind ∙ z)) (λ z. k .1 (kind ∙ z)) }
+  pub own-undesugared : {x : ℕ} → x ≡ cell a b i undesKindAt → unresKind ≤ c → (c ≡ unresKind → ⊥) → Own a b expr i (spanOf span) (Refused (UndesugaredExpr (i + 1) span x))
+  own-undesugared q l k = record { each = λ sheet d t h. record { unresolved = []; is = rw (add-one, q) (in-expr (open-held room sheet d t (spanOf span) h) .undesugared (rw kind at l) (λ z. k (kind ∙ z))) } }
 
 module _ {a b : List ℕ} {i : ℕ} {t : Bool} {span : HirSpan} (h : Begins a b i t) where
-  pub own-empty : t ≡ false → Own a b patternPart i (spanOf span) (Checked.Refused (EmptyPatternPart (i + 1) span))
+  pub own-empty : t ≡ false → Own a b patternPart i (spanOf span) (Refused (EmptyPatternPart (i + 1) span))
   own-empty e = record { each = λ sheet d p q. record { unresolved = []; is = rw add-one (rw e at (h .each sheet d p (spanOf span) q)) } }
 
-  pub own-begins : t ≡ true → Own a b patternPart i (spanOf span) Checked.Fine
-  own-begins e = record { each = λ sheet d p q. rw e at (h .each sheet d p (spanOf span) q) }
+  pub own-begins : t ≡ true → Own a b patternPart i (spanOf span) (Go (i + 1))
+  own-begins e = record { each = λ sheet d p q. (rw e at (h .each sheet d p (spanOf span) q), refl) }
 
 -- ── an expression ──
 
@@ -91,30 +89,30 @@ module _ {a b : List ℕ} (room : Roomy a b) {i c n : ℕ} (kind : c ≡ cell a 
   seen o own =
       rw (count ∙ o .count ∙ one-group (o .kind) _) (see (o .sheet) c (o .kind) (kind ∙ expr-number _ _ (o .number)) (o .body) (sym (o .own) ∙ own))
 
-  module _ {r : Checked} (own : Own a b expr i span r) (is-fine : r ≡ Checked.Fine) where
+  module _ {r : Walk} {k : ℕ} (own : Own a b expr i span r) (is-fine : r ≡ Go k) where
     pub as-entries : c ≡ mapKind → Turns (At a b expr d span i) (Exprs a b 1 (d - 1) span n (i + 1))
-    as-entries k = record { to = λ v e h. go (seen (open-at room h) (own-fine own is-fine h)) }
+    as-entries z = record { to = λ v e h. go (seen (open-at room h) (own-fine own is-fine h)) }
       where
         go : {v : Verdict} {e : ℕ} → Seen a b (d - 1) span i c n v e → Exprs a b 1 (d - 1) span n (i + 1) v e
-        go (plain p r) = absurd (p .map k)
+        go (plain p r) = absurd (p .map z)
         go (entries p r) = map-run (of-entry room) r
         go (pattern p r) = absurd (omega arith)
 
     pub as-pattern : c ≡ patKind → Turns (At a b expr d span i) (Run (At a b patternPart (d - 1) span) n (i + 1))
-    as-pattern k = record { to = λ v e h. go (seen (open-at room h) (own-fine own is-fine h)) }
+    as-pattern z = record { to = λ v e h. go (seen (open-at room h) (own-fine own is-fine h)) }
       where
         go : {v : Verdict} {e : ℕ} → Seen a b (d - 1) span i c n v e → Run (At a b patternPart (d - 1) span) n (i + 1) v e
-        go (plain p r) = absurd (p .pattern k)
+        go (plain p r) = absurd (p .pattern z)
         go (entries p r) = absurd (omega arith)
         go (pattern p r) = r
 
     pub as-plain : Others c (patKind ∷ mapKind ∷ []) → Turns (At a b expr d span i) (Exprs a b 0 (d - 1) span n (i + 1))
-    as-plain k = record { to = λ v e h. go (seen (open-at room h) (own-fine own is-fine h)) }
+    as-plain z = record { to = λ v e h. go (seen (open-at room h) (own-fine own is-fine h)) }
       where
         go : {v : Verdict} {e : ℕ} → Seen a b (d - 1) span i c n v e → Exprs a b 0 (d - 1) span n (i + 1) v e
         go (plain p r) = at-once r
-        go (entries p r) = absurd (k .0 .1 p)
-        go (pattern p r) = absurd (k .1 p)
+        go (entries p r) = absurd (z .0 .1 p)
+        go (pattern p r) = absurd (z .1 p)
 
 -- an expression that has none below it, whatever its fields
 pub as-leaf : {a b : List ℕ} {i c : ℕ} {d : ℕ} {span : Span} → Roomy a b → c ≡ cell a b i kindAt → isLeaf c ≡ true → Walks (Go (i + 1)) (At a b expr d span i)
@@ -131,7 +129,7 @@ as-leaf {a} {b} {i} {c} {d} {span} room kind leaf = record { each = λ v e h. le
 
 -- ── a part ──
 
-pub as-elements : {a b : List ℕ} {i n : ℕ} {r : Checked} {d : ℕ} {span : Span} → Roomy a b → Own a b patternPart i span r → r ≡ Checked.Fine → n ≡ cell a b i partElementsAt → Turns (At a b patternPart d span i) (Run (At a b patternElement (d - 1) noSpan) n (i + 1))
+pub as-elements : {a b : List ℕ} {i n : ℕ} {r : Walk} {k d : ℕ} {span : Span} → Roomy a b → Own a b patternPart i span r → r ≡ Go k → n ≡ cell a b i partElementsAt → Turns (At a b patternPart d span i) (Run (At a b patternElement (d - 1) noSpan) n (i + 1))
 unfolding fieldsOf fieldOf
 as-elements room own is-fine e = record { to = λ v x p. let o = open-at room p in rw e (map-run any-span (last-of (kids-of (o .body) (sym (o .own) ∙ own-fine own is-fine p)))) }
 

@@ -1,6 +1,6 @@
 -- Expressions: what the check sees of one, by the number of its kind. Assumes nothing.
 use mathlib.Core.Path.{_≡_, refl}
-use Prim.Native.Nat.{ℕ, suc, _+_, _-_, _<_}
+use Prim.Native.Nat.{ℕ, suc, _+_, _-_, _<_, _≤_}
 use native.Mathlib.Omega.{arith}
 use mathlib.Core.List.{List}
 use Rattle.words.specs.Places.{kindAt, varKind, mapKind, patKind, unresKind, undesKind, undesKindAt}
@@ -64,20 +64,20 @@ module _ {a b : List ℕ} {d : ℕ} {span : Span} {i : ℕ} {v : Verdict} {e : �
 -- by its kind: an unresolved name, an expression that was not desugared, or nothing
 pub record InExpr (a b : List ℕ) (span : Span) (i c : ℕ) (u : Verdict) : Type 0 where
   pub unresolved : c ≡ unresKind → (x : Bytes) × (u ≡ violated (Refusal.UnresolvedName (suc i) span x))
-  pub undesugared : c ≡ undesKind → u ≡ violated (Refusal.UndesugaredExpr (suc i) span (cell a b i undesKindAt))
+  pub undesugared : unresKind ≤ c → (c ≡ unresKind → ⊥) → u ≡ violated (Refusal.UndesugaredExpr (suc i) span (cell a b i undesKindAt))
   pub other : (c ≡ unresKind → ⊥) → (c ≡ undesKind → ⊥) → u ≡ fine
 
 module _ {a b : List ℕ} {span : Span} {i : ℕ} {u : Verdict} where
   own-expr : (sheet : Bytes) (c : ℕ) (k : Expr) → c ≡ exprNumber k → u ≡ ofExpr (suc i) k (fieldsOf (exprForms k) sheet (cells a b i) 0) span → InExpr a b span i c u
   unfolding exprNumber ofExpr fieldsOf fieldOf
-  own-expr sheet c (Expr.Over h) n o = let l : sameNumber h < varKind = same-low h in record { unresolved = λ z. absurd (omega arith); undesugared = λ z. absurd (omega arith); other = λ y z. o }
-  own-expr sheet c Expr.Var n o = record { unresolved = λ z. absurd (omega arith); undesugared = λ z. absurd (omega arith); other = λ y z. o }
-  own-expr sheet c Expr.Map n o = record { unresolved = λ z. absurd (omega arith); undesugared = λ z. absurd (omega arith); other = λ y z. o }
-  own-expr sheet c Expr.Call n o = record { unresolved = λ z. absurd (omega arith); undesugared = λ z. absurd (omega arith); other = λ y z. o }
-  own-expr sheet c Expr.PatternPredicate n o = record { unresolved = λ z. absurd (omega arith); undesugared = λ z. absurd (omega arith); other = λ y z. o }
-  own-expr sheet c Expr.ListPredicate n o = record { unresolved = λ z. absurd (omega arith); undesugared = λ z. absurd (omega arith); other = λ y z. o }
-  own-expr sheet c Expr.Unresolved n o = record { unresolved = λ z. (_, o); undesugared = λ z. absurd (omega arith); other = λ y z. absurd (y n) }
-  own-expr sheet c Expr.Undesugared n o = record { unresolved = λ z. absurd (omega arith); undesugared = λ z. o; other = λ y z. absurd (z n) }
+  own-expr sheet c (Expr.Over h) n o = let l : sameNumber h < varKind = same-low h in record { unresolved = λ z. absurd (omega arith); undesugared = λ y z. absurd (omega arith); other = λ y z. o }
+  own-expr sheet c Expr.Var n o = record { unresolved = λ z. absurd (omega arith); undesugared = λ y z. absurd (omega arith); other = λ y z. o }
+  own-expr sheet c Expr.Map n o = record { unresolved = λ z. absurd (omega arith); undesugared = λ y z. absurd (omega arith); other = λ y z. o }
+  own-expr sheet c Expr.Call n o = record { unresolved = λ z. absurd (omega arith); undesugared = λ y z. absurd (omega arith); other = λ y z. o }
+  own-expr sheet c Expr.PatternPredicate n o = record { unresolved = λ z. absurd (omega arith); undesugared = λ y z. absurd (omega arith); other = λ y z. o }
+  own-expr sheet c Expr.ListPredicate n o = record { unresolved = λ z. absurd (omega arith); undesugared = λ y z. absurd (omega arith); other = λ y z. o }
+  own-expr sheet c Expr.Unresolved n o = record { unresolved = λ z. (_, o); undesugared = λ y z. absurd (z n); other = λ y z. absurd (y n) }
+  own-expr sheet c Expr.Undesugared n o = record { unresolved = λ z. absurd (omega arith); undesugared = λ y z. o; other = λ y z. absurd (z n) }
 
 pub in-expr : {a b : List ℕ} {d : ℕ} {span : Span} {i : ℕ} {u v : Verdict} {e : ℕ} → Opened a b expr d span i u v e → InExpr a b span i (cell a b i kindAt) u
 unfolding ofRecord

@@ -20,6 +20,10 @@ unfolding andThen
 none-after fine = refl
 none-after (violated r) = refl
 
+-- a walk that is told to be stopped walks as the one that is
+pub stopped-as : {r : Walk} {x : PlanLowerError} {P : Stage} → r ≡ Refused x → Walks (Refused x) P → Walks r P
+stopped-as e w = rw e w
+
 -- ── one stage, then another ──
 
 module _ {P : Stage} {Q : ℕ → Stage} where

@@ -16,11 +16,11 @@ use Rattle.model.specs.Check
 use Rattle.words.specs.Words.{cell, maxRecords}
 use Rattle.words.specs.Places.{matchKind, matchSpanAt, whereKind, whereSpanAt, unwindKind, unwindSpanAt, callKind, callSpanAt, callArgsAt, callYieldsAt, writeKind, writeSpanAt, projectionSpanAt, itemsAt, keysAt, skipAt, limitAt}
 use Rattle.words.specs.Held.{Held, size}
-use Rattle.precheck.specs.Answer.{spanOf, Says}
-use Rattle.precheck.specs.Steps.{Stage, Some, firstOf, Then, Run}
-use Rattle.precheck.specs.declared.Checked.{Checked}
+use Rattle.precheck.specs.Answer.{spanOf}
+use Rattle.precheck.specs.Steps.{Stage, Some, Ends, firstOf, Then, Run}
 use Rattle.precheck.specs.declared.HirSpan.{HirSpan}
 use Rattle.precheck.specs.declared.Props.{Props}
+use Rattle.precheck.specs.declared.Walk.{Walk}
 
 -- a tree of a sort is held from record i on, at most d deep; v is its verdict under a span, and e the record behind it
 pub record At (a b : List ℕ) (s : Sort) (d : ℕ) (span : Span) (i : ℕ) (v : Verdict) (e : ℕ) : Type 0 where
@@ -80,9 +80,9 @@ verdictBelow (node s line k f kids) span = checkIn kids (Check.spanIn s k f span
 abbrev pub inTurn : {s : Sort} → Tree s → Span → Verdict
 inTurn t span = firstOf (ownVerdict t span) (verdictBelow t span)
 
--- an answer is what any tree of a sort that stands at record i is refused for at its own record
-pub record Own (a b : List ℕ) (s : Sort) (i : ℕ) (span : Span) (r : Checked) : Type 0 where
-  pub each : (sheet : Bytes) (d : ℕ) (t : Tree s) → Held sheet a b t d i → Says r (ownVerdict t span)
+-- a walk over record i alone is stopped by what any tree of a sort that stands there is refused for at its own record, or goes on behind it
+pub record Own (a b : List ℕ) (s : Sort) (i : ℕ) (span : Span) (r : Walk) : Type 0 where
+  pub each : (sheet : Bytes) (d : ℕ) (t : Tree s) → Held sheet a b t d i → Ends r (ownVerdict t span) (i + 1)
 
 -- what a part is refused for itself, whether it begins with a node or not
 abbrev pub partVerdict : Bool → ℕ → Span → Verdict

@@ -101,38 +101,41 @@ fn begins_with_node(a: &[u32], b: &[u32], i: usize) -> bool
 
 // ── the verdict at a record ──
 
-// What the expression at record i is refused for by itself.
-fn expr_verdict(a: &[u32], b: &[u32], i: usize, kind: u32, span: HirSpan) -> Checked
+// What the expression at record i is refused for by itself, or the record behind its own.
+fn expr_verdict(a: &[u32], b: &[u32], i: usize, kind: u32, span: HirSpan) -> Walk
     requires { ⌜ Roomy (now a) (now b) ⌝ }
     requires { ⌜ (i < maxRecords) × (kind ≡ cell (now a) (now b) i kindAt) ⌝ }
     ensures { λ r. ⌜ Own (now (a .entry)) (now (b .entry)) expr i (spanOf span) r ⌝ }
 {
-    let line = (i + 1) as u32;
-    match kind {
-        kind::UNRES => Checked::Refused(PlanLowerError::UnresolvedName { line, span }),
-        kind::UNDES => {
-            let x = words::word(a, b, i, field::UNDES_KIND);
-            Checked::Refused(PlanLowerError::UndesugaredExpr {
-                line,
-                span,
-                kind: x,
-            })
-        }
-        _ => Checked::Fine,
+    let first = i + 1;
+    // those that are refused have the last two kinds
+    if kind < kind::UNRES {
+        return Walk::Go(first);
     }
+    let line = first as u32;
+    if kind == kind::UNRES {
+        return Walk::Refused(PlanLowerError::UnresolvedName { line, span });
+    }
+    let x = words::word(a, b, i, field::UNDES_KIND);
+    Walk::Refused(PlanLowerError::UndesugaredExpr {
+        line,
+        span,
+        kind: x,
+    })
 }
 
-// What the part at record i is refused for by itself: it has to begin with a node.
-fn part_verdict(a: &[u32], b: &[u32], i: usize, span: HirSpan) -> Checked
+// The same of the part at record i: it has to begin with a node.
+fn part_verdict(a: &[u32], b: &[u32], i: usize, span: HirSpan) -> Walk
     requires { ⌜ Roomy (now a) (now b) ⌝ }
     requires { ⌜ SomeAt (now a) (now b) patternPart i ⌝ }
     ensures { λ r. ⌜ Own (now (a .entry)) (now (b .entry)) patternPart i (spanOf span) r ⌝ }
 {
+    let first = i + 1;
     if begins_with_node(a, b, i) {
-        return Checked::Fine;
+        return Walk::Go(first);
     }
-    let line = (i + 1) as u32;
-    Checked::Refused(PlanLowerError::EmptyPatternPart { line, span })
+    let line = first as u32;
+    Walk::Refused(PlanLowerError::EmptyPatternPart { line, span })
 }
 
 // ── the check of an expression and that of a pattern ──
@@ -149,9 +152,9 @@ fn check_expr(a: &[u32], b: &[u32], i: usize, left: usize, span: HirSpan) -> Wal
         return Walk::Go(first);
     }
     let own = expr_verdict(a, b, i, kind, span);
-    if let Checked::Refused(x) = own {
-        return Walk::Refused(x);
-    }
+    let Walk::Go(_) = own else {
+        return own;
+    };
     let n = children(a, b, i);
     let less = left - 1;
     match kind {
@@ -205,9 +208,9 @@ fn check_pattern(a: &[u32], b: &[u32], i: usize, n: usize, left: usize, span: Hi
     while m != 0 {
         let first = at + 1;
         let own = part_verdict(a, b, at, span);
-        if let Checked::Refused(x) = own {
-            return Walk::Refused(x);
-        }
+        let Walk::Go(_) = own else {
+            return own;
+        };
         let elements = count(a, b, at, field::PART_ELEMENTS);
         match check_elements(a, b, first, elements, left - 1) {
             Walk::Go(next) => {

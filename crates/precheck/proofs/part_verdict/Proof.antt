@@ -10,8 +10,8 @@ returns c =
     let n : tie.After-begins-with-node = search in
     own-begins (n .begins-with-node .ensures) (c .if1 .taken)
 
-add-line : tie.Need-add-line
-add-line c =
+add-first : tie.Need-add-first
+add-first c =
     let s : tie.Start = search in
     omega (arith, s .pre .1 .low)
 
@@ -29,8 +29,8 @@ pub part-verdict-spec : {M : Type 1} → statement M
 part-verdict-spec =
     tie.close
     (tie.spec
+    add-first
     (λ c κs. search needs)
     returns
-    add-line
     cast-line
     returns-2)

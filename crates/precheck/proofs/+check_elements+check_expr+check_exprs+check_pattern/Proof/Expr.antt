@@ -30,9 +30,8 @@ module _ (t : ℕ) where
 
   returns-2 : here lts.Need-returns-2
   returns-2 c =
-      let o : here lts.After-own = search in
       let v : here lts.After-expr-verdict = search in
-      own-refused (v .expr-verdict .ensures) (o .own .given .1)
+      own-refused (v .expr-verdict .ensures) (c .enum-told2 .given .1)
 
   check-exprs-requires : here lts.Need-check-exprs-requires
   check-exprs-requires c κs =
@@ -106,8 +105,8 @@ module _ (t : ℕ) where
       returns
       expr-verdict-requires
       (λ c. search needs)
-      returns-2
       (λ c. search needs)
+      returns-2
       (λ c κs. search needs)
       (λ c. search needs)
       check-exprs-requires

@@ -1,5 +1,4 @@
 -- `check_pattern`: the loop's invariant says that the parts that are left have the verdict of the whole.
-use mathlib.Core.Path.{refl}
 use Prim.Native.Nat.{ℕ}
 use native.Mathlib.Omega.{arith}
 use denote.Ref.{now}
@@ -46,10 +45,9 @@ module _ (t : ℕ) where
 
   returns : here lts.Need-returns
   returns c =
-      let o : here lts.After-own = search in
       let v : here lts.After-part-verdict = search in
       let l : here lts.In-loop = search in
-      Laws.stop (to-loop l .loop .inv) (l .loop-test .taken) (own-refused (v .part-verdict .ensures) (o .own .given .1)) refl
+      Laws.stopped-as (c .enum-told2 .given .1) (Laws.stop (to-loop l .loop .inv) (l .loop-test .taken) (own-refused (v .part-verdict .ensures) (c .enum-told2 .given .1)) (c .enum-told2 .given .1))
 
   count-requires : here lts.Need-count-requires
   count-requires c κs =
@@ -104,8 +102,8 @@ module _ (t : ℕ) where
       add-first
       part-verdict-requires
       (λ c. search needs)
-      returns
       (λ c. search needs)
+      returns
       count-requires
       sub-check-elements
       check-elements-requires
