@@ -12,13 +12,12 @@ use Rattle.model.specs.Kind.{ReadOp, Clause, clause, patternElement}
 use Rattle.model.specs.Record.{Rec, one, forms, keyword, planKeyword, opKeyword, spellRec, spellRecs}
 use Rattle.model.specs.Tree.{Tree, node}
 use Rattle.model.specs.Lower.{Recs, op, source}
-use Rattle.model.specs.Call.{maxDepth}
 use Rattle.output.specs.Page.{Page, Puts}
 use Rattle.output.specs.Writes.{_⨾_}
 use Rattle.words.specs.Words.{Roomy, cell, fieldOf, fieldsOf, maxRecords}
 use Rattle.words.specs.Held.{Held, PlaceAt}
 use Rattle.words.specs.Cells.{shown}
-use Rattle.context.specs.Tables.{opAt}
+use Rattle.context.specs.Tables.{opAt, deepest}
 use Rattle.context.specs.Read.{noteOf}
 use Rattle.context.specs.declared.op.Op.{Op}
 use Rattle.lower.specs.Side.{Side, side}
@@ -312,7 +311,7 @@ module _ (k : ℕ) {sheet : Bytes} {a b os rest : List ℕ} {o : Op} (p : SomePl
 
   -- an element that it has at record i
   module _ {at : At} {i : ℕ} (q : at ≡ elementOf o i k) where
-    pub element-near : (at .below ≡ k) × (at .left ≤ maxDepth)
+    pub element-near : (at .below ≡ k) × (at .left ≤ deepest)
     element-near = rw q (refl, bounded-at .shallow)
 
     pub element-asked : Room a b os rest → Element sheet a b os rest k (o .base) (o .left) i → ElementAsked sheet a b os rest at
@@ -323,7 +322,7 @@ module _ (k : ℕ) {sheet : Bytes} {a b os rest : List ℕ} {o : Op} (p : SomePl
 
   -- a run that it has from record i on
   module _ {run : Run} {i n : ℕ} (q : run ≡ record { base = o .base; i = i; left = o .left; below = k; n = n }) where
-    pub run-near : (run .below ≡ k) × (run .left ≤ maxDepth)
+    pub run-near : (run .below ≡ k) × (run .left ≤ deepest)
     run-near = rw q (refl, bounded-at .shallow)
 
     pub exprs-asked : Room a b os rest → Many sheet a b os rest k (o .base) (o .left) n i → ExprsAsked sheet a b os rest run
