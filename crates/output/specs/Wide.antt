@@ -48,16 +48,13 @@ digits-tens (suc k) (suc d) n few low high =
     let ten : 10 ≤ n = omega arith in
     rw (le-ltb n 10 ten, digits-tens k d (n / 10) (omega arith) (omega arith) (omega arith))
 
--- n has r digits, one of them behind those before it
+-- n has r digits, `before` of them before its last
 pub record Counted (n r : ℕ) : Type 0 where
   pub before : ℕ
   pub is : r ≡ suc before
   pub few : before < maxDigits
   pub low : least before ≤ n
   pub high : n < power 10 (suc before)
-
-pub counted-by : (d : ℕ) {n : ℕ} → d < maxDigits → least d ≤ n → n < power 10 (suc d) → Counted n (suc d)
-counted-by d few low high = record { before = d; is = refl; few = few; low = low; high = high }
 
 spelled : {n r : ℕ} → Counted n r → decimal n ≡ tens r n
 unfolding decimal
@@ -78,6 +75,17 @@ power-below k d h = go (ltb d k) refl
 -- so many digits are counted at a time
 abbrev pub step : ℕ
 step = 4
+
+-- n has r digits, or r is 0 and n has more than `step`
+pub record Short (n r : ℕ) : Type 0 where
+  pub counted : (r ≡ 0 → ⊥) → Counted n r
+  pub wide : r ≡ 0 → least step ≤ n
+
+pub short-by : (d : ℕ) {n : ℕ} → d < maxDigits → least d ≤ n → n < power 10 (suc d) → Short n (suc d)
+short-by d few low high = record { counted = λ z. record { before = d; is = refl; few = few; low = low; high = high }; wide = λ e. absurd (omega arith) }
+
+pub short-none : {n : ℕ} → least step ≤ n → Short n 0
+short-none h = record { counted = λ z. absurd (z refl); wide = λ e. h }
 
 -- the first digits of a number of 64 bits, and `step` behind them
 pub counted-more : {n r : ℕ} → least step ≤ n → n ≤ most → Counted (n / least step) r → Counted n (r + step)

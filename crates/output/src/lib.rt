@@ -7,7 +7,7 @@ ghost use lib.ListN.{length};
 ghost use lib.Seq.{sets};
 ghost use Rattle.model.specs.Text.{tab, decimal, signed};
 ghost use Rattle.output.specs.Page.{most, on, Puts};
-ghost use Rattle.output.specs.Wide.{Counted, tens};
+ghost use Rattle.output.specs.Wide.{Counted, Short, least, step, tens};
 
 // The largest cursor.
 const MOST: usize = 18446744073709551615;
@@ -70,9 +70,9 @@ const FIVE_DIGITS: u64 = 10000;
 // The digits that a number loses if it is divided by the least of five.
 const STEP: usize = 4;
 
-// How many decimal digits a number has.
-fn count(n: u64) -> usize
-    ensures { λ r. ⌜ Counted n r ⌝ }
+// How many decimal digits a number has, if they are at most four; else 0.
+fn count_short(n: u64) -> usize
+    ensures { λ r. ⌜ Short n r ⌝ }
 {
     if n < TWO_DIGITS {
         return 1;
@@ -83,10 +83,31 @@ fn count(n: u64) -> usize
     if n < FOUR_DIGITS {
         return 3;
     }
-    if n < FIVE_DIGITS {
-        return 4;
+    if n < FIVE_DIGITS { STEP } else { 0 }
+}
+
+// The same of a number of more than four: apart from `count`, so that small numbers go no way through a loop.
+fn count_wide(n: u64) -> usize
+    requires { ⌜ least step ≤ n ⌝ }
+    ensures { λ r. ⌜ Counted n r ⌝ }
+{
+    let first = n / FIVE_DIGITS;
+    let few = count_short(first);
+    if few != 0 {
+        return few + STEP;
     }
-    count(n / FIVE_DIGITS) + STEP
+    count_wide(first) + STEP
+}
+
+// How many decimal digits a number has.
+fn count(n: u64) -> usize
+    ensures { λ r. ⌜ Counted n r ⌝ }
+{
+    let few = count_short(n);
+    if few != 0 {
+        return few;
+    }
+    count_wide(n)
 }
 
 // The last d decimal digits of n, inside the slice.
