@@ -34,7 +34,7 @@ pub const MAX_VARS: usize = 5119;
 
 pub const MAX_INDEXED: usize = 2048;
 
-pub const LINKS_AT: usize = 2 * MAX_VARS;
+pub const LINKS_AT: usize = NAMED_WORDS * MAX_VARS;
 
 // A word of links has two halves, each below this.
 pub const HALF_WORD: u32 = 65536;

@@ -1,8 +1,8 @@
 // The reader on the list of cases from standard input: a label and a sheet, each ended by a bar. For each a line: its label, the number of the refusal or 0, and the refusal's line or how many records were read.
 ghost use Prim.Native.Nat.{_≤_, _<_};
 ghost use lib.ListN.{length};
-ghost use Rattle.model.specs.Call.{workWords, maxBytes};
-ghost use Rattle.words.specs.Words.{Roomy};
+ghost use Rattle.model.specs.Call.{maxBytes};
+ghost use Rattle.sheet.specs.Reader.{ReaderAsked};
 use gate_cases::text::build_sheet;
 use gate_cases::text::next;
 use libc::STDIN_FILENO;
@@ -23,9 +23,7 @@ fn say(label: &[u8], number: u64, line: u64) {
 
 // What the reader answers to a sheet.
 fn show(label: &[u8], sheet: &[u8], a: &mut [u32], b: &mut [u32], stack: &mut [u32])
-    requires { ⌜ length (now sheet) ≤ maxBytes ⌝ }
-    requires { ⌜ Roomy (now a) (now b) ⌝ }
-    requires { ⌜ workWords ≤ length (now stack) ⌝ }
+    requires { ⌜ ReaderAsked (now sheet) (now a) (now b) (now stack) ⌝ }
 {
     match read_sheet(sheet, a, b, stack, words::MAX_DEPTH) {
         Read::Records(n) => say(label, refusal::ACCEPTED as u64, n as u64),
@@ -45,9 +43,7 @@ fn show_case(
     stack: &mut [u32],
 ) -> usize
     requires { ⌜ (at < length (now list)) × (length (now list) ≤ maxBytes) ⌝ }
-    requires { ⌜ length (now sheet) ≤ maxBytes ⌝ }
-    requires { ⌜ Roomy (now a) (now b) ⌝ }
-    requires { ⌜ workWords ≤ length (now stack) ⌝ }
+    requires { ⌜ ReaderAsked (now sheet) (now a) (now b) (now stack) ⌝ }
     ensures { λ r. ⌜ at < r ⌝ }
 {
     let label = next(list, at, b'|');
@@ -63,9 +59,7 @@ fn show_case(
 // All of a list, with a place for a sheet and three slices for the reader.
 fn show_list(list: &[u8], sheet: &mut [u8], a: &mut [u32], b: &mut [u32], stack: &mut [u32])
     requires { ⌜ length (now list) ≤ maxBytes ⌝ }
-    requires { ⌜ length (now sheet) ≤ maxBytes ⌝ }
-    requires { ⌜ Roomy (now a) (now b) ⌝ }
-    requires { ⌜ workWords ≤ length (now stack) ⌝ }
+    requires { ⌜ ReaderAsked (now sheet) (now a) (now b) (now stack) ⌝ }
 {
     let mut at = 0;
     while at < list.len() {

@@ -1,17 +1,17 @@
 -- How many records a group has, from its source in the table, and all groups of a record together. Assumes nothing.
-use mathlib.Core.Path.{_≡_, refl, sym, ap, _∙_}
-use Prim.Native.Nat.{ℕ, zero, suc, _+_, _*_, _-_, _%_, _<_, _≤_}
+use mathlib.Core.Path.{_≡_, refl, sym, _∙_}
+use Prim.Native.Nat.{ℕ, zero, suc, _+_, _*_, _-_, _<_, _≤_}
 use mathlib.Core.Bool.{Bool, true, false, cond}
 use mathlib.Core.List.{List}
 use native.Mathlib.Numerals.{add-one}
 use native.Mathlib.Omega.{arith}
-use borrow.Author.Tests.{lt-ltb, le-ltb, ltb-false}
+use borrow.Author.Tests.{lt-ltb, le-ltb}
 use lib.Dec.{ltb}
 use lib.ListN.{getD}
-use Rattle.words.specs.Words.{part, cell, recordWords, two32}
+use Rattle.words.specs.Words.{part, cell, two32}
 use Rattle.words.specs.Places.{kindCount}
 use Rattle.words.specs.Held.{total}
-use Rattle.words.specs.Table.{sourceCount, fixedSources, sourceShift, countOf, groupCount, groupNumbers, groupSource, groupAt, groupsFrom, groupsOf}
+use Rattle.words.specs.Table.{sourceCount, fixedSources, sourceShift, countOf, groupCount, groupNumbers, groupSource, groupsFrom, groupsOf}
 use Rattle.words.specs.GroupLaws.{part-cell, entries-low, groups-few, none-counted}
 use Rattle.line.specs.LineRead.{Alike}
 

@@ -1,5 +1,5 @@
 -- The arms of the lowering of an expression at which something is noted: a variable, a list predicate, a pattern. Assumes nothing.
-use mathlib.Core.Path.{_≡_, refl, sym, ap, _∙_}
+use mathlib.Core.Path.{_≡_, refl, ap, _∙_}
 use Prim.Native.Nat.{ℕ, suc, _+_, _-_, _≤_, _<_}
 use native.Mathlib.Nat.{le-refl, le-trans}
 use native.Mathlib.Omega.{arith}
@@ -32,7 +32,7 @@ use Rattle.words.proofs.Counting.{counted, leaf-count}
 use Rattle.lower.specs.Exprs.{narrow}
 use Rattle.lower.specs.Carry.{plainC, plain-lower, plain-size, plain-held, plain-render, plain-below}
 use Rattle.words.specs.Kinds.{Opens, by-expr}
-use Rattle.words.specs.Places.{kindAt, varKind, patKind, listPredicateKind, varIdAt, patPartsAt, listPredicateVarAt}
+use Rattle.words.specs.Places.{kindAt, varKind, patKind, listPredicateKind, varIdAt, listPredicateVarAt}
 
 -- ── a variable that is numbered at the record, before the expressions behind it ──
 

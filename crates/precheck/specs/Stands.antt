@@ -13,7 +13,7 @@ use Rattle.model.specs.Tree.{Tree, node}
 use Rattle.model.specs.Refusal.{Refusal}
 use Rattle.model.specs.Check.{Verdict, fine, violated, check, checkIn, ofRecord}
 use Rattle.model.specs.Check
-use Rattle.words.specs.Words.{cell, maxRecords}
+use Rattle.words.specs.Words.{Roomy, cell, maxRecords}
 use Rattle.words.specs.Places.{matchKind, matchSpanAt, whereKind, whereSpanAt, unwindKind, unwindSpanAt, callKind, callSpanAt, callArgsAt, callYieldsAt, writeKind, writeSpanAt, projectionSpanAt, itemsAt, keysAt, skipAt, limitAt}
 use Rattle.words.specs.Held.{Held, size}
 use Rattle.precheck.specs.Answer.{spanOf}
@@ -91,6 +91,21 @@ partVerdict false i span = violated (Refusal.EmptyPatternPart (suc i) span)
 
 pub record Begins (a b : List ℕ) (i : ℕ) (begins : Bool) : Type 0 where
   pub each : (sheet : Bytes) (d : ℕ) (t : Tree patternPart) (span : Span) → Held sheet a b t d i → ownVerdict t span ≡ partVerdict begins i span
+
+-- ── what a walk asks ──
+
+-- words with room, more than so many levels left, and that something stands there
+pub record WalkAsked (a b : List ℕ) (levels left : ℕ) (P : Type 0) : Type 0 where
+  pub words : Roomy a b
+  pub deep : levels < left
+  pub there : P
+
+-- the same of a part of the clause at record i
+pub record ClauseAsked (a b : List ℕ) (i left : ℕ) (P : Type 0) : Type 0 where
+  pub words : Roomy a b
+  pub low : i < maxRecords
+  pub deep : 0 < left
+  pub there : P
 
 -- ── clauses ──
 

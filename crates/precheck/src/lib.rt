@@ -10,7 +10,7 @@ ghost use Rattle.words.specs.Places.{kindAt, lineEndAt};
 ghost use Rattle.words.specs.Words.{Roomy, cell, maxRecords};
 ghost use Rattle.precheck.specs.Answer.{spanOf, Says};
 ghost use Rattle.precheck.specs.Steps.{Some, Ends, Walks, Run};
-ghost use Rattle.precheck.specs.Stands.{At, Standing, Exprs, Spans, SomeAt, Inside, Begins, Own, spanWord, Trailers, Projected, Called, leastDepth};
+ghost use Rattle.precheck.specs.Stands.{At, Standing, Exprs, Spans, SomeAt, Inside, Begins, Own, spanWord, Trailers, Projected, Called, leastDepth, WalkAsked, ClauseAsked};
 use words::field;
 use words::kind;
 use words::records::children;
@@ -277,9 +277,7 @@ fn check_order_skip_limit(
     left: usize,
     span: HirSpan,
 ) -> Walk
-    requires { ⌜ Roomy (now a) (now b) ⌝ }
-    requires { ⌜ (i < maxRecords) × (0 < left) ⌝ }
-    requires { ⌜ Some (Trailers (now a) (now b) i left (spanOf span) at) ⌝ }
+    requires { ⌜ ClauseAsked (now a) (now b) i left (Some (Trailers (now a) (now b) i left (spanOf span) at)) ⌝ }
     ensures { λ r. ⌜ Walks r (Trailers (now (a .entry)) (now (b .entry)) i left (spanOf span) at) ⌝ }
 {
     let keys = count(a, b, i, field::KEYS);
@@ -306,9 +304,7 @@ fn check_projections(
     left: usize,
     span: HirSpan,
 ) -> Walk
-    requires { ⌜ Roomy (now a) (now b) ⌝ }
-    requires { ⌜ (i < maxRecords) × (0 < left) ⌝ }
-    requires { ⌜ Some (Projected (now a) (now b) i filters left (spanOf span)) ⌝ }
+    requires { ⌜ ClauseAsked (now a) (now b) i left (Some (Projected (now a) (now b) i filters left (spanOf span))) ⌝ }
     ensures { λ r. ⌜ Walks r (Projected (now (a .entry)) (now (b .entry)) i filters left (spanOf span)) ⌝ }
 {
     let items = count(a, b, i, field::ITEMS);
@@ -327,9 +323,7 @@ fn check_projections(
 
 // The arguments of the `call` at record i; its yields are passed over.
 fn check_call(a: &[u32], b: &[u32], i: usize, left: usize, span: HirSpan) -> Walk
-    requires { ⌜ Roomy (now a) (now b) ⌝ }
-    requires { ⌜ i < maxRecords ⌝ }
-    requires { ⌜ Some (Called (now a) (now b) i left (spanOf span)) ⌝ }
+    requires { ⌜ ClauseAsked (now a) (now b) i left (Some (Called (now a) (now b) i left (spanOf span))) ⌝ }
     ensures { λ r. ⌜ Walks r (Called (now (a .entry)) (now (b .entry)) i left (spanOf span)) ⌝ }
 {
     let args = count(a, b, i, field::CALL_ARGS);
@@ -344,9 +338,7 @@ fn check_call(a: &[u32], b: &[u32], i: usize, left: usize, span: HirSpan) -> Wal
 
 // The clause at record i, at most left deep, under its own span. A `write` has nothing to check.
 fn check_clause(a: &[u32], b: &[u32], i: usize, left: usize) -> Walk
-    requires { ⌜ Roomy (now a) (now b) ⌝ }
-    requires { ⌜ 1 < left ⌝ }
-    requires { ⌜ Standing (now a) (now b) clause left noSpan i ⌝ }
+    requires { ⌜ WalkAsked (now a) (now b) 1 left (Standing (now a) (now b) clause left noSpan i) ⌝ }
     ensures { λ r. ⌜ Walks r (At (now (a .entry)) (now (b .entry)) clause left noSpan i) ⌝ }
 {
     let kind = words::word(a, b, i, field::KIND);
@@ -370,9 +362,7 @@ fn check_clause(a: &[u32], b: &[u32], i: usize, left: usize) -> Walk
 
 // n clauses from record i on.
 fn check_clauses(a: &[u32], b: &[u32], i: usize, n: usize, left: usize) -> Walk
-    requires { ⌜ Roomy (now a) (now b) ⌝ }
-    requires { ⌜ 1 < left ⌝ }
-    requires { ⌜ Some (Run (At (now a) (now b) clause left noSpan) n i) ⌝ }
+    requires { ⌜ WalkAsked (now a) (now b) 1 left (Some (Run (At (now a) (now b) clause left noSpan) n i)) ⌝ }
     ensures { λ r. ⌜ Walks r (Run (At (now (a .entry)) (now (b .entry)) clause left noSpan) n i) ⌝ }
 {
     let mut at = i;
@@ -393,9 +383,7 @@ fn check_clauses(a: &[u32], b: &[u32], i: usize, n: usize, left: usize) -> Walk
 
 // n arms from record i on, the clauses of each.
 fn check_arms(a: &[u32], b: &[u32], i: usize, n: usize, left: usize) -> Walk
-    requires { ⌜ Roomy (now a) (now b) ⌝ }
-    requires { ⌜ 2 < left ⌝ }
-    requires { ⌜ Some (Run (At (now a) (now b) unionArm left noSpan) n i) ⌝ }
+    requires { ⌜ WalkAsked (now a) (now b) 2 left (Some (Run (At (now a) (now b) unionArm left noSpan) n i)) ⌝ }
     ensures { λ r. ⌜ Walks r (Run (At (now (a .entry)) (now (b .entry)) unionArm left noSpan) n i) ⌝ }
 {
     let mut at = i;

@@ -14,7 +14,7 @@ use Rattle.model.specs.Kind.{Sort, Kind, statement}
 use Rattle.model.specs.Record.{Rec, rec, RecOf, forms, children}
 use Rattle.model.specs.Tree.{Tree, records}
 use Rattle.model.specs.Sheet.{Place, Reading, got, refused, readLine, readSheet, firstWrite, orElse}
-use Rattle.model.specs.Call.{Test, refuse, pass, then, testReading, testWrite, recordCount, workWords}
+use Rattle.model.specs.Call.{Test, refuse, pass, then, testReading, testWrite, recordCount, workWords, maxBytes}
 use Rattle.model.specs.Refusal.{Refusal}
 use Rattle.words.specs.Words.{Roomy, part, maxRecords}
 use Rattle.words.specs.Held.{RecordAt, Held}
@@ -32,6 +32,12 @@ use Rattle.sheet.specs.Dues.{dues, group, Sorted, Pushed}
 -- tests 3 to 5, for trees of at most a depth
 unfoldable pub readOnly : ℕ → Bytes → Test (Tree statement)
 readOnly depth sheet = then (testReading (readSheet depth sheet)) λ t. testWrite t (firstWrite t)
+
+-- what the reader asks: a sheet whose places fit a word, room for its records, and room for its stack
+pub record ReaderAsked (sheet : Bytes) (a b stack : List ℕ) : Type 0 where
+  pub short : length sheet ≤ maxBytes
+  pub words : Roomy a b
+  pub room : workWords ≤ length stack
 
 -- the promise: the words hold the tree, or the answer is the refusal
 abbrev pub Reads : ℕ → Bytes → List ℕ → List ℕ → Read → Type 0

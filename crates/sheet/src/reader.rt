@@ -1,16 +1,14 @@
 // Reading a sheet line by line.
 ghost use mathlib.Core.Path.{_≡_};
 ghost use Prim.Native.Nat.{ℕ, _+_, _<_, _≤_};
-ghost use lib.ListN.{length};
-ghost use Rattle.words.specs.Words.{Roomy, maxRecords};
+ghost use Rattle.words.specs.Words.{maxRecords};
 ghost use Rattle.words.specs.Places.{sortCount};
-ghost use Rattle.model.specs.Call.{maxBytes, workWords};
 ghost use Rattle.words.specs.Table.{sortOf};
 ghost use Rattle.line.specs.Place.{InLine};
 ghost use Rattle.sheet.specs.Due.{roomBelow};
 ghost use Rattle.sheet.specs.LineLaws.{LinesEnd};
 ghost use Rattle.sheet.specs.Stack.{maxRoom};
-ghost use Rattle.sheet.specs.Reader.{Reads, SoFar, Ends};
+ghost use Rattle.sheet.specs.Reader.{ReaderAsked, Reads, SoFar, Ends};
 ghost use Rattle.sheet.specs.Next.{Next, Wrote};
 use crate::stack::pop;
 use crate::stack::push;
@@ -128,9 +126,7 @@ pub fn read_sheet(
     stack: &mut [u32],
     depth: usize,
 ) -> Read
-    requires { ⌜ length (now sheet) ≤ maxBytes ⌝ }
-    requires { ⌜ Roomy (now a) (now b) ⌝ }
-    requires { ⌜ workWords ≤ length (now stack) ⌝ }
+    requires { ⌜ ReaderAsked (now sheet) (now a) (now b) (now stack) ⌝ }
     requires { ⌜ depth ≤ maxRoom ⌝ }
     ensures { λ r. ⌜ Reads depth (now (sheet .entry)) (now (a .exit)) (now (b .exit)) r ⌝ }
 {

@@ -36,26 +36,25 @@ count-requires : here tie.Need-count-requires
 count-requires c κs =
     let at-loop : here tie.At-loop = search ways in
     let start : here tie.Start = search ways in
-    (standing (start .pre .0) (Laws.child (at-loop .loop .inv) (c .loop-test .taken) (start .pre .1 .1)) .low, search needs)
+    (standing (start .pre .words) (Laws.child (at-loop .loop .inv) (c .loop-test .taken) (start .pre .there)) .low, search needs)
 
 add-first : here tie.Need-add-first
 add-first c =
     let in-loop : here tie.In-loop = search ways in
     let at-loop : here tie.At-loop = search ways in
     let start : here tie.Start = search ways in
-    omega (arith, standing (start .pre .0) (Laws.child (at-loop .loop .inv) (in-loop .loop-test .taken) (start .pre .1 .1)) .low)
+    omega (arith, standing (start .pre .words) (Laws.child (at-loop .loop .inv) (in-loop .loop-test .taken) (start .pre .there)) .low)
 
 check-clauses-requires : here tie.Need-check-clauses-requires
 check-clauses-requires c κs =
     let in-loop : here tie.In-loop = search ways in
     let at-loop : here tie.At-loop = search ways in
-    let start : here tie.Start = search ways in (
-      start .pre .0,
-      (
-        omega arith,
-        some-turned (as-arm (start .pre .0) (c .count .ensures .0)) (Laws.child (at-loop .loop .inv) (in-loop .loop-test .taken) (start .pre .1 .1)),
-      ),
-    )
+    let start : here tie.Start = search ways in
+    record {
+      words = start .pre .words;
+      deep = omega (arith, start .pre .deep);
+      there = some-turned (as-arm (start .pre .words) (c .count .ensures .0)) (Laws.child (at-loop .loop .inv) (in-loop .loop-test .taken) (start .pre .there));
+    }
 
 returns : here tie.Need-returns
 returns c = search (Laws.stop, walks-turned, as-arm, needs)

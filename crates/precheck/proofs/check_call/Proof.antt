@@ -25,7 +25,7 @@ check-exprs-requires : tie.Need-check-exprs-requires
 check-exprs-requires c κs =
     let after-count : tie.After-count = search ways in
     let start : tie.Start = search ways in
-    (start .pre .0, some-counted (after-count .count .ensures .0) (Laws.first-of (start .pre .1 .1)))
+    (start .pre .words, some-counted (after-count .count .ensures .0) (Laws.first-of (start .pre .there)))
 
 returns : tie.Need-returns
 returns c =
@@ -44,7 +44,7 @@ add-t11 c =
     Laws.after
     (walks-counted (after-count .count .ensures .0) (after-check-exprs .check-exprs .ensures))
     (after-checked .checked .given .1)
-    (start .pre .1 .1)
+    (start .pre .there)
     in
     omega (arith, h .is .1, h .is .2, after-count2 .count2 .ensures .0)
 

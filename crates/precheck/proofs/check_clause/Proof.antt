@@ -18,16 +18,16 @@ check-exprs-requires : tie.Need-check-exprs-requires
 check-exprs-requires c κs = search (some-turned, as-where, needs)
 
 check-projections-requires : tie.Need-check-projections-requires
-check-projections-requires c κs = (search needs, ((search needs, search needs), search (some-turned, as-with, needs)))
+check-projections-requires c κs = record { words = search needs; low = search needs; deep = search needs; there = search (some-turned, as-with, needs) }
 
 check-projections-requires-2 : tie.Need-check-projections-requires-2
-check-projections-requires-2 c κs = (search needs, ((search needs, search needs), search (some-turned, as-return, needs)))
+check-projections-requires-2 c κs = record { words = search needs; low = search needs; deep = search needs; there = search (some-turned, as-return, needs) }
 
 check-exprs-requires-2 : tie.Need-check-exprs-requires-2
 check-exprs-requires-2 c κs = search (some-turned, as-unwind, needs)
 
 check-call-requires : tie.Need-check-call-requires
-check-call-requires c κs = search (some-turned, as-call, needs)
+check-call-requires c κs = record { words = search needs; low = search needs; deep = search needs; there = search (some-turned, as-call, needs) }
 
 returns : tie.Need-returns
 returns c = search (walks-turned, as-match, needs)
@@ -51,7 +51,7 @@ returns-7 : tie.Need-returns-7
 returns-7 c =
     let after-word : tie.After-word = search ways in
     let start : tie.Start = search ways in
-    as-write (start .pre .0) (after-word .word .ensures) (c .match .rest)
+    as-write (start .pre .words) (after-word .word .ensures) (c .match .rest)
 
 pub check-clause-spec : {M : Type 1} → statement M
 check-clause-spec =

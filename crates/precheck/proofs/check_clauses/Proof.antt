@@ -31,7 +31,7 @@ check-clause-requires : here tie.Need-check-clause-requires
 check-clause-requires c κs =
     let at-loop : here tie.At-loop = search ways in
     let start : here tie.Start = search ways in
-    (start .pre .0, (start .pre .1 .0, standing (start .pre .0) (Laws.child (at-loop .loop .inv) (c .loop-test .taken) (start .pre .1 .1))))
+    record { words = start .pre .words; deep = start .pre .deep; there = standing (start .pre .words) (Laws.child (at-loop .loop .inv) (c .loop-test .taken) (start .pre .there)) }
 
 returns : here tie.Need-returns
 returns c = search (Laws.stop, needs)

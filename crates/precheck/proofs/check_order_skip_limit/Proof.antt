@@ -33,7 +33,7 @@ check-exprs-requires : tie.Need-check-exprs-requires
 check-exprs-requires c κs =
     let after-count : tie.After-count = search ways depth 9 in
     let start : tie.Start = search ways depth 9 in
-    (start .pre .0, some-counted (after-count .count .ensures .0) (Laws.first-of (start .pre .1 .1)))
+    (start .pre .words, some-counted (after-count .count .ensures .0) (Laws.first-of (start .pre .there)))
 
 returns : tie.Need-returns
 returns c =
@@ -48,14 +48,14 @@ check-exprs-requires-2 c κs =
     let after-count2 : tie.After-count2 = search ways depth 9 in
     let after-count : tie.After-count = search ways depth 9 in
     let start : tie.Start = search ways depth 9 in (
-      start .pre .0,
+      start .pre .words,
       some-counted
           (after-count2 .count2 .ensures .0)
           (Laws.first-of
           (Laws.after
           (walks-counted (after-count .count .ensures .0) (after-check-exprs .check-exprs .ensures))
           (after-ordered .ordered .given .1)
-          (start .pre .1 .1))),
+          (start .pre .there))),
     )
 
 returns-2 : tie.Need-returns-2
@@ -80,7 +80,7 @@ check-exprs-requires-3 c κs =
     let after-count2 : tie.After-count2 = search ways depth 9 in
     let after-count : tie.After-count = search ways depth 9 in
     let start : tie.Start = search ways depth 9 in (
-      start .pre .0,
+      start .pre .words,
       some-counted
           (after-count3 .count3 .ensures .0)
           (Laws.after
@@ -89,7 +89,7 @@ check-exprs-requires-3 c κs =
           (Laws.after
           (walks-counted (after-count .count .ensures .0) (after-check-exprs .check-exprs .ensures))
           (after-ordered .ordered .given .1)
-          (start .pre .1 .1))),
+          (start .pre .there))),
     )
 
 returns-3 : tie.Need-returns-3

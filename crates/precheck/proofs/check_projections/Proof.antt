@@ -26,7 +26,7 @@ ruleset ways = (back-filtered, back-check-exprs2, back-projected, back-check-exp
 check-exprs-requires : tie.Need-check-exprs-requires
 check-exprs-requires c κs =
     let start : tie.Start = search ways depth 7 in
-    (start .pre .0, some-counted (c .count .ensures .0) (Laws.first-of (start .pre .1 .1)))
+    (start .pre .words, some-counted (c .count .ensures .0) (Laws.first-of (start .pre .there)))
 
 returns : tie.Need-returns
 returns c =
@@ -40,12 +40,12 @@ check-exprs-requires-2 c κs =
     let after-check-exprs : tie.After-check-exprs = search ways depth 7 in
     let after-count : tie.After-count = search ways depth 7 in
     let start : tie.Start = search ways depth 7 in (
-      start .pre .0,
+      start .pre .words,
       Laws.first-of
           (Laws.after
           (walks-counted (after-count .count .ensures .0) (after-check-exprs .check-exprs .ensures))
           (after-projected .projected .given .1)
-          (start .pre .1 .1)),
+          (start .pre .there)),
     )
 
 returns-2 : tie.Need-returns-2
@@ -66,19 +66,20 @@ check-order-skip-limit-requires c κs =
     let after-projected : tie.After-projected = search ways depth 7 in
     let after-check-exprs : tie.After-check-exprs = search ways depth 7 in
     let after-count : tie.After-count = search ways depth 7 in
-    let start : tie.Start = search ways depth 7 in (
-      start .pre .0,
-      (
-        start .pre .1 .0,
-        Laws.after
-            (after-check-exprs2 .check-exprs2 .ensures)
-            (after-filtered .filtered .given .1)
-            (Laws.after
-            (walks-counted (after-count .count .ensures .0) (after-check-exprs .check-exprs .ensures))
-            (after-projected .projected .given .1)
-            (start .pre .1 .1)),
-      ),
-    )
+    let start : tie.Start = search ways depth 7 in
+    record {
+      words = start .pre .words;
+      low = start .pre .low;
+      deep = start .pre .deep;
+      there =
+          Laws.after
+          (after-check-exprs2 .check-exprs2 .ensures)
+          (after-filtered .filtered .given .1)
+          (Laws.after
+          (walks-counted (after-count .count .ensures .0) (after-check-exprs .check-exprs .ensures))
+          (after-projected .projected .given .1)
+          (start .pre .there));
+    }
 
 returns-3 : tie.Need-returns-3
 returns-3 c =

@@ -31,14 +31,12 @@ ruleset ways = (back-check-arms, back-head, back-enum-told, back-check-clauses, 
 check-clauses-requires : tie.Need-check-clauses-requires
 check-clauses-requires c κs =
     let after-count : tie.After-count = search ways depth 7 in
-    let start : tie.Start = search ways depth 7 in (
-      start .pre .0,
-      (
-        omega arith,
-        Laws.first-of
-            (some-turned (as-statement (start .pre .0) (after-count .count .ensures .0) (c .count2 .ensures .0)) (some-held (start .pre .1 .1))),
-      ),
-    )
+    let start : tie.Start = search ways depth 7 in
+    record {
+      words = start .pre .0;
+      deep = omega (arith, start .pre .1 .0);
+      there = Laws.first-of (some-turned (as-statement (start .pre .0) (after-count .count .ensures .0) (c .count2 .ensures .0)) (some-held (start .pre .1 .1)));
+    }
 
 returns : tie.Need-returns
 returns c =
@@ -67,7 +65,7 @@ check-arms-requires c κs =
     let start : tie.Start = search ways depth 7 in
     let held = some-turned (as-statement (start .pre .0) (after-count .count .ensures .0) (after-count2 .count2 .ensures .0)) (some-held (start .pre .1 .1)) in
     let arms = Laws.after (after-check-clauses .check-clauses .ensures) (after-head .head .given .1) held in
-    (start .pre .0, (omega arith, search (arms, Laws.some-none)))
+    record { words = start .pre .0; deep = omega (arith, start .pre .1 .0); there = search (arms, Laws.some-none) }
 
 returns-2 : tie.Need-returns-2
 returns-2 c =

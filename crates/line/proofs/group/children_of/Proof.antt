@@ -1,5 +1,5 @@
 -- `line::group::children_of` meets its contract: what the groups so far count, and what the others do, is all. Assumes nothing.
-use mathlib.Core.Path.{sym, ap, _∙_}
+use mathlib.Core.Path.{ap}
 use Prim.Native.Nat.{_-_, _%_}
 use native.Mathlib.Omega.{arith}
 use borrow.Author.Needs.{needs}

@@ -54,13 +54,13 @@ ruleset ways = (back-p, back-read-next, back-then1, back-else1, back-in-loop, ba
 push-requires : here tie.Need-push-requires
 push-requires c κs =
     let start : here tie.Start = search ways depth 10 in
-    record { few = omega arith; long = (start .pre .1 .1 .0) }
+    record { few = omega arith; long = (start .pre .0 .room) }
 
 loop-holds : here tie.Need-loop-holds
 loop-holds c =
     let after-push : here tie.After-push = search ways depth 10 in
     let start : here tie.Start = search ways depth 10 in
-    (search needs, search needs, search needs, begin _ _ _ _ _ _ (start .pre .1 .1 .1) (start .pre .1 .0) (start .pre .1 .1 .0) (after-push .push .ensures))
+    (search needs, search needs, search needs, begin _ _ _ _ _ _ (start .pre .1) (start .pre .0 .words) (start .pre .0 .room) (after-push .push .ensures))
 
 read-next-requires : here tie.Need-read-next-requires
 read-next-requires c κs =
@@ -69,7 +69,7 @@ read-next-requires c κs =
     let start : here tie.Start = search ways depth 10 in
     let else1 : here tie.Else1 = search ways depth 10 in
     let after-lines-end : here tie.After-lines-end = search ways depth 10 in
-    (record { fed = after-lines-end .lines-end .ensures .fed _ (else1 .if1 .left); short = start .pre .0 }, (_, loop-top _ _ _ _ _ _ _ _ (at-loop .loop .inv .3) (in-loop .loop-test .taken)))
+    (record { fed = after-lines-end .lines-end .ensures .fed _ (else1 .if1 .left); short = start .pre .0 .short }, (_, loop-top _ _ _ _ _ _ _ _ (at-loop .loop .inv .3) (in-loop .loop-test .taken)))
 
 cast-t19 : here tie.Need-cast-t19
 cast-t19 c =
