@@ -60,6 +60,10 @@ spelled : {n r : ℕ} → Counted n r → decimal n ≡ tens r n
 unfolding decimal
 spelled {n} c = rw (c .is) (digits-tens maxDigits (c .before) n (c .few) (c .low) (c .high))
 
+-- as many as its spelling has
+pub counted-long : {n r : ℕ} → Counted n r → r ≡ length (decimal n)
+counted-long {n} {r} c = rw (spelled c) (length-tens r n)
+
 power-grows : (k d : ℕ) → k ≤ d → power 10 k ≤ power 10 d
 power-grows zero d h = let some = power-some d in omega arith
 power-grows (suc k) zero h = absurd (omega arith)

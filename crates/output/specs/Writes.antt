@@ -53,6 +53,19 @@ module _ (t p : Bytes) (at : ℕ) where
   pub stored : {q : Bytes} {n r : ℕ} → n ≡ length t → r ≡ min (at + n) most → q ≡ sets p at t → Puts t (on p at) (on q r)
   stored l e s = record { long = ap length s ∙ length-sets p at t; moved = omega arith; stored = λ f. s }
 
+-- no byte fits an empty slice, so that a text is only counted there
+no-bytes : (t : Bytes) → length t ≡ 0 → t ≡ []
+no-bytes [] e = refl
+no-bytes (b ∷ t) e = absurd (omega arith)
+
+pub measured : (t : Bytes) {p : Bytes} {at n r : ℕ} → length p ≡ 0 → n ≡ length t → r ≡ min (at + n) most → Puts t (on p at) (on p r)
+measured t {p} {at} z l e =
+    record {
+      long = refl;
+      moved = omega arith;
+      stored = λ f. let inside = f .inside in let none = no-bytes t (omega arith) in rw none refl;
+    }
+
 -- the same of a byte b and a text t behind it
 module _ (b : ℕ) (t p : Bytes) (at : ℕ) where
   pub counted-behind : {n r : ℕ} → n ≡ length t → r ≡ min (at + (n + 1)) most → length p < r → Puts (b ∷ t) (on p at) (on p r)

@@ -86,7 +86,7 @@ fn count_short(n: u64) -> usize
     if n < FIVE_DIGITS { STEP } else { 0 }
 }
 
-// The same of a number of more than four: apart from `count`, so that small numbers go no way through a loop.
+// The same of a number of more than four: apart from `digit_count`, so that small numbers go no way through a loop.
 fn count_wide(n: u64) -> usize
     requires { ⌜ least step ≤ n ⌝ }
     ensures { λ r. ⌜ Counted n r ⌝ }
@@ -100,7 +100,7 @@ fn count_wide(n: u64) -> usize
 }
 
 // How many decimal digits a number has.
-fn count(n: u64) -> usize
+pub fn digit_count(n: u64) -> usize
     ensures { λ r. ⌜ Counted n r ⌝ }
 {
     let few = count_short(n);
@@ -129,7 +129,7 @@ fn store_digits(plan: &mut [u8], at: usize, n: u64, d: usize)
 pub fn put_decimal(plan: &mut [u8], out: usize, n: u64) -> usize
     ensures { λ r. ⌜ Puts (decimal n) (on (now (plan .entry)) out) (on (now (plan .exit)) r) ⌝ }
 {
-    let d = count(n);
+    let d = digit_count(n);
     let end = more(out, d);
     if plan.len() < end {
         return end;
@@ -142,7 +142,7 @@ pub fn put_decimal(plan: &mut [u8], out: usize, n: u64) -> usize
 pub fn put_tabbed(plan: &mut [u8], out: usize, n: u64) -> usize
     ensures { λ r. ⌜ Puts (tab ∷ decimal n) (on (now (plan .entry)) out) (on (now (plan .exit)) r) ⌝ }
 {
-    let d = count(n);
+    let d = digit_count(n);
     let end = more(out, d + 1);
     if plan.len() < end {
         return end;

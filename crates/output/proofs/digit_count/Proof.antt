@@ -1,7 +1,7 @@
--- `count` meets its contract. Assumes nothing.
+-- `digit_count` meets its contract. Assumes nothing.
 use borrow.Author.Needs.{needs}
-use Rattle.output.proofs.count.Statement.{statement}
-use Rattle.output.proofs.count.Tie as tie
+use Rattle.output.proofs.digit_count.Statement.{statement}
+use Rattle.output.proofs.digit_count.Tie as tie
 
 returns : tie.Need-returns
 returns c =
@@ -13,8 +13,8 @@ count-wide-requires c κs =
     let short : tie.After-count-short = search in
     short .count-short .ensures .wide (c .if1 .left)
 
-pub count-spec : {M : Type 1} → statement M
-count-spec =
+pub digit-count-spec : {M : Type 1} → statement M
+digit-count-spec =
     tie.close
     (tie.spec
     (λ c κs. search needs)
