@@ -1,17 +1,18 @@
 -- A record's line by the two words that say where it stands. Assumes nothing: every law is proved.
-use mathlib.Core.Path.{_≡_, sym, _∙_}
+use mathlib.Core.Path.{_≡_, sym, ap, _∙_}
 use Prim.Native.Nat.{ℕ, _+_, _*_, _-_, _≤_, _<_}
 use native.Mathlib.Omega.{arith}
 use mathlib.Core.Bool.{Bool, true, false, cond}
 use mathlib.Core.List.{List}
 use lib.Dec.{ltb}
 use lib.ListN.{length, getD, take}
-use lib.Seq.{slice, getD-drop, getD-take}
+use lib.Seq.{slice, length-slice, getD-drop, getD-take}
 use Rattle.model.specs.Text.{Bytes}
+use Rattle.model.specs.Record.{rec, spellRec}
 use Rattle.output.specs.Page.{Page, Puts}
-use Rattle.words.specs.Words.{cell, part, firstRecords, recordWords}
+use Rattle.words.specs.Words.{cell, part, firstRecords, recordWords, two32}
 use Rattle.words.specs.Places.{lineStartAt, lineEndAt}
-use Rattle.plan_line.specs.Copy.{SomeRecord, Copied}
+use Rattle.plan_line.specs.Copy.{SomeRecord, Copied, LineBytes}
 
 -- ── a word of a record by its number ──
 
@@ -40,3 +41,14 @@ module _ (a b : List ℕ) (i : ℕ) {x y : ℕ} (ex : x ≡ cell a b i lineStart
 
   pub copied : (sheet : Bytes) {p q : Page} → Puts (slice x y sheet) p q → Copied sheet a b i p q
   copied sheet put = record { line = λ s k f h. rw (h .line .spelled) at (rw (start-is, end-is) at put) }
+
+  -- its length is the distance of the two
+  pub line-long : {r : ℕ} → r ≡ y - x → y < two32 → LineBytes a b i r
+  line-long {r} e few =
+      record {
+        long = λ sheet s k f h.
+            let some : SomeRecord sheet a b i = record { sort = s; kind = k; fields = f; at = h } in
+            let spelled : slice x y sheet ≡ spellRec (rec s k f) = rw (start-is, end-is) (h .line .spelled) in
+            rw (← spelled) (e ∙ sym (length-slice x y sheet (line-in some .1)));
+        few = omega arith;
+      }

@@ -1,10 +1,11 @@
 -- Records as lines of numbers and names. Assumes nothing: every law is proved.
 use mathlib.Core.Path.{_≡_, refl, sym, ap, _∙_}
-use Prim.Native.Nat.{ℕ, zero, suc, _≤_}
+use Prim.Native.Nat.{ℕ, zero, suc, _+_, _≤_}
 use native.Mathlib.Omega.{arith}
 use mathlib.Core.List.{List, [], _∷_, _++_, map, tail, append-nil, append-assoc}
 use lib.Dec.{eqb}
 use lib.IntN.{ℤ}
+use lib.ListN.{length, length-append}
 use lib.Seq.{slice}
 use Rattle.model.specs.Text.{Bytes, tab, lineFeed, behind, join, decimal, digits, signed, escape, unescape}
 use Rattle.model.specs.Field.{Form, text, spell, spellFlag, spellFields}
@@ -14,7 +15,7 @@ use Rattle.laws.specs.TextLaws.{join-split}
 use Rattle.words.specs.Words.{fieldOf, piecesOf}
 use Rattle.words.specs.Held.{PlaceAt}
 use Rattle.plan_line.specs.Keywords.{word, intWord}
-use Rattle.plan_line.specs.Row.{numbersText, rowText, namedText, intText}
+use Rattle.plan_line.specs.Row.{numbersText, rowText, namedText, intText, numbersLength}
 
 -- ── a field ──
 
@@ -64,6 +65,21 @@ row k ns p = rw (← pieces-are ns) p
 pub named : (k : ℕ) (name : Bytes) (ns : List ℕ) {g g′ : Page} → Puts (word k ++ ((tab ∷ name) ++ pieces ns)) g g′ → Puts (namedText k name ns) g g′
 unfolding namedText
 named k name ns p = rw (← pieces-are ns) p
+
+-- ── how many bytes a line has ──
+
+pieces-long : (ns : List ℕ) → length (pieces ns) ≡ numbersLength ns
+pieces-long [] = refl
+pieces-long (n ∷ ns) = length-append (tab ∷ decimal n) (pieces ns) ∙ ap (λ (m : ℕ). suc (length (decimal n)) + m) (pieces-long ns)
+
+pub row-long : (k : ℕ) (ns : List ℕ) → length (rowText k ns) ≡ length (word k) + numbersLength ns
+unfolding rowText
+row-long k ns = rw (← pieces-are ns) (length-append (word k) (pieces ns) ∙ ap (λ (m : ℕ). length (word k) + m) (pieces-long ns))
+
+pub named-long : (k : ℕ) (name : Bytes) (ns : List ℕ) → length (namedText k name ns) ≡ length (word k) + (suc (length name) + numbersLength ns)
+unfolding namedText
+named-long k name ns =
+    rw (← pieces-are ns) (length-append (word k) ((tab ∷ name) ++ pieces ns) ∙ ap (λ (m : ℕ). length (word k) + m) (length-append (tab ∷ name) (pieces ns) ∙ ap (λ (m : ℕ). suc (length name) + m) (pieces-long ns)))
 
 -- ── records ──
 

@@ -1,9 +1,10 @@
 -- The text of a line of numbers, of one with a name before them, and of a signed number's. Assumes nothing: these are definitions.
-use Prim.Native.Nat.{ℕ, _≤_, _<_}
+use mathlib.Core.Path.{_≡_}
+use Prim.Native.Nat.{ℕ, suc, _+_, _≤_, _<_}
 use mathlib.Core.List.{List, [], _∷_, _++_, map}
 use lib.IntN.{ℤ}
 use lib.ListN.{length}
-use Rattle.model.specs.Text.{Bytes, tab, lineFeed, behind, decimal, signed}
+use Rattle.model.specs.Text.{Bytes, tab, lineFeed, behind, decimal, signed, maxDigits}
 use mathlib.Core.Option.{Option}
 use Rattle.model.specs.Field.{spellOption}
 use Rattle.plan_line.specs.Keywords.{word, wordCount, intWord, relWord, callWord}
@@ -35,3 +36,15 @@ pub record NamedAsked (k : ℕ) (sheet : Bytes) (s e : ℕ) : Type 0 where
   pub keyword : k < wordCount
   pub from : s ≤ e
   pub to : e ≤ length sheet
+
+-- ── how many bytes they have ──
+
+-- a number with the tab before it has r
+pub record NumberBytes (n r : ℕ) : Type 0 where
+  pub long : r ≡ suc (length (decimal n))
+  pub few : r ≤ suc maxDigits
+
+-- numbers, each with its tab, and the line feed
+abbrev pub numbersLength : List ℕ → ℕ
+numbersLength [] = 1
+numbersLength (n ∷ ns) = suc (length (decimal n)) + numbersLength ns

@@ -8,7 +8,7 @@ ghost use Rattle.model.specs.Text.{tab, decimal};
 ghost use Rattle.output.specs.Page.{on, Puts};
 ghost use Rattle.words.specs.Words.{Roomy, cell, intOf, maxRecords, two32};
 ghost use Rattle.words.specs.Places.{intLowAt, intHighAt};
-ghost use Rattle.plan_line.specs.Row.{intText};
+ghost use Rattle.plan_line.specs.Row.{intText, NumberBytes};
 use crate::keyword::put_keyword;
 use output::put_byte;
 use words::field;
@@ -46,6 +46,13 @@ pub fn put_int(plan: &mut [u8], out: usize, a: &[u32], b: &[u32], i: usize) -> u
     let p = put_byte(plan, o, b'\t');
     let q = output::put_signed(plan, p, n);
     put_byte(plan, q, b'\n')
+}
+
+// How many bytes a number has, with the tab before it.
+pub fn number_bytes(n: u32) -> usize
+    ensures { λ r. ⌜ NumberBytes n r ⌝ }
+{
+    output::digit_count(n as u64) + 1
 }
 
 // A number.
