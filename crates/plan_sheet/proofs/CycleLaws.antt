@@ -71,7 +71,7 @@ module _ {sheet : Bytes} {a b os rest : List ℕ} {below base left i : ℕ} wher
 
   -- any other: what is below it
   module _ (room : Roomy a b) {m : ℕ} (count : m ≡ countAt a b i) (z : cell a b i kindAt ≡ patKind → ⊥) (h : One sheet a b os rest below base left i) where
-    kid-parts : ExprParts sheet a b (shift (noted rest) base) (h .first) below left i m (h .tree) (one-at h)
+    pub kid-parts : ExprParts sheet a b (shift (noted rest) base) (h .first) below left i m (h .tree) (one-at h)
     unfolding one-at
     kid-parts = parts (shift (noted rest) base) (h .first) below left i m room count (h .tree) (h .held) (h .under) z
 

@@ -28,9 +28,17 @@ use Rattle.plan_line.proofs.RowLaws.{flag-decimal, row-rec, named-rec, int-rec,
 
 -- ── expressions ──
 
--- the kinds whose line is another one in the plan, or whose number is written anew, as the code's `match` leaves them behind its arms
+-- the kinds whose line is another one in the plan, as the code's `match` leaves them behind its arms
+abbrev pub renamed : List ℕ
+renamed = undesKind ∷ unresKind ∷ listPredicateKind ∷ patKind ∷ fnKind ∷ varKind ∷ []
+
+-- with them the kind whose number is written anew
 abbrev pub rewritten : List ℕ
 rewritten = undesKind ∷ unresKind ∷ listPredicateKind ∷ patKind ∷ fnKind ∷ intKind ∷ varKind ∷ []
+
+not-renamed : (c : ℕ) → Others c rewritten → Others c renamed
+not-renamed c z =
+    ((((((tt, other-than c varKind rewritten z refl), other-than c fnKind rewritten z refl), other-than c patKind rewritten z refl), other-than c listPredicateKind rewritten z refl), other-than c unresKind rewritten z refl), other-than c undesKind rewritten z refl)
 
 -- the kinds of the lines that stand before expressions, likewise
 abbrev pub lines : List ℕ
@@ -44,16 +52,16 @@ pub at-kind : (k₀ k : Expr) (P : (k : Expr) → Fields (exprForms k) → Type 
 at-kind k₀ k P e h = subst (λ (k : Expr). (f : Fields (exprForms k)) → P k f) e h
 
 -- the others have the line that the statement sheet has
-copied-kind : (c n : ℕ) (k : Expr) (f : Fields (exprForms k)) → c ≡ exprNumber k → Others c rewritten → spellRec (rec expr k f) ≡ spellRec (exprHead n k f)
+pub copied-kind : (c n : ℕ) (k : Expr) (f : Fields (exprForms k)) → c ≡ exprNumber k → Others c renamed → spellRec (rec expr k f) ≡ spellRec (exprHead n k f)
 unfolding exprNumber spellRec spellFields keyword exprKeyword planKeyword planExprKeyword
 copied-kind c n (Expr.Over o) f e z = refl
 copied-kind c n Expr.Map f e z = refl
-copied-kind c n Expr.Var f e z = absurd (other-than c varKind rewritten z refl e)
-copied-kind c n Expr.Call f e z = absurd (other-than c fnKind rewritten z refl e)
-copied-kind c n Expr.PatternPredicate f e z = absurd (other-than c patKind rewritten z refl e)
-copied-kind c n Expr.ListPredicate f e z = absurd (other-than c listPredicateKind rewritten z refl e)
-copied-kind c n Expr.Unresolved f e z = absurd (other-than c unresKind rewritten z refl e)
-copied-kind c n Expr.Undesugared f e z = absurd (other-than c undesKind rewritten z refl e)
+copied-kind c n Expr.Var f e z = absurd (other-than c varKind renamed z refl e)
+copied-kind c n Expr.Call f e z = absurd (other-than c fnKind renamed z refl e)
+copied-kind c n Expr.PatternPredicate f e z = absurd (other-than c patKind renamed z refl e)
+copied-kind c n Expr.ListPredicate f e z = absurd (other-than c listPredicateKind renamed z refl e)
+copied-kind c n Expr.Unresolved f e z = absurd (other-than c unresKind renamed z refl e)
+copied-kind c n Expr.Undesugared f e z = absurd (other-than c undesKind renamed z refl e)
 
 -- the record of a line
 module _ {sheet : Bytes} {a b : List ℕ} {i : ℕ} where
@@ -132,7 +140,7 @@ module _ {sheet : Bytes} {a b : List ℕ} {i : ℕ} (room : Roomy a b) where
     int-head e = at-kind (Expr.Over Same.Int) (h .kind) (λ k f. RecordAt sheet a b i expr k f → spellRec (exprHead n k f) ≡ intText (intOf (cell a b i intLowAt) (cell a b i intHighAt))) (kind-is h intKind (Expr.Over Same.Int) e refl) int-fields (h .fields) (h .at)
 
   pub copied-head : (n kind : ℕ) {p q : Page} → kind ≡ cell a b i kindAt → Others kind rewritten → (h : ExprAt sheet a b i) → Copied sheet a b i p q → Puts (spellRec (exprHead n (h .kind) (h .fields))) p q
-  copied-head n kind e z h c = rw (copied-kind kind n (h .kind) (h .fields) (e ∙ number-is h) z) at (c .line expr (h .kind) (h .fields) (h .at))
+  copied-head n kind e z h c = rw (copied-kind kind n (h .kind) (h .fields) (e ∙ number-is h) (not-renamed kind z)) at (c .line expr (h .kind) (h .fields) (h .at))
 
   -- the kinds of expressions are the last
   pub expr-high : (h : ExprAt sheet a b i) → nullKind ≤ cell a b i kindAt

@@ -1,9 +1,11 @@
 pub mod HeadLaws
+pub mod MeasureLaws
 pub mod ItemLaws
 pub mod DueLaws
 pub mod NameLaws
 pub mod PartLaws
 pub mod CycleLaws
+pub mod FlatLaws
 pub mod OpLaws
 pub mod BehindLaws
 pub mod PartedLaws

@@ -1,4 +1,5 @@
 pub mod Due
+pub mod Measure
 pub mod Path
 pub mod Behind
 pub mod Parted

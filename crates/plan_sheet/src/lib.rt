@@ -3,6 +3,7 @@ pub mod behind;
 pub mod clause;
 pub mod head;
 pub mod item;
+pub mod measure;
 pub mod names;
 pub mod op;
 pub mod path;

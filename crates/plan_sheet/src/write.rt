@@ -1,5 +1,7 @@
 // Expressions, elements of patterns and operators, with the operators that they copy.
+ghost use mathlib.Core.Path.{_≡_};
 ghost use Prim.Native.Nat.{_+_};
+ghost use lib.ListN.{length};
 ghost use Rattle.output.specs.Page.{on};
 ghost use Rattle.plan_sheet.specs.Due.{Room, SomePlan, WroteOp};
 ghost use Rattle.plan_sheet.specs.Asked.{ExprAsked, ExprWrote, ExprsAsked, ExprsWrote, ElementAsked, ElementWrote, PartAsked, PartWrote, PartsAsked, PartsWrote, ItemsAsked, ItemsWrote};
@@ -8,6 +10,8 @@ use crate::behind::exprs_of;
 use crate::behind::items_of;
 use crate::behind::put_tail;
 use crate::head::Wrote;
+use crate::measure::expr_bytes;
+use crate::measure::measure_before;
 use aggregate::is_aggregate;
 use context::op;
 use context::read::note_of;
@@ -124,6 +128,68 @@ fn write_exprs(
     Wrote { next: i, out: o }
 }
 
+// Expressions, each behind its line if it has one, on an empty part of the slice: counted from record to record, what is below one before those behind it.
+fn measure_exprs(
+    plan: &mut [u8],
+    out: usize,
+    sheet: &[u8],
+    a: &[u32],
+    b: &[u32],
+    ops: &[u32],
+    rest: &[u32],
+    run: Run,
+) -> Wrote
+    requires { ⌜ length (now plan) ≡ 0 ⌝ }
+    requires { ⌜ ExprsAsked (now sheet) (now a) (now b) (now ops) (now rest) run ⌝ }
+    ensures { λ r. ⌜ ExprsWrote (now (sheet .entry)) (now (a .entry)) (now (b .entry)) (now (ops .entry)) (now (rest .entry)) run (on (now (plan .entry)) out) (r .next) (on (now (plan .exit)) (r .out)) ⌝ }
+{
+    let mut i = run.i;
+    let mut due = run.n;
+    let mut o = out;
+    while due != 0 {
+        let line = measure_before(plan, o, sheet, a, b, i);
+        let at = line.next;
+        let kind = words::word(a, b, at, field::KIND);
+        let n = note_of(rest, run.base, at);
+        let bytes = expr_bytes(a, b, at, kind, n);
+        let head = output::more(line.out, bytes);
+        if kind == kind::PAT {
+            o = write_op(plan, head, sheet, a, b, ops, rest, n as usize);
+            i = skip(a, b, at);
+            due -= 1;
+        } else {
+            let below = words::records::children(a, b, at);
+            due = due - 1 + below;
+            o = head;
+            i = at + 1;
+        }
+    }
+    Wrote { next: i, out: o }
+}
+
+// Expressions, each behind its line if it has one: written, or on an empty part of the slice only counted.
+fn put_exprs(
+    plan: &mut [u8],
+    out: usize,
+    sheet: &[u8],
+    a: &[u32],
+    b: &[u32],
+    ops: &[u32],
+    rest: &[u32],
+    run: Run,
+) -> Wrote
+    requires { ⌜ ExprsAsked (now sheet) (now a) (now b) (now ops) (now rest) run ⌝ }
+    ensures { λ r. ⌜ ExprsWrote (now (sheet .entry)) (now (a .entry)) (now (b .entry)) (now (ops .entry)) (now (rest .entry)) run (on (now (plan .entry)) out) (r .next) (on (now (plan .exit)) (r .out)) ⌝ }
+{
+    if run.n == 0 {
+        return Wrote { next: run.i, out };
+    }
+    if plan.len() == 0 {
+        return measure_exprs(plan, out, sheet, a, b, ops, rest, run);
+    }
+    write_exprs(plan, out, sheet, a, b, ops, rest, run)
+}
+
 // The element of a pattern at a record: its line, its names and its props.
 fn write_element(
     plan: &mut [u8],
@@ -152,7 +218,7 @@ fn write_element(
         below: at.below,
         n: props,
     };
-    let v = write_exprs(plan, w.out, sheet, a, b, ops, rest, run);
+    let v = put_exprs(plan, w.out, sheet, a, b, ops, rest, run);
     v.out
 }
 
@@ -187,7 +253,7 @@ fn write_part(
             below: part.below,
             n: count(a, b, i, field::FN_ARGS),
         };
-        return write_exprs(plan, o, sheet, a, b, ops, rest, args);
+        return put_exprs(plan, o, sheet, a, b, ops, rest, args);
     }
     let key = At {
         base: part.base,
@@ -302,7 +368,7 @@ pub fn write_op(
         }
         _ => {
             let run = exprs_of(a, b, w, k);
-            let v = write_exprs(plan, o, sheet, a, b, ops, rest, run);
+            let v = put_exprs(plan, o, sheet, a, b, ops, rest, run);
             put_tail(plan, v.out, sheet, a, b, rest, w, v.next)
         }
     }

@@ -8,8 +8,8 @@ use Prim.Native.Nat.{ℕ}
 use borrow.Fn.Kinds.{In, Out}
 use Rattle.plan_sheet.proofs.write.write_op.Reads as reads
 use Rattle.plan_sheet.proofs.write.write_op.Kinds as kinds
-use Rattle.plan_sheet.proofs.write.+write_element+write_expr+write_exprs+write_items+write_op+write_part+write_parts.Lts-write_op as lts
-use Rattle.plan_sheet.proofs.write.+write_element+write_expr+write_exprs+write_items+write_op+write_part+write_parts.Proof.Claims.{write-op-at, write-op-calls}
+use Rattle.plan_sheet.proofs.write.+measure_exprs+put_exprs+write_element+write_expr+write_exprs+write_items+write_op+write_part+write_parts.Lts-write_op as lts
+use Rattle.plan_sheet.proofs.write.+measure_exprs+put_exprs+write_element+write_expr+write_exprs+write_items+write_op+write_part+write_parts.Proof.Claims.{write-op-at, write-op-calls}
 
 module _ (t : ℕ) where
   -- a place or a need of this function, at the measure t
@@ -17,14 +17,14 @@ module _ (t : ℕ) where
   here X = X (write-op-calls t) (write-op-at t) reads.Post
 
   -- the ways back, from place to place
-  abbrev back-put-tail : here lts.After-put-tail → here lts.After-write-exprs
+  abbrev back-put-tail : here lts.After-put-tail → here lts.After-put-exprs
   back-put-tail c = search
 
   abbrev back-write-element2 : here lts.After-write-element2 → here lts.After-element-of2
   back-write-element2 c = search
 
-  abbrev back-write-exprs : here lts.After-write-exprs → here lts.After-exprs-of
-  back-write-exprs c = search
+  abbrev back-put-exprs : here lts.After-put-exprs → here lts.After-exprs-of
+  back-put-exprs c = search
 
   abbrev back-write-items : here lts.After-write-items → here lts.After-items-of
   back-write-items c = search
@@ -74,7 +74,7 @@ module _ (t : ℕ) where
   abbrev back-read-op : here lts.After-read-op → here lts.Start
   back-read-op c = search
 
-  ruleset ways = (back-put-tail, back-write-element2, back-write-exprs, back-write-items, back-write-op, back-write-element3, back-write-element, back-element-of2, back-element-of3, back-element-of, back-items-of, back-exprs-of, back-at-match-rest, back-at-match-keys4, back-at-match-keys3, back-at-match-keys2, back-at-match-keys1, back-put-op, back-read-op)
+  ruleset ways = (back-put-tail, back-write-element2, back-put-exprs, back-write-items, back-write-op, back-write-element3, back-write-element, back-element-of2, back-element-of3, back-element-of, back-items-of, back-exprs-of, back-at-match-rest, back-at-match-keys4, back-at-match-keys3, back-at-match-keys2, back-at-match-keys1, back-put-op, back-read-op)
 
   read-op-requires : here lts.Need-read-op-requires
   read-op-requires c κs =
@@ -144,8 +144,8 @@ module _ (t : ℕ) where
       let s : here lts.Start = search ways depth 9 in
       (s .pre .1 .0 .records, OpLaws.bounded-at _ (s .pre .1 .1) (w .read-op .ensures) .low)
 
-  write-exprs-requires : here lts.Need-write-exprs-requires
-  write-exprs-requires c κs =
+  put-exprs-requires : here lts.Need-put-exprs-requires
+  put-exprs-requires c κs =
       let place : here lts.After-exprs-of = search ways depth 9 in
       let arm : here lts.At-match-rest = search ways depth 9 in
       let w : here lts.After-read-op = search ways depth 9 in
@@ -155,7 +155,7 @@ module _ (t : ℕ) where
 
   put-tail-requires : here lts.Need-put-tail-requires
   put-tail-requires c κs =
-      let exprs : here lts.After-write-exprs = search ways depth 9 in
+      let exprs : here lts.After-put-exprs = search ways depth 9 in
       let place : here lts.After-exprs-of = search ways depth 9 in
       let arm : here lts.At-match-rest = search ways depth 9 in
       let w : here lts.After-read-op = search ways depth 9 in
@@ -170,7 +170,7 @@ module _ (t : ℕ) where
             (w .read-op .ensures)
             (s .pre .1 .0 .records)
             (arm .match .rest)
-            (OpLaws.exprs-written _ (s .pre .1 .1) (w .read-op .ensures) (place .exprs-of .ensures) (exprs .write-exprs .ensures));
+            (OpLaws.exprs-written _ (s .pre .1 .1) (w .read-op .ensures) (place .exprs-of .ensures) (exprs .put-exprs .ensures));
       }
 
   returns : here lts.Need-returns
@@ -235,7 +235,7 @@ module _ (t : ℕ) where
   returns-5 : here lts.Need-returns-5
   returns-5 c =
       let tail : here lts.After-put-tail = search ways depth 9 in
-      let exprs : here lts.After-write-exprs = search ways depth 9 in
+      let exprs : here lts.After-put-exprs = search ways depth 9 in
       let place : here lts.After-exprs-of = search ways depth 9 in
       let arm : here lts.At-match-rest = search ways depth 9 in
       let line : here lts.After-put-op = search ways depth 9 in
@@ -249,7 +249,7 @@ module _ (t : ℕ) where
       (s .pre .1 .0 .records)
       (arm .match .rest)
       (line .put-op .ensures)
-      (OpLaws.exprs-written _ p (w .read-op .ensures) (place .exprs-of .ensures) (exprs .write-exprs .ensures))
+      (OpLaws.exprs-written _ p (w .read-op .ensures) (place .exprs-of .ensures) (exprs .put-exprs .ensures))
       (tail .put-tail .ensures)
 
   pub meets : {M : Type 1} → lts.Closed (write-op-calls t) (write-op-at t) reads.Post M
@@ -271,7 +271,7 @@ module _ (t : ℕ) where
       items-of-requires
       write-items-requires
       exprs-of-requires
-      write-exprs-requires
+      put-exprs-requires
       put-tail-requires
       (λ c. search needs)
       returns

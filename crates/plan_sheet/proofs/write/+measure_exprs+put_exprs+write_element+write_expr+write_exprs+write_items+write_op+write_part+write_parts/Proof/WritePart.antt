@@ -7,8 +7,8 @@ use Prim.Native.Nat.{ℕ}
 use borrow.Fn.Kinds.{In, Out}
 use Rattle.plan_sheet.proofs.write.write_part.Reads as reads
 use Rattle.plan_sheet.proofs.write.write_part.Kinds as kinds
-use Rattle.plan_sheet.proofs.write.+write_element+write_expr+write_exprs+write_items+write_op+write_part+write_parts.Lts-write_part as lts
-use Rattle.plan_sheet.proofs.write.+write_element+write_expr+write_exprs+write_items+write_op+write_part+write_parts.Proof.Claims.{write-part-at, write-part-calls}
+use Rattle.plan_sheet.proofs.write.+measure_exprs+put_exprs+write_element+write_expr+write_exprs+write_items+write_op+write_part+write_parts.Lts-write_part as lts
+use Rattle.plan_sheet.proofs.write.+measure_exprs+put_exprs+write_element+write_expr+write_exprs+write_items+write_op+write_part+write_parts.Proof.Claims.{write-part-at, write-part-calls}
 
 module _ (t : ℕ) where
   -- a place or a need of this function, at the measure t
@@ -19,8 +19,8 @@ module _ (t : ℕ) where
   abbrev back-write-expr : here lts.After-write-expr → here lts.Else2
   back-write-expr c = search
 
-  abbrev back-write-exprs : here lts.After-write-exprs → here lts.After-count
-  back-write-exprs c = search
+  abbrev back-put-exprs : here lts.After-put-exprs → here lts.After-count
+  back-put-exprs c = search
 
   abbrev back-count : here lts.After-count → here lts.After-put-agg
   back-count c = search
@@ -43,7 +43,7 @@ module _ (t : ℕ) where
   abbrev back-is-aggregate : here lts.After-is-aggregate → here lts.Start
   back-is-aggregate c = search
 
-  ruleset ways = (back-write-expr, back-write-exprs, back-count, back-put-agg, back-then2, back-else2, back-then1, back-else1, back-is-aggregate)
+  ruleset ways = (back-write-expr, back-put-exprs, back-count, back-put-agg, back-then2, back-else2, back-then1, back-else1, back-is-aggregate)
 
   is-aggregate-requires : here lts.Need-is-aggregate-requires
   is-aggregate-requires c κs =
@@ -72,8 +72,8 @@ module _ (t : ℕ) where
       let s : here lts.Start = search ways depth 9 in
       (CycleLaws.one-low (s .pre .1 .due), (omega arith, s .pre .1 .room .records))
 
-  write-exprs-requires : here lts.Need-write-exprs-requires
-  write-exprs-requires c κs =
+  put-exprs-requires : here lts.Need-put-exprs-requires
+  put-exprs-requires c κs =
       let count : here lts.After-count = search ways depth 9 in
       let then : here lts.Then2 = search ways depth 9 in
       let told : here lts.After-is-aggregate = search ways depth 9 in
@@ -84,7 +84,7 @@ module _ (t : ℕ) where
 
   returns-2 : here lts.Need-returns-2
   returns-2 c =
-      let args : here lts.After-write-exprs = search ways depth 9 in
+      let args : here lts.After-put-exprs = search ways depth 9 in
       let count : here lts.After-count = search ways depth 9 in
       let line : here lts.After-put-agg = search ways depth 9 in
       let then : here lts.Then2 = search ways depth 9 in
@@ -101,7 +101,7 @@ module _ (t : ℕ) where
       (same .if1 .left)
       (count .count .ensures .0)
       (line .put-agg .ensures)
-      (args .write-exprs .ensures)
+      (args .put-exprs .ensures)
 
   skip-requires : here lts.Need-skip-requires
   skip-requires c κs =
@@ -140,7 +140,7 @@ module _ (t : ℕ) where
       add-first
       sub-left
       count-requires
-      write-exprs-requires
+      put-exprs-requires
       (λ c. search needs)
       returns-2
       write-expr-requires

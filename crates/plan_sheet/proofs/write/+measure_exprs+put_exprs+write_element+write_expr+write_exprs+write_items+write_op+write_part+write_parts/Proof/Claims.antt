@@ -3,27 +3,33 @@ use Prim.Native.Nat.{_+_, _*_, ℕ, _<_}
 use Rattle.context.specs.Tables.{deepest}
 use borrow.Fn.Kinds.{In}
 use borrow.Fn.PlainCycle.{Measures, is, falls, and}
+use Rattle.plan_sheet.proofs.write.measure_exprs.Reads as measure-exprs
+use Rattle.plan_sheet.proofs.write.measure_exprs.Kinds as measure-exprs-kinds
+use Rattle.plan_sheet.proofs.write.+measure_exprs+put_exprs+write_element+write_expr+write_exprs+write_items+write_op+write_part+write_parts.Lts-measure_exprs as measure-exprs-lts
+use Rattle.plan_sheet.proofs.write.put_exprs.Reads as put-exprs
+use Rattle.plan_sheet.proofs.write.put_exprs.Kinds as put-exprs-kinds
+use Rattle.plan_sheet.proofs.write.+measure_exprs+put_exprs+write_element+write_expr+write_exprs+write_items+write_op+write_part+write_parts.Lts-put_exprs as put-exprs-lts
 use Rattle.plan_sheet.proofs.write.write_element.Reads as write-element
 use Rattle.plan_sheet.proofs.write.write_element.Kinds as write-element-kinds
-use Rattle.plan_sheet.proofs.write.+write_element+write_expr+write_exprs+write_items+write_op+write_part+write_parts.Lts-write_element as write-element-lts
+use Rattle.plan_sheet.proofs.write.+measure_exprs+put_exprs+write_element+write_expr+write_exprs+write_items+write_op+write_part+write_parts.Lts-write_element as write-element-lts
 use Rattle.plan_sheet.proofs.write.write_expr.Reads as write-expr
 use Rattle.plan_sheet.proofs.write.write_expr.Kinds as write-expr-kinds
-use Rattle.plan_sheet.proofs.write.+write_element+write_expr+write_exprs+write_items+write_op+write_part+write_parts.Lts-write_expr as write-expr-lts
+use Rattle.plan_sheet.proofs.write.+measure_exprs+put_exprs+write_element+write_expr+write_exprs+write_items+write_op+write_part+write_parts.Lts-write_expr as write-expr-lts
 use Rattle.plan_sheet.proofs.write.write_exprs.Reads as write-exprs
 use Rattle.plan_sheet.proofs.write.write_exprs.Kinds as write-exprs-kinds
-use Rattle.plan_sheet.proofs.write.+write_element+write_expr+write_exprs+write_items+write_op+write_part+write_parts.Lts-write_exprs as write-exprs-lts
+use Rattle.plan_sheet.proofs.write.+measure_exprs+put_exprs+write_element+write_expr+write_exprs+write_items+write_op+write_part+write_parts.Lts-write_exprs as write-exprs-lts
 use Rattle.plan_sheet.proofs.write.write_items.Reads as write-items
 use Rattle.plan_sheet.proofs.write.write_items.Kinds as write-items-kinds
-use Rattle.plan_sheet.proofs.write.+write_element+write_expr+write_exprs+write_items+write_op+write_part+write_parts.Lts-write_items as write-items-lts
+use Rattle.plan_sheet.proofs.write.+measure_exprs+put_exprs+write_element+write_expr+write_exprs+write_items+write_op+write_part+write_parts.Lts-write_items as write-items-lts
 use Rattle.plan_sheet.proofs.write.write_op.Reads as write-op
 use Rattle.plan_sheet.proofs.write.write_op.Kinds as write-op-kinds
-use Rattle.plan_sheet.proofs.write.+write_element+write_expr+write_exprs+write_items+write_op+write_part+write_parts.Lts-write_op as write-op-lts
+use Rattle.plan_sheet.proofs.write.+measure_exprs+put_exprs+write_element+write_expr+write_exprs+write_items+write_op+write_part+write_parts.Lts-write_op as write-op-lts
 use Rattle.plan_sheet.proofs.write.write_part.Reads as write-part
 use Rattle.plan_sheet.proofs.write.write_part.Kinds as write-part-kinds
-use Rattle.plan_sheet.proofs.write.+write_element+write_expr+write_exprs+write_items+write_op+write_part+write_parts.Lts-write_part as write-part-lts
+use Rattle.plan_sheet.proofs.write.+measure_exprs+put_exprs+write_element+write_expr+write_exprs+write_items+write_op+write_part+write_parts.Lts-write_part as write-part-lts
 use Rattle.plan_sheet.proofs.write.write_parts.Reads as write-parts
 use Rattle.plan_sheet.proofs.write.write_parts.Kinds as write-parts-kinds
-use Rattle.plan_sheet.proofs.write.+write_element+write_expr+write_exprs+write_items+write_op+write_part+write_parts.Lts-write_parts as write-parts-lts
+use Rattle.plan_sheet.proofs.write.+measure_exprs+put_exprs+write_element+write_expr+write_exprs+write_items+write_op+write_part+write_parts.Lts-write_parts as write-parts-lts
 use Rattle.aggregate.proofs.is_aggregate.Reads as is-aggregate-reads
 use Rattle.words.proofs.records.children.Reads as children-reads
 use Rattle.words.proofs.records.count.Reads as count-reads
@@ -37,6 +43,9 @@ use Rattle.words.proofs.kind.is_leaf.Reads as is-leaf-reads
 use Rattle.plan_sheet.proofs.head.put_before.Reads as put-before-reads
 use Rattle.plan_sheet.proofs.head.put_expr.Reads as put-expr-reads
 use Rattle.plan_sheet.proofs.item.put_agg.Reads as put-agg-reads
+use Rattle.plan_sheet.proofs.measure.expr_bytes.Reads as expr-bytes-reads
+use Rattle.plan_sheet.proofs.measure.measure_before.Reads as measure-before-reads
+use Rattle.output.proofs.more.Reads as more-reads
 use Rattle.plan_sheet.proofs.names.put_element.Reads as put-element-reads
 use Rattle.plan_sheet.proofs.names.put_names.Reads as put-names-reads
 use Rattle.plan_sheet.proofs.op.props_of.Reads as props-of-reads
@@ -47,6 +56,12 @@ use Rattle.words.proofs.word.Reads as word-reads
 -- an operator's number counts for more than all levels of its expressions
 abbrev perOp : ℕ
 perOp = 4 * deepest
+
+abbrev pub μ-measure-exprs : Measures 6 measure-exprs-kinds.ps ℕ
+μ-measure-exprs κs a = perOp * a .1 .1 .1 .1 .1 .1 .1 .0 .below
+
+abbrev pub μ-put-exprs : Measures 6 put-exprs-kinds.ps ℕ
+μ-put-exprs κs a = perOp * a .1 .1 .1 .1 .1 .1 .1 .0 .below + 3 * a .1 .1 .1 .1 .1 .1 .1 .0 .left + 2
 
 abbrev pub μ-write-element : Measures 6 write-element-kinds.ps ℕ
 μ-write-element κs a = perOp * a .1 .1 .1 .1 .1 .1 .1 .0 .below + 3 * a .1 .1 .1 .1 .1 .1 .1 .0 .left + 2
@@ -68,6 +83,22 @@ abbrev pub μ-write-part : Measures 6 write-part-kinds.ps ℕ
 
 abbrev pub μ-write-parts : Measures 6 write-parts-kinds.ps ℕ
 μ-write-parts κs a = perOp * a .1 .1 .1 .1 .1 .1 .1 .0 .below + 3 * a .1 .1 .1 .1 .1 .1 .1 .0 .left + 2
+
+abbrev pub measure-exprs-at : ℕ → In 6 measure-exprs-kinds.ps
+measure-exprs-at t =
+    and 6 measure-exprs-kinds.ps (is 6 measure-exprs-kinds.ps μ-measure-exprs t) measure-exprs.Pre
+
+abbrev pub measure-exprs-below : ℕ → In 6 measure-exprs-kinds.ps
+measure-exprs-below t =
+    and 6 measure-exprs-kinds.ps (falls 6 measure-exprs-kinds.ps _<_ μ-measure-exprs t) measure-exprs.Pre
+
+abbrev pub put-exprs-at : ℕ → In 6 put-exprs-kinds.ps
+put-exprs-at t =
+    and 6 put-exprs-kinds.ps (is 6 put-exprs-kinds.ps μ-put-exprs t) put-exprs.Pre
+
+abbrev pub put-exprs-below : ℕ → In 6 put-exprs-kinds.ps
+put-exprs-below t =
+    and 6 put-exprs-kinds.ps (falls 6 put-exprs-kinds.ps _<_ μ-put-exprs t) put-exprs.Pre
 
 abbrev pub write-element-at : ℕ → In 6 write-element-kinds.ps
 write-element-at t =
@@ -125,6 +156,34 @@ abbrev pub write-parts-below : ℕ → In 6 write-parts-kinds.ps
 write-parts-below t =
     and 6 write-parts-kinds.ps (falls 6 write-parts-kinds.ps _<_ μ-write-parts t) write-parts.Pre
 
+abbrev pub measure-exprs-calls : ℕ → measure-exprs-lts.Claims
+measure-exprs-calls t = (
+  measure-before-reads.Asked,
+  measure-before-reads.Learnt,
+  word-reads.Asked,
+  word-reads.Learnt,
+  note-of-reads.Asked,
+  note-of-reads.Learnt,
+  expr-bytes-reads.Asked,
+  expr-bytes-reads.Learnt,
+  more-reads.Asked,
+  more-reads.Learnt,
+  write-op-below t,
+  write-op.Post,
+  skip-reads.Asked,
+  skip-reads.Learnt,
+  children-reads.Asked,
+  children-reads.Learnt,
+)
+
+abbrev pub put-exprs-calls : ℕ → put-exprs-lts.Claims
+put-exprs-calls t = (
+  measure-exprs-below t,
+  measure-exprs.Post,
+  write-exprs-below t,
+  write-exprs.Post,
+)
+
 abbrev pub write-element-calls : ℕ → write-element-lts.Claims
 write-element-calls t = (
   word-reads.Asked,
@@ -137,8 +196,8 @@ write-element-calls t = (
   put-element-reads.Learnt,
   put-names-reads.Asked,
   put-names-reads.Learnt,
-  write-exprs-below t,
-  write-exprs.Post,
+  put-exprs-below t,
+  put-exprs.Post,
 )
 
 abbrev pub write-expr-calls : ℕ → write-expr-lts.Claims
@@ -193,8 +252,8 @@ write-op-calls t = (
   write-items.Post,
   exprs-of-reads.Asked,
   exprs-of-reads.Learnt,
-  write-exprs-below t,
-  write-exprs.Post,
+  put-exprs-below t,
+  put-exprs.Post,
   put-tail-reads.Asked,
   put-tail-reads.Learnt,
 )
@@ -209,8 +268,8 @@ write-part-calls t = (
   put-agg-reads.Learnt,
   count-reads.Asked,
   count-reads.Learnt,
-  write-exprs-below t,
-  write-exprs.Post,
+  put-exprs-below t,
+  put-exprs.Post,
   write-expr-below t,
   write-expr.Post,
 )

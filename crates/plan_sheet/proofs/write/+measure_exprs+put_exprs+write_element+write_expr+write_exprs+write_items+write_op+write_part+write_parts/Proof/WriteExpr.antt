@@ -8,8 +8,8 @@ use Prim.Native.Nat.{ℕ}
 use borrow.Fn.Kinds.{In, Out}
 use Rattle.plan_sheet.proofs.write.write_expr.Reads as reads
 use Rattle.plan_sheet.proofs.write.write_expr.Kinds as kinds
-use Rattle.plan_sheet.proofs.write.+write_element+write_expr+write_exprs+write_items+write_op+write_part+write_parts.Lts-write_expr as lts
-use Rattle.plan_sheet.proofs.write.+write_element+write_expr+write_exprs+write_items+write_op+write_part+write_parts.Proof.Claims.{write-expr-at, write-expr-calls}
+use Rattle.plan_sheet.proofs.write.+measure_exprs+put_exprs+write_element+write_expr+write_exprs+write_items+write_op+write_part+write_parts.Lts-write_expr as lts
+use Rattle.plan_sheet.proofs.write.+measure_exprs+put_exprs+write_element+write_expr+write_exprs+write_items+write_op+write_part+write_parts.Proof.Claims.{write-expr-at, write-expr-calls}
 
 module _ (t : ℕ) where
   -- a place or a need of this function, at the measure t

@@ -6,8 +6,8 @@ use Prim.Native.Nat.{ℕ}
 use borrow.Fn.Kinds.{In, Out}
 use Rattle.plan_sheet.proofs.write.write_element.Reads as reads
 use Rattle.plan_sheet.proofs.write.write_element.Kinds as kinds
-use Rattle.plan_sheet.proofs.write.+write_element+write_expr+write_exprs+write_items+write_op+write_part+write_parts.Lts-write_element as lts
-use Rattle.plan_sheet.proofs.write.+write_element+write_expr+write_exprs+write_items+write_op+write_part+write_parts.Proof.Claims.{write-element-at, write-element-calls}
+use Rattle.plan_sheet.proofs.write.+measure_exprs+put_exprs+write_element+write_expr+write_exprs+write_items+write_op+write_part+write_parts.Lts-write_element as lts
+use Rattle.plan_sheet.proofs.write.+measure_exprs+put_exprs+write_element+write_expr+write_exprs+write_items+write_op+write_part+write_parts.Proof.Claims.{write-element-at, write-element-calls}
 
 module _ (t : ℕ) where
   -- a place or a need of this function, at the measure t
@@ -15,8 +15,8 @@ module _ (t : ℕ) where
   here X = X (write-element-calls t) (write-element-at t) reads.Post
 
   -- the ways back, from place to place
-  abbrev back-write-exprs : here lts.After-write-exprs → here lts.After-put-names
-  back-write-exprs c = search
+  abbrev back-put-exprs : here lts.After-put-exprs → here lts.After-put-names
+  back-put-exprs c = search
 
   abbrev back-put-names : here lts.After-put-names → here lts.After-put-element
   back-put-names c = search
@@ -33,7 +33,7 @@ module _ (t : ℕ) where
   abbrev back-word : here lts.After-word → here lts.Start
   back-word c = search
 
-  ruleset ways = (back-write-exprs, back-put-names, back-put-element, back-props-of, back-count, back-word)
+  ruleset ways = (back-put-exprs, back-put-names, back-put-element, back-props-of, back-count, back-word)
 
   word-requires : here lts.Need-word-requires
   word-requires c κs =
@@ -72,8 +72,8 @@ module _ (t : ℕ) where
       let s : here lts.Start = search ways depth 9 in
       omega (arith, (CycleLaws.element-is (s .pre .1 .room .records) (s .pre .1 .due)) .deep)
 
-  write-exprs-requires : here lts.Need-write-exprs-requires
-  write-exprs-requires c κs =
+  put-exprs-requires : here lts.Need-put-exprs-requires
+  put-exprs-requires c κs =
       let names : here lts.After-put-names = search ways depth 9 in
       let props : here lts.After-props-of = search ways depth 9 in
       let count : here lts.After-count = search ways depth 9 in
@@ -95,7 +95,7 @@ module _ (t : ℕ) where
 
   returns : here lts.Need-returns
   returns c =
-      let below : here lts.After-write-exprs = search ways depth 9 in
+      let below : here lts.After-put-exprs = search ways depth 9 in
       let names : here lts.After-put-names = search ways depth 9 in
       let head : here lts.After-put-element = search ways depth 9 in
       let props : here lts.After-props-of = search ways depth 9 in
@@ -111,7 +111,7 @@ module _ (t : ℕ) where
       (props .props-of .ensures)
       (names .put-names .ensures)
       (head .put-element .ensures)
-      (below .write-exprs .ensures)
+      (below .put-exprs .ensures)
 
   pub meets : {M : Type 1} → lts.Closed (write-element-calls t) (write-element-at t) reads.Post M
   meets =
@@ -126,6 +126,6 @@ module _ (t : ℕ) where
       add-put-names
       put-names-requires
       sub-t21
-      write-exprs-requires
+      put-exprs-requires
       (λ c. search needs)
       returns

@@ -7,8 +7,8 @@ use Prim.Native.Nat.{ℕ}
 use borrow.Fn.Kinds.{In, Out}
 use Rattle.plan_sheet.proofs.write.write_exprs.Reads as reads
 use Rattle.plan_sheet.proofs.write.write_exprs.Kinds as kinds
-use Rattle.plan_sheet.proofs.write.+write_element+write_expr+write_exprs+write_items+write_op+write_part+write_parts.Lts-write_exprs as lts
-use Rattle.plan_sheet.proofs.write.+write_element+write_expr+write_exprs+write_items+write_op+write_part+write_parts.Proof.Claims.{write-exprs-at, write-exprs-calls}
+use Rattle.plan_sheet.proofs.write.+measure_exprs+put_exprs+write_element+write_expr+write_exprs+write_items+write_op+write_part+write_parts.Lts-write_exprs as lts
+use Rattle.plan_sheet.proofs.write.+measure_exprs+put_exprs+write_element+write_expr+write_exprs+write_items+write_op+write_part+write_parts.Proof.Claims.{write-exprs-at, write-exprs-calls}
 
 abbrev Inv-loop : lts.InvT-loop
 Inv-loop plan₀ out sheet a b ops rest run i₀ due₀ o₀ plan i due o = DueLaws.Going sheet a b ops rest (run .below) (run .base) (run .left) (run .n) (run .i) (on plan₀ o₀) due i (on plan o)

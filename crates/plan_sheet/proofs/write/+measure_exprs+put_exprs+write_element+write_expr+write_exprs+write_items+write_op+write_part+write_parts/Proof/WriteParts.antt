@@ -8,8 +8,8 @@ use Prim.Native.Nat.{ℕ}
 use borrow.Fn.Kinds.{In, Out}
 use Rattle.plan_sheet.proofs.write.write_parts.Reads as reads
 use Rattle.plan_sheet.proofs.write.write_parts.Kinds as kinds
-use Rattle.plan_sheet.proofs.write.+write_element+write_expr+write_exprs+write_items+write_op+write_part+write_parts.Lts-write_parts as lts
-use Rattle.plan_sheet.proofs.write.+write_element+write_expr+write_exprs+write_items+write_op+write_part+write_parts.Proof.Claims.{write-parts-at, write-parts-calls}
+use Rattle.plan_sheet.proofs.write.+measure_exprs+put_exprs+write_element+write_expr+write_exprs+write_items+write_op+write_part+write_parts.Lts-write_parts as lts
+use Rattle.plan_sheet.proofs.write.+measure_exprs+put_exprs+write_element+write_expr+write_exprs+write_items+write_op+write_part+write_parts.Proof.Claims.{write-parts-at, write-parts-calls}
 
 abbrev Inv-loop : lts.InvT-loop
 Inv-loop plan₀ out sheet a b ops rest parts i₀ due₀ o₀ plan i due o = PartedLaws.PartsGoing sheet a b ops rest (parts .below) (parts .base) (parts .left) (parts .n) (parts .i) (parts .aggregates) (on plan₀ o₀) due i (on plan o)
