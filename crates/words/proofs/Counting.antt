@@ -1,6 +1,6 @@
 -- How many children a record has, and the record behind a tree. Assumes nothing.
 use mathlib.Core.Path.{_≡_, refl, sym, ap, _∙_}
-use Prim.Native.Nat.{ℕ, zero, suc, _+_, _-_, _≤_, _<_}
+use Prim.Native.Nat.{ℕ, suc, _+_, _-_, _≤_, _<_}
 use native.Mathlib.Nat.{mod-eq-of-lt}
 use native.Mathlib.Omega.{arith}
 use mathlib.Core.Bool.{true, false, false≢true}
@@ -13,7 +13,7 @@ use Rattle.model.specs.Tree.{Tree, Trees, Forest, node, []ᵗ, _∷ᵗ_, end, _
 use Rattle.words.specs.Words.{maxRecords, Roomy, cell}
 use Rattle.words.specs.Held.{RecordAt, Held, HeldOf, HeldIn, size, sizeOf, sizeIn, roomIn, total}
 use Rattle.words.specs.Cells.{shown}
-use Rattle.words.specs.Fits.{tree-fits, forest-fits}
+use Rattle.words.specs.Fits.{tree-fits, forest-fits, tree-low}
 use Rattle.words.specs.GroupLaws.{part-cell}
 use Rattle.words.specs.Count.{countAt, isLeaf, Due, none-due, one-due, Starts, Ends}
 use Rattle.words.specs.Numbers.{sameNumber, exprNumber, expr-number}
@@ -84,14 +84,18 @@ module _ {sheet : Bytes} {a b : List ℕ} {e : ℕ} where
   forest-due (_▸_ {s = s} {n = n} {gs = gs} ts f) d m i h r = due-at {n = n + (total gs + m)} (omega arith) refl (trees-due ts d (total gs + m) i (h .0) (forest-due f d m (i + sizeOf ts) (h .1) (due-at refl (omega arith) r)))
 
   -- the next record, and its children in its place
-  step-tree : {s : Sort} (t : Tree s) (d m i : ℕ) → Roomy a b → Held sheet a b t d i → Due sheet a b e m (i + size t) → (i < maxRecords) × Due sheet a b e (countAt a b i + m) (i + 1)
+  step-tree : {s : Sort} (t : Tree s) (d m i : ℕ) → Roomy a b → Held sheet a b t d i → Due sheet a b e m (i + size t) → Due sheet a b e (countAt a b i + m) (i + 1)
   unfolding Held size
   step-tree (node s line k f kids) d m i room h r =
-      (h .1 .low, rw (counted (h .1) (roomIn s d) kids (h .3)) (forest-due kids (roomIn s d) m (i + 1) (h .3) (due-at refl (omega arith) r)))
+      rw (counted (h .1) (roomIn s d) kids (h .3)) (forest-due kids (roomIn s d) m (i + 1) (h .3) (due-at refl (omega arith) r))
 
-  pub step : (n i : ℕ) → Roomy a b → ((n ≡ 0) → ⊥) → Due sheet a b e n i → (i < maxRecords) × Due sheet a b e (n - 1 + countAt a b i) (i + 1)
+  pub step : (n i : ℕ) → Roomy a b → ((n ≡ 0) → ⊥) → Due sheet a b e n i → Due sheet a b e (n - 1 + countAt a b i) (i + 1)
   step n i room h (none-due p) = absurd (h refl)
-  step n i room h (one-due {n = m} s d t hd r) = let q = step-tree t d m i room hd r in (q .0, due-at {n = countAt a b i + m} (omega arith) refl (q .1))
+  step n i room h (one-due {n = m} s d t hd r) = due-at {n = countAt a b i + m} (omega arith) refl (step-tree t d m i room hd r)
+
+  next-due : (n i : ℕ) → ((n ≡ 0) → ⊥) → Due sheet a b e n i → Starts a b i
+  next-due n i h (none-due p) = absurd (h refl)
+  next-due n i h (one-due s d t hd r) = record { sheet = sheet; sort = s; depth = d; tree = t; held = hd }
 
   pub finish : (n i : ℕ) → n ≡ 0 → Due sheet a b e n i → i ≡ e
   finish n i h (none-due p) = p
@@ -108,12 +112,19 @@ module _ {sheet : Bytes} {a b : List ℕ} {e : ℕ} where
 pub record Left (a b : List ℕ) (i n at : ℕ) : Type 0 where
   pub same : (sheet : Bytes) (e : ℕ) → Due sheet a b e 1 i → Due sheet a b e n at
 
-module _ {a b : List ℕ} (room : Roomy a b) where
+pub start-low : {a b : List ℕ} {i : ℕ} → Starts a b i → i < maxRecords
+start-low {a} {b} {i} z = tree-low (z .sheet) a b (z .tree) (z .depth) i (z .held)
+
+module _ {a b : List ℕ} where
   starts-due : {i : ℕ} (z : Starts a b i) → Due (z .sheet) a b (i + size (z .tree)) 1 i
   starts-due z = one-due (z .sort) (z .depth) (z .tree) (z .held) (none-due refl)
 
+  -- where more is due, some tree stands there
+  pub next : {i n at : ℕ} → Starts a b i → Left a b i n at → ((n ≡ 0) → ⊥) → Starts a b at
+  next {i} {n} {at} z l h = next-due n at h (l .same (z .sheet) (i + size (z .tree)) (starts-due z))
+
   pub in-range : {i n at : ℕ} → Starts a b i → Left a b i n at → ((n ≡ 0) → ⊥) → at < maxRecords
-  in-range {i} {n} {at} z l h = step n at room h (l .same (z .sheet) (i + size (z .tree)) (starts-due z)) .0
+  in-range z l h = start-low (next z l h)
 
   pub few : {i n at : ℕ} → Starts a b i → Left a b i n at → at ≤ maxRecords → n ≤ maxRecords
   few {i} {n} {at} z l h = let p = enough n at (l .same (z .sheet) (i + size (z .tree)) (starts-due z)) h in omega arith
@@ -121,11 +132,8 @@ module _ {a b : List ℕ} (room : Roomy a b) where
   pub first : (i : ℕ) → Left a b i 1 i
   first i = record { same = λ sheet e h. h }
 
-  pub again : {i n at k : ℕ} → ((n ≡ 0) → ⊥) → k ≡ countAt a b at → Left a b i n at → Left a b i (n - 1 + k) (at + 1)
-  again {i} {n} {at} {k} h ek l = record { same = λ sheet e d. rw ek (step n at room h (l .same sheet e d) .1) }
+  pub again : {i n at k : ℕ} → Roomy a b → ((n ≡ 0) → ⊥) → k ≡ countAt a b at → Left a b i n at → Left a b i (n - 1 + k) (at + 1)
+  again {i} {n} {at} {k} room h ek l = record { same = λ sheet e d. rw ek (step n at room h (l .same sheet e d)) }
 
   pub done : {i n at : ℕ} → n ≡ 0 → Left a b i n at → Ends a b i at
   done {i} {n} {at} h l = record { each = λ sheet s d t hd. finish n at h (l .same sheet (i + size t) (one-due s d t hd (none-due refl))) }
-
-pub start-low : {a b : List ℕ} {i : ℕ} → Starts a b i → i ≤ maxRecords
-start-low {a} {b} {i} z = let p = tree-fits (z .sheet) a b (z .tree) (z .depth) i (z .held) in omega arith
