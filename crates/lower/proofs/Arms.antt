@@ -21,9 +21,9 @@ use Rattle.lower.specs.Shows.{shift}
 use Rattle.lower.specs.Rep.{State, Mem, Written, Sub, Ran}
 use Rattle.lower.specs.Pieces.{exprPiece, Carried, []ᶜ, lowerC, renderC, BelowC, sizeC, HeldC, carriedPiece, SomeTree, SomeCarried, LowersExpr, LowersExprs}
 use Rattle.lower.specs.State.{sub-more, sub-within, blank-within, to-wider}
-use Rattle.words.specs.Numbers.{exprNumber}
+use Rattle.words.specs.Numbers.{exprNumber, expr-number}
 use Rattle.words.specs.Kinds.{Opens, by-expr}
-use Rattle.words.proofs.Counting.{innerNumber, inner-number, counted}
+use Rattle.words.proofs.Counting.{counted}
 use Rattle.lower.specs.Exprs.{moved-within, narrow}
 use Rattle.lower.specs.Carry.{plainC, plain-lower, plain-size, plain-held, plain-render, plain-below, entriesC, entries-lower, entries-size, entries-held, entries-render, entries-below}
 use Rattle.words.specs.Places.{kindAt, varKind, mapKind, patKind, listPredicateKind}
@@ -31,8 +31,7 @@ use Rattle.words.specs.Places.{kindAt, varKind, mapKind, patKind, listPredicate
 -- ── the number of the kind ──
 
 pub number-at : {sheet : Bytes} {a b : List ℕ} {i : ℕ} {k : Expr} {f : Fields (exprForms k)} → Roomy a b → RecordAt sheet a b i expr k f → cell a b i kindAt ≡ exprNumber k
-unfolding innerNumber
-number-at {k = k} room h = inner-number expr tt _ k (shown room h .kind)
+number-at {k = k} room h = expr-number _ k (shown room h .kind)
 
 -- ── a record over expressions, with nothing noted at it ──
 

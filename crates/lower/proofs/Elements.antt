@@ -15,14 +15,14 @@ use Rattle.model.specs.Tree.{Tree, Trees, node, []ᵗ, _∷ᵗ_, end, _▸_, to
 use Rattle.model.specs.Lower.{Recs, Lowered, made, _>>=_, ret, elementStep, propsOf, lowerProps, lowerExpr, has, Step, NodeStep, RelStep, ofNode, ofRel}
 use Rattle.words.specs.Words.{Roomy, cell, fieldsOf, fieldOf, optionOf}
 use Rattle.words.specs.Held.{Held, HeldOf, RecordAt, size, sizeOf}
-use Rattle.words.specs.Cells.{shown}
+use Rattle.words.specs.Cells.{shown, flag-word}
 use Rattle.lower.specs.Render.{Notes, Ops, render, renderOf, recsOver, Below, BelowOf, belowIn, specRecs, specRec, KidsBelow}
 use Rattle.lower.specs.Rep.{State}
 use Rattle.lower.specs.Pieces.{lowerC}
 use Rattle.lower.specs.Chains.{stepOf}
 use Rattle.words.specs.Kinds.{Opens, by-element}
 use Rattle.words.specs.Numbers.{elementNumber}
-use Rattle.words.proofs.Counting.{innerNumber, inner-number, flag-one}
+use Rattle.words.specs.Numbers
 use Rattle.lower.specs.Carry.{plainC}
 use Rattle.words.specs.Places.{kindAt, nodeKind, relKind, elementNamedAt, elementVarAt, nodeLabelsAt, nodePropsAt, relPropsAt}
 
@@ -85,8 +85,7 @@ pub record IsRel (sheet : Bytes) (a b : List ℕ) (d i : ℕ) (t : Tree patternE
   pub head : el .head ≡ rec (inPlan relSpec) tt (el .n, (direction, (length, (el .p, tt))))
 
 pub element-number : {sheet : Bytes} {a b : List ℕ} {i : ℕ} {k : PatternElement} {f : Fields (elementForms k)} → Roomy a b → RecordAt sheet a b i patternElement k f → cell a b i kindAt ≡ elementNumber k
-unfolding innerNumber
-element-number {k = k} room h = inner-number patternElement tt _ k (shown room h .kind)
+element-number {k = k} room h = Numbers.element-number _ k (shown room h .kind)
 
 names-none : (N : Notes) (lo k : ℕ) {n : ℕ} (ts : Trees name n) → BelowOf N lo k ts
 unfolding Below belowIn
@@ -94,7 +93,7 @@ names-none N lo k []ᵗ = tt
 names-none N lo k (node name line e f end ∷ᵗ ts) = (tt, names-none N lo k ts)
 
 flag-of : (p : Bool) (x : ℕ) → p ≡ eqb x 1 → x ≤ 1 → one p ≡ x
-flag-of p x e h = rw e (flag-one x h)
+flag-of p x e h = rw e (flag-word x h)
 
 module _ {sheet : Bytes} {a b : List ℕ} {d i : ℕ} (room : Roomy a b) where
   a-node-of : Opens sheet a b d i patternElement (λ t. IsNode sheet a b d i t) PatternElement.Node

@@ -69,7 +69,7 @@ relChain ch stop x = record { next = stop; ctx = ch .ctx; last = ch .last; pendi
 
 module _ {a b : List ℕ} (d base : ℕ) (ch : Chain) (stop : ℕ) (os rs : List ℕ) (room : Roomy a b) (st : ChainInBounds ch) (is-rel : cell a b (ch .next) kindAt ≡ relKind) (en : Ends a b (ch .next) stop) {x : Read} (rd : ReadAt a b (ch .next) relPropsAt x) where
   rel-same : (sheet : Bytes) (t : Tree patternElement) → Held sheet a b t d (ch .next) → (c : Lower.Chain) → SameChain sheet a b d ch c → (r : RelStep) → stepOf t ≡ ofRel r → SameChain sheet a b d (relChain ch stop x) (record { last = c .last; pending = some r; path = c .path })
-  rel-same sheet t hd c l r e = record { last = l .last; waiting = a-rel (ch .next) x refl rd t r hd e (en .each sheet patternElement d t tt hd) refl; kept = l .kept }
+  rel-same sheet t hd c l r e = record { last = l .last; waiting = a-rel (ch .next) x refl rd t r hd e (en .each sheet patternElement d t hd) refl; kept = l .kept }
 
   rel-run : (sheet : Bytes) {first : ℕ} (t : Tree patternElement) → Held sheet a b t d (ch .next) → (W : Written) (s : State) (c : Lower.Chain) → Rep (side sheet a b first) W s (mem (ch .ctx) os rs) → SameChain sheet a b d ch c → Chained (side sheet a b first) W d base ch (relChain ch stop x) t (stepOf t) c s (mem (ch .ctx) os rs) (mem (ch .ctx) os rs)
   unfolding lowerElement ret
@@ -84,7 +84,7 @@ module _ {a b : List ℕ} (d base : ℕ) (ch : Chain) (stop : ℕ) (os rs : List
 
   pub rel-law : SomeTree a b patternElement d (ch .next) → LowersElement a b d base ch (relChain ch stop x) os os rs rs
   rel-law y =
-      let z = en .each (y .sheet) patternElement d (y .tree) tt (y .held) in
+      let z = en .each (y .sheet) patternElement d (y .tree) (y .held) in
       let f = tree-fits (y .sheet) a b (y .tree) d (ch .next) (y .held) in
       let k = st .kept in
       record {
@@ -93,7 +93,7 @@ module _ {a b : List ℕ} (d base : ℕ) (ch : Chain) (stop : ℕ) (os rs : List
         anchored = record { sheet = y .sheet; pending = some _; waiting = a-rel (ch .next) x refl rd (y .tree) _ (y .held) (Elements.a-rel room (y .tree) (y .held) is-rel .step) z refl };
         ahead = omega arith;
         since = λ n l h. h;
-        next = λ sheet t hd. en .each sheet patternElement d t tt hd;
+        next = λ sheet t hd. en .each sheet patternElement d t hd;
         run = λ sheet t hd W s c r l bl. rel-run sheet t hd W s c r l;
       }
 

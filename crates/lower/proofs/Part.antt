@@ -101,7 +101,7 @@ module _ {a b : List ℕ} (d i : ℕ) {rel : ℕ} (room : Roomy a b) (k6 : cell 
       let v = a-part room t hd in
       let th = three (v .elements) (v .many ∙ k6) in
       let h = th .held sheet a b (d - 1) (i + 1) (v .held) in
-      let e : rel ≡ i + 1 + size (th .first) = na .each sheet patternElement (d - 1) (th .first) tt (h .0) in
+      let e : rel ≡ i + 1 + size (th .first) = na .each sheet patternElement (d - 1) (th .first) (h .0) in
       record { trees = th; first = h .0; second = rw e (h .1); third = rw e (h .2) }
 
   pub some-second : SomeTree a b patternPart d i → SomeTree a b patternElement (d - 1) rel
@@ -122,7 +122,7 @@ module _ {a b : List ℕ} (d i : ℕ) {rel : ℕ} (room : Roomy a b) (k6 : cell 
 
   module _ {far : ℕ} (nr : Ends a b rel far) where
     third-at : (sheet : Bytes) (t : Tree patternPart) (hd : Held sheet a b t d i) → Held sheet a b (stand sheet t hd .trees .far) (d - 1) far
-    third-at sheet t hd = let x = stand sheet t hd in rw (nr .each sheet patternElement (d - 1) (x .trees .rel) tt (x .second)) (x .third)
+    third-at sheet t hd = let x = stand sheet t hd in rw (nr .each sheet patternElement (d - 1) (x .trees .rel) (x .second)) (x .third)
 
     pub some-third : SomeTree a b patternPart d i → SomeTree a b patternElement (d - 1) far
     some-third x = record { sheet = x .sheet; tree = stand (x .sheet) (x .tree) (x .held) .trees .far; held = third-at (x .sheet) (x .tree) (x .held) }
@@ -139,7 +139,7 @@ pub other-kind : {a b : List ℕ} {d i : ℕ} → Roomy a b → SomeTree a b pat
 other-kind {d = d} {i = i} room x h = other-element room (x .sheet) d i (x .tree) (x .held) h
 
 pub starts : {a b : List ℕ} {d i : ℕ} → SomeTree a b patternElement d i → Starts a b i
-starts {d = d} x = record { sheet = x .sheet; sort = patternElement; depth = d; tree = x .tree; inner = tt; held = x .held }
+starts {d = d} x = record { sheet = x .sheet; sort = patternElement; depth = d; tree = x .tree; held = x .held }
 
 pub low-at : {a b : List ℕ} {d i : ℕ} → SomeTree a b patternElement d i → i < maxRecords
 low-at {a} {b} {d} {i} x = let f = tree-fits (x .sheet) a b (x .tree) d i (x .held) in omega arith

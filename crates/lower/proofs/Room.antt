@@ -160,10 +160,10 @@ after-rel j g p le lj =
     record { few = omega (arith, g .few, n .ops, v .few, v .up); low = omega (arith, g .low, n .low, v .low, v .up); met = omega (arith, g .met, n .met, v .met, v .up); here = lj; in-ops = rw (v .in-ops) (g .in-ops); in-rest = rw (v .in-rest ∙ p .kept) (g .in-rest); index = v .index (n .index (g .index)) }
 
 pub start-ends : {a b : List ℕ} {d base i number e k r : ℕ} {m m′ : Mem} → SomeTree a b patternElement d i → LowersStart a b d base i number e k m m′ → Ends a b i r → e ≡ r
-start-ends {d = d} x p n = p .next (x .sheet) (x .tree) (x .held) ∙ sym (n .each (x .sheet) patternElement d (x .tree) tt (x .held))
+start-ends {d = d} x p n = p .next (x .sheet) (x .tree) (x .held) ∙ sym (n .each (x .sheet) patternElement d (x .tree) (x .held))
 
 pub rel-ends : {a b : List ℕ} {d base i e r : ℕ} {c : LowerCtx} {os rest : List ℕ} {m′ : Mem} → Roomy a b → cell a b i kindAt ≡ relKind → SomeTree a b patternElement d i → LowersRel a b d base i e c os rest m′ → Ends a b i r → e ≡ r
-rel-ends {d = d} {i = i} room k x p n = rel-end room d i k p (x .sheet) (x .tree) (x .held) ∙ sym (n .each (x .sheet) patternElement d (x .tree) tt (x .held))
+rel-ends {d = d} {i = i} room k x p n = rel-end room d i k p (x .sheet) (x .tree) (x .held) ∙ sym (n .each (x .sheet) patternElement d (x .tree) (x .held))
 
 -- two numbers running, and an operator behind them
 module _ {d i : ℕ} {c : LowerCtx} {os rs : List ℕ} (g : RoomFor d i (mem c os rs)) {step : Lowering ℕ} {rs′ : List ℕ} {r : Numbered} (n : Issued step c (drop varsAt rs) (drop varsAt rs′) r) where

@@ -85,12 +85,12 @@ module _ {a b : List ℕ} (d base i rel far e : ℕ) {p₁ p₃ p₄ e₁ e₂ k
       let v = a-part room t hd in
       let th = three (v .elements) (v .many ∙ k6) in
       let h = th .held sheet a b (d - 1) (i + 1) (v .held) in
-      let E₁ : rel ≡ i + 1 + size (th .first) = na .each sheet patternElement (d - 1) (th .first) tt (h .0) in
+      let E₁ : rel ≡ i + 1 + size (th .first) = na .each sheet patternElement (d - 1) (th .first) (h .0) in
       let hr : Held sheet a b (th .rel) (d - 1) rel = rw E₁ (h .1) in
-      let E₂ : far ≡ rel + size (th .rel) = nr .each sheet patternElement (d - 1) (th .rel) tt hr in
+      let E₂ : far ≡ rel + size (th .rel) = nr .each sheet patternElement (d - 1) (th .rel) hr in
       let E₂′ : far ≡ i + 1 + size (th .first) + size (th .rel) = omega arith in
       let hf : Held sheet a b (th .far) (d - 1) far = rw E₂′ (h .2) in
-      let E₃ : e ≡ far + size (th .far) = nf .each sheet patternElement (d - 1) (th .far) tt hf in
+      let E₃ : e ≡ far + size (th .far) = nf .each sheet patternElement (d - 1) (th .far) hf in
       let f₁ = tree-fits sheet a b (th .first) (d - 1) (i + 1) (h .0) in
       let f₃ = tree-fits sheet a b (th .far) (d - 1) far hf in
       let z = v .sized in

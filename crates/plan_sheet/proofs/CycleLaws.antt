@@ -41,7 +41,7 @@ module _ {sheet : Bytes} {a b os rest : List ℕ} {below base left i : ℕ} wher
   one-deep h = deep sheet a b left i (h .tree) (h .held)
 
   pub starts : One sheet a b os rest below base left i → Starts a b i
-  starts h = record { sheet = sheet; sort = expr; depth = left; tree = h .tree; inner = tt; held = h .held }
+  starts h = record { sheet = sheet; sort = expr; depth = left; tree = h .tree; held = h .held }
 
   -- one that has no line before it, as the first of one
   pub alone : One sheet a b os rest below base left i → Many sheet a b os rest below base left 1 i
@@ -67,7 +67,7 @@ module _ {sheet : Bytes} {a b os rest : List ℕ} {below base left i : ℕ} wher
     unfolding copy-plan spellRecs
     copy-wrote {p} {q} {r} {next} head op ends =
         let recs : render (shift (noted rest) base) (h .ops) (h .tree) ≡ exprHead n (one-at h .kind) (one-at h .fields) ∷ h .ops n = rw (← noted-is) at (copy-of .recs (h .ops)) in
-        (ends .each sheet expr left (h .tree) tt (h .held), rw recs (head (one-at h) ⨾ op copy-plan))
+        (ends .each sheet expr left (h .tree) (h .held), rw recs (head (one-at h) ⨾ op copy-plan))
 
   -- any other: what is below it
   module _ (room : Roomy a b) {m : ℕ} (count : m ≡ countAt a b i) (z : cell a b i kindAt ≡ patKind → ⊥) (h : One sheet a b os rest below base left i) where

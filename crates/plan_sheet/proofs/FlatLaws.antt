@@ -46,7 +46,7 @@ pub behind-later : {sheet : Bytes} {a b os rest : List ℕ} {below base left n i
 behind-later z h w = let s = split z h in let e = w (s .recs) (s .j) (s .line) .0 in omega (arith, line-on (s .line), e)
 
 pub ends-later : {sheet : Bytes} {a b os rest : List ℕ} {below base left i last : ℕ} → One sheet a b os rest below base left i → Ends a b i last → i < last
-ends-later {sheet} {a} {b} {left = left} {i = i} h e = let p = tree-fits sheet a b (h .tree) left i (h .held) in let q = e .each sheet expr left (h .tree) tt (h .held) in omega (arith, p .0, q)
+ends-later {sheet} {a} {b} {left = left} {i = i} h e = let p = tree-fits sheet a b (h .tree) left i (h .held) in let q = e .each sheet expr left (h .tree) (h .held) in omega (arith, p .0, q)
 
 -- ── one turn ──
 

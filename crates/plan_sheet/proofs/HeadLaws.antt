@@ -18,8 +18,7 @@ use Rattle.words.specs.Words.{Roomy, cell, kindOf, firstKind, nth, fieldOf, fie
 use Rattle.words.specs.Held.{RecordAt, Texts, PlaceAt}
 use Rattle.words.specs.Places.{kindAt, itemKind, keyKind, entryKind, nullKind, intKind, varKind, fnKind, patKind, listPredicateKind, unresKind, undesKind, nameAt, intLowAt, intHighAt, fnArgsAt, listPredicateKindAt, listPredicatePredAt}
 use Rattle.words.specs.Cells.{cells, part-cells, shown, numbered, number-of}
-use Rattle.words.proofs.Counting.{inner-number, innerNumber}
-use Rattle.words.specs.Numbers.{Others, other-than, exprNumber}
+use Rattle.words.specs.Numbers.{Others, other-than, exprNumber, expr-number}
 use Rattle.plan_line.specs.Keywords.{word, letters, varWord, existsWord, nullWord, listPredicateWord, fnWord}
 use Rattle.plan_line.specs.Copy.{SomeRecord, Copied}
 use Rattle.plan_line.specs.Row.{rowText, namedText, intText}
@@ -83,8 +82,7 @@ module _ {sheet : Bytes} {a b : List ℕ} {i : ℕ} (room : Roomy a b) where
   texts-at h = rw (part-cells a b i room (h .low)) at (h .texts)
 
   pub number-is : (h : ExprAt sheet a b i) → cell a b i kindAt ≡ exprNumber (h .kind)
-  unfolding innerNumber
-  number-is h = inner-number expr tt (cell a b i kindAt) (h .kind) (shown room (h .at) .kind)
+  number-is h = expr-number (cell a b i kindAt) (h .kind) (shown room (h .at) .kind)
 
   pub kind-is : (h : ExprAt sheet a b i) (n : ℕ) (k : Expr) → cell a b i kindAt ≡ n → kindOf expr n ≡ some k → k ≡ h .kind
   kind-is h n k e q = Option·some-injective _ _ (sym q ∙ rw e at (shown room (h .at) .kind))
@@ -150,8 +148,8 @@ module _ {sheet : Bytes} {a b : List ℕ} {i : ℕ} (room : Roomy a b) where
   -- ── the line before an expression ──
 
   entry-number : {f : Fields (forms entry tt)} → RecordAt sheet a b i entry tt f → cell a b i kindAt ≡ entryKind
-  unfolding innerNumber
-  entry-number h = inner-number entry tt (cell a b i kindAt) tt (shown room h .kind)
+  unfolding numbered firstKind kinds
+  entry-number h = number-of entry (λ x. entryKind) refl (cell a b i kindAt) tt (shown room h .kind)
 
   key-number : {f : Fields (forms orderItem tt)} → RecordAt sheet a b i orderItem tt f → cell a b i kindAt ≡ keyKind
   unfolding numbered firstKind kinds

@@ -18,8 +18,8 @@ use Rattle.words.specs.Words.{Roomy, cell, fieldOf, fieldsOf}
 use Rattle.words.specs.Held.{Held, HeldOf, RecordAt, PlaceAt, size, sizeOf}
 use Rattle.words.specs.Cells.{shown}
 use Rattle.lower.specs.Render.{Notes, Ops, recsOver, render, renderOf, specRec}
-use Rattle.words.proofs.Counting.{innerNumber, inner-number}
 use Rattle.words.specs.Numbers.{elementNumber}
+use Rattle.words.specs.Numbers
 use Rattle.plan_line.specs.Keywords.{word, letters, wordCount, toWord, relWord}
 use Rattle.plan_line.specs.Copy.{SomeRecord, Copied}
 use Rattle.plan_line.specs.Row.{rowText, relText, NamedAsked}
@@ -107,8 +107,7 @@ four p q r s t = append-assoc p (q ++ (r ++ s)) t ∙ ap (λ (x : Bytes). p ++ x
 
 module _ {sheet : Bytes} {a b : List ℕ} {i : ℕ} (room : Roomy a b) where
   pub element-number : (h : ElementAt sheet a b i) → cell a b i kindAt ≡ elementNumber (h .kind)
-  unfolding innerNumber
-  element-number h = inner-number patternElement tt (cell a b i kindAt) (h .kind) (shown room (h .at) .kind)
+  element-number h = Numbers.element-number (cell a b i kindAt) (h .kind) (shown room (h .at) .kind)
 
   node-fields : (k : PatternElement) (f : Fields (elementForms k)) → RecordAt sheet a b i patternElement k f → elementNumber k ≡ nodeKind → spellRec (specRec k f) ≡ rowText toWord (cell a b i nodeLabelsAt ∷ cell a b i nodePropsAt ∷ [])
   unfolding elementNumber specRec keyword planKeyword word letters bytes bytesFrom spellFields spell fieldsOf fieldOf

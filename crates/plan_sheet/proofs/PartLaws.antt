@@ -15,11 +15,11 @@ use Rattle.model.specs.Tree.{Tree, Trees, Forest, node, end, _▸_}
 use Rattle.model.specs.Lower.{Recs, exprHead}
 use Rattle.words.specs.Words.{Roomy, cell, kindOf, firstKind, nth, fieldOf, fieldsOf}
 use Rattle.words.specs.Held.{Held, HeldOf, size, sizeOf}
-use Rattle.words.specs.Cells.{shown}
+use Rattle.words.specs.Cells.{shown, flag-word}
 use Rattle.lower.specs.Render.{Notes, Ops, exprRecs, exprRest, recsOver, render, renderOf, renderIn, Below, BelowOf, BelowIn, belowIn, copiesBelow, specRec, specRecs, KidsBelow}
 use Rattle.words.specs.Places.{patKind, kindAt, nodeKind, nodeLabelsAt, nodePropsAt, relKind, relPropsAt}
 use Rattle.words.specs.Count.{countAt}
-use Rattle.words.proofs.Counting.{counted, flag-one}
+use Rattle.words.proofs.Counting.{counted}
 use Rattle.words.specs.Numbers.{exprNumber, elementNumber}
 use Rattle.plan_sheet.specs.Due.{ExprAt, ElementAt, Carried, carriedRecs, carriedEnd, Names, namesRecs}
 use Rattle.plan_sheet.specs.Due
@@ -122,7 +122,7 @@ module _ {sheet : Bytes} {a b : List ℕ} (N : Notes) (first below left i : ℕ)
       let at : ElementAt sheet a b i = record { kind = PatternElement.Node; fields = f; at = h .1 } in
       let s = shown room (h .1) in
       let n : f .1 .0 ≡ cell a b i nodeLabelsAt = ap (λ (x : Fields (elementForms PatternElement.Node)). x .1 .0) (s .fields) in
-      let q : one (f .1 .1 .0) ≡ cell a b i nodePropsAt = ap (λ (x : Fields (elementForms PatternElement.Node)). one (x .1 .1 .0)) (s .fields) ∙ flag-one (cell a b i nodePropsAt) (s .flags .1 .1 .0) in
+      let q : one (f .1 .1 .0) ≡ cell a b i nodePropsAt = ap (λ (x : Fields (elementForms PatternElement.Node)). one (x .1 .1 .0)) (s .fields) ∙ flag-word (cell a b i nodePropsAt) (s .flags .1 .1 .0) in
       let k : propsAt a b i ≡ cell a b i nodePropsAt = rw (eq-eqb (cell a b i kindAt) nodeKind (element-number room at)) in
       let m = element-made labels ps n (q ∙ sym k) (h .3 .0) (h .3 .1 .0) (u .1 .0) in
       record { at = at; deep = h .2; names = m .0; list = m .1; recs = λ A. ap (λ (r : Recs). specRec PatternElement.Node f ∷ r) (m .2 A) }
@@ -130,7 +130,7 @@ module _ {sheet : Bytes} {a b : List ℕ} (N : Notes) (first below left i : ℕ)
       let at : ElementAt sheet a b i = record { kind = PatternElement.Rel; fields = f; at = h .1 } in
       let s = shown room (h .1) in
       let n : f .1 .0 ≡ cell a b i nodeLabelsAt = ap (λ (x : Fields (elementForms PatternElement.Rel)). x .1 .0) (s .fields) in
-      let q : one (f .1 .1 .1 .1 .0) ≡ cell a b i relPropsAt = ap (λ (x : Fields (elementForms PatternElement.Rel)). one (x .1 .1 .1 .1 .0)) (s .fields) ∙ flag-one (cell a b i relPropsAt) (s .flags .1 .1 .1 .1 .0) in
+      let q : one (f .1 .1 .1 .1 .0) ≡ cell a b i relPropsAt = ap (λ (x : Fields (elementForms PatternElement.Rel)). one (x .1 .1 .1 .1 .0)) (s .fields) ∙ flag-word (cell a b i relPropsAt) (s .flags .1 .1 .1 .1 .0) in
       let k : propsAt a b i ≡ cell a b i relPropsAt = rw (ne-eqb (cell a b i kindAt) nodeKind (λ x. let y : _≡_ {A = ℕ} relKind nodeKind = sym (element-number room at) ∙ x in omega arith)) in
       let m = element-made labels ps n (q ∙ sym k) (h .3 .0) (h .3 .1 .0) (u .1 .0) in
       record { at = at; deep = h .2; names = m .0; list = m .1; recs = λ A. ap (λ (r : Recs). specRec PatternElement.Rel f ∷ r) (m .2 A) }

@@ -110,7 +110,7 @@ module _ {sheet : Bytes} {a b os rest : List ℕ} {below base left i : ℕ} wher
   -- it is of the other part
   pub other-wrote : {is : Bool} (aggs : Bool) {next : ℕ} {p : Page} → Told sheet a b i is → not (Bool·beq is aggs) ≡ true → Ends a b i next → WrotePart sheet a b os rest below base left i aggs p next p
   unfolding spellRecs
-  other-wrote {is} aggs told z ends h = (ends .each sheet expr left (h .tree) tt (h .held), rw (other-recs (shift (noted rest) base) (h .ops) is aggs (h .tree) (told left (h .tree) (h .held)) (differ is aggs z)) stay)
+  other-wrote {is} aggs told z ends h = (ends .each sheet expr left (h .tree) (h .held), rw (other-recs (shift (noted rest) base) (h .ops) is aggs (h .tree) (told left (h .tree) (h .held)) (differ is aggs z)) stay)
 
   -- it is a key
   pub key-wrote : {is : Bool} (aggs : Bool) {next : ℕ} {p q : Page} → Told sheet a b i is → not (Bool·beq is aggs) ≡ false → is ≡ false → WroteOne sheet a b os rest below base left i p next q → WrotePart sheet a b os rest below base left i aggs p next q

@@ -85,7 +85,7 @@ module _ {sheet : Bytes} {a b rest : List ℕ} {base at kind next : ℕ} {path p
       let x : ElementAt sheet a b at = record { kind = PatternElement.Node; fields = f; at = h .0 .1 } in
       let w = s .of-node (k ∙ element-number room x) in
       let e : suc m - 1 ≡ m = omega arith in
-      let n : next ≡ at + size (node patternElement line PatternElement.Node f kids) = ends .each sheet patternElement d (node patternElement line PatternElement.Node f kids) tt (h .0) in
+      let n : next ≡ at + size (node patternElement line PatternElement.Node f kids) = ends .each sheet patternElement d (node patternElement line PatternElement.Node f kids) (h .0) in
       let l : suc at ≡ line = sym (h .0 .0) in
       let before : List ℕ = keptRel (shift (noted rest) base) (path .seen) (waitsOf (path .waits)) ++ (getD rest (base + line) 0 ∷ []) in
       rw (e, n, w .0, w .1) (record {
@@ -96,7 +96,7 @@ module _ {sheet : Bytes} {a b rest : List ℕ} {base at kind next : ℕ} {path p
       let x : ElementAt sheet a b at = record { kind = PatternElement.Rel; fields = f; at = h .0 .1 } in
       let w = s .of-rel (λ e. let y : relKind ≡ nodeKind = sym (element-number room x) ∙ sym k ∙ e in omega arith) in
       let e : suc m - 1 ≡ m = omega arith in
-      let n : next ≡ at + size (node patternElement line PatternElement.Rel f kids) = ends .each sheet patternElement d (node patternElement line PatternElement.Rel f kids) tt (h .0) in
+      let n : next ≡ at + size (node patternElement line PatternElement.Rel f kids) = ends .each sheet patternElement d (node patternElement line PatternElement.Rel f kids) (h .0) in
       let l : suc at ≡ line = sym (h .0 .0) in
       rw (e, n, w .0, w .1, w .2) (record {
         others = record { depth = d; trees = ts; held = h .1 };
@@ -116,7 +116,7 @@ walking h = record { some = h; each = λ h. record { others = h; text = λ r v. 
 first-element : (sheet : Bytes) (a b : List ℕ) (d i : ℕ) {n : ℕ} → (n ≡ 0 → ⊥) → (ts : Trees patternElement n) → HeldOf sheet a b ts d i → Starts a b i × (i < maxRecords)
 unfolding Held
 first-element sheet a b d i z []ᵗ h = absurd (z refl)
-first-element sheet a b d i z (node patternElement line k f kids ∷ᵗ ts) h = (record { sheet = sheet; sort = patternElement; depth = d; tree = node patternElement line k f kids; inner = tt; held = h .0 }, h .0 .1 .low)
+first-element sheet a b d i z (node patternElement line k f kids ∷ᵗ ts) h = (record { sheet = sheet; sort = patternElement; depth = d; tree = node patternElement line k f kids; held = h .0 }, h .0 .1 .low)
 
 pub element-starts : {sheet : Bytes} {a b : List ℕ} {n i : ℕ} → (n ≡ 0 → ⊥) → Elements sheet a b n i → Starts a b i × (i < maxRecords)
 element-starts {sheet = sheet} {a = a} {b = b} {i = i} z h = first-element sheet a b (h .depth) i z (h .trees) (h .held)

@@ -5,3 +5,4 @@ pub mod Counting
 pub mod Patterns
 pub mod Checks
 pub mod Clauses
+pub mod Flat

@@ -15,6 +15,7 @@ use Rattle.words.specs.Words.{Roomy, cell, kindOf, fieldsOf, maxRecords}
 use Rattle.words.specs.Places.{kindAt}
 use Rattle.words.specs.Held.{Held, HeldOf, HeldIn, Flags, size, sizeOf, sizeIn, roomIn, total}
 use Rattle.words.specs.Count.{countAt}
+use Rattle.words.specs.Fits.{tree-fits}
 use Rattle.words.proofs.Counting.{counted}
 use Rattle.precheck.specs.Steps.{Then, Run, no-more, one-more}
 use Rattle.words.specs.Cells.{cells, Shown, shown}
@@ -125,27 +126,5 @@ open-as {a} {b} {s} {d} {span} {i} {u} {v} {e} o k h =
 
 -- ── what stands in the words ends in them ──
 
-module _ (sheet : Bytes) (a b : List ℕ) where
-  mutual
-    unfolding Held size
-
-    low-tree : {s : Sort} (t : Tree s) (d i : ℕ) → Held sheet a b t d i → i + size t ≤ maxRecords
-    low-tree (node s line k f kids) d i h =
-        let l : i < maxRecords = h .1 .low in
-        let r : i + 1 + sizeIn kids ≤ maxRecords = low-forest kids (roomIn s d) (i + 1) (omega arith) (h .3) in
-        omega arith
-
-    low-trees : {s : Sort} {n : ℕ} (ts : Trees s n) (d i : ℕ) → i ≤ maxRecords → HeldOf sheet a b ts d i → i + sizeOf ts ≤ maxRecords
-    low-trees []ᵗ d i l h = omega arith
-    low-trees (t ∷ᵗ ts) d i l h =
-        let r : i + size t + sizeOf ts ≤ maxRecords = low-trees ts d (i + size t) (low-tree t d i (h .0)) (h .1) in
-        omega arith
-
-    low-forest : {gs : List Group} (f : Forest gs) (d i : ℕ) → i ≤ maxRecords → HeldIn sheet a b f d i → i + sizeIn f ≤ maxRecords
-    low-forest end d i l h = omega arith
-    low-forest (ts ▸ f) d i l h =
-        let r : i + sizeOf ts + sizeIn f ≤ maxRecords = low-forest f d (i + sizeOf ts) (low-trees ts d i l (h .0)) (h .1) in
-        omega arith
-
 pub low-end : {a b : List ℕ} {s : Sort} {d : ℕ} {span : Span} {i : ℕ} {v : Verdict} {e : ℕ} → At a b s d span i v e → e ≤ maxRecords
-low-end {a} {b} {d = d} {i = i} h = rw (h .next) (low-tree (h .sheet) a b (h .tree) d i (h .held))
+low-end {a} {b} {d = d} {i = i} h = rw (h .next) (tree-fits (h .sheet) a b (h .tree) d i (h .held) .1)

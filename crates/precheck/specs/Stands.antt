@@ -92,6 +92,20 @@ partVerdict false i span = violated (Refusal.EmptyPatternPart (suc i) span)
 pub record Begins (a b : List ℕ) (i : ℕ) (begins : Bool) : Type 0 where
   pub each : (sheet : Bytes) (d : ℕ) (t : Tree patternPart) (span : Span) → Held sheet a b t d i → ownVerdict t span ≡ partVerdict begins i span
 
+-- ── the records alone ──
+
+-- a test tells something where it passes, and nothing where it does not
+pub record Tells (passes : Bool) (P : Type 0) : Type 0 where
+  pub so : passes ≡ true → P
+
+-- no tree that stands at record i, of whatever sort, is refused for its own record
+pub record Taken (a b : List ℕ) (i : ℕ) : Type 0 where
+  pub each : (sheet : Bytes) (s : Sort) (d : ℕ) (t : Tree s) (span : Span) → Held sheet a b t d i → ownVerdict t span ≡ fine
+
+-- no tree that stands at the first record is refused
+pub record NoneRefused (a b : List ℕ) : Type 0 where
+  pub each : (sheet : Bytes) (s : Sort) (d : ℕ) (t : Tree s) (span : Span) → Held sheet a b t d 0 → check t span ≡ fine
+
 -- ── what a walk asks ──
 
 -- words with room, more than so many levels left, and that something stands there

@@ -8,9 +8,10 @@ ghost use Rattle.model.specs.Tree.{Tree};
 ghost use Rattle.words.specs.Held.{Held, HeldSome};
 ghost use Rattle.words.specs.Places.{kindAt, lineEndAt};
 ghost use Rattle.words.specs.Words.{Roomy, cell, maxRecords};
+ghost use Rattle.words.specs.Count.{Starts};
 ghost use Rattle.precheck.specs.Answer.{spanOf, Says};
 ghost use Rattle.precheck.specs.Steps.{Some, Ends, Walks, Run};
-ghost use Rattle.precheck.specs.Stands.{At, Standing, Exprs, Spans, SomeAt, Inside, Begins, Own, spanWord, Trailers, Projected, Called, leastDepth, WalkAsked, ClauseAsked};
+ghost use Rattle.precheck.specs.Stands.{At, Standing, Exprs, Spans, SomeAt, Inside, Begins, Own, spanWord, Trailers, Projected, Called, Tells, Taken, NoneRefused, leastDepth, WalkAsked, ClauseAsked};
 use words::field;
 use words::kind;
 use words::records::children;
@@ -404,6 +405,44 @@ fn check_arms(a: &[u32], b: &[u32], i: usize, n: usize, left: usize) -> Walk
     Walk::Go(at)
 }
 
+// ── the records alone ──
+
+// Whether the lowering takes record i, whatever stands around it.
+fn record_taken(a: &[u32], b: &[u32], i: usize) -> bool
+    requires { ⌜ Roomy (now a) (now b) ⌝ }
+    requires { ⌜ Starts (now a) (now b) i ⌝ }
+    ensures { λ r. ⌜ Tells r (Taken (now (a .entry)) (now (b .entry)) i) ⌝ }
+{
+    let kind = words::word(a, b, i, field::KIND);
+    if kind == kind::PART {
+        return begins_with_node(a, b, i);
+    }
+    // of expressions the last two kinds are refused
+    if kind >= kind::UNRES {
+        return false;
+    }
+    true
+}
+
+// Whether the lowering takes every record, told one after another: most statements are refused for nothing, and need no walk.
+fn nothing_refused(a: &[u32], b: &[u32]) -> bool
+    requires { ⌜ Roomy (now a) (now b) ⌝ }
+    requires { ⌜ Starts (now a) (now b) 0 ⌝ }
+    ensures { λ r. ⌜ Tells r (NoneRefused (now (a .entry)) (now (b .entry))) ⌝ }
+{
+    let mut i = 0;
+    let mut due = 1;
+    while due != 0 {
+        if !record_taken(a, b, i) {
+            return false;
+        }
+        let n = children(a, b, i);
+        due = due - 1 + n;
+        i += 1;
+    }
+    true
+}
+
 // ── the check of a statement ──
 
 // The first record, in sheet order, that the lowering does not take, of a statement of at most a depth: clauses in order, then each arm's.
@@ -413,6 +452,9 @@ pub fn precheck_statement(a: &[u32], b: &[u32], depth: usize) -> Checked
     requires { ⌜ ((sheet : Bytes) × HeldSome sheet (now a) (now b) statement depth 0) ⌝ }
     ensures { λ r. ⌜ ((sheet : Bytes) (t : Tree statement) → Held sheet (now (a .entry)) (now (b .entry)) t depth 0 → Says r (precheckStatement t)) ⌝ }
 {
+    if nothing_refused(a, b) {
+        return Checked::Fine;
+    }
     let clauses = count(a, b, 0, field::STMT_CLAUSES);
     let arms = count(a, b, 0, field::STMT_ARMS);
     let less = depth - 1;

@@ -1,66 +1,27 @@
 -- How many children a record has, and the record behind a tree. Assumes nothing.
 use mathlib.Core.Path.{_≡_, refl, sym, ap, _∙_}
-use Prim.Native.Nat.{ℕ, zero, suc, _+_, _-_, _≤_, _<_}
+use Prim.Native.Nat.{ℕ, suc, _+_, _-_, _≤_, _<_}
 use native.Mathlib.Nat.{mod-eq-of-lt}
 use native.Mathlib.Omega.{arith}
 use mathlib.Core.Bool.{true, false, false≢true}
-use mathlib.Core.List.{List, [], _∷_}
-use mathlib.Core.Option.{some}
-use lib.Dec.{eqb}
+use mathlib.Core.List.{List}
 use Rattle.model.specs.Text.{Bytes}
 use Rattle.model.specs.Field.{Fields}
-use Rattle.model.specs.Kind.{Sort, Kind, PatternElement, Same, Expr, patternPart, patternElement, name, entry, expr, statement, unionArm, clause, projection, orderItem, yieldItem, inPlan}
-use Rattle.model.specs.Record.{Group, one, forms, children, kinds, sames}
+use Rattle.model.specs.Kind.{Sort, Kind, Same, Expr, expr}
+use Rattle.model.specs.Record.{Group, forms, children}
 use Rattle.model.specs.Tree.{Tree, Trees, Forest, node, []ᵗ, _∷ᵗ_, end, _▸_}
-use Rattle.words.specs.Words.{maxRecords, Roomy, cell, kindOf, firstKind}
+use Rattle.words.specs.Words.{maxRecords, Roomy, cell}
 use Rattle.words.specs.Held.{RecordAt, Held, HeldOf, HeldIn, size, sizeOf, sizeIn, roomIn, total}
-use Rattle.words.specs.Cells.{shown, numbered, number-of}
-use Rattle.words.specs.Fits.{tree-fits, forest-fits}
+use Rattle.words.specs.Cells.{shown}
+use Rattle.words.specs.Fits.{tree-fits, forest-fits, tree-low}
 use Rattle.words.specs.GroupLaws.{part-cell}
-use Rattle.words.specs.Count.{Inner, countAt, isLeaf, Due, none-due, one-due, Starts, Ends}
-use Rattle.words.specs.Numbers.{sameNumber, exprNumber, elementNumber, expr-number}
-use Rattle.words.specs.Places.{kindAt, childrenAt, nameKind, partKind, entryKind}
+use Rattle.words.specs.Count.{countAt, isLeaf, Due, none-due, one-due, Starts, Ends}
+use Rattle.words.specs.Numbers.{sameNumber, exprNumber, expr-number}
+use Rattle.words.specs.Places.{kindAt, childrenAt}
 
 -- an expression that has none, whatever its fields, is of no kind that may have one
 pub leaf-not : (c k : ℕ) → isLeaf c ≡ true → isLeaf k ≡ false → c ≡ k → ⊥
 leaf-not c k e f q = false≢true (sym f ∙ ap isLeaf (sym q) ∙ e)
-
--- ── by the kind ──
-
--- the number of a kind of a pattern or an expression
-unfoldable pub innerNumber : (s : Sort) → Kind s → ℕ
-innerNumber statement k = 0
-innerNumber unionArm k = 0
-innerNumber clause k = 0
-innerNumber projection k = 0
-innerNumber orderItem k = 0
-innerNumber patternPart k = partKind
-innerNumber patternElement k = elementNumber k
-innerNumber name k = nameKind
-innerNumber yieldItem k = 0
-innerNumber entry k = entryKind
-innerNumber expr k = exprNumber k
-innerNumber (inPlan p) k = 0
-
-pub inner-number : (s : Sort) → Inner s → (n : ℕ) (k : Kind s) → kindOf s n ≡ some k → n ≡ innerNumber s k
-unfolding numbered firstKind kinds sames exprNumber sameNumber elementNumber innerNumber
-inner-number statement i n k h = absurd i
-inner-number unionArm i n k h = absurd i
-inner-number clause i n k h = absurd i
-inner-number projection i n k h = absurd i
-inner-number orderItem i n k h = absurd i
-inner-number patternPart i n k h = number-of patternPart (λ x. partKind) refl n k h
-inner-number patternElement i n k h = number-of patternElement (λ x. elementNumber x) refl n k h
-inner-number name i n k h = number-of name (λ x. nameKind) refl n k h
-inner-number yieldItem i n k h = absurd i
-inner-number entry i n k h = number-of entry (λ x. entryKind) refl n k h
-inner-number expr i n k h = number-of expr (λ x. exprNumber x) refl n k h
-inner-number (inPlan p) i n k h = absurd i
-
-pub flag-one : (x : ℕ) → x ≤ 1 → one (eqb x 1) ≡ x
-flag-one zero h = refl
-flag-one (suc zero) h = refl
-flag-one (suc (suc n)) h = absurd (omega arith)
 
 -- ── by the record's word ──
 
@@ -108,63 +69,41 @@ leaf-count sheet a b d i kind (node expr line k f kids) room h c e =
 
 -- ── records that are due ──
 
-abbrev AllInner : List Group → Type 0
-AllInner [] = Unit {0}
-AllInner (g ∷ gs) = Inner (g .0) × AllInner gs
-
-kids-inner : (s : Sort) (k : Kind s) (f : Fields (forms s k)) → Inner s → AllInner (children s k f)
-kids-inner statement k f i = absurd i
-kids-inner unionArm k f i = absurd i
-kids-inner clause k f i = absurd i
-kids-inner projection k f i = absurd i
-kids-inner orderItem k f i = absurd i
-kids-inner patternPart k f i = (tt, tt)
-kids-inner patternElement PatternElement.Node f i = (tt, (tt, tt))
-kids-inner patternElement PatternElement.Rel f i = (tt, (tt, tt))
-kids-inner name k f i = tt
-kids-inner yieldItem k f i = absurd i
-kids-inner entry k f i = (tt, tt)
-kids-inner expr (Expr.Over h) f i = (tt, tt)
-kids-inner expr Expr.Var f i = tt
-kids-inner expr Expr.Map f i = (tt, tt)
-kids-inner expr Expr.Call f i = (tt, tt)
-kids-inner expr Expr.PatternPredicate f i = (tt, tt)
-kids-inner expr Expr.ListPredicate f i = (tt, tt)
-kids-inner expr Expr.Unresolved f i = tt
-kids-inner expr Expr.Undesugared f i = tt
-kids-inner (inPlan p) k f i = absurd i
-
 module _ {sheet : Bytes} {a b : List ℕ} {e : ℕ} where
   due-at : {n n′ i i′ : ℕ} → n ≡ n′ → i ≡ i′ → Due sheet a b e n i → Due sheet a b e n′ i′
   due-at p q h = rw (← p, ← q) h
 
-  trees-due : {s : Sort} {n : ℕ} (ts : Trees s n) (d m i : ℕ) → Inner s → HeldOf sheet a b ts d i → Due sheet a b e m (i + sizeOf ts) → Due sheet a b e (n + m) i
+  trees-due : {s : Sort} {n : ℕ} (ts : Trees s n) (d m i : ℕ) → HeldOf sheet a b ts d i → Due sheet a b e m (i + sizeOf ts) → Due sheet a b e (n + m) i
   unfolding Held size
-  trees-due []ᵗ d m i inn h r = due-at (omega arith) (omega arith) r
-  trees-due (_∷ᵗ_ {s = s} {n = n} t ts) d m i inn h r = due-at {n = suc (n + m)} (omega arith) refl (one-due s d t inn (h .0) (trees-due ts d m (i + size t) inn (h .1) (due-at refl (omega arith) r)))
+  trees-due []ᵗ d m i h r = due-at (omega arith) (omega arith) r
+  trees-due (_∷ᵗ_ {s = s} {n = n} t ts) d m i h r = due-at {n = suc (n + m)} (omega arith) refl (one-due s d t (h .0) (trees-due ts d m (i + size t) (h .1) (due-at refl (omega arith) r)))
 
-  forest-due : {gs : List Group} (f : Forest gs) (d m i : ℕ) → AllInner gs → HeldIn sheet a b f d i → Due sheet a b e m (i + sizeIn f) → Due sheet a b e (total gs + m) i
+  forest-due : {gs : List Group} (f : Forest gs) (d m i : ℕ) → HeldIn sheet a b f d i → Due sheet a b e m (i + sizeIn f) → Due sheet a b e (total gs + m) i
   unfolding Held size
-  forest-due end d m i inn h r = due-at (omega arith) (omega arith) r
-  forest-due (_▸_ {s = s} {n = n} {gs = gs} ts f) d m i inn h r = due-at {n = n + (total gs + m)} (omega arith) refl (trees-due ts d (total gs + m) i (inn .0) (h .0) (forest-due f d m (i + sizeOf ts) (inn .1) (h .1) (due-at refl (omega arith) r)))
+  forest-due end d m i h r = due-at (omega arith) (omega arith) r
+  forest-due (_▸_ {s = s} {n = n} {gs = gs} ts f) d m i h r = due-at {n = n + (total gs + m)} (omega arith) refl (trees-due ts d (total gs + m) i (h .0) (forest-due f d m (i + sizeOf ts) (h .1) (due-at refl (omega arith) r)))
 
   -- the next record, and its children in its place
-  step-tree : {s : Sort} (t : Tree s) (d m i : ℕ) → Roomy a b → Inner s → Held sheet a b t d i → Due sheet a b e m (i + size t) → (i < maxRecords) × Due sheet a b e (countAt a b i + m) (i + 1)
+  step-tree : {s : Sort} (t : Tree s) (d m i : ℕ) → Roomy a b → Held sheet a b t d i → Due sheet a b e m (i + size t) → Due sheet a b e (countAt a b i + m) (i + 1)
   unfolding Held size
-  step-tree (node s line k f kids) d m i room inn h r =
-      (h .1 .low, rw (counted (h .1) (roomIn s d) kids (h .3)) (forest-due kids (roomIn s d) m (i + 1) (kids-inner s k f inn) (h .3) (due-at refl (omega arith) r)))
+  step-tree (node s line k f kids) d m i room h r =
+      rw (counted (h .1) (roomIn s d) kids (h .3)) (forest-due kids (roomIn s d) m (i + 1) (h .3) (due-at refl (omega arith) r))
 
-  pub step : (n i : ℕ) → Roomy a b → ((n ≡ 0) → ⊥) → Due sheet a b e n i → (i < maxRecords) × Due sheet a b e (n - 1 + countAt a b i) (i + 1)
+  pub step : (n i : ℕ) → Roomy a b → ((n ≡ 0) → ⊥) → Due sheet a b e n i → Due sheet a b e (n - 1 + countAt a b i) (i + 1)
   step n i room h (none-due p) = absurd (h refl)
-  step n i room h (one-due {n = m} s d t inn hd r) = let q = step-tree t d m i room inn hd r in (q .0, due-at {n = countAt a b i + m} (omega arith) refl (q .1))
+  step n i room h (one-due {n = m} s d t hd r) = due-at {n = countAt a b i + m} (omega arith) refl (step-tree t d m i room hd r)
+
+  next-due : (n i : ℕ) → ((n ≡ 0) → ⊥) → Due sheet a b e n i → Starts a b i
+  next-due n i h (none-due p) = absurd (h refl)
+  next-due n i h (one-due s d t hd r) = record { sheet = sheet; sort = s; depth = d; tree = t; held = hd }
 
   pub finish : (n i : ℕ) → n ≡ 0 → Due sheet a b e n i → i ≡ e
   finish n i h (none-due p) = p
-  finish n i h (one-due {n = m} s d t inn hd r) = absurd (omega arith)
+  finish n i h (one-due {n = m} s d t hd r) = absurd (omega arith)
 
   pub enough : (n i : ℕ) → Due sheet a b e n i → i ≤ maxRecords → i + n ≤ maxRecords
   enough n i (none-due p) l = omega arith
-  enough n i (one-due {n = m} s d t inn hd r) l =
+  enough n i (one-due {n = m} s d t hd r) l =
       let p = tree-fits sheet a b t d i hd in
       let q = enough m (i + size t) r (p .1) in
       omega arith
@@ -173,12 +112,19 @@ module _ {sheet : Bytes} {a b : List ℕ} {e : ℕ} where
 pub record Left (a b : List ℕ) (i n at : ℕ) : Type 0 where
   pub same : (sheet : Bytes) (e : ℕ) → Due sheet a b e 1 i → Due sheet a b e n at
 
-module _ {a b : List ℕ} (room : Roomy a b) where
+pub start-low : {a b : List ℕ} {i : ℕ} → Starts a b i → i < maxRecords
+start-low {a} {b} {i} z = tree-low (z .sheet) a b (z .tree) (z .depth) i (z .held)
+
+module _ {a b : List ℕ} where
   starts-due : {i : ℕ} (z : Starts a b i) → Due (z .sheet) a b (i + size (z .tree)) 1 i
-  starts-due z = one-due (z .sort) (z .depth) (z .tree) (z .inner) (z .held) (none-due refl)
+  starts-due z = one-due (z .sort) (z .depth) (z .tree) (z .held) (none-due refl)
+
+  -- where more is due, some tree stands there
+  pub next : {i n at : ℕ} → Starts a b i → Left a b i n at → ((n ≡ 0) → ⊥) → Starts a b at
+  next {i} {n} {at} z l h = next-due n at h (l .same (z .sheet) (i + size (z .tree)) (starts-due z))
 
   pub in-range : {i n at : ℕ} → Starts a b i → Left a b i n at → ((n ≡ 0) → ⊥) → at < maxRecords
-  in-range {i} {n} {at} z l h = step n at room h (l .same (z .sheet) (i + size (z .tree)) (starts-due z)) .0
+  in-range z l h = start-low (next z l h)
 
   pub few : {i n at : ℕ} → Starts a b i → Left a b i n at → at ≤ maxRecords → n ≤ maxRecords
   few {i} {n} {at} z l h = let p = enough n at (l .same (z .sheet) (i + size (z .tree)) (starts-due z)) h in omega arith
@@ -186,11 +132,8 @@ module _ {a b : List ℕ} (room : Roomy a b) where
   pub first : (i : ℕ) → Left a b i 1 i
   first i = record { same = λ sheet e h. h }
 
-  pub again : {i n at k : ℕ} → ((n ≡ 0) → ⊥) → k ≡ countAt a b at → Left a b i n at → Left a b i (n - 1 + k) (at + 1)
-  again {i} {n} {at} {k} h ek l = record { same = λ sheet e d. rw ek (step n at room h (l .same sheet e d) .1) }
+  pub again : {i n at k : ℕ} → Roomy a b → ((n ≡ 0) → ⊥) → k ≡ countAt a b at → Left a b i n at → Left a b i (n - 1 + k) (at + 1)
+  again {i} {n} {at} {k} room h ek l = record { same = λ sheet e d. rw ek (step n at room h (l .same sheet e d)) }
 
   pub done : {i n at : ℕ} → n ≡ 0 → Left a b i n at → Ends a b i at
-  done {i} {n} {at} h l = record { each = λ sheet s d t inn hd. finish n at h (l .same sheet (i + size t) (one-due s d t inn hd (none-due refl))) }
-
-pub start-low : {a b : List ℕ} {i : ℕ} → Starts a b i → i ≤ maxRecords
-start-low {a} {b} {i} z = let p = tree-fits (z .sheet) a b (z .tree) (z .depth) i (z .held) in omega arith
+  done {i} {n} {at} h l = record { each = λ sheet s d t hd. finish n at h (l .same sheet (i + size t) (one-due s d t hd (none-due refl))) }

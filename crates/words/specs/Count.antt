@@ -5,26 +5,11 @@ use mathlib.Core.Bool.{Bool, true, false, cond}
 use mathlib.Core.List.{List}
 use lib.Dec.{eqb, ltb}
 use Rattle.model.specs.Text.{Bytes}
-use Rattle.model.specs.Kind.{Sort, statement, unionArm, clause, projection, orderItem, patternPart, patternElement, name, yieldItem, entry, expr, inPlan}
+use Rattle.model.specs.Kind.{Sort}
 use Rattle.model.specs.Tree.{Tree}
 use Rattle.words.specs.Words.{cell}
 use Rattle.words.specs.Places.{childrenAt, nullKind, propKind, varKind}
 use Rattle.words.specs.Held.{Held, size}
-
--- the sorts of what stands in a pattern or an expression
-abbrev pub Inner : Sort → Type 0
-Inner statement = ⊥
-Inner unionArm = ⊥
-Inner clause = ⊥
-Inner projection = ⊥
-Inner orderItem = ⊥
-Inner patternPart = Unit {0}
-Inner patternElement = Unit {0}
-Inner name = Unit {0}
-Inner yieldItem = ⊥
-Inner entry = Unit {0}
-Inner expr = Unit {0}
-Inner (inPlan p) = ⊥
 
 -- by the word that the reader keeps for it
 abbrev pub countAt : (a b : List ℕ) (i : ℕ) → ℕ
@@ -37,17 +22,16 @@ isLeaf kind = cond (eqb kind varKind) true (cond (ltb kind nullKind) false (ltb 
 -- n trees stand one after another from record i on, and end at e
 pub data Due (sheet : Bytes) (a b : List ℕ) (e : ℕ) : (n i : ℕ) → Type 0 where
   none-due : {i : ℕ} → i ≡ e → Due sheet a b e zero i
-  one-due : {n i : ℕ} (s : Sort) (d : ℕ) (t : Tree s) → Inner s → Held sheet a b t d i → Due sheet a b e n (i + size t) → Due sheet a b e (suc n) i
+  one-due : {n i : ℕ} (s : Sort) (d : ℕ) (t : Tree s) → Held sheet a b t d i → Due sheet a b e n (i + size t) → Due sheet a b e (suc n) i
 
--- some tree is held whose record is one of a pattern or an expression
+-- some tree is held
 pub record Starts (a b : List ℕ) (i : ℕ) : Type 0 where
   pub sheet : Bytes
   pub sort : Sort
   pub depth : ℕ
   pub tree : Tree sort
-  pub inner : Inner sort
   pub held : Held sheet a b tree depth i
 
--- the record behind any such tree
+-- the record behind any tree that is held
 pub record Ends (a b : List ℕ) (i e : ℕ) : Type 0 where
-  pub each : (sheet : Bytes) (s : Sort) (d : ℕ) (t : Tree s) → Inner s → Held sheet a b t d i → e ≡ i + size t
+  pub each : (sheet : Bytes) (s : Sort) (d : ℕ) (t : Tree s) → Held sheet a b t d i → e ≡ i + size t

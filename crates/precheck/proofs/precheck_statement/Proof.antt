@@ -1,8 +1,9 @@
--- `precheck_statement` meets its contract: the clauses of the head, then the arms. Assumes nothing.
+-- `precheck_statement` meets its contract: the records alone, or else the clauses of the head, then the arms. Assumes nothing.
 use native.Mathlib.Omega.{arith}
 use borrow.Author.Needs.{needs}
 use Rattle.precheck.proofs.Clauses.{as-statement, held-at, some-held}
 use Rattle.precheck.proofs.Checks.{some-turned, walks-turned}
+use Rattle.precheck.proofs.Flat.{starts-held, fine-statement}
 use Rattle.precheck.proofs.Laws
 use Rattle.precheck.proofs.precheck_statement.Statement.{statement}
 use Rattle.precheck.proofs.precheck_statement.Tie as tie
@@ -28,6 +29,16 @@ back-count c = search
 
 ruleset ways = (back-check-arms, back-head, back-enum-told, back-check-clauses, back-count2, back-count)
 
+nothing-refused-requires : tie.Need-nothing-refused-requires
+nothing-refused-requires c κs =
+    let start : tie.Start = search ways in
+    (start .pre .0, starts-held (start .pre .1 .1))
+
+returns : tie.Need-returns
+returns c =
+    let passed : tie.After-nothing-refused = search ways in
+    fine-statement (passed .nothing-refused .ensures .so (c .if1 .taken)) _
+
 check-clauses-requires : tie.Need-check-clauses-requires
 check-clauses-requires c κs =
     let after-count : tie.After-count = search ways depth 7 in
@@ -38,8 +49,8 @@ check-clauses-requires c κs =
       there = Laws.first-of (some-turned (as-statement (start .pre .0) (after-count .count .ensures .0) (c .count2 .ensures .0)) (some-held (start .pre .1 .1)));
     }
 
-returns : tie.Need-returns
-returns c =
+returns-2 : tie.Need-returns-2
+returns-2 c =
     let after-enum-told : tie.After-enum-told = search ways depth 7 in
     let after-check-clauses : tie.After-check-clauses = search ways depth 7 in
     let after-count2 : tie.After-count2 = search ways depth 7 in
@@ -67,8 +78,8 @@ check-arms-requires c κs =
     let arms = Laws.after (after-check-clauses .check-clauses .ensures) (after-head .head .given .1) held in
     record { words = start .pre .0; deep = omega (arith, start .pre .1 .0); there = search (arms, Laws.some-none) }
 
-returns-2 : tie.Need-returns-2
-returns-2 c =
+returns-3 : tie.Need-returns-3
+returns-3 c =
     let after-check-arms : tie.After-check-arms = search ways depth 7 in
     let after-head : tie.After-head = search ways depth 7 in
     let after-check-clauses : tie.After-check-clauses = search ways depth 7 in
@@ -90,6 +101,8 @@ pub precheck-statement-spec : {M : Type 1} → statement M
 precheck-statement-spec =
     tie.close
     (tie.spec
+    nothing-refused-requires
+    returns
     (λ c κs. search needs)
     (λ c κs. search needs)
     (λ c. search needs)
@@ -97,7 +110,7 @@ precheck-statement-spec =
     (λ c. search needs)
     (λ c. search needs)
     (λ c κs. search needs)
-    returns
+    returns-2
     check-arms-requires
     (λ c κs. search needs)
-    returns-2)
+    returns-3)

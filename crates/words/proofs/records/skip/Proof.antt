@@ -28,13 +28,13 @@ ruleset ways = (back-in-loop, back-at-loop)
 loop-holds : here tie.Need-loop-holds
 loop-holds c =
     let start : here tie.Start = search ways in
-    (Counting.start-low (start .pre .1), Counting.first (start .pre .0) _)
+    (omega (arith, Counting.start-low (start .pre .1)), Counting.first _)
 
 children-requires : here tie.Need-children-requires
 children-requires c κs =
     let at-loop : here tie.At-loop = search ways in
     let start : here tie.Start = search ways in
-    (Counting.in-range (start .pre .0) (start .pre .1) (at-loop .loop .inv .1) (c .loop-test .taken), start .pre .0)
+    (Counting.in-range (start .pre .1) (at-loop .loop .inv .1) (c .loop-test .taken), start .pre .0)
 
 sub-due : here tie.Need-sub-due
 sub-due c = omega arith
@@ -43,7 +43,7 @@ add-due : here tie.Need-add-due
 add-due c =
     let at-loop : here tie.At-loop = search ways in
     let start : here tie.Start = search ways in
-    let p = Counting.few (start .pre .0) (start .pre .1) (at-loop .loop .inv .1) (at-loop .loop .inv .0) in
+    let p = Counting.few (start .pre .1) (at-loop .loop .inv .1) (at-loop .loop .inv .0) in
     omega (arith, c .children .ensures .1)
 
 add-at : here tie.Need-add-at
@@ -57,7 +57,7 @@ loop-less c =
     let in-loop : here tie.In-loop = search ways in
     let at-loop : here tie.At-loop = search ways in
     let start : here tie.Start = search ways in
-    let p = Counting.in-range (start .pre .0) (start .pre .1) (at-loop .loop .inv .1) (in-loop .loop-test .taken) in
+    let p = Counting.in-range (start .pre .1) (at-loop .loop .inv .1) (in-loop .loop-test .taken) in
     omega arith
 
 loop-again : here tie.Need-loop-again
@@ -65,14 +65,14 @@ loop-again c =
     let in-loop : here tie.In-loop = search ways in
     let at-loop : here tie.At-loop = search ways in
     let start : here tie.Start = search ways in
-    let p = Counting.in-range (start .pre .0) (start .pre .1) (at-loop .loop .inv .1) (in-loop .loop-test .taken) in
+    let p = Counting.in-range (start .pre .1) (at-loop .loop .inv .1) (in-loop .loop-test .taken) in
     (omega arith, Counting.again (start .pre .0) (in-loop .loop-test .taken) (c .children .ensures .0) (at-loop .loop .inv .1))
 
 returns : here tie.Need-returns
 returns c =
     let at-loop : here tie.At-loop = search ways in
     let start : here tie.Start = search ways in
-    Counting.done (start .pre .0) (c .loop-test .left) (at-loop .loop .inv .1)
+    Counting.done (c .loop-test .left) (at-loop .loop .inv .1)
 
 pub skip-spec : {M : Type 1} → statement M
 skip-spec =
