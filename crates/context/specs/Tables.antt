@@ -103,6 +103,11 @@ pub record Treed (n : ℕ) (vs : List ℕ) : Type 0 where
 abbrev pub Indexed : ℕ → List ℕ → Type 0
 Indexed n vs = Treed (n - (n - maxIndexed)) vs
 
+-- the variables' words, with an index that is right for n of them
+pub record IndexHeld (n : ℕ) (vs : List ℕ) : Type 0 where
+  pub long : varWords ≤ length vs
+  pub index : Indexed n vs
+
 -- the first n variables keep their ids, and every child that one of them has
 pub record Kept (n : ℕ) (vs vs′ : List ℕ) : Type 0 where
   pub ids : (j : ℕ) → j < n → idOf vs′ j ≡ idOf vs j
@@ -149,6 +154,12 @@ pub record Issued (step : Lowering ℕ) (c : LowerCtx) (vs vs′ : List ℕ) (r 
   pub low : r .ctx .numbers ≤ c .numbers + 1
   pub met : r .ctx .mapped ≤ c .mapped + 1
   pub index : Indexed (c .mapped) vs → Indexed (r .ctx .mapped) vs′
+
+-- a number can be issued over the variables' words
+pub record CanMap (c : LowerCtx) (vs : List ℕ) : Type 0 where
+  pub met : c .mapped < maxVars
+  pub low : c .numbers < maxCount
+  pub held : IndexHeld (c .mapped) vs
 
 -- the word at a place has changed, and no other among the notes
 pub record Noted (place v : ℕ) (rest rest′ : List ℕ) : Type 0 where
