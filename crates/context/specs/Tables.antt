@@ -184,6 +184,11 @@ pub record CanNumber (c : LowerCtx) (place : ℕ) (rest : List ℕ) : Type 0 whe
   pub long : workWords ≤ length rest
   pub index : Indexed (c .mapped) (drop varsAt rest)
 
+-- one more operator can be pushed
+pub record CanPush (c : LowerCtx) (ops : List ℕ) : Type 0 where
+  pub few : c .ops < maxCount
+  pub long : workWords ≤ length ops
+
 -- one more operator, stored if the table has room
 pub record Pushed (c r : LowerCtx) (o o′ : List ℕ) (x : Op) : Type 0 where
   pub count : r .ops ≡ c .ops + 1

@@ -5,7 +5,7 @@ ghost use lib.ListN.{length};
 ghost use Rattle.model.specs.Call.{workWords};
 ghost use Rattle.model.specs.Lower.{lookup, mapVar, endpointVar};
 ghost use Rattle.context.specs.Ops.{bindOf};
-ghost use Rattle.context.specs.Tables.{varsAt, maxCount, varsOf, foundOf, Issued, CanMap, CanNumber, Numbers, NoteWritten, Pushed};
+ghost use Rattle.context.specs.Tables.{varsAt, maxCount, varsOf, foundOf, Issued, CanMap, CanNumber, Numbers, NoteWritten, CanPush, Pushed};
 use crate::index::Found;
 use crate::op::Op;
 
@@ -155,7 +155,7 @@ impl LowerCtx {
 
     // One more operator, stored if the table has room.
     pub fn push(self, ops: &mut [u32], op: Op) -> LowerCtx
-        requires { ⌜ (self .ops < maxCount) × (workWords ≤ length (now ops)) ⌝ }
+        requires { ⌜ CanPush self (now ops) ⌝ }
         ensures { λ r. ⌜ Pushed self r (now (ops .entry)) (now (ops .exit)) op ⌝ }
     {
         let k = self.ops;

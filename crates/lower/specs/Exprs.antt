@@ -9,6 +9,7 @@ use Rattle.model.specs.Kind.{expr}
 use Rattle.model.specs.Tree.{Tree}
 use Rattle.model.specs.Lower.{Recs, _>>=_, ret, lowerExpr}
 use Rattle.words.specs.Held.{size}
+use Rattle.context.specs.Tables.{CanPush}
 use Rattle.lower.specs.Side.{Side, side}
 use Rattle.lower.specs.Render.{Notes, Ops}
 use Rattle.lower.specs.Shows.{shift}
@@ -84,6 +85,10 @@ module _ {a b : List ℕ} {n d base j e : ℕ} {m m₁ m₂ : Mem} (gap i : ℕ)
 
   pub cons-law : LowersExprs a b (suc n) gap d base i e m m₂
   cons-law = record { moved = moved-then (moved-within (omega arith) (le-refl _) (p .moved .here) (p .moved)) (q .moved); next = both-next; run = cons-run }
+
+-- where there is room, one more operator can be pushed
+pub can-push : {d i : ℕ} {m : Mem} → RoomFor d i m → CanPush (m .ctx) (m .ops)
+can-push g = record { few = omega (arith, g .few, g .here); long = g .in-ops }
 
 -- ── the loop ──
 

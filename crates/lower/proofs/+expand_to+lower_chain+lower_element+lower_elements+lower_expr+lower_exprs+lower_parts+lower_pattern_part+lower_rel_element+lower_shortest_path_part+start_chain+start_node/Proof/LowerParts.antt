@@ -51,10 +51,9 @@ module _ (t : ℕ) where
   lower-no-parts-requires : here lts.Need-lower-no-parts-requires
   lower-no-parts-requires c κs =
       let start : here lts.Start = search ways depth 7 in
-      let x = Room.few-ops (start .pre .1 .room) in
       let y = (start .pre .1 .room) .low in
       let h = start .pre .1 .tree .low in
-      (omega arith, omega arith, (start .pre .1 .room) .in-ops, h)
+      (Exprs.can-push (start .pre .1 .room), omega arith, h)
 
   same-length : here lts.Need-same-length
   same-length c =
