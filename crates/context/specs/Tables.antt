@@ -23,6 +23,28 @@ maxStored = 2048
 abbrev pub opWords : ℕ
 opWords = 8
 
+-- where the words of an operator stand among its eight; the first is free
+abbrev pub kindWord : ℕ
+kindWord = 1
+
+abbrev pub idxWord : ℕ
+idxWord = 2
+
+abbrev pub inputWord : ℕ
+inputWord = 3
+
+abbrev pub xWord : ℕ
+xWord = 4
+
+abbrev pub yWord : ℕ
+yWord = 5
+
+abbrev pub leftWord : ℕ
+leftWord = 6
+
+abbrev pub baseWord : ℕ
+baseWord = 7
+
 -- the notes, one for each line of two passes, end, and the variables begin, at this word
 abbrev pub varsAt : ℕ
 varsAt = 4097
@@ -145,7 +167,7 @@ stateOf ops c vs = record { ops = ops; scope = record { vars = varsOf (c .mapped
 
 -- an operator as it is stored, by the words of the operators' slice
 unfoldable pub opAt : List ℕ → ℕ → Op
-opAt o k = record { kind = getD o (k * opWords + 1) 0; idx = getD o (k * opWords + 2) 0; input = getD o (k * opWords + 3) 0; x = getD o (k * opWords + 4) 0; y = getD o (k * opWords + 5) 0; left = getD o (k * opWords + 6) 0; base = getD o (k * opWords + 7) 0 }
+opAt o k = record { kind = getD o (k * opWords + kindWord) 0; idx = getD o (k * opWords + idxWord) 0; input = getD o (k * opWords + inputWord) 0; x = getD o (k * opWords + xWord) 0; y = getD o (k * opWords + yWord) 0; left = getD o (k * opWords + leftWord) 0; base = getD o (k * opWords + baseWord) 0 }
 
 -- a step of the definition issues a number over the variables' words
 pub record Issued (step : Lowering ℕ) (c : LowerCtx) (vs vs′ : List ℕ) (r : Numbered) : Type 0 where
