@@ -16,7 +16,7 @@ use Rattle.model.specs.Lower.{Recs, _>>=_, ret, push, op, orSourceAll, lowerTra
 use Rattle.model.specs.Lower
 use Rattle.words.specs.Words.{Roomy, cell, fieldsOf, fieldOf}
 use Rattle.words.specs.Held.{Flags, Held, HeldOf, size, sizeOf}
-use Rattle.words.specs.Cells.{cells, shown, flag-word}
+use Rattle.words.specs.Cells.{cells, shown, flag-counts}
 use Rattle.words.specs.Numbers.{clauseNumber}
 use Rattle.words.specs.Places.{withKind, returnKind, kindAt, itemsAt, withFilterAt, returnDistinctAt, skipAt, limitAt}
 use Rattle.lower.specs.Rep.{State}
@@ -26,9 +26,6 @@ use Rattle.words.specs.Kinds.{by-clause}
 use Rattle.projections.specs.Items.{exprs-lower, itemsC, items-lower}
 use Rattle.projections.specs.Promises.{Tail, tailSize, firstL, secondL}
 
-flag-one : (p : Bool) (x : ℕ) → p ≡ eqb x 1 → x ≤ 1 → one p ≡ x
-flag-one p x e h = rw e (flag-word x h)
-
 -- the keys, `skip` and `limit` of a `with` and of a `return`, whose fields have the same forms
 tail-of : {sheet : Bytes} {a b : List ℕ} {d i at : ℕ} {f : Fields (clauseForms Clause.With)} → f ≡ fieldsOf (clauseForms Clause.With) sheet (cells a b i) 0 → Flags (clauseForms Clause.With) (cells a b i) 0 → (keys : Trees orderItem (f .1 .1 .0)) (skip : Trees expr (one (f .1 .1 .1 .0))) (limit : Trees expr (one (f .1 .1 .1 .1 .0))) →
     HeldOf sheet a b keys d at →
@@ -37,8 +34,8 @@ tail-of : {sheet : Bytes} {a b : List ℕ} {d i at : ℕ} {f : Fields (clauseFor
     Tail sheet a b d i at
 unfolding fieldsOf fieldOf
 tail-of {a = a} {b = b} {i = i} {f = f} fields flags keys skip limit held-keys held-skip held-limit =
-    let counted-skip = flag-one _ (cell a b i skipAt) (ap (λ (f : Fields (clauseForms Clause.With)). f .1 .1 .1 .0) fields) (flags .1 .1 .1 .0) in
-    let counted-limit = flag-one _ (cell a b i limitAt) (ap (λ (f : Fields (clauseForms Clause.With)). f .1 .1 .1 .1 .0) fields) (flags .1 .1 .1 .1 .0) in
+    let counted-skip = flag-counts _ (cell a b i skipAt) (ap (λ (f : Fields (clauseForms Clause.With)). f .1 .1 .1 .0) fields) (flags .1 .1 .1 .0) in
+    let counted-limit = flag-counts _ (cell a b i limitAt) (ap (λ (f : Fields (clauseForms Clause.With)). f .1 .1 .1 .1 .0) fields) (flags .1 .1 .1 .1 .0) in
     record {
       keys-count = f .1 .1 .0;
       skip-count = one (f .1 .1 .1 .0);
@@ -115,7 +112,7 @@ module _ {sheet : Bytes} {a b : List ℕ} {d i : ℕ} (room : Roomy a b) where
         predicate = predicate;
         tail = tail-of (w .fields) (w .flags) keys skip limit (hd .3 .1 .1 .0) (hd .3 .1 .1 .1 .0) (hd .3 .1 .1 .1 .1 .0);
         counted = en;
-        flagged = flag-one filtered (cell a b i withFilterAt) ef (w .flags .1 .0);
+        flagged = flag-counts filtered (cell a b i withFilterAt) ef (w .flags .1 .0);
         held-items = hd .3 .0;
         held-predicate = hd .3 .1 .0;
         sized = omega arith;

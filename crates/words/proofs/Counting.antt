@@ -1,6 +1,6 @@
 -- How many children a record has, and the record behind a tree. Assumes nothing.
 use mathlib.Core.Path.{_≡_, refl, sym, ap, _∙_}
-use Prim.Native.Nat.{ℕ, zero, suc, _+_, _-_, _≤_, _<_}
+use Prim.Native.Nat.{ℕ, suc, _+_, _-_, _≤_, _<_}
 use native.Mathlib.Nat.{mod-eq-of-lt}
 use native.Mathlib.Omega.{arith}
 use mathlib.Core.Bool.{true, false, false≢true}
@@ -14,7 +14,7 @@ use Rattle.model.specs.Record.{Group, one, forms, children, kinds, sames}
 use Rattle.model.specs.Tree.{Tree, Trees, Forest, node, []ᵗ, _∷ᵗ_, end, _▸_}
 use Rattle.words.specs.Words.{maxRecords, Roomy, cell, kindOf, firstKind}
 use Rattle.words.specs.Held.{RecordAt, Held, HeldOf, HeldIn, size, sizeOf, sizeIn, roomIn, total}
-use Rattle.words.specs.Cells.{shown, numbered, number-of}
+use Rattle.words.specs.Cells.{shown, numbered, number-of, flag-word}
 use Rattle.words.specs.Fits.{tree-fits, forest-fits}
 use Rattle.words.specs.GroupLaws.{part-cell}
 use Rattle.words.specs.Count.{Inner, countAt, isLeaf, Due, none-due, one-due, Starts, Ends}
@@ -58,9 +58,7 @@ inner-number expr i n k h = number-of expr (λ x. exprNumber x) refl n k h
 inner-number (inPlan p) i n k h = absurd i
 
 pub flag-one : (x : ℕ) → x ≤ 1 → one (eqb x 1) ≡ x
-flag-one zero h = refl
-flag-one (suc zero) h = refl
-flag-one (suc (suc n)) h = absurd (omega arith)
+flag-one x h = flag-word x h
 
 -- ── by the record's word ──
 
