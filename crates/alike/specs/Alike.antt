@@ -112,7 +112,7 @@ module _ (s t : List ℕ) where
 
 -- ── demand 3 ──
 
-same-path : {A : Type 0} {a b : A} → Equal a b → a ≡ b
+pub same-path : {A : Type 0} {a b : A} → Equal a b → a ≡ b
 same-path equal = refl
 
 -- T is read as a tree alike

@@ -80,8 +80,8 @@ module _ (S : Sort) (turn : Turn S) (sheet : Bytes) (a b : List ℕ) (d : ℕ) w
 
 -- ── the loop ──
 
--- k are left from record i on, behind o, and once they are lowered from here, all is done
-pub record Left (S : Sort) (turn : Turn S) (sheet : Bytes) (a b : List ℕ) (d : ℕ) (Done : ℕ → Option ℕ → Mem → Type 0) (k i : ℕ) (o : Option ℕ) (m : Mem) : Type 0 where
+-- k remain from record i on, behind o, and once they are lowered from here, all is done
+pub record Remaining (S : Sort) (turn : Turn S) (sheet : Bytes) (a b : List ℕ) (d : ℕ) (Done : ℕ → Option ℕ → Mem → Type 0) (k i : ℕ) (o : Option ℕ) (m : Mem) : Type 0 where
   pub some : HeldMany sheet a b S k d i
   pub ready : Ready i m
   pub stands : Stands o m
@@ -98,24 +98,24 @@ module _ {S : Sort} {sheet : Bytes} {a b : List ℕ} {d : ℕ} where
   behind i (t ∷ᵗ ts) p hd = record { trees = ts; are = rw (p t (hd .0)) (hd .1) }
 
 module _ {S : Sort} {turn : Turn S} {sheet : Bytes} {a b : List ℕ} {d : ℕ} {Done : ℕ → Option ℕ → Mem → Type 0} where
-  pub child : {k i : ℕ} {o : Option ℕ} {m : Mem} → ((k ≡ 0) → ⊥) → Left S turn sheet a b d Done k i o m → HeldSome sheet a b S d i
+  pub child : {k i : ℕ} {o : Option ℕ} {m : Mem} → ((k ≡ 0) → ⊥) → Remaining S turn sheet a b d Done k i o m → HeldSome sheet a b S d i
   child h p = first-of (p .some .trees) h (p .some .are)
 
-  less : {k i : ℕ} {o : Option ℕ} {m : Mem} → Left S turn sheet a b d Done k i o m → Left S turn sheet a b d Done (suc k - 1) i o m
+  less : {k i : ℕ} {o : Option ℕ} {m : Mem} → Remaining S turn sheet a b d Done k i o m → Remaining S turn sheet a b d Done (suc k - 1) i o m
   less {k} p = let e : suc k - 1 ≡ k = omega arith in rw e p
 
-  pub again : {k i j : ℕ} {o o₁ : Option ℕ} {m m₁ : Mem} → ((k ≡ 0) → ⊥) → Left S turn sheet a b d Done k i o m → LowersTurn S turn sheet a b d i j o o₁ m m₁ → Left S turn sheet a b d Done (k - 1) j o₁ m₁
+  pub again : {k i j : ℕ} {o o₁ : Option ℕ} {m m₁ : Mem} → ((k ≡ 0) → ⊥) → Remaining S turn sheet a b d Done k i o m → LowersTurn S turn sheet a b d i j o o₁ m m₁ → Remaining S turn sheet a b d Done (k - 1) j o₁ m₁
   again {k = zero} h p q = absurd (h refl)
   again {k = suc k} {i} h p q = less (record { some = behind i (p .some .trees) (q .next) (p .some .are); ready = ready-after (q .moved) (p .ready); stands = q .stands; finish = λ e o′ m′ r. p .finish e o′ m′ (cons-law S turn sheet a b d q r) })
 
-  pub done : {k i : ℕ} {o : Option ℕ} {m : Mem} → k ≡ 0 → Left S turn sheet a b d Done k i o m → Done i o m
+  pub done : {k i : ℕ} {o : Option ℕ} {m : Mem} → k ≡ 0 → Remaining S turn sheet a b d Done k i o m → Done i o m
   done {k} {i} {o} {m} h p = p .finish i o m (rw h (nil-law S turn sheet a b d i o m (p .ready .here) (p .stands)))
 
 -- before the first round, from nothing
-pub from-nothing : {S : Sort} {turn : Turn S} {sheet : Bytes} {a b : List ℕ} {d n i : ℕ} {m : Mem} → HeldMany sheet a b S n d i → Ready i m → Left S turn sheet a b d (λ e o m′. LowersTurns S turn sheet a b n d i e none o m m′) n i (beforeOf before.Nothing) m
+pub from-nothing : {S : Sort} {turn : Turn S} {sheet : Bytes} {a b : List ℕ} {d n i : ℕ} {m : Mem} → HeldMany sheet a b S n d i → Ready i m → Remaining S turn sheet a b d (λ e o m′. LowersTurns S turn sheet a b n d i e none o m m′) n i (beforeOf before.Nothing) m
 unfolding beforeOf
 from-nothing x g = record { some = x; ready = g; stands = tt; finish = λ e o m′ q. q }
 
 -- behind an operator
-pub from-one : {S : Sort} {turn : Turn S} {sheet : Bytes} {a b : List ℕ} {d n i : ℕ} {o₀ : Option ℕ} {m : Mem} → HeldMany sheet a b S n d i → Ready i m → Stands o₀ m → Left S turn sheet a b d (λ e o m′. LowersTurns S turn sheet a b n d i e o₀ o m m′) n i o₀ m
+pub from-one : {S : Sort} {turn : Turn S} {sheet : Bytes} {a b : List ℕ} {d n i : ℕ} {o₀ : Option ℕ} {m : Mem} → HeldMany sheet a b S n d i → Ready i m → Stands o₀ m → Remaining S turn sheet a b d (λ e o m′. LowersTurns S turn sheet a b n d i e o₀ o m m′) n i o₀ m
 from-one x g st = record { some = x; ready = g; stands = st; finish = λ e o m′ q. q }

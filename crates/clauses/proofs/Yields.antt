@@ -82,8 +82,8 @@ numbered e x = rw e at x
 
 -- ── the loop ──
 
--- k are left from record i on, and once they are numbered from here, all is done
-pub record Left (a b : List ℕ) (Done : ℕ → LowerCtx → List ℕ → Type 0) (k i : ℕ) (c : LowerCtx) (rs : List ℕ) : Type 0 where
+-- k remain from record i on, and once they are numbered from here, all is done
+pub record Remaining (a b : List ℕ) (Done : ℕ → LowerCtx → List ℕ → Type 0) (k i : ℕ) (c : LowerCtx) (rs : List ℕ) : Type 0 where
   pub some : SomeYields a b k i
   pub fits : i + k ≤ maxRecords
   pub met : c .mapped + k ≤ maxVars
@@ -97,10 +97,10 @@ unfolding Held size
 behind i sheet d (node yieldItem line k f end ∷ᵗ ts) hd = let e : i + suc 0 ≡ i + 1 = omega arith in record { sheet = sheet; depth = d; trees = ts; held = rw e at (hd .1) }
 
 module _ {a b : List ℕ} {Done : ℕ → LowerCtx → List ℕ → Type 0} where
-  less : {k i : ℕ} {c : LowerCtx} {rest : List ℕ} → Left a b Done k i c rest → Left a b Done (suc k - 1) i c rest
+  less : {k i : ℕ} {c : LowerCtx} {rest : List ℕ} → Remaining a b Done k i c rest → Remaining a b Done (suc k - 1) i c rest
   less {k} p = let e : suc k - 1 ≡ k = omega arith in rw e p
 
-  pub again : {k i : ℕ} {c : LowerCtx} {rest rest₁ : List ℕ} {r : Numbered} → Roomy a b → ((k ≡ 0) → ⊥) → Left a b Done k i c rest → Numbers (mapVar (cell a b i yieldVarAt)) (i + 1) c rest rest₁ r → length rest₁ ≡ length rest → Left a b Done (k - 1) (i + 1) (r .ctx) rest₁
+  pub again : {k i : ℕ} {c : LowerCtx} {rest rest₁ : List ℕ} {r : Numbered} → Roomy a b → ((k ≡ 0) → ⊥) → Remaining a b Done k i c rest → Numbers (mapVar (cell a b i yieldVarAt)) (i + 1) c rest rest₁ r → length rest₁ ≡ length rest → Remaining a b Done (k - 1) (i + 1) (r .ctx) rest₁
   again {k = zero} room h p nm lr = absurd (h refl)
   again {k = suc k} {i} room h p nm lr =
       let f = p .fits in
@@ -114,5 +114,5 @@ module _ {a b : List ℕ} {Done : ℕ → LowerCtx → List ℕ → Type 0} wher
         finish = λ e c′ rest′ q. p .finish e c′ rest′ (λ os. cons-law room nm lr (q os) (omega arith));
       })
 
-  pub done : {k i : ℕ} {c : LowerCtx} {rest : List ℕ} → k ≡ 0 → Left a b Done k i c rest → Done i c rest
+  pub done : {k i : ℕ} {c : LowerCtx} {rest : List ℕ} → k ≡ 0 → Remaining a b Done k i c rest → Done i c rest
   done {k} {i} {c} {rest} h p = let f = p .fits in p .finish i c rest (λ os. rw h (nil-law a b i (mem c os rest) (omega arith)))

@@ -1,22 +1,18 @@
 // The clauses that read, each behind the operator before it. Notes stand at the records' own lines.
-ghost use Prim.Native.Nat.{ℕ, _≤_, _<_};
+ghost use Prim.Native.Nat.{ℕ};
 ghost use mathlib.Core.Path.{_≡_};
 ghost use mathlib.Core.List.{List};
 ghost use mathlib.Core.Option.{some};
 ghost use lib.Dec.{eqb};
-ghost use lib.ListN.{length};
-ghost use Rattle.model.specs.Call.{workWords};
 ghost use Rattle.model.specs.Text.{Bytes};
 ghost use Rattle.model.specs.Lower.{optionalJoin};
-ghost use Rattle.words.specs.Words.{maxRecords, two32};
 ghost use Rattle.words.specs.Places.{matchKind, whereKind, unwindKind, callKind};
-ghost use Rattle.context.specs.Tables.{maxCount};
-ghost use Rattle.context.specs.Ops.{beforeOf, Under};
+ghost use Rattle.context.specs.Ops.{beforeOf};
 ghost use Rattle.lower.specs.Rep.{mem};
 ghost use Rattle.lower.specs.Chains.{OrSource};
 ghost use Rattle.lower.specs.Clauses.{LowersClause};
 ghost use Rattle.projections.specs.Asked.{ClauseAsked};
-ghost use Rattle.clauses.specs.Asked.{ReadingAsked, YieldsAsked};
+ghost use Rattle.clauses.specs.Asked.{JoinAsked, ReadingAsked, YieldsAsked};
 ghost use Rattle.clauses.specs.Steps.{LowersYields};
 use context::At;
 use context::Before;
@@ -55,7 +51,7 @@ pub fn lower_yields(
 
 // How the `match` at record i goes with the operator before it, once its parts have their root: an optional one joins that operator with a copy of the root, and any other leaves the root.
 fn join_before(ops: &mut [u32], root: Root, current: Before, optional: u32, i: usize) -> Root
-    requires { ⌜ (root .ctx .ops < maxCount) × (workWords ≤ length (now ops)) × (root .op < root .ctx .ops) × Under current two32 × (i < maxRecords) × (optional ≤ 1) ⌝ }
+    requires { ⌜ JoinAsked root current optional i (now ops) ⌝ }
     ensures { λ r. ⌜ (r .next ≡ root .next) × ((rest : List ℕ) → OrSource (root .op) (λ s. optionalJoin (eqb optional 1) (beforeOf current) (root .op) s) (r .op) (mem (root .ctx) (now (ops .entry)) rest) (mem (r .ctx) (now (ops .exit)) rest)) ⌝ }
 {
     if optional == 0 {

@@ -10,7 +10,7 @@ use lib.Seq.{take-all, getD-set-same, getD-set-other, drop-set-lt, drop-at, leng
 use lib.ListN.{List·getD-append, length-drop, drop-of-length-le}
 use borrow.Author.Tests.{eq-eqb, ne-eqb}
 use Rattle.model.specs.Lower.{lookup, issue, mapVar, numbered, fresh, endpointVar}
-use Rattle.context.specs.Tables.{varsOf, namedWords, numberWord, foundOf, Op, opAt, maxStored, opWords, Indexed, Issued, NoteWritten, Numbers, Pushed, varsAt}
+use Rattle.context.specs.Tables.{varsOf, namedWords, numberWord, foundOf, Op, opAt, maxStored, opWords, kindWord, idxWord, inputWord, xWord, yWord, leftWord, baseWord, Indexed, Issued, NoteWritten, Numbers, Pushed, varsAt}
 use Rattle.context.specs.Ops.{bindOf}
 use Rattle.context.specs.declared.Bind.{Bind}
 use Rattle.context.specs.declared.Bind.the-variants as bind
@@ -142,8 +142,8 @@ pub stored : (c : LowerCtx) (o : List ℕ) (op : Op) → c .ops < maxStored → 
   ops = c .ops + 1;
   numbers = c .numbers;
   mapped = c .mapped;
-}) o (set (set (set (set (set (set (set o (c .ops * opWords + 1) (op .kind)) (c .ops * opWords + 2) (op .idx)) (c .ops * opWords + 3) (op .input))
-    (c .ops * opWords + 4) (op .x)) (c .ops * opWords + 5) (op .y)) (c .ops * opWords + 6) (op .left)) (c .ops * opWords + 7) (op .base)) op
+}) o (set (set (set (set (set (set (set o (c .ops * opWords + kindWord) (op .kind)) (c .ops * opWords + idxWord) (op .idx)) (c .ops * opWords + inputWord) (op .input))
+    (c .ops * opWords + xWord) (op .x)) (c .ops * opWords + yWord) (op .y)) (c .ops * opWords + leftWord) (op .left)) (c .ops * opWords + baseWord) (op .base)) op
 unfolding run opAt
 stored c o op h g =
     let B : ℕ = c .ops * opWords in

@@ -23,6 +23,28 @@ maxStored = 2048
 abbrev pub opWords : ℕ
 opWords = 8
 
+-- where the words of an operator stand among its eight; the first is free
+abbrev pub kindWord : ℕ
+kindWord = 1
+
+abbrev pub idxWord : ℕ
+idxWord = 2
+
+abbrev pub inputWord : ℕ
+inputWord = 3
+
+abbrev pub xWord : ℕ
+xWord = 4
+
+abbrev pub yWord : ℕ
+yWord = 5
+
+abbrev pub leftWord : ℕ
+leftWord = 6
+
+abbrev pub baseWord : ℕ
+baseWord = 7
+
 -- the notes, one for each line of two passes, end, and the variables begin, at this word
 abbrev pub varsAt : ℕ
 varsAt = 4097
@@ -103,6 +125,11 @@ pub record Treed (n : ℕ) (vs : List ℕ) : Type 0 where
 abbrev pub Indexed : ℕ → List ℕ → Type 0
 Indexed n vs = Treed (n - (n - maxIndexed)) vs
 
+-- the variables' words, with an index that is right for n of them
+pub record IndexHeld (n : ℕ) (vs : List ℕ) : Type 0 where
+  pub long : varWords ≤ length vs
+  pub index : Indexed n vs
+
 -- the first n variables keep their ids, and every child that one of them has
 pub record Kept (n : ℕ) (vs vs′ : List ℕ) : Type 0 where
   pub ids : (j : ℕ) → j < n → idOf vs′ j ≡ idOf vs j
@@ -140,7 +167,7 @@ stateOf ops c vs = record { ops = ops; scope = record { vars = varsOf (c .mapped
 
 -- an operator as it is stored, by the words of the operators' slice
 unfoldable pub opAt : List ℕ → ℕ → Op
-opAt o k = record { kind = getD o (k * opWords + 1) 0; idx = getD o (k * opWords + 2) 0; input = getD o (k * opWords + 3) 0; x = getD o (k * opWords + 4) 0; y = getD o (k * opWords + 5) 0; left = getD o (k * opWords + 6) 0; base = getD o (k * opWords + 7) 0 }
+opAt o k = record { kind = getD o (k * opWords + kindWord) 0; idx = getD o (k * opWords + idxWord) 0; input = getD o (k * opWords + inputWord) 0; x = getD o (k * opWords + xWord) 0; y = getD o (k * opWords + yWord) 0; left = getD o (k * opWords + leftWord) 0; base = getD o (k * opWords + baseWord) 0 }
 
 -- a step of the definition issues a number over the variables' words
 pub record Issued (step : Lowering ℕ) (c : LowerCtx) (vs vs′ : List ℕ) (r : Numbered) : Type 0 where
@@ -149,6 +176,12 @@ pub record Issued (step : Lowering ℕ) (c : LowerCtx) (vs vs′ : List ℕ) (r 
   pub low : r .ctx .numbers ≤ c .numbers + 1
   pub met : r .ctx .mapped ≤ c .mapped + 1
   pub index : Indexed (c .mapped) vs → Indexed (r .ctx .mapped) vs′
+
+-- a number can be issued over the variables' words
+pub record CanMap (c : LowerCtx) (vs : List ℕ) : Type 0 where
+  pub met : c .mapped < maxVars
+  pub low : c .numbers < maxCount
+  pub held : IndexHeld (c .mapped) vs
 
 -- the word at a place has changed, and no other among the notes
 pub record Noted (place v : ℕ) (rest rest′ : List ℕ) : Type 0 where
@@ -172,6 +205,11 @@ pub record CanNumber (c : LowerCtx) (place : ℕ) (rest : List ℕ) : Type 0 whe
   pub noted : place < varsAt
   pub long : workWords ≤ length rest
   pub index : Indexed (c .mapped) (drop varsAt rest)
+
+-- one more operator can be pushed
+pub record CanPush (c : LowerCtx) (ops : List ℕ) : Type 0 where
+  pub few : c .ops < maxCount
+  pub long : workWords ≤ length ops
 
 -- one more operator, stored if the table has room
 pub record Pushed (c r : LowerCtx) (o o′ : List ℕ) (x : Op) : Type 0 where

@@ -3,7 +3,7 @@ ghost use mathlib.Core.Path.{_≡_};
 ghost use Prim.Native.Nat.{_+_, _<_, _≤_};
 ghost use lib.ListN.{length, getD, set};
 ghost use Rattle.model.specs.Lower.{lookup};
-ghost use Rattle.context.specs.Tables.{maxVars, maxIndexed, linksAt, varWords, halfWord, varsOf, foundOf, childOf, withHalf, Indexed, Descended, Joined, Entered};
+ghost use Rattle.context.specs.Tables.{maxVars, maxIndexed, linksAt, varWords, halfWord, varsOf, foundOf, childOf, withHalf, IndexHeld, Descended, Joined, Entered};
 use crate::HALF_WORD;
 use crate::LINKS_AT;
 use crate::MAX_INDEXED;
@@ -48,7 +48,7 @@ fn set_child(vars: &mut [u32], p: usize, bits: u32, link: u32)
 
 // The way down for an id, from the root to the variable that has it or to the one that its variable would be a child of. All variables below one at depth d have the same last d bits in their ids, so that a way has at most 33 variables, whatever the ids are.
 fn descend(vars: &[u32], count: usize, id: u32) -> End
-    requires { ⌜ (0 < count) × (count ≤ maxIndexed) × (varWords ≤ length (now vars)) × Indexed count (now vars) ⌝ }
+    requires { ⌜ (0 < count) × (count ≤ maxIndexed) × IndexHeld count (now vars) ⌝ }
     ensures { λ r. ⌜ Descended (now (vars .entry)) count id (r .place) (r .bits) ⌝ }
 {
     let mut p = 0;
@@ -72,7 +72,7 @@ fn descend(vars: &[u32], count: usize, id: u32) -> End
 
 // The number of one of the first variables, by the tree.
 fn find_indexed(vars: &[u32], count: usize, id: u32) -> Found
-    requires { ⌜ (count ≤ maxIndexed) × (varWords ≤ length (now vars)) × Indexed count (now vars) ⌝ }
+    requires { ⌜ (count ≤ maxIndexed) × IndexHeld count (now vars) ⌝ }
     ensures { λ r. ⌜ r ≡ foundOf (lookup (varsOf count (now (vars .entry))) id) ⌝ }
 {
     if count == 0 {
@@ -88,7 +88,7 @@ fn find_indexed(vars: &[u32], count: usize, id: u32) -> Found
 
 // The number of a variable, the newest first: those behind the index one by one.
 pub fn find(vars: &[u32], count: usize, id: u32) -> Found
-    requires { ⌜ (count ≤ maxVars) × (varWords ≤ length (now vars)) × Indexed count (now vars) ⌝ }
+    requires { ⌜ (count ≤ maxVars) × IndexHeld count (now vars) ⌝ }
     ensures { λ r. ⌜ r ≡ foundOf (lookup (varsOf count (now (vars .entry))) id) ⌝ }
 {
     let mut k = count;
@@ -103,7 +103,7 @@ pub fn find(vars: &[u32], count: usize, id: u32) -> Found
 
 // The next variable becomes the child at the end of the way down for its id; the first one is the root.
 fn join(vars: &mut [u32], k: usize, id: u32)
-    requires { ⌜ (k < maxIndexed) × (varWords ≤ length (now vars)) × Indexed k (now vars) ⌝ }
+    requires { ⌜ (k < maxIndexed) × IndexHeld k (now vars) ⌝ }
     requires { ⌜ foundOf (lookup (varsOf k (now vars)) id) ≡ Found.Nothing ⌝ }
     ensures { λ _. ⌜ Joined k id (now (vars .entry)) (now (vars .exit)) ⌝ }
 {
@@ -116,7 +116,7 @@ fn join(vars: &mut [u32], k: usize, id: u32)
 
 // The next variable, which is new, gets its place in the index, if that has room. Its own links may be of an earlier call: it has no child yet.
 pub fn enter(vars: &mut [u32], k: usize, id: u32)
-    requires { ⌜ (varWords ≤ length (now vars)) × Indexed k (now vars) ⌝ }
+    requires { ⌜ IndexHeld k (now vars) ⌝ }
     requires { ⌜ foundOf (lookup (varsOf k (now vars)) id) ≡ Found.Nothing ⌝ }
     ensures { λ _. ⌜ Entered k id (now (vars .entry)) (now (vars .exit)) ⌝ }
 {

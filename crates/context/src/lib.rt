@@ -5,7 +5,7 @@ ghost use lib.ListN.{length};
 ghost use Rattle.model.specs.Call.{workWords};
 ghost use Rattle.model.specs.Lower.{lookup, mapVar, endpointVar};
 ghost use Rattle.context.specs.Ops.{bindOf};
-ghost use Rattle.context.specs.Tables.{varsAt, maxVars, maxCount, varWords, varsOf, foundOf, Indexed, Issued, CanNumber, Numbers, NoteWritten, Pushed};
+ghost use Rattle.context.specs.Tables.{varsAt, maxCount, varsOf, foundOf, Issued, CanMap, CanNumber, Numbers, NoteWritten, CanPush, Pushed};
 use crate::index::Found;
 use crate::op::Op;
 
@@ -82,7 +82,7 @@ pub fn note(rest: &mut [u32], place: usize, v: u32)
 impl LowerCtx {
     // A variable that has no number yet gets the next one.
     fn new_var(self, vars: &mut [u32], id: u32) -> Numbered
-        requires { ⌜ (self .mapped < maxVars) × (self .numbers < maxCount) × (varWords ≤ length (now vars)) × Indexed (self .mapped) (now vars) ⌝ }
+        requires { ⌜ CanMap self (now vars) ⌝ }
         requires { ⌜ foundOf (lookup (varsOf (self .mapped) (now vars)) id) ≡ Found.Nothing ⌝ }
         ensures { λ r. ⌜ Issued (mapVar id) self (now (vars .entry)) (now (vars .exit)) r ⌝ }
     {
@@ -101,7 +101,7 @@ impl LowerCtx {
     }
 
     fn map_var(self, vars: &mut [u32], id: u32) -> Numbered
-        requires { ⌜ (self .mapped < maxVars) × (self .numbers < maxCount) × (varWords ≤ length (now vars)) × Indexed (self .mapped) (now vars) ⌝ }
+        requires { ⌜ CanMap self (now vars) ⌝ }
         ensures { λ r. ⌜ Issued (mapVar id) self (now (vars .entry)) (now (vars .exit)) r ⌝ }
     {
         match index::find(vars, self.mapped, id) {
@@ -155,7 +155,7 @@ impl LowerCtx {
 
     // One more operator, stored if the table has room.
     pub fn push(self, ops: &mut [u32], op: Op) -> LowerCtx
-        requires { ⌜ (self .ops < maxCount) × (workWords ≤ length (now ops)) ⌝ }
+        requires { ⌜ CanPush self (now ops) ⌝ }
         ensures { λ r. ⌜ Pushed self r (now (ops .entry)) (now (ops .exit)) op ⌝ }
     {
         let k = self.ops;

@@ -25,13 +25,13 @@ use Rattle.model.specs.Call.{Outcome, Test, refuse, pass, then, testWrite, test
 use Rattle.laws.specs.ReadingLaws.{got-value}
 use Rattle.laws.specs.SheetLaws.{sheet-sound}
 use Rattle.alike.specs.Statement.{blank, ids, Stands, Named, LongEnough, RefusedAlike, Paired}
-use Rattle.alike.specs.Relation.{Equal, equal, Tree~}
+use Rattle.alike.specs.Relation.{Tree~}
 use Rattle.alike.specs.Action.{Ctx~, ctx~}
 use Rattle.alike.specs.Lowering.{lowerStatement~}
 use Rattle.alike.specs.Checking.{Verdict~, fine~, violated~, precheckStatement~, firstWrite~}
 use Rattle.alike.specs.Relating.{records~, standing, standing-one}
 use Rattle.alike.specs.Reading.{Read, alike-read}
-use Rattle.alike.specs.Alike.{same-but-spans, mapped-paired, mapped-long}
+use Rattle.alike.specs.Alike.{same-but-spans, mapped-paired, mapped-long, same-path}
 use Rattle.alike.specs.Pairs.{first, second, tree-first, records-second, treeOf, placeOf, reads-second, met}
 use Rattle.bounds.specs.Earlier.{All, _∷ᵃ_, at-low}
 use Rattle.bounds.specs.Earlier as Bounds
@@ -217,9 +217,6 @@ module _ (t u : Tree statement) (slice slice′ : Bytes) where
   unfolding then testCheck outcome
   verdicts-alike fine~ r r′ c l l′ = full-or-not r r′ c l l′
   verdicts-alike (violated~ x) r r′ c l l′ = refused-alike (same-but-spans x)
-
-same-path : {A : Type 0} {a b : A} → Equal a b → a ≡ b
-same-path equal = refl
 
 -- the trees are alike
 trees-alike : (S T : Bytes) (t u : Tree statement) → WellFormed S t → WellFormed T u → SheetsAlike t u → Tree~ (λ a b. Standing t u a b) statement t u

@@ -1,7 +1,8 @@
 // The exported calls on the list of cases from standard input: a label, a digit that says which slice is short, a plan slice's length or the word `size`, and a sheet, each ended by a bar. For each case a line: the label, the call, what it returned, and the words of the answer slice, which is full of sevens before the call and has two words more than an answer; of a lowering then the plan slice, which is full of `#` before the call.
 ghost use Prim.Native.Nat.{_≤_, _<_};
 ghost use lib.ListN.{length};
-ghost use Rattle.model.specs.Call.{workWords, maxBytes};
+ghost use Rattle.model.specs.Call.{maxBytes};
+ghost use Rattle.gate_calls.specs.Slices.{WorkSlices};
 use gate_cases::text::build_sheet;
 use gate_cases::text::next;
 use gate_cases::text::put_times;
@@ -23,9 +24,22 @@ const PAGE: usize = 65536;
 // A work slice that is one word short.
 const SHORT: usize = words::WORK_WORDS - 1;
 
+// The answer slice has so many words, each of which is this before the call; a short one has so many.
+const ANSWER_WORDS: usize = 8;
+
+const UNTOUCHED: usize = 7;
+
+const SHORT_ANSWER: usize = 5;
+
+// Behind a label stand a bar, the digit and another bar.
+const DIGIT_BYTES: usize = 3;
+
+// A page for a word and the blank before it.
+const WORD_PAGE: usize = 32;
+
 // A word behind a blank.
 fn say_word(word: usize) {
-    let mut page = [0u8; 32];
+    let mut page = [0u8; WORD_PAGE];
     let o = put_byte(&mut page, 0, b' ');
     let n = put_decimal(&mut page, o, word as u64);
     if n <= page.len() {
@@ -107,8 +121,7 @@ fn show(
     answer: &mut [usize],
 ) {
     let end = next(head, 0, b'|');
-    // a bar, the digit and another bar
-    let from = end + 3;
+    let from = end + DIGIT_BYTES;
     if from > head.len() {
         return;
     }
@@ -136,9 +149,9 @@ fn show_with(
     d: &mut [u32],
     plan: &mut [u8],
 )
-    requires { ⌜ (workWords ≤ length (now a)) × (workWords ≤ length (now b)) × (workWords ≤ length (now c)) × (workWords ≤ length (now d)) ⌝ }
+    requires { ⌜ WorkSlices (now a) (now b) (now c) (now d) ⌝ }
 {
-    let answer: &mut [usize] = &mut [7; 8];
+    let answer: &mut [usize] = &mut [UNTOUCHED; ANSWER_WORDS];
     match short {
         b'1' => show(head, sheet, &mut a[0..SHORT], b, c, d, plan, answer),
         b'2' => show(head, sheet, a, &mut b[0..SHORT], c, d, plan, answer),
@@ -154,7 +167,7 @@ fn show_with(
             plan,
             answer,
         ),
-        b'6' => show(head, sheet, a, b, c, d, plan, &mut answer[0..5]),
+        b'6' => show(head, sheet, a, b, c, d, plan, &mut answer[0..SHORT_ANSWER]),
         _ => show(head, sheet, a, b, c, d, plan, answer),
     }
 }
@@ -171,12 +184,11 @@ fn show_case(
     plan: &mut [u8],
 ) -> usize
     requires { ⌜ (at < length (now list)) × (length (now list) ≤ maxBytes) ⌝ }
-    requires { ⌜ (workWords ≤ length (now a)) × (workWords ≤ length (now b)) × (workWords ≤ length (now c)) × (workWords ≤ length (now d)) ⌝ }
+    requires { ⌜ WorkSlices (now a) (now b) (now c) (now d) ⌝ }
     ensures { λ r. ⌜ at < r ⌝ }
 {
     let label = next(list, at, b'|');
-    // behind a bar, the digit and another bar
-    let room = next(list, label + 3, b'|');
+    let room = next(list, label + DIGIT_BYTES, b'|');
     let end = next(list, room + 1, b'|');
     let after = end + 1;
     if end >= list.len() {
@@ -207,7 +219,7 @@ fn show_list(
     plan: &mut [u8],
 )
     requires { ⌜ length (now list) ≤ maxBytes ⌝ }
-    requires { ⌜ (workWords ≤ length (now a)) × (workWords ≤ length (now b)) × (workWords ≤ length (now c)) × (workWords ≤ length (now d)) ⌝ }
+    requires { ⌜ WorkSlices (now a) (now b) (now c) (now d) ⌝ }
 {
     let mut at = 0;
     while at < list.len() {

@@ -1,4 +1,4 @@
--- How many records a group has, from its source in the table, and all groups of a record together. Assumes nothing.
+-- Where the count of a group stands, by its source in the table, and all groups of a record together. Assumes nothing.
 use mathlib.Core.Path.{_≡_, refl, sym, _∙_}
 use Prim.Native.Nat.{ℕ, zero, suc, _+_, _*_, _-_, _<_, _≤_}
 use mathlib.Core.Bool.{Bool, true, false, cond}
@@ -8,23 +8,36 @@ use native.Mathlib.Omega.{arith}
 use borrow.Author.Tests.{lt-ltb, le-ltb}
 use lib.Dec.{ltb}
 use lib.ListN.{getD}
-use Rattle.words.specs.Words.{part, cell, two32}
+use Rattle.words.specs.Words.{part, cell, recordWords, two32}
 use Rattle.words.specs.Places.{kindCount}
 use Rattle.words.specs.Held.{total}
 use Rattle.words.specs.Table.{sourceCount, fixedSources, sourceShift, countOf, groupCount, groupNumbers, groupSource, groupsFrom, groupsOf}
 use Rattle.words.specs.GroupLaws.{part-cell, entries-low, groups-few, none-counted}
 use Rattle.line.specs.LineRead.{Alike}
+use Rattle.line.specs.Group.{CountedAt}
+use Rattle.line.specs.declared.group.Counted.{Counted}
 
-module _ (ws : List ℕ) (c s : ℕ) (e : c ≡ s) where
-  pub count-fixed : c < fixedSources → c ≡ countOf ws s
-  count-fixed h = rw (← e, lt-ltb c fixedSources h)
+-- the source of group g says where its count stands
+module _ (n g c : ℕ) (e : c ≡ groupSource n g) where
+  pub count-fixed : c < fixedSources → CountedAt n g (Counted.Fixed c)
+  count-fixed h = record { is = λ ws. rw (← e, lt-ltb c fixedSources h); among = tt }
 
-  pub count-word : fixedSources ≤ c → (r : ℕ) → r ≡ getD ws (c + c - sourceShift) 0 → r ≡ countOf ws s
-  count-word h r q = rw (← e, le-ltb c fixedSources h) q
+  pub count-word : fixedSources ≤ c → c < sourceCount → CountedAt n g (Counted.InWord (c + c - sourceShift))
+  count-word h k = record { is = λ ws. rw (← e, le-ltb c fixedSources h); among = omega arith }
 
--- the same of a record of two slices
-pub count-cell : (a b : List ℕ) (i c s : ℕ) → c ≡ s → fixedSources ≤ c → c < sourceCount → (r : ℕ) → r ≡ cell a b i (c + c - sourceShift) → r ≡ countOf (part a b i) s
-count-cell a b i c s e h k r q = count-word (part a b i) c s e h r (q ∙ sym (part-cell a b i (c + c - sourceShift) (omega arith)))
+-- what stands there is the group's count, of a record by its words and of one of two slices
+module _ {n g : ℕ} {r : Counted} (p : CountedAt n g r) where
+  pub fixed-is : {m : ℕ} → r ≡ Counted.Fixed m → (ws : List ℕ) → m ≡ countOf ws (groupSource n g)
+  fixed-is e ws = rw e at (p .is ws)
+
+  pub word-among : {c : ℕ} → r ≡ Counted.InWord c → c < recordWords
+  word-among e = rw e at (p .among)
+
+  pub word-is : {c : ℕ} → r ≡ Counted.InWord c → (ws : List ℕ) → getD ws c 0 ≡ countOf ws (groupSource n g)
+  word-is e ws = rw e at (p .is ws)
+
+  pub cell-is : {c : ℕ} → r ≡ Counted.InWord c → (a b : List ℕ) (i : ℕ) → cell a b i c ≡ countOf (part a b i) (groupSource n g)
+  cell-is {c} e a b i = sym (part-cell a b i c (word-among e)) ∙ word-is e (part a b i)
 
 -- ── all groups ──
 

@@ -10,7 +10,7 @@ use lib.ListN.{length, take, drop, getD, set, length-set}
 use lib.Dec.{ltb}
 use borrow.Author.Tests.{ltb-true, ltb-false}
 use lib.Seq.{take-nil, drop-cons, getD-set-same, getD-set-other}
-use Rattle.words.specs.Places.{kindCount, formCount}
+use Rattle.words.specs.Places.{kindCount, formCount, noneForm}
 use Rattle.model.specs.Text.{Bytes, tab, lineFeed}
 use Rattle.model.specs.Field.{Form, num, flag, var, varOrAbsent, numOrAbsent, number, numberOrAbsent, int, float, text, alias, span, read, width, both, readFields}
 use Rattle.model.specs.Field
@@ -154,7 +154,7 @@ module _ (n : ℕ) (sheet : Bytes) (p e : ℕ) (line : LineEnd sheet p e) (ws₀
 
   -- ── a form is left ──
 
-  module _ (h : form ≡ 0 → ⊥) where
+  module _ (h : form ≡ noneForm → ⊥) where
     rest-is : formsFrom n g ≡ formOf form ∷ formsFrom n (suc g)
     unfolding formsFrom
     rest-is =
@@ -215,7 +215,7 @@ module _ (n : ℕ) (sheet : Bytes) (p e : ℕ) (line : LineEnd sheet p e) (ws₀
 
   -- ── no form is left ──
 
-  module _ (h : form ≡ 0) where
+  module _ (h : form ≡ noneForm) where
     rest-none : formsFrom n g ≡ []
     unfolding formsFrom
     rest-none = row-end (getD codes n []) g in-row (sym (f .code) ∙ h)

@@ -5,9 +5,15 @@ ghost use lib.ListN.{length};
 ghost use Rattle.words.specs.Words.{Roomy, part, maxRecords, recordWords, two32};
 ghost use Rattle.words.specs.Places.{kindCount, sortCount};
 ghost use Rattle.words.specs.Held.{total};
-ghost use Rattle.words.specs.Table.{groupSort, groupSource, countOf, groupCount, sourceCount, groupsOf};
+ghost use Rattle.words.specs.Table.{groupSort, groupSource, countOf, groupCount, groupsOf};
+ghost use Rattle.line.specs.Group.{CountedAt};
 use words::table::group_entry;
 use words::table::groups_of;
+
+// A group has so many entries in the table: its sort, and behind it the source of its count.
+const GROUP_ENTRIES: usize = 2;
+
+const SOURCE_ENTRY: usize = 1;
 
 // A source below this is itself the count; from it on it stands for field 0, 1, ..
 const FIXED_SOURCES: u32 = 3;
@@ -20,44 +26,52 @@ pub fn group_sort(kind: u32, g: usize) -> u32
     requires { ⌜ (kind < kindCount) × (g < groupCount) ⌝ }
     ensures { λ r. ⌜ (r ≡ groupSort kind g) × (r < sortCount) ⌝ }
 {
-    group_entry(kind, g * 2)
+    group_entry(kind, g * GROUP_ENTRIES)
 }
 
-// Where the count of group g is from.
-fn group_source(kind: u32, g: usize) -> u32
+// Where the count of a group stands: the table has it, or a word of the record does.
+pub enum Counted {
+    Fixed(u32),
+    InWord(usize),
+}
+
+// Where the count of group g stands; it is 0 where the kind has no such group.
+fn count_place(kind: u32, g: usize) -> Counted
     requires { ⌜ (kind < kindCount) × (g < groupCount) ⌝ }
-    ensures { λ r. ⌜ (r ≡ groupSource kind g) × (r < sourceCount) ⌝ }
+    ensures { λ r. ⌜ CountedAt kind g r ⌝ }
 {
-    group_entry(kind, g * 2 + 1)
+    let source = group_entry(kind, g * GROUP_ENTRIES + SOURCE_ENTRY);
+    if source < FIXED_SOURCES {
+        return Counted::Fixed(source);
+    }
+    let at = source as usize;
+    let place = at + at - SOURCE_SHIFT;
+    Counted::InWord(place)
 }
 
-// How many records group g of record i has; 0 where its kind has no such group.
+// How many records group g of record i has.
 pub fn group_count(a: &[u32], b: &[u32], i: usize, kind: u32, g: usize) -> u32
     requires { ⌜ (kind < kindCount) × (g < groupCount) ⌝ }
     requires { ⌜ i < maxRecords ⌝ }
     requires { ⌜ Roomy (now a) (now b) ⌝ }
     ensures { λ r. ⌜ r ≡ countOf (part (now (a .entry)) (now (b .entry)) i) (groupSource kind g) ⌝ }
 {
-    let c = group_source(kind, g);
-    if c < FIXED_SOURCES {
-        return c;
+    match count_place(kind, g) {
+        Counted::Fixed(n) => n,
+        Counted::InWord(c) => words::word(a, b, i, c),
     }
-    let at = c as usize;
-    words::word(a, b, i, at + at - SOURCE_SHIFT)
 }
 
-// The same by the words of the record.
+// How many records group g has of the record whose words these are.
 fn count_in(part: &[u32], kind: u32, g: usize) -> u32
     requires { ⌜ (kind < kindCount) × (g < groupCount) ⌝ }
     requires { ⌜ length (now part) ≡ recordWords ⌝ }
     ensures { λ r. ⌜ r ≡ countOf (now (part .entry)) (groupSource kind g) ⌝ }
 {
-    let c = group_source(kind, g);
-    if c < FIXED_SOURCES {
-        return c;
+    match count_place(kind, g) {
+        Counted::Fixed(n) => n,
+        Counted::InWord(c) => part[c],
     }
-    let at = c as usize;
-    part[at + at - SOURCE_SHIFT]
 }
 
 // A word as a number of 64 bits.

@@ -1,6 +1,6 @@
 -- Pattern elements as their words have them: names, and props if there are any. Assumes nothing.
 use mathlib.Core.Path.{_≡_, refl, sym, ap}
-use Prim.Native.Nat.{ℕ, suc, _+_, _-_, _≤_}
+use Prim.Native.Nat.{ℕ, suc, _+_, _-_}
 use native.Mathlib.Omega.{arith}
 use mathlib.Core.Bool.{Bool, true, false}
 use mathlib.Core.List.{List, _∷_, _++_, append-nil}
@@ -15,7 +15,7 @@ use Rattle.model.specs.Tree.{Tree, Trees, node, []ᵗ, _∷ᵗ_, end, _▸_, to
 use Rattle.model.specs.Lower.{Recs, Lowered, made, _>>=_, ret, elementStep, propsOf, lowerProps, lowerExpr, has, Step, NodeStep, RelStep, ofNode, ofRel}
 use Rattle.words.specs.Words.{Roomy, cell, fieldsOf, fieldOf, optionOf}
 use Rattle.words.specs.Held.{Held, HeldOf, RecordAt, size, sizeOf}
-use Rattle.words.specs.Cells.{shown, flag-word}
+use Rattle.words.specs.Cells.{shown, flag-counts}
 use Rattle.lower.specs.Render.{Notes, Ops, render, renderOf, recsOver, Below, BelowOf, belowIn, specRecs, specRec, KidsBelow}
 use Rattle.lower.specs.Rep.{State}
 use Rattle.lower.specs.Pieces.{lowerC}
@@ -92,9 +92,6 @@ unfolding Below belowIn
 names-none N lo k []ᵗ = tt
 names-none N lo k (node name line e f end ∷ᵗ ts) = (tt, names-none N lo k ts)
 
-flag-of : (p : Bool) (x : ℕ) → p ≡ eqb x 1 → x ≤ 1 → one p ≡ x
-flag-of p x e h = rw e (flag-word x h)
-
 module _ {sheet : Bytes} {a b : List ℕ} {d i : ℕ} (room : Roomy a b) where
   a-node-of : Opens sheet a b d i patternElement (λ t. IsNode sheet a b d i t) PatternElement.Node
   unfolding Held size fold made elementStep specRecs specRec render KidsBelow Below fieldsOf fieldOf
@@ -111,7 +108,7 @@ module _ {sheet : Bytes} {a b : List ℕ} {d i : ℕ} (room : Roomy a b) where
           p = p;
           props = props;
           many = en;
-          flagged = flag-of p (cell a b i nodePropsAt) ep (w .flags .1 .1 .0);
+          flagged = flag-counts p (cell a b i nodePropsAt) ep (w .flags .1 .1 .0);
           held-names = hd .3 .0;
           held-props = rw z at (hd .3 .1 .0);
           sized = omega arith;
@@ -142,7 +139,7 @@ module _ {sheet : Bytes} {a b : List ℕ} {d i : ℕ} (room : Roomy a b) where
           p = p;
           props = props;
           many = en;
-          flagged = flag-of p (cell a b i relPropsAt) ep (w .flags .1 .1 .1 .1 .0);
+          flagged = flag-counts p (cell a b i relPropsAt) ep (w .flags .1 .1 .1 .1 .0);
           held-names = hd .3 .0;
           held-props = rw z at (hd .3 .1 .0);
           sized = omega arith;

@@ -103,7 +103,7 @@ places B rel far e₁ e₂ nt nl a b c d e = record {
   at-far = (omega arith, omega arith);
 }
 
-place-at : (p B i : ℕ) → p ≡ B + (i + 1) → p ≡ B + suc i
+pub place-at : (p B i : ℕ) → p ≡ B + (i + 1) → p ≡ B + suc i
 place-at p B i e = omega arith
 
 -- the records of an expand, as they are rendered

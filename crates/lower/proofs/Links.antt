@@ -73,8 +73,8 @@ module _ {a b : List ℕ} {n d base : ℕ} {ch ch₁ ch₂ : Chain} {os os₁ os
 
 -- ── the loop ──
 
--- k elements are left, and once they are lowered from here, all is done
-pub record Left (a b : List ℕ) (d base : ℕ) (Done : Chain → List ℕ → List ℕ → Type 0) (k : ℕ) (ch : Chain) (os rs : List ℕ) : Type 0 where
+-- k elements remain, and once they are lowered from here, all is done
+pub record Remaining (a b : List ℕ) (d base : ℕ) (Done : Chain → List ℕ → List ℕ → Type 0) (k : ℕ) (ch : Chain) (os rs : List ℕ) : Type 0 where
   pub some : SomeTrees a b patternElement k d (ch .next)
   pub roomFor : RoomFor d (from ch) (mem (ch .ctx) os rs)
   pub bounded : ChainInBounds ch
@@ -91,13 +91,13 @@ unfolding Held
 behind sheet (t ∷ᵗ ts) p hd = record { sheet = sheet; trees = ts; held = rw (p .next sheet t (hd .0)) (hd .1) }
 
 module _ {a b : List ℕ} {d base : ℕ} {Done : Chain → List ℕ → List ℕ → Type 0} where
-  pub child : {k : ℕ} {ch : Chain} {os rs : List ℕ} → ((k ≡ 0) → ⊥) → Left a b d base Done k ch os rs → SomeTree a b patternElement d (ch .next)
+  pub child : {k : ℕ} {ch : Chain} {os rs : List ℕ} → ((k ≡ 0) → ⊥) → Remaining a b d base Done k ch os rs → SomeTree a b patternElement d (ch .next)
   child {ch = ch} h p = child-by (ch .next) (p .some .sheet) (p .some .trees) h (p .some .held)
 
-  less : {k : ℕ} {ch : Chain} {os rs : List ℕ} → Left a b d base Done k ch os rs → Left a b d base Done (suc k - 1) ch os rs
+  less : {k : ℕ} {ch : Chain} {os rs : List ℕ} → Remaining a b d base Done k ch os rs → Remaining a b d base Done (suc k - 1) ch os rs
   less {k} p = let e : suc k - 1 ≡ k = omega arith in rw e p
 
-  pub again : {k : ℕ} {ch ch₁ : Chain} {os os₁ rs rs₁ : List ℕ} → ((k ≡ 0) → ⊥) → Left a b d base Done k ch os rs → LowersElement a b d base ch ch₁ os os₁ rs rs₁ → Left a b d base Done (k - 1) ch₁ os₁ rs₁
+  pub again : {k : ℕ} {ch ch₁ : Chain} {os os₁ rs rs₁ : List ℕ} → ((k ≡ 0) → ⊥) → Remaining a b d base Done k ch os rs → LowersElement a b d base ch ch₁ os os₁ rs rs₁ → Remaining a b d base Done (k - 1) ch₁ os₁ rs₁
   again {k = zero} h p q = absurd (h refl)
   again {k = suc k} h p q = less (record {
     some = behind (p .some .sheet) (p .some .trees) q (p .some .held);
@@ -107,5 +107,5 @@ module _ {a b : List ℕ} {d base : ℕ} {Done : Chain → List ℕ → List ℕ
     finish = λ ch′ os′ rs′ r. p .finish ch′ os′ rs′ (more-law (p .bounded) q r);
   })
 
-  pub done : {k : ℕ} {ch : Chain} {os rs : List ℕ} → k ≡ 0 → Left a b d base Done k ch os rs → Done ch os rs
+  pub done : {k : ℕ} {ch : Chain} {os rs : List ℕ} → k ≡ 0 → Remaining a b d base Done k ch os rs → Done ch os rs
   done {k} {ch} {os} {rs} h p = p .finish ch os rs (rw h (none-law d base ch os rs (p .bounded) (p .anchored)))

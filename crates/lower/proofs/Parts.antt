@@ -124,8 +124,8 @@ module _ {a b : List ℕ} (d base i : ℕ) (m : Mem) (f : Numbered) (c : LowerCt
 
 -- ── the loop ──
 
--- k parts are left behind one whose root is `root`, and once they are lowered from here, all is done
-pub record Left (a b : List ℕ) (d base : ℕ) (Done : ℕ → ℕ → Mem → Type 0) (k i root : ℕ) (m : Mem) : Type 0 where
+-- k parts remain behind one whose root is `root`, and once they are lowered from here, all is done
+pub record Remaining (a b : List ℕ) (d base : ℕ) (Done : ℕ → ℕ → Mem → Type 0) (k i root : ℕ) (m : Mem) : Type 0 where
   pub some : SomeTrees a b patternPart k d i
   pub roomFor : RoomFor d i m
   pub low : root < m .ctx .ops
@@ -148,14 +148,14 @@ some-behind {k = zero} h x p = absurd (h refl)
 some-behind {k = suc k} h x p = let e : suc k - 1 ≡ k = omega arith in rw e (behind (x .sheet) (x .trees) p (x .held))
 
 module _ {a b : List ℕ} {d base : ℕ} {Done : ℕ → ℕ → Mem → Type 0} where
-  less : {k i root : ℕ} {m : Mem} → Left a b d base Done k i root m → Left a b d base Done (suc k - 1) i root m
+  less : {k i root : ℕ} {m : Mem} → Remaining a b d base Done k i root m → Remaining a b d base Done (suc k - 1) i root m
   less {k} p = let e : suc k - 1 ≡ k = omega arith in rw e p
 
-  pub again : {k i j root k₁ : ℕ} {m m₁ : Mem} → ((k ≡ 0) → ⊥) → Left a b d base Done k i root m → LowersPart a b d base i j k₁ m m₁ → Left a b d base Done (k - 1) j k₁ m₁
+  pub again : {k i j root k₁ : ℕ} {m m₁ : Mem} → ((k ≡ 0) → ⊥) → Remaining a b d base Done k i root m → LowersPart a b d base i j k₁ m m₁ → Remaining a b d base Done (k - 1) j k₁ m₁
   again {k = zero} h p q = absurd (h refl)
   again {k = suc k} {root = root} h p q = less (record { some = behind (p .some .sheet) (p .some .trees) q (p .some .held); roomFor = room-after (q .moved) (p .roomFor); low = q .low; finish = λ e k′ m′ r. p .finish e k′ m′ (from-cons root q r) })
 
-  pub done : {k i root : ℕ} {m : Mem} → k ≡ 0 → Left a b d base Done k i root m → Done i root m
+  pub done : {k i root : ℕ} {m : Mem} → k ≡ 0 → Remaining a b d base Done k i root m → Done i root m
   done {k} {i} {root} {m} h p = p .finish i root m (rw h (from-nil a b d base i root m (p .roomFor .here) (p .low)))
 
 -- the first part and the loop behind it
@@ -163,5 +163,5 @@ pub first-done : {a b : List ℕ} {n d base j e k₁ k : ℕ} {m m₁ m₂ : Mem
 first-done {n = zero} i h p q = absurd (h refl)
 first-done {n = suc n} i h p q = let z : suc n - 1 ≡ n = omega arith in first-law i p (rw z at q)
 
-pub from-left : {a b : List ℕ} {n d base j k₁ : ℕ} {m m₁ : Mem} (i : ℕ) → ((n ≡ 0) → ⊥) → SomeTrees a b patternPart n d (i + 1) → RoomFor d (i + 1) m → LowersPart a b d base (i + 1) j k₁ m m₁ → Left a b d base (λ e k m′. LowersFurther a b (n - 1) d base j e k₁ k m₁ m′) (n - 1) j k₁ m₁
-from-left i h x g p = record { some = some-behind h x p; roomFor = room-after (p .moved) g; low = p .low; finish = λ e k m′ q. q }
+pub behind-first : {a b : List ℕ} {n d base j k₁ : ℕ} {m m₁ : Mem} (i : ℕ) → ((n ≡ 0) → ⊥) → SomeTrees a b patternPart n d (i + 1) → RoomFor d (i + 1) m → LowersPart a b d base (i + 1) j k₁ m m₁ → Remaining a b d base (λ e k m′. LowersFurther a b (n - 1) d base j e k₁ k m₁ m′) (n - 1) j k₁ m₁
+behind-first i h x g p = record { some = some-behind h x p; roomFor = room-after (p .moved) g; low = p .low; finish = λ e k m′ q. q }

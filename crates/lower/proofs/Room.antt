@@ -25,13 +25,12 @@ use Rattle.lower.specs.declared.Chain.{Chain}
 use Rattle.model.specs.Tree.{Tree}
 use Rattle.words.specs.Words.{cell, Roomy, optionOf}
 use Rattle.words.specs.Held.{Held, size}
-use Rattle.context.specs.Tables.{Pushed, Issued, CanNumber, Numbers, varsAt, maxCount, deepest}
+use Rattle.context.specs.Tables.{CanPush, Pushed, Issued, CanNumber, Numbers, varsAt, deepest}
 use Rattle.context.specs.declared.op.Op.{Op}
 use Rattle.context.specs.declared.LowerCtx.{LowerCtx}
 use Rattle.context.specs.declared.Numbered.{Numbered}
 use Rattle.model.specs.Lower.{Lowering, endpointVar}
 use Rattle.lower.specs.Rep.{atPlace, Mem, mem, RoomFor, maxBefore, passOperators}
-use Rattle.model.specs.Call.{workWords}
 use Rattle.words.specs.Words.{maxRecords}
 use Rattle.context.specs.Tables.{secondPass}
 use Rattle.context.specs.declared.At.{At}
@@ -61,9 +60,6 @@ pub asked-on : {T T′ : Type 0} {a b : List ℕ} {at : At} {d : ℕ} {m m′ : 
 asked-on i d′ e g l t r = record { words = g .words; tree = t; room = r; depth = (let h = g .depth in omega arith); pass = g .pass }
 
 module _ {d i : ℕ} {c : LowerCtx} {os rs : List ℕ} (g : RoomFor d i (mem c os rs)) where
-  pub can-push : (c .ops < maxCount) × (workWords ≤ length os)
-  can-push = (let x = g .few in let y = g .here in omega arith, g .in-ops)
-
   pub can-number : (base place j : ℕ) → base ≤ secondPass → j ≤ maxRecords → place ≡ base + j → CanNumber c place rs
   can-number base place j lb lj e = record { met = omega (arith, g .met, g .here); low = omega (arith, g .low, g .here); noted = omega arith; long = g .in-rest; index = g .index }
 
@@ -170,5 +166,5 @@ module _ {d i : ℕ} {c : LowerCtx} {os rs : List ℕ} (g : RoomFor d i (mem c o
   pub can-again : i < maxRecords → length rs′ ≡ length rs → (base place j : ℕ) → base ≤ secondPass → j ≤ maxRecords → place ≡ base + j → CanNumber (r .ctx) place rs′
   can-again li l base place j lb lj e = record { met = omega (arith, g .met, g .here, n .met); low = omega (arith, g .low, g .here, n .low); noted = omega arith; long = rw l (g .in-rest); index = n .index (g .index) }
 
-pub push-again : {d i : ℕ} {c : LowerCtx} {os rs : List ℕ} {step step₂ : Lowering ℕ} {vs vs′ ws ws′ : List ℕ} {r r₂ : Numbered} → RoomFor d i (mem c os rs) → Issued step c vs vs′ r → Issued step₂ (r .ctx) ws ws′ r₂ → (r₂ .ctx .ops < maxCount) × (workWords ≤ length os)
-push-again g n n₂ = (omega (arith, g .few, g .here, n .ops, n₂ .ops), g .in-ops)
+pub push-again : {d i : ℕ} {c : LowerCtx} {os rs : List ℕ} {step step₂ : Lowering ℕ} {vs vs′ ws ws′ : List ℕ} {r r₂ : Numbered} → RoomFor d i (mem c os rs) → Issued step c vs vs′ r → Issued step₂ (r .ctx) ws ws′ r₂ → CanPush (r₂ .ctx) os
+push-again g n n₂ = record { few = omega (arith, g .few, g .here, n .ops, n₂ .ops); long = g .in-ops }

@@ -169,9 +169,6 @@ spots B i j rel far e nt a b c d f g = record {
 pub at-place : (p : ℕ) → (p ≤ p) × (p < p + 1)
 at-place p = (omega arith, omega arith)
 
-pub place-at : (p B i : ℕ) → p ≡ B + (i + 1) → p ≡ B + suc i
-place-at p B i e = omega arith
-
 pub short-is : (N : Notes) (A : Ops) (tr : Tree patternElement) {n : ℕ} (types : Trees name n) (p : Bool) (props : Trees expr (one p)) (h : Rec) (input input′ x x′ y y′ z z′ : ℕ)
     (all : Bool) (q : Recs) → input′ ≡ input → x ≡ x′ → y ≡ y′ → z ≡ z′ → specRecs N A tr ≡ h ∷ (renderOf N A types ++ renderOf N A props) → renderC N A (plainC props) ≡ q →
     op ReadOp.ShortestPath (input, (x′, (y′, (z′, (all, tt))))) ∷ (h ∷ (toList n (foldOf Lowered made types) ++ q)) ≡ op ReadOp.ShortestPath (input′, (x, (y, (z, (all, tt))))) ∷ specRecs N A tr

@@ -34,7 +34,8 @@ use Rattle.words.specs.Fits.{tree-fits, tree-low}
 use Rattle.lower.specs.Carry.{plainC, plain-held, plain-size, plain-below}
 use Rattle.lower.proofs.Elements.{a-node, a-rel}
 use Rattle.lower.proofs.Chaining.{IsPart, a-part}
-use Rattle.lower.proofs.Shortest.{shortRecs, short-def, short-is, special-part, Three, three, spots, at-place, place-at}
+use Rattle.lower.proofs.Shortest.{shortRecs, short-def, short-is, special-part, Three, three, spots, at-place}
+use Rattle.lower.proofs.Expand.{place-at}
 use Rattle.words.specs.Places.{kindAt, nodeKind, relKind, elementNamedAt, elementVarAt, relTypesAt, partNamedAt, partVarAt, partShortestAt, partElementsAt}
 
 one-more : {k n : ℕ} → n ≡ k + 1 → k < n

@@ -9,6 +9,7 @@ use Rattle.model.specs.Kind.{expr}
 use Rattle.model.specs.Tree.{Tree}
 use Rattle.model.specs.Lower.{Recs, _>>=_, ret, lowerExpr}
 use Rattle.words.specs.Held.{size}
+use Rattle.context.specs.Tables.{CanPush}
 use Rattle.lower.specs.Side.{Side, side}
 use Rattle.lower.specs.Render.{Notes, Ops}
 use Rattle.lower.specs.Shows.{shift}
@@ -85,10 +86,14 @@ module _ {a b : List ℕ} {n d base j e : ℕ} {m m₁ m₂ : Mem} (gap i : ℕ)
   pub cons-law : LowersExprs a b (suc n) gap d base i e m m₂
   cons-law = record { moved = moved-then (moved-within (omega arith) (le-refl _) (p .moved .here) (p .moved)) (q .moved); next = both-next; run = cons-run }
 
+-- where there is room, one more operator can be pushed
+pub can-push : {d i : ℕ} {m : Mem} → RoomFor d i m → CanPush (m .ctx) (m .ops)
+can-push g = record { few = omega (arith, g .few, g .here); long = g .in-ops }
+
 -- ── the loop ──
 
--- k are left from record i on, and once they are lowered from here, all is done
-pub record Left (a b : List ℕ) (gap d base : ℕ) (Done : ℕ → Mem → Type 0) (k i : ℕ) (m : Mem) : Type 0 where
+-- k remain from record i on, and once they are lowered from here, all is done
+pub record Remaining (a b : List ℕ) (gap d base : ℕ) (Done : ℕ → Mem → Type 0) (k i : ℕ) (m : Mem) : Type 0 where
   pub some : SomeCarried a b k gap d i
   pub roomFor : RoomFor d i m
   pub finish : (e : ℕ) (m′ : Mem) → LowersExprs a b k gap d base i e m m′ → Done e m′
@@ -103,13 +108,13 @@ unfolding HeldC
 behind gap i sheet (c ∷ᶜ cs) p hd = record { sheet = sheet; list = cs; held = rw (p .next sheet (c .1) (hd .0)) (hd .1) }
 
 module _ {a b : List ℕ} {gap d base : ℕ} {Done : ℕ → Mem → Type 0} where
-  pub child : {k i : ℕ} {m : Mem} → ((k ≡ 0) → ⊥) → Left a b gap d base Done k i m → SomeTree a b expr d (i + gap)
+  pub child : {k i : ℕ} {m : Mem} → ((k ≡ 0) → ⊥) → Remaining a b gap d base Done k i m → SomeTree a b expr d (i + gap)
   child {i = i} h p = child-by gap i (p .some .sheet) (p .some .list) h (p .some .held)
 
-  less : {k i : ℕ} {m : Mem} → Left a b gap d base Done k i m → Left a b gap d base Done (suc k - 1) i m
+  less : {k i : ℕ} {m : Mem} → Remaining a b gap d base Done k i m → Remaining a b gap d base Done (suc k - 1) i m
   less {k} p = let e : suc k - 1 ≡ k = omega arith in rw e p
 
-  pub again : {k i j : ℕ} {m m₁ : Mem} → ((k ≡ 0) → ⊥) → Left a b gap d base Done k i m → LowersExpr a b d base (i + gap) j m m₁ → Left a b gap d base Done (k - 1) j m₁
+  pub again : {k i j : ℕ} {m m₁ : Mem} → ((k ≡ 0) → ⊥) → Remaining a b gap d base Done k i m → LowersExpr a b d base (i + gap) j m m₁ → Remaining a b gap d base Done (k - 1) j m₁
   again {k = zero} h p q = absurd (h refl)
   again {k = suc k} {i} {j} {m} {m₁} h p q = less (record {
     some = behind gap i (p .some .sheet) (p .some .list) q (p .some .held);
@@ -117,5 +122,5 @@ module _ {a b : List ℕ} {gap d base : ℕ} {Done : ℕ → Mem → Type 0} whe
     finish = λ e m′ r. p .finish e m′ (cons-law gap i q r);
   })
 
-  pub done : {k i : ℕ} {m : Mem} → k ≡ 0 → Left a b gap d base Done k i m → Done i m
+  pub done : {k i : ℕ} {m : Mem} → k ≡ 0 → Remaining a b gap d base Done k i m → Done i m
   done {k} {i} {m} h p = p .finish i m (rw h (nil-law a b gap d base i m (p .roomFor .here)))

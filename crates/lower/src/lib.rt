@@ -1,9 +1,7 @@
 // The lowering of a statement that the words hold: operators, notes and variables into the tables. a and b hold the records, ops the operators, rest the notes and the variables; a place says at which record, how deep a tree may be, and where the pass's notes begin.
 ghost use mathlib.Core.Path.{_≡_};
-ghost use Prim.Native.Nat.{ℕ, _+_, _-_, _≤_, _<_};
+ghost use Prim.Native.Nat.{ℕ, _+_, _-_, _<_};
 ghost use mathlib.Core.List.{List};
-ghost use lib.ListN.{length};
-ghost use Rattle.model.specs.Call.{workWords};
 ghost use Rattle.model.specs.Kind.{expr, patternPart, patternElement};
 ghost use Rattle.model.specs.Lower.{rootOf};
 ghost use Rattle.words.specs.Words.{Roomy, cell, maxRecords, recordWords, optionOf};
@@ -13,7 +11,7 @@ ghost use Rattle.lower.specs.Pieces.{LowersExpr, LowersExprs};
 ghost use Rattle.lower.specs.Patterns.{LowersPart, LowersParts};
 ghost use Rattle.lower.specs.Chains.{lastOf, LowersElement, LowersElements, LowersStart, LowersRel, SourceLeft, LowersChain, ReadAt, ElementAt, startChain};
 ghost use Rattle.lower.specs.Asked.{TreeAsked, ExprsAsked, BehindAsked, NodeAsked, RelAsked, SpecialAsked, ChainAsked, StartAsked, ExpandAsked};
-ghost use Rattle.context.specs.Tables.{maxCount};
+ghost use Rattle.context.specs.Tables.{maxCount, CanPush};
 ghost use Rattle.context.specs.Ops.{beforeOf, bindOf, Under};
 use context::At;
 use context::Before;
@@ -132,8 +130,7 @@ fn read_element(a: &[u32], b: &[u32], i: usize) -> Element
 
 // The operator before, or a source of everything, which names the next number and does not take it.
 pub fn or_source_all(ops: &mut [u32], ctx: LowerCtx, current: Before, next: usize) -> Root
-    requires { ⌜ (ctx .ops < maxCount) × (workWords ≤ length (now ops)) ⌝ }
-    requires { ⌜ Under current (ctx .ops) ⌝ }
+    requires { ⌜ CanPush ctx (now ops) × Under current (ctx .ops) ⌝ }
     ensures { λ r. ⌜ SourceLeft current next (r .next) (r .op) ctx (r .ctx) (now (ops .entry)) (now (ops .exit)) ⌝ }
 {
     match current {
@@ -162,7 +159,7 @@ fn root_of(last: Last) -> Before
 
 // A pattern of no parts, at record i: a source that does take a number.
 fn lower_no_parts(ops: &mut [u32], ctx: LowerCtx, i: usize) -> Root
-    requires { ⌜ (ctx .ops < maxCount) × (ctx .numbers < maxCount) × (workWords ≤ length (now ops)) × (i < maxRecords) ⌝ }
+    requires { ⌜ CanPush ctx (now ops) × (ctx .numbers < maxCount) × (i < maxRecords) ⌝ }
     ensures { λ r. ⌜ (r .next ≡ i + 1) × ((a b : List ℕ) (d base : ℕ) (rest : List ℕ) → LowersParts a b 0 d base i (r .next) (r .op) (mem ctx (now (ops .entry)) rest) (mem (r .ctx) (now (ops .exit)) rest)) ⌝ }
 {
     let k = ctx.ops;

@@ -85,8 +85,8 @@ with-none j v e h = record { verdict = fine; next = j; first = no-more; later = 
 
 -- ── loops over runs ──
 
--- what is left, m from record at on, has the verdict of the whole, and the same record behind it
-pub record Left (P : ℕ → Stage) (n i m at : ℕ) : Type 0 where
+-- what remains, m from record at on, has the verdict of the whole, and the same record behind it
+pub record Remaining (P : ℕ → Stage) (n i m at : ℕ) : Type 0 where
   pub same : (v : Verdict) (e : ℕ) → Run P n i v e → Run P m at v e
 
 module _ {P : ℕ → Stage} where
@@ -103,19 +103,19 @@ map-run f no-more = no-more
 map-run f (one-more p ps b) = one-more (f _ _ _ p) (map-run f ps) b
 
 module _ {P : ℕ → Stage} {n i : ℕ} where
-  pub whole : Left P n i n i
+  pub whole : Remaining P n i n i
   whole = record { same = λ v e p. p }
 
-  module _ {m at : ℕ} (left : Left P n i m at) where
+  module _ {m at : ℕ} (remaining : Remaining P n i m at) where
     pub child : ((m ≡ 0) → ⊥) → Some (Run P n i) → Some (P at)
-    child h s = first-of (record { verdict = s .verdict; next = s .next; is = opened h (left .same _ _ (s .is)) })
+    child h s = first-of (record { verdict = s .verdict; next = s .next; is = opened h (remaining .same _ _ (s .is)) })
 
     pub done : m ≡ 0 → Walks (Go at) (Run P n i)
-    done h = record { each = λ v e p. closed h (left .same v e p) }
+    done h = record { each = λ v e p. closed h (remaining .same v e p) }
 
     module _ {r : Walk} (h : (m ≡ 0) → ⊥) (walks : Walks r (P at)) where
-      pub again : {k : ℕ} → r ≡ Go k → Left P n i (m - 1) k
-      again g = record { same = λ v e p. rest-of walks g (opened h (left .same v e p)) }
+      pub again : {k : ℕ} → r ≡ Go k → Remaining P n i (m - 1) k
+      again g = record { same = λ v e p. rest-of walks g (opened h (remaining .same v e p)) }
 
       pub stop : {x : PlanLowerError} → r ≡ Refused x → Walks (Refused x) (Run P n i)
-      stop g = record { each = λ v e p. stopped walks g (opened h (left .same v e p)) }
+      stop g = record { each = λ v e p. stopped walks g (opened h (remaining .same v e p)) }

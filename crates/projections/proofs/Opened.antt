@@ -15,10 +15,10 @@ use Rattle.model.specs.Tree.{Tree, Trees, Forest, node, end, _▸_}
 use Rattle.model.specs.Lower.{Recs, _>>=_, ret, push, op, orSourceAll, lowerTrailers, lowerClause}
 use Rattle.model.specs.Lower
 use Rattle.words.specs.Words.{Roomy, cell, fieldsOf, fieldOf}
-use Rattle.words.specs.Held.{Held, HeldOf, size, sizeOf}
-use Rattle.words.specs.Cells.{shown, flag-word}
+use Rattle.words.specs.Held.{Flags, Held, HeldOf, size, sizeOf}
+use Rattle.words.specs.Cells.{cells, shown, flag-counts}
 use Rattle.words.specs.Numbers.{clauseNumber}
-use Rattle.words.specs.Places.{withKind, returnKind, kindAt, itemsAt, withFilterAt, returnDistinctAt, keysAt, skipAt, limitAt}
+use Rattle.words.specs.Places.{withKind, returnKind, kindAt, itemsAt, withFilterAt, returnDistinctAt, skipAt, limitAt}
 use Rattle.lower.specs.Rep.{State}
 use Rattle.lower.specs.Pieces.{lowerC}
 use Rattle.lower.specs.Carry.{plainC}
@@ -26,8 +26,32 @@ use Rattle.words.specs.Kinds.{by-clause}
 use Rattle.projections.specs.Items.{exprs-lower, itemsC, items-lower}
 use Rattle.projections.specs.Promises.{Tail, tailSize, firstL, secondL}
 
-flag-one : (p : Bool) (x : ℕ) → p ≡ eqb x 1 → x ≤ 1 → one p ≡ x
-flag-one p x e h = rw e (flag-word x h)
+-- the keys, `skip` and `limit` of a `with` and of a `return`, whose fields have the same forms
+tail-of : {sheet : Bytes} {a b : List ℕ} {d i at : ℕ} {f : Fields (clauseForms Clause.With)} → f ≡ fieldsOf (clauseForms Clause.With) sheet (cells a b i) 0 → Flags (clauseForms Clause.With) (cells a b i) 0 → (keys : Trees orderItem (f .1 .1 .0)) (skip : Trees expr (one (f .1 .1 .1 .0))) (limit : Trees expr (one (f .1 .1 .1 .1 .0))) →
+    HeldOf sheet a b keys d at →
+    HeldOf sheet a b skip d (at + sizeOf keys) →
+    HeldOf sheet a b limit d (at + sizeOf keys + sizeOf skip) →
+    Tail sheet a b d i at
+unfolding fieldsOf fieldOf
+tail-of {a = a} {b = b} {i = i} {f = f} fields flags keys skip limit held-keys held-skip held-limit =
+    let counted-skip = flag-counts _ (cell a b i skipAt) (ap (λ (f : Fields (clauseForms Clause.With)). f .1 .1 .1 .0) fields) (flags .1 .1 .1 .0) in
+    let counted-limit = flag-counts _ (cell a b i limitAt) (ap (λ (f : Fields (clauseForms Clause.With)). f .1 .1 .1 .1 .0) fields) (flags .1 .1 .1 .1 .0) in
+    record {
+      keys-count = f .1 .1 .0;
+      skip-count = one (f .1 .1 .1 .0);
+      limit-count = one (f .1 .1 .1 .1 .0);
+      keys = keys;
+      skip = skip;
+      limit = limit;
+      keys-counted = ap (λ (f : Fields (clauseForms Clause.With)). f .1 .1 .0) fields;
+      skip-counted = counted-skip;
+      limit-counted = counted-limit;
+      skip-one = rw counted-skip (flags .1 .1 .1 .0);
+      limit-one = rw counted-limit (flags .1 .1 .1 .1 .0);
+      held-keys = held-keys;
+      held-skip = held-skip;
+      held-limit = held-limit;
+    }
 
 -- ── with ──
 
@@ -76,39 +100,19 @@ with-def filtered items predicate keys skip limit current s input k e₁ e₂ = 
 
 module _ {sheet : Bytes} {a b : List ℕ} {d i : ℕ} (room : Roomy a b) where
   with-of : (line : ℕ) (f : Fields (forms clause Clause.With)) (kids : Forest (children clause Clause.With f)) → Held sheet a b (node clause line Clause.With f kids) d i → IsWith sheet a b d i (node clause line Clause.With f kids)
-  unfolding Held size lowerClause fieldsOf fieldOf
+  unfolding Held size lowerClause fieldsOf fieldOf tail-of
   with-of line (n, (filtered, (x, (y, (z, u))))) (items ▸ predicate ▸ keys ▸ skip ▸ limit ▸ end) hd =
       let w = shown room (hd .1) in
       let en : n ≡ cell a b i itemsAt = ap (λ (f : Fields (clauseForms Clause.With)). f .0) (w .fields) in
       let ef : filtered ≡ eqb (cell a b i withFilterAt) 1 = ap (λ (f : Fields (clauseForms Clause.With)). f .1 .0) (w .fields) in
-      let ex : x ≡ cell a b i keysAt = ap (λ (f : Fields (clauseForms Clause.With)). f .1 .1 .0) (w .fields) in
-      let ey : y ≡ eqb (cell a b i skipAt) 1 = ap (λ (f : Fields (clauseForms Clause.With)). f .1 .1 .1 .0) (w .fields) in
-      let ez : z ≡ eqb (cell a b i limitAt) 1 = ap (λ (f : Fields (clauseForms Clause.With)). f .1 .1 .1 .1 .0) (w .fields) in
-      let sy : one y ≡ cell a b i skipAt = flag-one y (cell a b i skipAt) ey (w .flags .1 .1 .1 .0) in
-      let sz : one z ≡ cell a b i limitAt = flag-one z (cell a b i limitAt) ez (w .flags .1 .1 .1 .1 .0) in
       record {
         n = n;
         filtered = filtered;
         items = items;
         predicate = predicate;
-        tail = record {
-          keys-count = x;
-          skip-count = one y;
-          limit-count = one z;
-          keys = keys;
-          skip = skip;
-          limit = limit;
-          keys-counted = ex;
-          skip-counted = sy;
-          limit-counted = sz;
-          skip-one = rw sy (w .flags .1 .1 .1 .0);
-          limit-one = rw sz (w .flags .1 .1 .1 .1 .0);
-          held-keys = hd .3 .1 .1 .0;
-          held-skip = hd .3 .1 .1 .1 .0;
-          held-limit = hd .3 .1 .1 .1 .1 .0;
-        };
+        tail = tail-of (w .fields) (w .flags) keys skip limit (hd .3 .1 .1 .0) (hd .3 .1 .1 .1 .0) (hd .3 .1 .1 .1 .1 .0);
         counted = en;
-        flagged = flag-one filtered (cell a b i withFilterAt) ef (w .flags .1 .0);
+        flagged = flag-counts filtered (cell a b i withFilterAt) ef (w .flags .1 .0);
         held-items = hd .3 .0;
         held-predicate = hd .3 .1 .0;
         sized = omega arith;
@@ -136,35 +140,15 @@ pub record IsReturn (sheet : Bytes) (a b : List ℕ) (d i : ℕ) (t : Tree claus
 
 module _ {sheet : Bytes} {a b : List ℕ} {d i : ℕ} (room : Roomy a b) where
   return-of : (line : ℕ) (f : Fields (forms clause Clause.Return)) (kids : Forest (children clause Clause.Return f)) → Held sheet a b (node clause line Clause.Return f kids) d i → IsReturn sheet a b d i (node clause line Clause.Return f kids)
-  unfolding Held size lowerClause fieldsOf fieldOf _>>=_ ret
+  unfolding Held size lowerClause fieldsOf fieldOf tail-of _>>=_ ret
   return-of line (n, (distinct, (x, (y, (z, u))))) (items ▸ keys ▸ skip ▸ limit ▸ end) hd =
       let w = shown room (hd .1) in
       let en : n ≡ cell a b i itemsAt = ap (λ (f : Fields (clauseForms Clause.Return)). f .0) (w .fields) in
       let ef : distinct ≡ eqb (cell a b i returnDistinctAt) 1 = ap (λ (f : Fields (clauseForms Clause.Return)). f .1 .0) (w .fields) in
-      let ex : x ≡ cell a b i keysAt = ap (λ (f : Fields (clauseForms Clause.Return)). f .1 .1 .0) (w .fields) in
-      let ey : y ≡ eqb (cell a b i skipAt) 1 = ap (λ (f : Fields (clauseForms Clause.Return)). f .1 .1 .1 .0) (w .fields) in
-      let ez : z ≡ eqb (cell a b i limitAt) 1 = ap (λ (f : Fields (clauseForms Clause.Return)). f .1 .1 .1 .1 .0) (w .fields) in
-      let sy : one y ≡ cell a b i skipAt = flag-one y (cell a b i skipAt) ey (w .flags .1 .1 .1 .0) in
-      let sz : one z ≡ cell a b i limitAt = flag-one z (cell a b i limitAt) ez (w .flags .1 .1 .1 .1 .0) in
       record {
         n = n;
         items = items;
-        tail = record {
-          keys-count = x;
-          skip-count = one y;
-          limit-count = one z;
-          keys = keys;
-          skip = skip;
-          limit = limit;
-          keys-counted = ex;
-          skip-counted = sy;
-          limit-counted = sz;
-          skip-one = rw sy (w .flags .1 .1 .1 .0);
-          limit-one = rw sz (w .flags .1 .1 .1 .1 .0);
-          held-keys = hd .3 .1 .0;
-          held-skip = hd .3 .1 .1 .0;
-          held-limit = hd .3 .1 .1 .1 .0;
-        };
+        tail = tail-of (w .fields) (w .flags) keys skip limit (hd .3 .1 .0) (hd .3 .1 .1 .0) (hd .3 .1 .1 .1 .0);
         counted = en;
         flag = w .flags .1 .0;
         held-items = hd .3 .0;

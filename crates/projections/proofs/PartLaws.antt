@@ -154,8 +154,8 @@ module _ {sheet : Bytes} {a b : List ℕ} {n d j e g : ℕ} {m m₁ m₂ : Mem} 
 
 -- ── the loop ──
 
--- k are left from record i on behind g aggregates, and once they are lowered from here, all is done
-pub record Left (sheet : Bytes) (a b : List ℕ) (n d : ℕ) (Done : ℕ → ℕ → Mem → Type 0) (k i g : ℕ) (m : Mem) : Type 0 where
+-- k remain from record i on behind g aggregates, and once they are lowered from here, all is done
+pub record Remaining (sheet : Bytes) (a b : List ℕ) (n d : ℕ) (Done : ℕ → ℕ → Mem → Type 0) (k i g : ℕ) (m : Mem) : Type 0 where
   pub some : HeldMany sheet a b projection k d i
   pub room : RoomFor d i m
   pub few : g + k ≤ n
@@ -186,23 +186,23 @@ plus-few true g k n l = omega arith
 plus-few false g k n l = omega arith
 
 module _ {sheet : Bytes} {a b : List ℕ} {n d : ℕ} {Done : ℕ → ℕ → Mem → Type 0} where
-  pub child : {k i g : ℕ} {m : Mem} → ((k ≡ 0) → ⊥) → Left sheet a b n d Done k i g m → HeldSome sheet a b expr (d - 1) (i + 1)
+  pub child : {k i g : ℕ} {m : Mem} → ((k ≡ 0) → ⊥) → Remaining sheet a b n d Done k i g m → HeldSome sheet a b expr (d - 1) (i + 1)
   child {i = i} h p = first-by sheet a b d i (p .some .trees) h (p .some .are) .held
 
-  pub deep : {k i g : ℕ} {m : Mem} → ((k ≡ 0) → ⊥) → Left sheet a b n d Done k i g m → 1 ≤ d
+  pub deep : {k i g : ℕ} {m : Mem} → ((k ≡ 0) → ⊥) → Remaining sheet a b n d Done k i g m → 1 ≤ d
   deep {i = i} h p = first-by sheet a b d i (p .some .trees) h (p .some .are) .deep
 
-  pub some-child : {k i g : ℕ} {m : Mem} → ((k ≡ 0) → ⊥) → Left sheet a b n d Done k i g m → SomeTree a b expr (d - 1) (i + 1)
+  pub some-child : {k i g : ℕ} {m : Mem} → ((k ≡ 0) → ⊥) → Remaining sheet a b n d Done k i g m → SomeTree a b expr (d - 1) (i + 1)
   some-child h p = let x = child h p in record { sheet = sheet; tree = x .tree; held = x .is }
 
   -- there is room at its expression
-  pub child-room : {k i g : ℕ} {m : Mem} → ((k ≡ 0) → ⊥) → Left sheet a b n d Done k i g m → RoomFor (d - 1) (i + 1) m
+  pub child-room : {k i g : ℕ} {m : Mem} → ((k ≡ 0) → ⊥) → Remaining sheet a b n d Done k i g m → RoomFor (d - 1) (i + 1) m
   child-room {i = i} h p = let x = child h p in let l = tree-low sheet a b (x .tree) (d - 1) (i + 1) (x .is) in room-from (omega arith) (omega arith) (omega arith) (p .room)
 
-  less : {k i g : ℕ} {m : Mem} → Left sheet a b n d Done k i g m → Left sheet a b n d Done (suc k - 1) i g m
+  less : {k i g : ℕ} {m : Mem} → Remaining sheet a b n d Done k i g m → Remaining sheet a b n d Done (suc k - 1) i g m
   less {k} p = let e : suc k - 1 ≡ k = omega arith in rw e p
 
-  pub again : {k i j g : ℕ} {m m₁ : Mem} (agg : Bool) → ((k ≡ 0) → ⊥) → Left sheet a b n d Done k i g m → ((t : Tree expr) → Held sheet a b t (d - 1) (i + 1) → agg ≡ isAggregate t) → LowersExpr a b (d - 1) 0 (i + 1) j m m₁ → Left sheet a b n d Done (k - 1) j (cond agg (g + 1) g) m₁
+  pub again : {k i j g : ℕ} {m m₁ : Mem} (agg : Bool) → ((k ≡ 0) → ⊥) → Remaining sheet a b n d Done k i g m → ((t : Tree expr) → Held sheet a b t (d - 1) (i + 1) → agg ≡ isAggregate t) → LowersExpr a b (d - 1) 0 (i + 1) j m m₁ → Remaining sheet a b n d Done (k - 1) j (cond agg (g + 1) g) m₁
   again {k = zero} agg h p is q = absurd (h refl)
   again {k = suc k} {i} {j} {g} {m} {m₁} agg h p is q = less (record {
     some = behind i (p .some .trees) q (p .some .are);
@@ -211,11 +211,11 @@ module _ {sheet : Bytes} {a b : List ℕ} {n d : ℕ} {Done : ℕ → ℕ → Me
     finish = λ e x m′ r. subst (λ (z : ℕ). Done e z m′) (plus agg g x) (p .finish e (cond agg (suc x) x) m′ (cons-law i agg is q r));
   })
 
-  pub done : {k i g : ℕ} {m : Mem} → k ≡ 0 → Left sheet a b n d Done k i g m → Done i g m
+  pub done : {k i g : ℕ} {m : Mem} → k ≡ 0 → Remaining sheet a b n d Done k i g m → Done i g m
   done {k} {i} {g} {m} h p = subst (λ (z : ℕ). Done i z m) (add-zero g) (p .finish i 0 m (rw h (nil-law sheet a b d i m (p .room .here))))
 
-  pub done-few : {k i g : ℕ} {m : Mem} → k ≡ 0 → Left sheet a b n d Done k i g m → g ≤ n
+  pub done-few : {k i g : ℕ} {m : Mem} → k ≡ 0 → Remaining sheet a b n d Done k i g m → g ≤ n
   done-few h p = omega (arith, p .few)
 
-pub start : {sheet : Bytes} {a b : List ℕ} {n d i : ℕ} {m : Mem} → HeldMany sheet a b projection n d i → RoomFor d i m → Left sheet a b n d (λ e g m′. LowersSplit sheet a b n d i e g m m′) n i 0 m
+pub start : {sheet : Bytes} {a b : List ℕ} {n d i : ℕ} {m : Mem} → HeldMany sheet a b projection n d i → RoomFor d i m → Remaining sheet a b n d (λ e g m′. LowersSplit sheet a b n d i e g m m′) n i 0 m
 start x g = record { some = x; room = g; few = omega arith; finish = λ e h m′ r. (let z : 0 + h ≡ h = omega arith in rw z r) }

@@ -7,10 +7,11 @@ use Rattle.model.specs.Kind.{Sort, clause, projection}
 use Rattle.words.specs.Words.{Roomy, cell, maxRecords, two32}
 use Rattle.words.specs.Places.{returnKind, kindAt, itemsAt}
 use Rattle.words.specs.Held.{HeldSome, HeldMany}
-use Rattle.context.specs.Tables.{secondPass, deepest}
-use Rattle.context.specs.Ops.{Under}
+use Rattle.context.specs.Tables.{CanPush, secondPass, deepest}
+use Rattle.context.specs.Ops.{Fits, Under}
 use Rattle.context.specs.declared.At.{At}
 use Rattle.context.specs.declared.Before.{Before}
+use Rattle.context.specs.declared.LowerCtx.{LowerCtx}
 use Rattle.lower.specs.Rep.{Mem, RoomFor}
 use Rattle.lower.specs.Pieces.{SomeTree, SomeCarried}
 use Rattle.lower.specs.Patterns.{SomeTrees}
@@ -50,6 +51,14 @@ pub record SplitAsked (sheet : Bytes) (a b : List ℕ) (at : At) (n : ℕ) (m : 
   pub items : HeldMany sheet a b projection n (at .left) (at .i)
   pub room : RoomFor (at .left) (at .i) m
   pub depth : at .left ≤ deepest
+
+-- an aggregate of the `return` at a place, of so many keys and so many aggregates, over an operator
+pub record AggregateAsked (at : At) (input keys aggs : ℕ) (ctx : LowerCtx) (ops : List ℕ) : Type 0 where
+  pub push : CanPush ctx ops
+  pub fits : Fits at
+  pub small : input < two32
+  pub few-keys : keys < two32
+  pub few-aggs : aggs < two32
 
 -- the items of a `return`, before its first lowering
 pub record FirstAsked (sheet : Bytes) (a b : List ℕ) (of : ReturnItems) (current : Before) (m : Mem) : Type 0 where

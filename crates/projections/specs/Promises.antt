@@ -105,12 +105,16 @@ pub data PushedIf (n : ℕ) (x : Op) (input k : ℕ) (c c′ : LowerCtx) (o o′
   none-pushed : n ≡ 0 → k ≡ input → c′ ≡ c → o′ ≡ o → PushedIf n x input k c c′ o o′
   one-pushed : ((n ≡ 0) → ⊥) → k ≡ c .ops → Pushed c c′ o o′ x → length o′ ≡ length o → PushedIf n x input k c c′ o o′
 
--- one lowering of the items, with up to two operators of its own: the source and the aggregate, or the projection and its distinct
+-- a lowering of the items has up to so many operators of its own: the source and the aggregate, or the projection and its distinct
+abbrev pub ownOperators : ℕ
+ownOperators = 2
+
+-- one lowering of the items
 pub record LowersPass (sheet : Bytes) (a b : List ℕ) (n d base i e k : ℕ) (L : Trees projection n → Lowering ℕ) (m m′ : Mem) : Type 0 where
   pub up : i ≤ e
   pub here : e ≤ maxRecords
   pub grow : m .ctx .ops ≤ m′ .ctx .ops
-  pub few : m′ .ctx .ops + passOperators * i ≤ m .ctx .ops + 2 + passOperators * e
+  pub few : m′ .ctx .ops + passOperators * i ≤ m .ctx .ops + ownOperators + passOperators * e
   pub fresh : m′ .ctx .numbers + i ≤ m .ctx .numbers + e
   pub met : m′ .ctx .mapped + i ≤ m .ctx .mapped + e
   pub in-ops : length (m′ .ops) ≡ length (m .ops)

@@ -11,7 +11,7 @@ use Rattle.model.specs.Kind.{Sort}
 use Rattle.model.specs.Lower.{Lowering}
 use Rattle.words.specs.Words.{maxRecords}
 use Rattle.words.specs.Held.{HeldSome, HeldMany}
-use Rattle.context.specs.Tables.{Pushed, maxCount, deepest}
+use Rattle.context.specs.Tables.{CanPush, Pushed, deepest}
 use Rattle.context.specs.declared.At.{At}
 use Rattle.context.specs.declared.Before.{Before}
 use Rattle.context.specs.declared.op.Op.{Op}
@@ -98,14 +98,11 @@ module _ {o : ℕ} {L : Lowering ℕ} {k i : ℕ} {m m₁ : Mem} (g : Ready i m)
   pub few-source : k ≤ maxFound
   few-source = omega (arith, g .few, g .here, q .few, q .low)
 
-pub can-source : {i : ℕ} {m : Mem} → Ready i m → (m .ctx .ops < maxCount) × (workWords ≤ length (m .ops))
-can-source r = (omega (arith, r .few, r .here), r .in-ops)
+pub can-source : {i : ℕ} {m : Mem} → Ready i m → CanPush (m .ctx) (m .ops)
+can-source r = record { few = omega (arith, r .few, r .here); long = r .in-ops }
 
 -- ── room for an operator ──
 
-pub can-push : {d i : ℕ} {m : Mem} → RoomFor d i m → (m .ctx .ops < maxCount) × (workWords ≤ length (m .ops))
-can-push g = (omega (arith, g .few, g .here), g .in-ops)
-
 -- behind one more operator, another
-pub push-again : {d i : ℕ} {c : LowerCtx} {os : List ℕ} {x : Op} {m : Mem} → RoomFor d i m → Pushed (m .ctx) c (m .ops) os x → length os ≡ length (m .ops) → (c .ops < maxCount) × (workWords ≤ length os)
-push-again g p l = (omega (arith, g .few, g .here, p .count), rw l (g .in-ops))
+pub push-again : {d i : ℕ} {c : LowerCtx} {os : List ℕ} {x : Op} {m : Mem} → RoomFor d i m → Pushed (m .ctx) c (m .ops) os x → length os ≡ length (m .ops) → CanPush c os
+push-again g p l = record { few = omega (arith, g .few, g .here, p .count); long = rw l (g .in-ops) }

@@ -1,15 +1,13 @@
 // The two lowerings of a `return`'s items: the first for its aggregate, the second for its projection.
 ghost use mathlib.Core.Path.{_≡_};
 ghost use mathlib.Core.List.{List};
-ghost use Prim.Native.Nat.{ℕ, _+_, _≤_, _<_};
+ghost use Prim.Native.Nat.{ℕ, _+_, _<_};
 ghost use lib.Dec.{eqb};
-ghost use lib.ListN.{length};
-ghost use Rattle.model.specs.Call.{workWords};
 ghost use Rattle.words.specs.Words.{two32};
-ghost use Rattle.context.specs.Tables.{secondPass, maxCount};
-ghost use Rattle.context.specs.Ops.{Fits, beforeOf, aggregateOp, distinctOp};
+ghost use Rattle.context.specs.Tables.{CanPush, secondPass};
+ghost use Rattle.context.specs.Ops.{beforeOf, aggregateOp, distinctOp};
 ghost use Rattle.lower.specs.Rep.{mem};
-ghost use Rattle.projections.specs.Asked.{FirstAsked, SecondAsked};
+ghost use Rattle.projections.specs.Asked.{AggregateAsked, FirstAsked, SecondAsked};
 ghost use Rattle.projections.specs.Promises.{PushedIf, LowersPass, firstL, secondL};
 use context::At;
 use context::Before;
@@ -35,7 +33,7 @@ fn aggregate_if(
     aggs: usize,
     next: usize,
 ) -> Root
-    requires { ⌜ (ctx .ops < maxCount) × (workWords ≤ length (now ops)) × Fits at × (input < two32) × (keys < two32) × (aggs < two32) ⌝ }
+    requires { ⌜ AggregateAsked at input keys aggs ctx (now ops) ⌝ }
     ensures { λ r. ⌜ (r .next ≡ next) × PushedIf aggs (aggregateOp at input keys aggs) input (r .op) ctx (r .ctx) (now (ops .entry)) (now (ops .exit)) ⌝ }
 {
     if aggs == 0 {
@@ -56,7 +54,7 @@ fn aggregate_if(
 
 // An operator without its duplicates if `distinct` is not 0, and as it is if it is 0.
 fn distinct_if(ops: &mut [u32], ctx: LowerCtx, distinct: usize, input: usize, next: usize) -> Root
-    requires { ⌜ (ctx .ops < maxCount) × (workWords ≤ length (now ops)) × (input < two32) ⌝ }
+    requires { ⌜ CanPush ctx (now ops) × (input < two32) ⌝ }
     ensures { λ r. ⌜ (r .next ≡ next) × PushedIf distinct (distinctOp input) input (r .op) ctx (r .ctx) (now (ops .entry)) (now (ops .exit)) ⌝ }
 {
     if distinct == 0 {

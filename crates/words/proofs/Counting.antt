@@ -109,7 +109,7 @@ module _ {sheet : Bytes} {a b : List ℕ} {e : ℕ} where
       omega arith
 
 -- what is due from a record on, whatever the tree there
-pub record Left (a b : List ℕ) (i n at : ℕ) : Type 0 where
+pub record Remaining (a b : List ℕ) (i n at : ℕ) : Type 0 where
   pub same : (sheet : Bytes) (e : ℕ) → Due sheet a b e 1 i → Due sheet a b e n at
 
 pub start-low : {a b : List ℕ} {i : ℕ} → Starts a b i → i < maxRecords
@@ -120,20 +120,20 @@ module _ {a b : List ℕ} where
   starts-due z = one-due (z .sort) (z .depth) (z .tree) (z .held) (none-due refl)
 
   -- where more is due, some tree stands there
-  pub next : {i n at : ℕ} → Starts a b i → Left a b i n at → ((n ≡ 0) → ⊥) → Starts a b at
+  pub next : {i n at : ℕ} → Starts a b i → Remaining a b i n at → ((n ≡ 0) → ⊥) → Starts a b at
   next {i} {n} {at} z l h = next-due n at h (l .same (z .sheet) (i + size (z .tree)) (starts-due z))
 
-  pub in-range : {i n at : ℕ} → Starts a b i → Left a b i n at → ((n ≡ 0) → ⊥) → at < maxRecords
+  pub in-range : {i n at : ℕ} → Starts a b i → Remaining a b i n at → ((n ≡ 0) → ⊥) → at < maxRecords
   in-range z l h = start-low (next z l h)
 
-  pub few : {i n at : ℕ} → Starts a b i → Left a b i n at → at ≤ maxRecords → n ≤ maxRecords
+  pub few : {i n at : ℕ} → Starts a b i → Remaining a b i n at → at ≤ maxRecords → n ≤ maxRecords
   few {i} {n} {at} z l h = let p = enough n at (l .same (z .sheet) (i + size (z .tree)) (starts-due z)) h in omega arith
 
-  pub first : (i : ℕ) → Left a b i 1 i
+  pub first : (i : ℕ) → Remaining a b i 1 i
   first i = record { same = λ sheet e h. h }
 
-  pub again : {i n at k : ℕ} → Roomy a b → ((n ≡ 0) → ⊥) → k ≡ countAt a b at → Left a b i n at → Left a b i (n - 1 + k) (at + 1)
+  pub again : {i n at k : ℕ} → Roomy a b → ((n ≡ 0) → ⊥) → k ≡ countAt a b at → Remaining a b i n at → Remaining a b i (n - 1 + k) (at + 1)
   again {i} {n} {at} {k} room h ek l = record { same = λ sheet e d. rw ek (step n at room h (l .same sheet e d)) }
 
-  pub done : {i n at : ℕ} → n ≡ 0 → Left a b i n at → Ends a b i at
+  pub done : {i n at : ℕ} → n ≡ 0 → Remaining a b i n at → Ends a b i at
   done {i} {n} {at} h l = record { each = λ sheet s d t hd. finish n at h (l .same sheet (i + size t) (one-due s d t hd (none-due refl))) }

@@ -108,9 +108,9 @@ number-of s c t n k h = number-in (ltb n (firstKind s)) (firstKind s) n c (kinds
 -- ── flags ──
 
 -- a flag's word counts what it says to follow
-one-of : (t : Bool) (x : ℕ) → t ≡ eqb x 1 → x ≤ 1 → one t ≡ x
-one-of true x t h = sym (eqb-true x 1 (sym t))
-one-of false x t h = let n : (x ≡ 1 → ⊥) = eqb-false x 1 (sym t) in omega arith
+pub flag-counts : (t : Bool) (x : ℕ) → t ≡ eqb x 1 → x ≤ 1 → one t ≡ x
+flag-counts true x t h = sym (eqb-true x 1 (sym t))
+flag-counts false x t h = let n : (x ≡ 1 → ⊥) = eqb-false x 1 (sym t) in omega arith
 
 pub flag-word : (x : ℕ) → x ≤ 1 → one (eqb x 1) ≡ x
-flag-word x h = one-of (eqb x 1) x refl h
+flag-word x h = flag-counts (eqb x 1) x refl h

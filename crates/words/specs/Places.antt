@@ -357,38 +357,14 @@ intLowAt = 2
 abbrev pub intHighAt : ℕ
 intHighAt = 3
 
-abbrev pub sliceStartAt : ℕ
-sliceStartAt = 2
-
-abbrev pub sliceEndAt : ℕ
-sliceEndAt = 4
-
-abbrev pub listCountAt : ℕ
-listCountAt = 2
-
-abbrev pub caseScrutineeAt : ℕ
-caseScrutineeAt = 2
-
-abbrev pub caseArmsAt : ℕ
-caseArmsAt = 4
-
-abbrev pub caseElseAt : ℕ
-caseElseAt = 6
-
 abbrev pub varIdAt : ℕ
 varIdAt = 2
-
-abbrev pub mapCountAt : ℕ
-mapCountAt = 2
 
 abbrev pub fnArgsAt : ℕ
 fnArgsAt = 4
 
 abbrev pub fnDistinctAt : ℕ
 fnDistinctAt = 6
-
-abbrev pub patPartsAt : ℕ
-patPartsAt = 2
 
 abbrev pub listPredicateKindAt : ℕ
 listPredicateKindAt = 2

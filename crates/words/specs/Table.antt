@@ -249,11 +249,15 @@ groupNumbers =
     2 ∷ 0 ∷ 0 ∷ 1 ∷ 0 ∷ 0 ∷ 0 ∷ 0 ∷ 0 ∷ 0 ∷ 1 ∷ 1 ∷ 3 ∷
     1 ∷ 1 ∷ 1 ∷ 4 ∷ 1 ∷ 1 ∷ 0 ∷ 1 ∷ 1 ∷ 1 ∷ 2 ∷ 0 ∷ 0 ∷ []
 
+-- a group has so many entries: its sort, and behind it the source of its count
+abbrev pub groupEntries : ℕ
+groupEntries = 2
+
 abbrev pub groupSort : ℕ → ℕ → ℕ
-groupSort n g = getD (getD groups n []) (g * 2) 0
+groupSort n g = getD (getD groups n []) (g * groupEntries) 0
 
 abbrev pub groupSource : ℕ → ℕ → ℕ
-groupSource n g = getD (getD groups n []) (g * 2 + 1) 0
+groupSource n g = getD (getD groups n []) (g * groupEntries + 1) 0
 
 -- a source is below this
 abbrev pub sourceCount : ℕ

@@ -103,27 +103,11 @@ pub const INT_LOW: usize = 2;
 
 pub const INT_HIGH: usize = 3;
 
-pub const SLICE_START: usize = 2;
-
-pub const SLICE_END: usize = 4;
-
-pub const LIST_COUNT: usize = 2;
-
-pub const CASE_SCRUTINEE: usize = 2;
-
-pub const CASE_ARMS: usize = 4;
-
-pub const CASE_ELSE: usize = 6;
-
 pub const VAR_ID: usize = 2;
-
-pub const MAP_COUNT: usize = 2;
 
 pub const FN_ARGS: usize = 4;
 
 pub const FN_DISTINCT: usize = 6;
-
-pub const PAT_PARTS: usize = 2;
 
 pub const LIST_PREDICATE_KIND: usize = 2;
 

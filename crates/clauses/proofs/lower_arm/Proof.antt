@@ -74,7 +74,7 @@ or-source-all-requires c κs =
     let x : tie.After-lower-clauses = search ways depth 9 in
     let s : tie.Start = search ways depth 9 in
     let few = Joining.few-below (s .pre .ready) (x .lower-clauses .ensures .moved) (omega arith) in
-    ((omega (arith, few), rw (x .lower-clauses .kept .1 .1 .1 .0) (s .pre .ready .in-ops)), Inputs.under-more (x .lower-clauses .ensures .moved .grow) (s .pre .stands))
+    (record { few = omega (arith, few); long = rw (x .lower-clauses .kept .1 .1 .1 .0) (s .pre .ready .in-ops) }, Inputs.under-more (x .lower-clauses .ensures .moved .grow) (s .pre .stands))
 
 or-source-all-requires-2 : tie.Need-or-source-all-requires-2
 or-source-all-requires-2 c κs =
@@ -84,7 +84,7 @@ or-source-all-requires-2 c κs =
     let few = Joining.few-below (s .pre .ready) (x .lower-clauses .ensures .moved) (omega arith) in
     let more = q .or-source-all .ensures .source [] .few in
     let right = Inputs.stands-under _ _ (x .lower-clauses .ensures .stands) in
-    ((omega (arith, few, more), rw (q .or-source-all .kept .0 ∙ x .lower-clauses .kept .1 .1 .1 .0) (s .pre .ready .in-ops)), Inputs.under-more (q .or-source-all .ensures .source [] .grow) right)
+    (record { few = omega (arith, few, more); long = rw (q .or-source-all .kept .0 ∙ x .lower-clauses .kept .1 .1 .1 .0) (s .pre .ready .in-ops) }, Inputs.under-more (q .or-source-all .ensures .source [] .grow) right)
 
 union-requires : tie.Need-union-requires
 union-requires c κs =
@@ -109,7 +109,7 @@ push-requires c κs =
     let few = Joining.few-below (s .pre .ready) (x .lower-clauses .ensures .moved) (omega arith) in
     let more = q .or-source-all .ensures .source [] .few in
     let more₂ = r .or-source-all2 .ensures .source [] .few in
-    (omega (arith, few, more, more₂), rw (r .or-source-all2 .kept .0 ∙ q .or-source-all .kept .0 ∙ x .lower-clauses .kept .1 .1 .1 .0) (s .pre .ready .in-ops))
+    record { few = omega (arith, few, more, more₂); long = rw (r .or-source-all2 .kept .0 ∙ q .or-source-all .kept .0 ∙ x .lower-clauses .kept .1 .1 .1 .0) (s .pre .ready .in-ops) }
 
 same-length : tie.Need-same-length
 same-length c =

@@ -14,7 +14,7 @@ use Rattle.clauses.proofs.lower_arms.Tie as tie
 
 abbrev Inv-loop : tie.InvT-loop
 Inv-loop sheet a b ops₀ rest₀ n left root₀ arms₀ ops rest root arms =
-    Turning.Left
+    Turning.Remaining
     unionArm
     armTurn
     sheet
@@ -60,8 +60,8 @@ lower-arm-requires c κs =
     let turn : here tie.In-loop = search ways depth 9 in
     let l : here tie.At-loop = search ways depth 9 in
     let s : here tie.Start = search ways depth 9 in
-    let left = l .loop .inv .0 in
-    record { words = s .pre .words; held = Turning.child (turn .loop-test .taken) left; ready = left .ready; depth = s .pre .depth; stands = Inputs.stands-under _ _ (left .stands) }
+    let remaining = l .loop .inv .0 in
+    record { words = s .pre .words; held = Turning.child (turn .loop-test .taken) remaining; ready = remaining .ready; depth = s .pre .depth; stands = Inputs.stands-under _ _ (remaining .stands) }
 
 loop-again : here tie.Need-loop-again
 loop-again c =

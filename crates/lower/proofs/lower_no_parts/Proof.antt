@@ -26,7 +26,7 @@ returns c =
     let start : tie.Start = search ways in (
       refl,
       λ a b d base rest.
-          Parts.no-law d base _ _ _ _ _ (start .pre .3) (after-fresh .fresh .ensures) (pushed-as (after-source-no-parts .source-no-parts .ensures) (after-push .push .ensures)) (after-push .push .kept .1 .0),
+          Parts.no-law d base _ _ _ _ _ (start .pre .2) (after-fresh .fresh .ensures) (pushed-as (after-source-no-parts .source-no-parts .ensures) (after-push .push .ensures)) (after-push .push .kept .1 .0),
     )
 
 pub lower-no-parts-spec : {M : Type 1} → statement M

@@ -1,4 +1,4 @@
--- `check_arms` meets its contract: the invariant says that what is left has the verdict of the whole. Assumes nothing.
+-- `check_arms` meets its contract: the invariant says that what remains has the verdict of the whole. Assumes nothing.
 use native.Mathlib.Omega.{arith}
 use borrow.Author.Needs.{needs}
 use Rattle.model.specs.Check.{noSpan}
@@ -11,7 +11,7 @@ use Rattle.precheck.proofs.check_arms.Statement.{statement}
 use Rattle.precheck.proofs.check_arms.Tie as tie
 
 abbrev Inv-loop : tie.InvT-loop
-Inv-loop a b i n left at₀ m₀ at m = Laws.Left (At a b unionArm left noSpan) n i m at
+Inv-loop a b i n left at₀ m₀ at m = Laws.Remaining (At a b unionArm left noSpan) n i m at
 
 abbrev μ-loop : tie.MeasureT-loop
 μ-loop a b i n left at₀ m₀ at m = m

@@ -9,7 +9,7 @@ use Rattle.precheck.proofs.nothing_refused.Statement.{statement}
 use Rattle.precheck.proofs.nothing_refused.Tie as tie
 
 abbrev Inv-loop : tie.InvT-loop
-Inv-loop a b i₀ due₀ i due = (i ≤ maxRecords) × Counting.Left a b 0 due i × TakenTo a b i
+Inv-loop a b i₀ due₀ i due = (i ≤ maxRecords) × Counting.Remaining a b 0 due i × TakenTo a b i
 
 abbrev μ-loop : tie.MeasureT-loop
 μ-loop a b i₀ due₀ i due = maxRecords - i

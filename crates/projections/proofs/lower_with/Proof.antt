@@ -99,8 +99,7 @@ push-requires c κs =
     let s : tie.Start = search ways depth 9 in
     let l = Room.bounds (s .pre) in
     let roomFor = Room.room-source (s .pre .ready) (q .or-source-all .ensures .source _) (s .args .at .left - 1) (le-refl _) (omega (arith, l .low)) (omega (arith, l .shallow)) in
-    let room = Room.can-push (Exprs.room-after (x .lower-exprs .ensures .moved) (Exprs.room-after (i .lower-items .ensures .moved) roomFor)) in
-    (omega (arith, room .0), room .1)
+    Exprs.can-push (Exprs.room-after (x .lower-exprs .ensures .moved) (Exprs.room-after (i .lower-items .ensures .moved) roomFor))
 
 lower-trailers-requires : tie.Need-lower-trailers-requires
 lower-trailers-requires c κs =

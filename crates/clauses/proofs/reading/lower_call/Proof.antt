@@ -83,7 +83,7 @@ push-requires c κs =
     let x : tie.After-lower-exprs = search ways depth 9 in
     let s : tie.Start = search ways depth 9 in
     let few = Room.few-after (s .pre .ready) (x .lower-exprs .ensures .moved) (omega arith) in
-    (omega (arith, few, y .lower-yields .ensures [] .same), Room.ops-after (s .pre .ready) (x .lower-exprs .ensures .moved) (omega arith))
+    record { few = omega (arith, few, y .lower-yields .ensures [] .same); long = Room.ops-after (s .pre .ready) (x .lower-exprs .ensures .moved) (omega arith) }
 
 same-length : tie.Need-same-length
 same-length c =

@@ -60,7 +60,13 @@ join-before-requires c κs =
     let l = Room.bounds (s .pre) in
     let few = Room.few-after (s .pre .ready) (r .lower-parts .ensures .moved) (le-refl _) in
     let held = Room.ops-after (s .pre .ready) (r .lower-parts .ensures .moved) (le-refl _) in
-    (omega (arith, few), held, r .lower-parts .ensures .low, under-more (omega (arith, l .few)) (s .pre .stands), l .low, Matching.optional-flag (s .pre) (w .word .ensures))
+    record {
+      push = record { few = omega (arith, few); long = held };
+      low = r .lower-parts .ensures .low;
+      stands = under-more (omega (arith, l .few)) (s .pre .stands);
+      here = l .low;
+      flag = Matching.optional-flag (s .pre) (w .word .ensures);
+    }
 
 same-length : tie.Need-same-length
 same-length c =

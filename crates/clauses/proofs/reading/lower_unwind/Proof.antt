@@ -86,7 +86,7 @@ push-requires c κs =
     let q : tie.After-or-source-all = search ways depth 9 in
     let s : tie.Start = search ways depth 9 in
     let few = Inputs.few-sourced (s .pre .ready) (q .or-source-all .ensures .source _) (e .lower-expr .ensures .moved) (omega arith) in
-    (omega (arith, few, n .number .ensures .issued .ops), rw (e .lower-expr .kept .1 .1 .0 ∙ q .or-source-all .kept .0) (s .pre .ready .in-ops))
+    record { few = omega (arith, few, n .number .ensures .issued .ops); long = rw (e .lower-expr .kept .1 .1 .0 ∙ q .or-source-all .kept .0) (s .pre .ready .in-ops) }
 
 same-length : tie.Need-same-length
 same-length c =

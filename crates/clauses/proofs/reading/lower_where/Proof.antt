@@ -53,7 +53,7 @@ or-source-all-requires c κs =
     let s : tie.Start = search ways depth 9 in
     let few = Room.few-after (s .pre .ready) (e .lower-expr .ensures .moved) (omega arith) in
     let held = Room.ops-after (s .pre .ready) (e .lower-expr .ensures .moved) (omega arith) in
-    ((omega (arith, few), held), Inputs.under-more (e .lower-expr .ensures .moved .grow) (s .pre .stands))
+    (record { few = omega (arith, few); long = held }, Inputs.under-more (e .lower-expr .ensures .moved .grow) (s .pre .stands))
 
 filter-requires : tie.Need-filter-requires
 filter-requires c κs =
@@ -72,7 +72,7 @@ push-requires c κs =
     let s : tie.Start = search ways depth 9 in
     let few = Room.few-after (s .pre .ready) (e .lower-expr .ensures .moved) (omega arith) in
     let held = Room.ops-after (s .pre .ready) (e .lower-expr .ensures .moved) (omega arith) in
-    (omega (arith, few, q .or-source-all .ensures .source [] .few), rw (q .or-source-all .kept .0) held)
+    record { few = omega (arith, few, q .or-source-all .ensures .source [] .few); long = rw (q .or-source-all .kept .0) held }
 
 same-length : tie.Need-same-length
 same-length c =

@@ -13,7 +13,7 @@ use Rattle.clauses.proofs.reading.lower_yields.Statement.{statement}
 use Rattle.clauses.proofs.reading.lower_yields.Tie as tie
 
 abbrev Inv-loop : tie.InvT-loop
-Inv-loop a b rest₀ i n at₀ m₀ cur₀ rest at m cur = Yields.Left a b (λ e c′ rest′. ((os : List ℕ) → LowersYields a b n i e (mem cur₀ os rest₀) (mem c′ os rest′))) m at cur rest × (length rest ≡ length rest₀)
+Inv-loop a b rest₀ i n at₀ m₀ cur₀ rest at m cur = Yields.Remaining a b (λ e c′ rest′. ((os : List ℕ) → LowersYields a b n i e (mem cur₀ os rest₀) (mem c′ os rest′))) m at cur rest × (length rest ≡ length rest₀)
 
 abbrev μ-loop : tie.MeasureT-loop
 μ-loop a b rest₀ i n at₀ m₀ cur₀ rest at m cur = m
@@ -62,8 +62,8 @@ number-requires c κs =
     let turn : here tie.In-loop = search ways depth 9 in
     let l : here tie.At-loop = search ways depth 9 in
     let some = turn .loop-test .taken in
-    let left = l .loop .inv .0 in
-    record { met = omega (arith, left .met); low = omega (arith, left .low); noted = omega (arith, left .fits); long = left .in-rest; index = left .index }
+    let remaining = l .loop .inv .0 in
+    record { met = omega (arith, remaining .met); low = omega (arith, remaining .low); noted = omega (arith, remaining .fits); long = remaining .in-rest; index = remaining .index }
 
 add-at : here tie.Need-add-at
 add-at c =

@@ -19,7 +19,7 @@ returns : tie.Need-returns
 returns c =
     let after-enter : tie.After-enter = search ways in
     let start : tie.Start = search ways in
-    Adding.new-var _ _ _ _ (start .pre .0 .0) (start .pre .0 .2) (after-enter .enter .ensures) (start .pre .1)
+    Adding.new-var _ _ _ _ (start .pre .0 .met) (start .pre .0 .held .long) (after-enter .enter .ensures) (start .pre .1)
 
 pub new-var-spec : {M : Type 1} → statement M
 new-var-spec =

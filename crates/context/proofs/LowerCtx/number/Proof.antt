@@ -17,7 +17,11 @@ ruleset ways = (back-note, back-map-var)
 map-var-requires : tie.Need-map-var-requires
 map-var-requires c κs =
     let start : tie.Start = search ways in
-    (search needs, search needs, search needs, Laws.index-part _ _ (start .args .rest .now) refl (start .pre .index))
+    record {
+      met = start .pre .met;
+      low = start .pre .low;
+      held = record { long = search needs; index = Laws.index-part _ _ (start .args .rest .now) refl (start .pre .index) };
+    }
 
 returns : tie.Need-returns
 returns c =

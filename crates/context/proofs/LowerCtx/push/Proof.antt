@@ -34,7 +34,7 @@ same-length c = simp length-set refl
 returns-2 : tie.Need-returns-2
 returns-2 c =
     let start : tie.Start = search in
-    Laws.stored _ _ _ (omega arith) (start .pre .1)
+    Laws.stored _ _ _ (omega arith) (start .pre .long)
 
 pub push-spec : {M : Type 1} → statement M
 push-spec =

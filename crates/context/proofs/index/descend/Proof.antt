@@ -33,7 +33,7 @@ ruleset ways = (back-child, back-then1, back-at-loop)
 loop-holds : here tie.Need-loop-holds
 loop-holds c =
     let start : here tie.Start = search ways in
-    Tree.descends-start _ _ _ (Tree.all-indexed _ _ (start .pre .1) (start .pre .3)) (start .pre .0)
+    Tree.descends-start _ _ _ (Tree.all-indexed _ _ (start .pre .1) (start .pre .2 .index)) (start .pre .0)
 
 returns : here tie.Need-returns
 returns c =
@@ -52,7 +52,7 @@ loop-less c =
     _
     _
     _
-    (Tree.all-indexed _ _ (start .pre .1) (start .pre .3))
+    (Tree.all-indexed _ _ (start .pre .1) (start .pre .2 .index))
     _
     _
     _
@@ -73,7 +73,7 @@ loop-again c =
     _
     _
     _
-    (Tree.all-indexed _ _ (start .pre .1) (start .pre .3))
+    (Tree.all-indexed _ _ (start .pre .1) (start .pre .2 .index))
     _
     _
     _

@@ -14,13 +14,13 @@ ruleset ways = (back-join)
 returns : tie.Need-returns
 returns c =
     let start : tie.Start = search ways in
-    Tree.entered-full _ _ _ (start .pre .0 .1) (c .if1 .taken)
+    Tree.entered-full _ _ _ (start .pre .0 .index) (c .if1 .taken)
 
 returns-2 : tie.Need-returns-2
 returns-2 c =
     let after-join : tie.After-join = search ways in
     let start : tie.Start = search ways in
-    Tree.entered-room _ _ _ (start .pre .0 .1) (omega arith) (start .pre .0 .0) (start .pre .1) (after-join .join .ensures)
+    Tree.entered-room _ _ _ (start .pre .0 .index) (omega arith) (start .pre .0 .long) (start .pre .1) (after-join .join .ensures)
 
 pub enter-spec : {M : Type 1} → statement M
 enter-spec =

@@ -54,7 +54,7 @@ find-indexed-requires : here tie.Need-find-indexed-requires
 find-indexed-requires c κs =
     let at-loop : here tie.At-loop = search ways in
     let start : here tie.Start = search ways in
-    (omega (arith, c .loop-test .left), start .pre .1, Tree.index-late _ _ _ (at-loop .loop .inv .1) (start .pre .2))
+    (omega (arith, c .loop-test .left), record { long = start .pre .1 .long; index = Tree.index-late _ _ _ (at-loop .loop .inv .1) (start .pre .1 .index) })
 
 returns-2 : here tie.Need-returns-2
 returns-2 c =

@@ -153,7 +153,7 @@ module _ (t : ℕ) where
       in
       let l₀′ = Room.names-low (start .pre .1 .chain .words) (start .pre .1 .chain .tree) in
       let n₀ = start .pre .1 .read .first in
-      Room.can-push
+      Exprs.can-push
       (Exprs.room-after
       (after-lower-exprs .lower-exprs .ensures .moved)
       (Room.after-rel

@@ -81,9 +81,8 @@ module _ (t : ℕ) where
       let after-lower-elements : here lts.After-lower-elements = search ways depth 12 in
       let start : here lts.Start = search ways depth 12 in
       let l = Room.bounds (start .pre .1) in
-      let x =
-      Room.few-ops
-      (Exprs.room-after
+      let room =
+      Exprs.room-after
       (after-lower-elements .lower-elements .ensures .moved)
       (Exprs.room-from
       {d′ = (start .args .at .left) - 1}
@@ -91,20 +90,9 @@ module _ (t : ℕ) where
       (omega arith)
       (omega arith)
       (omega arith)
-      (start .pre .1 .room)))
+      (start .pre .1 .room))
       in (
-        (
-          omega arith,
-          (Exprs.room-after
-              (after-lower-elements .lower-elements .ensures .moved)
-              (Exprs.room-from
-              {d′ = (start .args .at .left) - 1}
-              {j = (start .args .at .i) + 1}
-              (omega arith)
-              (omega arith)
-              (omega arith)
-              (start .pre .1 .room))) .in-ops,
-        ),
+        Exprs.can-push room,
         Chaining.root-under (after-root-of .root-of .ensures) (after-lower-elements .lower-elements .ensures .bounded .last),
       )
 
@@ -219,9 +207,10 @@ module _ (t : ℕ) where
       (start .pre .1 .room)))
       (after-or-source-all .or-source-all .ensures .source _) .0
       in
-      let y = after-number .number .ensures .issued .ops in (
-        omega arith,
-        rw
+      let y = after-number .number .ensures .issued .ops in
+      record {
+        few = omega arith;
+        long = rw
             (after-or-source-all .or-source-all .kept .0)
             ((Exprs.room-after
             (after-lower-elements .lower-elements .ensures .moved)
@@ -231,8 +220,8 @@ module _ (t : ℕ) where
             (omega arith)
             (omega arith)
             (omega arith)
-            (start .pre .1 .room))) .in-ops),
-      )
+            (start .pre .1 .room))) .in-ops);
+      }
 
   same-length-3 : here lts.Need-same-length-3
   same-length-3 c =

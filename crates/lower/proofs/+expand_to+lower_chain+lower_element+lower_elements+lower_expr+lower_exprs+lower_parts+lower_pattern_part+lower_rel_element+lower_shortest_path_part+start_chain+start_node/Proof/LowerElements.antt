@@ -13,7 +13,7 @@ use Rattle.lower.proofs.+expand_to+lower_chain+lower_element+lower_elem
 use Rattle.lower.proofs.+expand_to+lower_chain+lower_element+lower_elements+lower_expr+lower_exprs+lower_parts+lower_pattern_part+lower_rel_element+lower_shortest_path_part+start_chain+start_node.Proof.Claims.{lower-elements-at, lower-elements-calls}
 
 abbrev Inv-loop : lts.InvT-loop
-Inv-loop a b ops₀ rest₀ at n first ch₀ m₀ ops rest ch m = Links.Left a b (at .left) (at .base) (λ ch′ os′ rs′. LowersElements a b n (at .left) (at .base) ch₀ ch′ ops₀ os′ rest₀ rs′) m ch ops rest
+Inv-loop a b ops₀ rest₀ at n first ch₀ m₀ ops rest ch m = Links.Remaining a b (at .left) (at .base) (λ ch′ os′ rs′. LowersElements a b n (at .left) (at .base) ch₀ ch′ ops₀ os′ rest₀ rs′) m ch ops rest
 
 abbrev μ-loop : lts.MeasureT-loop
 μ-loop a b ops₀ rest₀ at n first ch₀ m₀ ops rest ch m = m

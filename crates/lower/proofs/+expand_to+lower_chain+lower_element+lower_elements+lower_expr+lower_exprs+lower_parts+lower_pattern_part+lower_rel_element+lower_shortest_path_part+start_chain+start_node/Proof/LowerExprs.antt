@@ -13,7 +13,7 @@ use Rattle.lower.proofs.+expand_to+lower_chain+lower_element+lower_elem
 use Rattle.lower.proofs.+expand_to+lower_chain+lower_element+lower_elements+lower_expr+lower_exprs+lower_parts+lower_pattern_part+lower_rel_element+lower_shortest_path_part+start_chain+start_node.Proof.Claims.{lower-exprs-at, lower-exprs-calls}
 
 abbrev Inv-loop : lts.InvT-loop
-Inv-loop a b ops₀ rest₀ at n gap i₀ m₀ cur₀ ops rest i m cur = Exprs.Left a b gap (at .left) (at .base) (λ e m′. LowersExprs a b n gap (at .left) (at .base) (at .i) e (mem cur₀ ops₀ rest₀) m′) m i (mem cur ops rest)
+Inv-loop a b ops₀ rest₀ at n gap i₀ m₀ cur₀ ops rest i m cur = Exprs.Remaining a b gap (at .left) (at .base) (λ e m′. LowersExprs a b n gap (at .left) (at .base) (at .i) e (mem cur₀ ops₀ rest₀) m′) m i (mem cur ops rest)
 
 abbrev μ-loop : lts.MeasureT-loop
 μ-loop a b ops₀ rest₀ at n gap i₀ m₀ cur₀ ops rest i m cur = m

@@ -14,7 +14,7 @@ use Rattle.lower.proofs.+expand_to+lower_chain+lower_element+lower_elem
 use Rattle.lower.proofs.+expand_to+lower_chain+lower_element+lower_elements+lower_expr+lower_exprs+lower_parts+lower_pattern_part+lower_rel_element+lower_shortest_path_part+start_chain+start_node.Proof.Claims.{lower-parts-at, lower-parts-calls}
 
 abbrev Inv-loop : lts.InvT-loop
-Inv-loop a b ops₀ rest₀ at n first i₀ op₀ cur₀ m₀ ops rest i op cur m = Parts.Left a b (at .left) (at .base) (λ e k m′. Parts.LowersFurther a b m₀ (at .left) (at .base) i₀ e op₀ k (mem cur₀ ops₀ rest₀) m′) m i op (mem cur ops rest)
+Inv-loop a b ops₀ rest₀ at n first i₀ op₀ cur₀ m₀ ops rest i op cur m = Parts.Remaining a b (at .left) (at .base) (λ e k m′. Parts.LowersFurther a b m₀ (at .left) (at .base) i₀ e op₀ k (mem cur₀ ops₀ rest₀) m′) m i op (mem cur ops rest)
 
 abbrev μ-loop : lts.MeasureT-loop
 μ-loop a b ops₀ rest₀ at n first i₀ op₀ cur₀ m₀ ops rest i op cur m = m
@@ -51,10 +51,9 @@ module _ (t : ℕ) where
   lower-no-parts-requires : here lts.Need-lower-no-parts-requires
   lower-no-parts-requires c κs =
       let start : here lts.Start = search ways depth 7 in
-      let x = Room.few-ops (start .pre .1 .room) in
       let y = (start .pre .1 .room) .low in
       let h = start .pre .1 .tree .low in
-      (omega arith, omega arith, (start .pre .1 .room) .in-ops, h)
+      (Exprs.can-push (start .pre .1 .room), omega arith, h)
 
   same-length : here lts.Need-same-length
   same-length c =
@@ -97,7 +96,7 @@ module _ (t : ℕ) where
       let else1 : here lts.Else1 = search ways depth 7 in
       let start : here lts.Start = search ways depth 7 in
       let h = start .pre .1 .tree .low in
-      Parts.from-left
+      Parts.behind-first
       _
       (else1 .if1 .left)
       (start .pre .1 .tree .trees)

@@ -54,7 +54,7 @@ module _ (t : ℕ) where
   push-requires : here lts.Need-push-requires
   push-requires c κs =
       let start : here lts.Start = search ways depth 10 in
-      Room.can-push (start .pre .1 .asked .room)
+      Exprs.can-push (start .pre .1 .asked .room)
 
   same-length : here lts.Need-same-length
   same-length c =
@@ -126,7 +126,7 @@ module _ (t : ℕ) where
       let l₀ = Room.names-low (start .pre .1 .asked .words) (start .pre .1 .asked .tree .tree) in
       let l = Room.element-bounds (start .pre .1 .asked) in
       let n₀ = start .pre .1 .read .first in
-      Room.can-push
+      Exprs.can-push
       (Exprs.room-after
       (after-lower-expr .lower-expr .ensures .moved)
       (Room.pushed-on (start .pre .1 .asked .room) _ _ (after-push .push .ensures) (after-push .push .kept .1 .0) (le-refl _) (omega arith) (omega arith)))

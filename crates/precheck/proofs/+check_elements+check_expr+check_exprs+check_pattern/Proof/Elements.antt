@@ -1,4 +1,4 @@
--- `check_elements`: the loop's invariant says that the elements that are left have the verdict of the whole.
+-- `check_elements`: the loop's invariant says that the elements that remain have the verdict of the whole.
 use Prim.Native.Nat.{ℕ}
 use native.Mathlib.Omega.{arith}
 use denote.Ref.{now}
@@ -15,7 +15,7 @@ use Rattle.precheck.proofs.+check_elements+check_expr+check_exprs+check
 use Rattle.precheck.proofs.+check_elements+check_expr+check_exprs+check_pattern.Proof.Claims.{check-elements-at, check-elements-calls}
 
 abbrev Inv-loop : lts.InvT-loop
-Inv-loop a b i n left at₀ m₀ at m = Laws.Left (At a b patternElement left noSpan) n i m at
+Inv-loop a b i n left at₀ m₀ at m = Laws.Remaining (At a b patternElement left noSpan) n i m at
 
 abbrev μ-loop : lts.MeasureT-loop
 μ-loop a b i n left at₀ m₀ at m = m

@@ -1,4 +1,4 @@
--- `check_exprs`: the loop's invariant says that the expressions that are left have the verdict of the whole.
+-- `check_exprs`: the loop's invariant says that the expressions that remain have the verdict of the whole.
 use Prim.Native.Nat.{ℕ, _+_}
 use native.Mathlib.Omega.{arith}
 use denote.Ref.{now}
@@ -15,7 +15,7 @@ use Rattle.precheck.proofs.+check_elements+check_expr+check_exprs+check
 use Rattle.precheck.proofs.+check_elements+check_expr+check_exprs+check_pattern.Proof.Claims.{check-exprs-at, check-exprs-calls}
 
 abbrev Inv-loop : lts.InvT-loop
-Inv-loop a b i n skip left span at₀ m₀ at m = Laws.Left (λ j. At a b expr left (spanOf span) (j + skip)) n i m at
+Inv-loop a b i n skip left span at₀ m₀ at m = Laws.Remaining (λ j. At a b expr left (spanOf span) (j + skip)) n i m at
 
 abbrev μ-loop : lts.MeasureT-loop
 μ-loop a b i n skip left span at₀ m₀ at m = m

@@ -1,4 +1,4 @@
--- `check_pattern`: the loop's invariant says that the parts that are left have the verdict of the whole.
+-- `check_pattern`: the loop's invariant says that the parts that remain have the verdict of the whole.
 use Prim.Native.Nat.{ℕ}
 use native.Mathlib.Omega.{arith}
 use denote.Ref.{now}
@@ -15,7 +15,7 @@ use Rattle.precheck.proofs.+check_elements+check_expr+check_exprs+check
 use Rattle.precheck.proofs.+check_elements+check_expr+check_exprs+check_pattern.Proof.Claims.{check-pattern-at, check-pattern-calls}
 
 abbrev Inv-loop : lts.InvT-loop
-Inv-loop a b i n left span at₀ m₀ at m = Laws.Left (At a b patternPart left (spanOf span)) n i m at
+Inv-loop a b i n left span at₀ m₀ at m = Laws.Remaining (At a b patternPart left (spanOf span)) n i m at
 
 abbrev μ-loop : lts.MeasureT-loop
 μ-loop a b i n left span at₀ m₀ at m = m

@@ -8,7 +8,7 @@ use Rattle.projections.proofs.items.split_projections_agg.Statement.{st
 use Rattle.projections.proofs.items.split_projections_agg.Tie as tie
 
 abbrev Inv-loop : tie.InvT-loop
-Inv-loop sheet a b ops₀ rest₀ at n next₀ m₀ aggs₀ cur₀ ops rest next m aggs cur = PartLaws.Left sheet a b n (at .left) (λ e g m′. LowersSplit sheet a b n (at .left) (at .i) e g (mem cur₀ ops₀ rest₀) m′) m next aggs (mem cur ops rest)
+Inv-loop sheet a b ops₀ rest₀ at n next₀ m₀ aggs₀ cur₀ ops rest next m aggs cur = PartLaws.Remaining sheet a b n (at .left) (λ e g m′. LowersSplit sheet a b n (at .left) (at .i) e g (mem cur₀ ops₀ rest₀) m′) m next aggs (mem cur ops rest)
 
 abbrev μ-loop : tie.MeasureT-loop
 μ-loop sheet a b ops₀ rest₀ at n next₀ m₀ aggs₀ cur₀ ops rest next m aggs cur = m

@@ -48,11 +48,17 @@ aggregate-if-requires c κs =
     let q : tie.After-or-source-all = search ways in
     let s : tie.Start = search ways in
     let roomFor = Room.room-source (s .pre .ready) (q .or-source-all .ensures .source _) _ (le-refl _) (omega (arith, s .pre .low)) (s .pre .depth) in
-    let room = Room.can-push (Exprs.room-after (p .split-projections-agg .ensures .0 .moved) roomFor) in
+    let room = Exprs.can-push (Exprs.room-after (p .split-projections-agg .ensures .0 .moved) roomFor) in
     let few = Room.few-trees (omega (arith, s .pre .low)) (Room.some-trees (s .pre .items)) in
     let aggs = p .split-projections-agg .ensures .1 in
     let input = Room.few-source (s .pre .ready) (q .or-source-all .ensures .source _) in
-    (room .0, room .1, Room.fits (omega arith) (omega (arith, s .pre .low)) (s .pre .depth), omega (arith, input), omega (arith, few), omega (arith, few, aggs))
+    record {
+      push = room;
+      fits = Room.fits (omega arith) (omega (arith, s .pre .low)) (s .pre .depth);
+      small = omega (arith, input);
+      few-keys = omega (arith, few);
+      few-aggs = omega (arith, few, aggs);
+    }
 
 same-length : tie.Need-same-length
 same-length c =
@@ -73,10 +79,10 @@ returns c =
     let q : tie.After-or-source-all = search ways in
     let s : tie.Start = search ways in
     let roomFor = Room.room-source (s .pre .ready) (q .or-source-all .ensures .source _) _ (le-refl _) (omega (arith, s .pre .low)) (s .pre .depth) in
-    let room = Room.can-push (Exprs.room-after (p .split-projections-agg .ensures .0 .moved) roomFor) in
+    let room = Exprs.can-push (Exprs.room-after (p .split-projections-agg .ensures .0 .moved) roomFor) in
     let law = PassLaws.first-law (s .pre) (q .or-source-all .ensures .source _) (p .split-projections-agg .ensures .0) (a .aggregate-if .ensures .1) in
     let input = Room.few-source (s .pre .ready) (q .or-source-all .ensures .source _) in
-    (PassLaws.ends-at (a .aggregate-if .ensures .0) law, PassLaws.left-word (a .aggregate-if .ensures .1) (omega (arith, input)) (omega (arith, room .0)))
+    (PassLaws.ends-at (a .aggregate-if .ensures .0) law, PassLaws.left-word (a .aggregate-if .ensures .1) (omega (arith, input)) (omega (arith, room .few)))
 
 pub first-pass-spec : {M : Type 1} → statement M
 first-pass-spec =

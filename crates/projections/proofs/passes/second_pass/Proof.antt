@@ -42,9 +42,7 @@ push-requires : tie.Need-push-requires
 push-requires c κs =
     let i : tie.After-lower-items = search ways in
     let s : tie.Start = search ways in
-    let roomFor = Exprs.room-after (i .lower-items .ensures .moved) (s .pre .room) in
-    let room = Room.can-push roomFor in
-    (omega (arith, room .0), room .1)
+    Exprs.can-push (Exprs.room-after (i .lower-items .ensures .moved) (s .pre .room))
 
 distinct-if-requires : tie.Need-distinct-if-requires
 distinct-if-requires c κs =
@@ -52,8 +50,7 @@ distinct-if-requires c κs =
     let i : tie.After-lower-items = search ways in
     let s : tie.Start = search ways in
     let roomFor = Exprs.room-after (i .lower-items .ensures .moved) (s .pre .room) in
-    let room = Room.push-again roomFor (p .push .ensures) (p .push .kept .1 .0) in
-    (room .0, room .1, omega (arith, Room.can-push roomFor .0))
+    (Room.push-again roomFor (p .push .ensures) (p .push .kept .1 .0), omega (arith, Exprs.can-push roomFor .few))
 
 same-length : tie.Need-same-length
 same-length c =

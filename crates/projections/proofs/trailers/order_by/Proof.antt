@@ -46,8 +46,7 @@ push-requires c κs =
     let i : tie.After-lower-items = search ways in
     let s : tie.Start = search ways in
     let roomFor = Room.ready-room (s .pre .ready) (le-refl _) (s .pre .ready .here) (s .pre .depth) in
-    let room = Room.can-push (Exprs.room-after (i .lower-items .ensures .moved) roomFor) in
-    (omega (arith, room .0), room .1)
+    Exprs.can-push (Exprs.room-after (i .lower-items .ensures .moved) roomFor)
 
 same-length : tie.Need-same-length
 same-length c =

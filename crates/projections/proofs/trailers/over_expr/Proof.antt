@@ -52,8 +52,7 @@ push-requires c κs =
     let s : tie.Start = search ways in
     let asked = s .pre .0 in
     let roomFor = Room.ready-room (asked .ready) (le-refl _) (asked .ready .here) (asked .depth) in
-    let room = Room.can-push (Exprs.room-after (x .lower-expr .ensures .moved) roomFor) in
-    (omega (arith, room .0), room .1)
+    Exprs.can-push (Exprs.room-after (x .lower-expr .ensures .moved) roomFor)
 
 same-length : tie.Need-same-length
 same-length c =

@@ -7,7 +7,7 @@ use Rattle.words.proofs.records.skip.Statement.{statement}
 use Rattle.words.proofs.records.skip.Tie as tie
 
 abbrev Inv-loop : tie.InvT-loop
-Inv-loop a b i at₀ due₀ at due = (at ≤ maxRecords) × Counting.Left a b i due at
+Inv-loop a b i at₀ due₀ at due = (at ≤ maxRecords) × Counting.Remaining a b i due at
 
 abbrev μ-loop : tie.MeasureT-loop
 μ-loop a b i at₀ due₀ at due = maxRecords - at
