@@ -2,7 +2,8 @@
  * How much stack the calls need. Each call runs on a stack of its own that was
  * painted before; the lowest byte that has changed tells how far it went. The
  * sheets are as deep as a sheet may be (64), each made of one or two kinds of
- * record in turn, below each kind of clause.
+ * record in turn, below each kind of clause. The deepest record is one that is
+ * accepted or one that is refused: the check walks down only to the latter.
  *
  *     stack         prints the most that either call took, and on which sheet
  */
@@ -77,7 +78,20 @@ static const struct shape inner[] = {
       "rel\t-\t0\t0\tone\t-\t-\t0\t0\t1\nnode\t-\t0\t0\t0\t1\n", 3 },
 };
 
-enum { HEADS = sizeof heads / sizeof *heads, INNER = sizeof inner / sizeof *inner };
+/* The deepest record, and the number of the answer that it leads to. */
+static const struct deepest {
+    const char *line;
+    size_t number;
+} deepest[] = {
+    { "var\t1\n", DRESSERHAWK_ACCEPTED },
+    { "unres\tx\n", DRESSERHAWK_UNRESOLVED },
+};
+
+enum {
+    HEADS = sizeof heads / sizeof *heads,
+    INNER = sizeof inner / sizeof *inner,
+    ENDS = sizeof deepest / sizeof *deepest
+};
 
 static uint32_t work[4][DRESSERHAWK_WORK_WORDS];
 static uint8_t plan[1 << 22];
@@ -117,9 +131,9 @@ static size_t taken(void)
 }
 
 /* The sheet of a head and two kinds down to the deepest level: in turn, or the
- * second only where the first does not fit any more. */
+ * second only where the first does not fit any more; and a last line there. */
 static void build(const struct shape *head, const struct shape *one, const struct shape *other,
-                  bool in_turn)
+                  bool in_turn, const char *last)
 {
     const struct shape *placed[DEEPEST];
     int count = 0, depth = head->deeper;
@@ -135,21 +149,25 @@ static void build(const struct shape *head, const struct shape *one, const struc
         depth += next->deeper;
         next = in_turn && next == one ? other : one;
     }
-    strcat(sheet, "var\t1\n");
+    strcat(sheet, last);
     while (count > 0)
         strcat(sheet, placed[--count]->behind);
     strcat(sheet, head->behind);
 }
 
-/* A sheet for each choice of a head, two kinds and their order. */
-static void nth(int number, const struct shape *chosen[3])
+/* A sheet for each choice of a head, two kinds, their order and the deepest record.
+ * Returns the number of the answer to it. */
+static size_t nth(int number, const struct shape *chosen[3])
 {
     bool in_turn = number % 2;
     number /= 2;
+    const struct deepest *last = &deepest[number % ENDS];
+    number /= ENDS;
     chosen[0] = &heads[number % HEADS];
     chosen[1] = &inner[number / HEADS % INNER];
     chosen[2] = &inner[number / HEADS / INNER];
-    build(chosen[0], chosen[1], chosen[2], in_turn);
+    build(chosen[0], chosen[1], chosen[2], in_turn, last->line);
+    return last->number;
 }
 
 /* Prints the most stack that the call at hand takes. */
@@ -157,11 +175,11 @@ static int measure(const char *name)
 {
     size_t most = 0;
     const struct shape *chosen[3], *worst[3] = { heads, inner, inner };
-    for (int number = 0; number < 2 * HEADS * INNER * INNER; number++) {
-        nth(number, chosen);
+    for (int number = 0; number < 2 * ENDS * HEADS * INNER * INNER; number++) {
+        size_t expected = nth(number, chosen);
         size_t bytes = taken();
-        if (answer[DRESSERHAWK_NUMBER] != DRESSERHAWK_ACCEPTED) {
-            printf("refused with %zu:\n%s", answer[DRESSERHAWK_NUMBER], sheet);
+        if (answer[DRESSERHAWK_NUMBER] != expected) {
+            printf("answered with %zu:\n%s", answer[DRESSERHAWK_NUMBER], sheet);
             return 1;
         }
         if (bytes > most) {
