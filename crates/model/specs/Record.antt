@@ -125,6 +125,10 @@ planForms mapped k = varId ∷ var ∷ []
 planForms planEntry k = text ∷ []
 planForms planExpr k = planExprForms k
 
+-- whether a pattern part is a shortest one: 0 no, 1 one shortest path, 2 all shortest paths
+abbrev pub allShortest : ℕ
+allShortest = 2
+
 abbrev pub forms : (s : Sort) → Kind s → List Form
 -- clauses, arms
 forms statement k = count ∷ count ∷ []
@@ -135,7 +139,7 @@ forms projection k = alias ∷ []
 -- descending
 forms orderItem k = flag ∷ []
 -- var, shortest, elements
-forms patternPart k = varOrAbsent ∷ num 2 ∷ count ∷ []
+forms patternPart k = varOrAbsent ∷ num allShortest ∷ count ∷ []
 forms patternElement k = elementForms k
 forms name k = text ∷ []
 -- name, var
