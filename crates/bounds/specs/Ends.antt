@@ -7,7 +7,7 @@ use lib.Dec.{eqb}
 use Rattle.model.specs.Text.{Bytes}
 use Rattle.model.specs.Field.{Fields}
 use Rattle.model.specs.Kind.{Clause, PatternElement, ReadOp, statement, unionArm, clause, patternPart, patternElement}
-use Rattle.model.specs.Record.{opForms}
+use Rattle.model.specs.Record.{opForms, allShortest}
 use Rattle.model.specs.Tree.{Tree, Trees, node, []ᵗ, _∷ᵗ_, end, _▸_}
 
 -- an operator's first record without the numbers of operators and variables, and without `path`'s count and `agg`'s counts
@@ -72,7 +72,7 @@ nodeRelNode (PatternElement.Node ∷ PatternElement.Rel ∷ PatternElement.Rel �
 nodeRelNode (PatternElement.Node ∷ PatternElement.Rel ∷ PatternElement.Node ∷ []) = true
 nodeRelNode (PatternElement.Node ∷ PatternElement.Rel ∷ PatternElement.Node ∷ d ∷ l) = false
 
--- a shortest part (1 shortest, 2 all shortest) is special only if its elements are exactly those
+-- a shortest part is special only if its elements are exactly those
 unfoldable pub special : {n : ℕ} → ℕ → Trees patternElement n → Bool
 special zero es = false
 special (suc m) es = nodeRelNode (elementKinds es)
@@ -83,7 +83,7 @@ namedEnd none root = root
 namedEnd (some id) root = Ending.BindPath
 
 unfoldable pub partEnd : Tree patternPart → Ending
-partEnd (node patternPart line k (namedAs, (shortest, _)) (es ▸ end)) = cond (special shortest es) (Ending.ShortestPath (eqb shortest 2)) (namedEnd namedAs (chainEnd es))
+partEnd (node patternPart line k (namedAs, (shortest, _)) (es ▸ end)) = cond (special shortest es) (Ending.ShortestPath (eqb shortest allShortest)) (namedEnd namedAs (chainEnd es))
 
 -- the last part is the root; no parts: a label-less source
 unfoldable pub matchEnd : {n : ℕ} → Trees patternPart n → Ending

@@ -8,7 +8,7 @@ use lib.Dec.{eqb, eqb·suc-suc}
 use lib.ListN.{length}
 use Rattle.model.specs.Field.{Fields}
 use Rattle.model.specs.Kind.{PatternElement, ReadOp, patternPart, patternElement}
-use Rattle.model.specs.Record.{Rec, one, opForms}
+use Rattle.model.specs.Record.{Rec, one, opForms, allShortest}
 use Rattle.model.specs.Tree.{Tree, Trees, node, []ᵗ, _∷ᵗ_, end, _▸_, Many, toList, fold, foldOf}
 use Rattle.model.specs.Lower.{Recs, LowerCtx, Lowering, op, _>>=_, ret, push, source, filter, pushSourceAll, orSourceAll}
 use Rattle.model.specs.Lower.{Props, NodeStep, RelStep, ofNode, ofRel, propsOf, filterByProps, Chain, startNode, expandTo, reach, lowerElement, lowerElements, rootOf, bindPath, lowerChain, lowerShortestPathPart, shapeOf, lowerShaped, lowerPatternPart, furtherPart, lowerFurther, lowerParts, Lowered, elementStep, made, lowerPattern}
@@ -197,7 +197,7 @@ shaped-ends o all (node patternElement l PatternElement.Node f x ∷ᵗ node pat
 shaped-ends o all (node patternElement l PatternElement.Node f x ∷ᵗ node patternElement m PatternElement.Rel g y ∷ᵗ node patternElement n PatternElement.Node h z ∷ᵗ []ᵗ) = shortest-ends o all _ _ _
 shaped-ends o all (node patternElement l PatternElement.Node f x ∷ᵗ node patternElement m PatternElement.Rel g y ∷ᵗ node patternElement n PatternElement.Node h z ∷ᵗ node patternElement q i r w ∷ᵗ es) = chain-ends o (node patternElement l PatternElement.Node f x ∷ᵗ node patternElement m PatternElement.Rel g y ∷ᵗ node patternElement n PatternElement.Node h z ∷ᵗ node patternElement q i r w ∷ᵗ es)
 
-pub shortness-ends : {i : ℕ} (o : Option ℕ) (shortest : ℕ) (es : Trees patternElement i) → Leads Always (λ n ops. Newest (cond (special shortest es) (Ending.ShortestPath (eqb shortest 2)) (namedEnd o (chainEnd es))) n ops) (lowerPatternPart o shortest (toList i (foldOf Lowered made es)))
+pub shortness-ends : {i : ℕ} (o : Option ℕ) (shortest : ℕ) (es : Trees patternElement i) → Leads Always (λ n ops. Newest (cond (special shortest es) (Ending.ShortestPath (eqb shortest allShortest)) (namedEnd o (chainEnd es))) n ops) (lowerPatternPart o shortest (toList i (foldOf Lowered made es)))
 unfolding special lowerPatternPart
 shortness-ends o zero es = chain-ends o es
 shortness-ends o (suc n) es = rw (eqb·suc-suc n 1) (shaped-ends o (eqb n 1) es)

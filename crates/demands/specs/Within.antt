@@ -8,7 +8,7 @@ use borrow.Author.Tests.{leb-true}
 use Rattle.model.specs.Text.{Bytes}
 use Rattle.model.specs.Field.{Form, num, Val, Fields, Span, RelLength, fits}
 use Rattle.model.specs.Kind.{Sort, Kind, PatternElement, Same, Expr, statement, patternPart, patternElement, expr}
-use Rattle.model.specs.Record.{rec, Group, forms, exprForms, children, exprChildren, elementChildren}
+use Rattle.model.specs.Record.{rec, Group, allShortest, forms, exprForms, children, exprChildren, elementChildren}
 use Rattle.model.specs.Tree.{Tree, Trees, Forest, node, []ᵗ, _∷ᵗ_, end, _▸_, records, recordsOf, recordsIn}
 use Rattle.model.specs.Check.{Verdict, fine, violated, andThen, spanIn, ofExpr, ofElements, ofPart, ofRecord, check, checkOf, checkIn, noSpan, precheckStatement}
 use Rattle.model.specs.Call.{maxDepth}
@@ -161,9 +161,9 @@ module _ {sheet : Bytes} {t : Tree statement} (h : WellFormed sheet t) where
   direction-range {direction = direction} w = limit 2 direction _ _ (rest-fits _ _ _ _ (rest-fits _ _ _ _ (fits-within h w)))
 
   -- whether a part is a shortest one
-  pub shortest-range : {line : ℕ} {bind : Option ℕ} {shortest n : ℕ} {kids : Forest ((patternElement, n) ∷ [])} → Within (node patternPart line tt (bind, (shortest, (n, tt))) kids) statement t → shortest ≤ 2
+  pub shortest-range : {line : ℕ} {bind : Option ℕ} {shortest n : ℕ} {kids : Forest ((patternElement, n) ∷ [])} → Within (node patternPart line tt (bind, (shortest, (n, tt))) kids) statement t → shortest ≤ allShortest
   unfolding fitsRec
-  shortest-range {shortest = shortest} w = limit 2 shortest _ _ (rest-fits _ _ _ _ (fits-within h w))
+  shortest-range {shortest = shortest} w = limit allShortest shortest _ _ (rest-fits _ _ _ _ (fits-within h w))
 
   -- the kind of a list predicate: the default of lower_list_pred_kind
   pub predicate-range : {line kind var : ℕ} {pred : Bool} {kids : Forest (exprChildren Expr.ListPredicate (kind, (var, (pred, tt))))} → Within (node expr line Expr.ListPredicate (kind, (var, (pred, tt))) kids) statement t → kind ≤ 3

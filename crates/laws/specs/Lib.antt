@@ -8,3 +8,4 @@ pub mod TreeLaws
 pub mod ReadingLaws
 pub mod SpelledLaws
 pub mod SheetLaws
+pub mod SignedLaws

@@ -1,21 +1,21 @@
 -- The two words of a signed number, from the test and the arithmetic that the code makes on its 64 bits. Assumes nothing.
-use mathlib.Core.Path.{_≡_, refl, sym, ap, _∙_}
+use mathlib.Core.Path.{_≡_, sym, ap, _∙_}
 use mathlib.Core.Bool.{true, false}
 use mathlib.Core.List.{[], _∷_}
 use mathlib.Core.Option.{some}
-use Prim.Native.Nat.{ℕ, suc, _+_, _*_, _-_, _/_, _%_, _<_, _≤_}
+use Prim.Native.Nat.{ℕ, _+_, _*_, _-_, _/_, _%_, _<_, _≤_}
 use native.Mathlib.Nat.{div-add-mod'}
 use native.Mathlib.Omega.{arith}
-use borrow.Author.Tests.{leb-true, ltb-true, lt-ltb, le-ltb}
-use lib.Dec.{T}
+use borrow.Author.Tests.{leb-true, lt-ltb, le-ltb}
 use lib.IntN.{ℤ, pos, negsuc, natAbs, _-ℤ_}
-use lib.Signed.{ltZ, mag, nonNeg}
+use lib.Signed.{ltZ, mag}
 use mir.Syntax.{w64}
-use mir.Val.{Fits, SFits, toZ, ofZ}
+use mir.Val.{SFits}
 use mir.Facts.{toZ-ofZ}
 use Rattle.model.specs.Text.{Bytes}
 use Rattle.model.specs.Field.{int, i64, read, fits, fitsInt}
 use Rattle.laws.specs.FieldLaws.{read-spell}
+use Rattle.laws.specs.SignedLaws.{held, down, not-below, below, held-distance, above}
 use Rattle.record.specs.Answer.{signedOf}
 use Rattle.record.specs.AnswerLaws.{intIn, signed-read}
 use Rattle.record.specs.declared.Signed.{Signed}
@@ -48,55 +48,25 @@ negative n =
 
 -- ── the sign ──
 
--- the code's number: the 64 bits of z, read again
-abbrev held : ℤ → ℤ
-held z = toZ w64 (ofZ w64 z)
-
-down : (z : ℤ) → ltZ z (pos 0) ≡ true → (negsuc 0 -ℤ z ≡ pos (mag z)) × (negsuc (mag z) ≡ z)
-down (pos n) h = let z : n < 0 = ltb-true n 0 h in absurd (omega arith)
-down (negsuc n) h = let e : suc n - 1 ≡ n = omega arith in (rw (le-ltb (suc n) 1 (omega arith), e), refl)
-
-not-below : (z : ℤ) → ltZ z (pos 0) ≡ false → (T (nonNeg z)) × (natAbs z ≡ mag z) × (pos (mag z) ≡ z)
-not-below (pos n) h = (tt, refl, refl)
-not-below (negsuc n) h = let e : _≡_ {A = ℕ} 0 1 = cc in absurd (omega arith)
-
 module _ (z : ℤ) (f : SFits w64 z) where
   module _ (h : ltZ (held z) (pos 0) ≡ true) where
-    below : ltZ z (pos 0) ≡ true
-    below = rw (toZ-ofZ f) at h
-
-    distance : negsuc 0 -ℤ held z ≡ pos (mag z)
-    distance = rw (toZ-ofZ f) (down z below .0)
-
-    pub distance-fits : SFits w64 (negsuc 0 -ℤ held z)
-    distance-fits = rw distance (record { sfits = f .sfits })
-
-    held-distance : held (negsuc 0 -ℤ held z) ≡ pos (mag z)
-    held-distance = toZ-ofZ distance-fits ∙ distance
-
-    pub distance-cast : (T (nonNeg (held (negsuc 0 -ℤ held z)))) × Fits w64 (natAbs (held (negsuc 0 -ℤ held z)))
-    distance-cast = rw held-distance (tt, record { fits = omega (arith, f .sfits) })
-
     pub distance-high : natAbs (held (negsuc 0 -ℤ held z)) / two32 + two31 < two32
-    distance-high = rw held-distance (omega (arith, high-low (mag z) (f .sfits)))
+    distance-high = rw (held-distance z f h) (omega (arith, high-low (mag z) (f .sfits)))
 
     pub distance-words : (r : Words) → r ≡ Words.Is (natAbs (held (negsuc 0 -ℤ held z)) % two32) (natAbs (held (negsuc 0 -ℤ held z)) / two32 + two31) → (sheet : Bytes) → wordsValue int sheet r ≡ some z
     unfolding fieldOf
-    distance-words r e sheet = rw (e, held-distance) (ap some (negative (mag z) ∙ down z below .1))
+    distance-words r e sheet = rw (e, held-distance z f h) (ap some (negative (mag z) ∙ down z (below z f h) .1))
 
   module _ (h : ltZ (held z) (pos 0) ≡ false) where
-    above : ltZ z (pos 0) ≡ false
-    above = rw (toZ-ofZ f) at h
-
-    pub plain-cast : (T (nonNeg (held z))) × Fits w64 (natAbs (held z))
-    plain-cast = rw (toZ-ofZ f) (not-below z above .0, record { fits = omega (arith, f .sfits, not-below z above .1) })
+    magnitude : natAbs z ≡ mag z
+    magnitude = not-below z (above z f h) .1
 
     pub plain-high : natAbs (held z) / two32 + 0 < two32
-    plain-high = rw (toZ-ofZ f, not-below z above .1) (omega (arith, high-low (mag z) (f .sfits)))
+    plain-high = rw (toZ-ofZ f, magnitude) (omega (arith, high-low (mag z) (f .sfits)))
 
     pub plain-words : (r : Words) → r ≡ Words.Is (natAbs (held z) % two32) (natAbs (held z) / two32 + 0) → (sheet : Bytes) → wordsValue int sheet r ≡ some z
     unfolding fieldOf
-    plain-words r e sheet = rw (e, toZ-ofZ f, not-below z above .1) (ap some (positive (mag z) (f .sfits) ∙ not-below z above .2))
+    plain-words r e sheet = rw (e, toZ-ofZ f, magnitude) (ap some (positive (mag z) (f .sfits) ∙ not-below z (above z f h) .2))
 
 -- ── what is read ──
 

@@ -1,6 +1,7 @@
 -- What reading a line gives: the words of its record. Assumes nothing: these are definitions.
 use mathlib.Core.Path.{_≡_}
 use Prim.Native.Nat.{ℕ, _+_, _%_, _<_, _≤_}
+use mathlib.Core.Bool.{true}
 use mathlib.Core.List.{List}
 use mathlib.Core.Option.{none, some}
 use lib.ListN.{length, getD}
@@ -9,14 +10,38 @@ use Rattle.model.specs.Text.{Bytes}
 use Rattle.model.specs.Field.{Fields, readFields}
 use Rattle.model.specs.Kind.{Sort, Kind}
 use Rattle.model.specs.Record.{forms, readRec}
-use Rattle.words.specs.Words.{fieldsOf, kindOf, decode, part, maxRecords, recordWords, two32}
-use Rattle.words.specs.Places.{lineStartAt, lineEndAt, kindAt, childrenAt, kindCount}
+use Rattle.words.specs.Words.{Roomy, fieldsOf, kindOf, decode, part, maxRecords, recordWords, two32}
+use Rattle.words.specs.Places.{lineStartAt, lineEndAt, kindAt, childrenAt, kindCount, sortCount}
 use Rattle.words.specs.Held.{Flags, Texts, total}
 use Rattle.words.specs.Table.{formsAt, groupsOf}
-use Rattle.record.specs.Place.{LineEnd}
-use Rattle.line.specs.Place.{piecesAt}
+use Rattle.record.specs.Place.{LineEnd, separates}
+use Rattle.line.specs.Place.{InLine, piecesAt}
 use Rattle.line.specs.declared.read.Line.{Line}
 use Rattle.line.specs.declared.read.FieldsTo.{FieldsTo}
+
+-- ── what the functions ask ──
+
+-- the fields of kind n, from behind place p on: a piece ends at p, and there are the words of a record
+pub record FieldsAsked (n : ℕ) (sheet : Bytes) (p : ℕ) (ws : List ℕ) : Type 0 where
+  pub line : InLine sheet p
+  pub stop : separates (getD sheet p 0) ≡ true
+  pub kind : n < kindCount
+  pub words : length ws ≡ recordWords
+
+-- a line at p, read as a record of sort number s
+pub record LineAsked (s : ℕ) (sheet : Bytes) (p : ℕ) (ws : List ℕ) : Type 0 where
+  pub line : InLine sheet p
+  pub sort : s < sortCount
+  pub words : length ws ≡ recordWords
+
+-- the same, into record i of two slices
+pub record IntoAsked (s : ℕ) (sheet : Bytes) (p i : ℕ) (a b : List ℕ) : Type 0 where
+  pub line : InLine sheet p
+  pub sort : s < sortCount
+  pub low : i < maxRecords
+  pub words : Roomy a b
+
+-- ── fields ──
 
 -- a record's words from here on are its fields', two each
 abbrev pub firstWord : ℕ

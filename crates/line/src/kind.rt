@@ -4,7 +4,7 @@ ghost use Prim.Native.Nat.{_<_};
 ghost use mathlib.Core.Bool.{cond};
 ghost use lib.Dec.{eqb};
 ghost use Rattle.words.specs.Places.{sortCount, clauseSort, patternElementSort, exprSort};
-ghost use Rattle.words.specs.Table.{sortOf};
+ghost use Rattle.words.specs.Table.{sortOf, byteValues};
 ghost use Rattle.model.specs.Text.{Bytes};
 ghost use Rattle.record.specs.Place.{Fed};
 ghost use Rattle.line.specs.Kinds.{Packed, KeywordAt, Named, keyed};
@@ -22,7 +22,7 @@ pub enum KindFound {
 }
 
 fn wide(b: u8) -> u64
-    ensures { λ r. ⌜ (r ≡ b) × (r < 256) ⌝ }
+    ensures { λ r. ⌜ (r ≡ b) × (r < byteValues) ⌝ }
 {
     b as u64
 }

@@ -1,13 +1,5 @@
 // A line read into the sixteen words of a record.
-ghost use mathlib.Core.Path.{_≡_};
-ghost use mathlib.Core.Bool.{true};
-ghost use Prim.Native.Nat.{_<_};
-ghost use lib.ListN.{length, getD};
-ghost use Rattle.record.specs.Place.{separates};
-ghost use Rattle.line.specs.Place.{InLine};
-ghost use Rattle.line.specs.LineRead.{FieldsHere, LineHere, IntoHere};
-ghost use Rattle.words.specs.Words.{Roomy, maxRecords, recordWords};
-ghost use Rattle.words.specs.Places.{kindCount, sortCount};
+ghost use Rattle.line.specs.LineRead.{FieldsAsked, FieldsHere, LineAsked, LineHere, IntoAsked, IntoHere};
 ghost use Rattle.words.specs.Table.{sortOf};
 use crate::field::FieldRead;
 use crate::form::read_form;
@@ -38,9 +30,7 @@ const SECOND_WORD: usize = 3;
 
 // The fields of a kind, from behind place p on: field g goes to the words 2g + 2 and 2g + 3. Each stands behind a tab, and the line feed behind the last.
 fn read_fields(sheet: &[u8], p: usize, kind: u32, part: &mut [u32]) -> FieldsTo
-    requires { ⌜ InLine (now sheet) p ⌝ }
-    requires { ⌜ separates (getD (now sheet) p 0) ≡ true ⌝ }
-    requires { ⌜ (kind < kindCount) × (length (now part) ≡ recordWords) ⌝ }
+    requires { ⌜ FieldsAsked kind (now sheet) p (now part) ⌝ }
     ensures { λ r. ⌜ FieldsHere kind (now (sheet .entry)) p (now (part .entry)) (now (part .exit)) r ⌝ }
 {
     let row = kind as usize;
@@ -68,8 +58,7 @@ fn read_fields(sheet: &[u8], p: usize, kind: u32, part: &mut [u32]) -> FieldsTo
 
 // The line at p as a record of a sort, in the sixteen words of `part`. If there is none, what stands in `part` is not promised.
 pub fn read_line(sheet: &[u8], p: usize, sort: u32, part: &mut [u32]) -> Line
-    requires { ⌜ InLine (now sheet) p ⌝ }
-    requires { ⌜ (sort < sortCount) × (length (now part) ≡ recordWords) ⌝ }
+    requires { ⌜ LineAsked sort (now sheet) p (now part) ⌝ }
     ensures { λ r. ⌜ LineHere (sortOf sort) (now (sheet .entry)) p (now (part .exit)) r ⌝ }
 {
     let key = read_keyword(sheet, p);
@@ -89,9 +78,7 @@ pub fn read_line(sheet: &[u8], p: usize, sort: u32, part: &mut [u32]) -> Line
 
 // The same into record i of two slices.
 pub fn read_into(sheet: &[u8], p: usize, sort: u32, a: &mut [u32], b: &mut [u32], i: usize) -> Line
-    requires { ⌜ InLine (now sheet) p ⌝ }
-    requires { ⌜ (sort < sortCount) × (i < maxRecords) ⌝ }
-    requires { ⌜ Roomy (now a) (now b) ⌝ }
+    requires { ⌜ IntoAsked sort (now sheet) p i (now a) (now b) ⌝ }
     ensures { λ r. ⌜ IntoHere (sortOf sort) (now (sheet .entry)) p i (now (a .entry)) (now (b .entry)) (now (a .exit)) (now (b .exit)) r ⌝ }
 {
     if i < words::FIRST_RECORDS {

@@ -9,7 +9,7 @@ use lib.ListN.{length}
 use lib.Dec.{eqb, eqb·suc-suc}
 use Rattle.model.specs.Text.{Bytes}
 use Rattle.model.specs.Kind.{ReadOp, patternElement, name, expr, inPlan, relSpec}
-use Rattle.model.specs.Record.{Rec, rec, one}
+use Rattle.model.specs.Record.{Rec, rec, one, allShortest}
 use Rattle.model.specs.Tree.{Tree, Trees, []ᵗ, _∷ᵗ_, toList, fold, foldOf}
 use Rattle.model.specs.Lower.{Recs, Lowered, made, _>>=_, ret, push, op, endpointVar, propsOf, lowerRelElement, lowerShortestPathPart, shapeOf, lowerShaped, lowerPatternPart, lowerChain, NodeStep, RelStep, Step, ofNode, ofRel, nodeRelNode, other}
 use Rattle.words.specs.Held.{Held, HeldOf, size, sizeOf}
@@ -81,7 +81,7 @@ unfolding lowerPatternPart lowerShaped
 other-part o zero ss s e = refl
 other-part o (suc k) ss s e = rw e
 
-pub special-part : (o : Option ℕ) (k : ℕ) (ss : List Step) (n : NodeStep) (r : RelStep) (b : NodeStep) (s : State) → ((k ≡ 0) → ⊥) → shapeOf ss ≡ nodeRelNode n r b → lowerPatternPart o k ss s ≡ lowerShortestPathPart o (eqb k 2) n r b s
+pub special-part : (o : Option ℕ) (k : ℕ) (ss : List Step) (n : NodeStep) (r : RelStep) (b : NodeStep) (s : State) → ((k ≡ 0) → ⊥) → shapeOf ss ≡ nodeRelNode n r b → lowerPatternPart o k ss s ≡ lowerShortestPathPart o (eqb k allShortest) n r b s
 unfolding lowerPatternPart lowerShaped
 special-part o zero ss n r b s h e = absurd (h refl)
 special-part o (suc k) ss n r b s h e = rw e (ap (λ (x : Bool). lowerShortestPathPart o x n r b s) (sym (eqb·suc-suc k 1)))

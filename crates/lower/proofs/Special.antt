@@ -11,7 +11,7 @@ use lib.ListN.{length}
 use lib.Dec.{eqb}
 use Rattle.model.specs.Text.{Bytes}
 use Rattle.model.specs.Kind.{patternPart, patternElement}
-use Rattle.model.specs.Record.{Rec, one}
+use Rattle.model.specs.Record.{Rec, one, allShortest}
 use Rattle.model.specs.Tree.{Tree, toList, foldOf}
 use Rattle.model.specs.Lower.{Recs, Lowered, made, push, endpointVar, propsOf, shapeOf, NodeStep, RelStep, Step, ofNode, ofRel, nodeRelNode}
 use Rattle.words.specs.Words.{Roomy, cell, optionOf, maxRecords}
@@ -138,7 +138,7 @@ module _ {a b : List ℕ} (d base i rel far e : ℕ) {p₁ p₃ p₄ e₁ e₂ k
       let n₀ : NodeStep = record { bind = bn; labels = toList (va .el .n) (foldOf Lowered made (va .el .names)); props = propsOf (va .el .p) (foldOf Lowered made (va .el .props)) } in
       let r₀ : RelStep = record { bind = br; types = toList (vr .el .n) (foldOf Lowered made (vr .el .names)); direction = vr .direction; length = vr .length; props = propsOf (vr .el .p) (foldOf Lowered made (vr .el .props)) } in
       let b₀ : NodeStep = record { bind = bt; labels = toList (vf .el .n) (foldOf Lowered made (vf .el .names)); props = propsOf (vf .el .p) (foldOf Lowered made (vf .el .props)) } in
-      let all : Bool = eqb (cell a b i partShortestAt) 2 in
+      let all : Bool = eqb (cell a b i partShortestAt) allShortest in
       let D = v .shaped s ∙ special-part o (cell a b i partShortestAt) (stepsOf (v .elements)) n₀ r₀ b₀ s k4 (shape-three _ _ _ _ n₀ b₀ r₀ (S .trees .steps) (va .step) (vr .step) (vf .step)) ∙ short-def o br bt n₀ b₀ (vr .el .names) (vr .el .p) (vr .el .props) r₀ refl refl s all in
       let ls′ : LowersStart a b (d - 1) base (i + 1) (r₁ .number) rel k₁ (mem (r₁ .ctx) os rest₁) m₂ = rw (S .start-end) at ls in
       let x′ : LowersExprs a b (one (vr .el .p)) 0 (d - 1 - 1) base (rel + 1 + cell a b rel relTypesAt) far (mem (lr .named .ctx) (m₂ .ops) (lr .between)) m₃ = rw (S .rel-end, sym (vr .el .flagged)) at (lr .props) in

@@ -7,7 +7,7 @@ use mathlib.Core.Option.{none}
 use lib.Dec.{eqb}
 use Rattle.model.specs.Field.{Fields}
 use Rattle.model.specs.Kind.{Clause, ReadOp, clause, projection, orderItem, patternElement, name, yieldItem, expr}
-use Rattle.model.specs.Record.{Rec, one, forms}
+use Rattle.model.specs.Record.{Rec, one, allShortest, forms}
 use Rattle.model.specs.Tree.{Tree, Trees}
 use Rattle.model.specs.Lower.{Recs, op, source, pathElements}
 use Rattle.words.specs.Words.{cell, maxRecords}
@@ -74,7 +74,7 @@ module _ (S : Side) (N : Notes) (A : Ops) (k : ℕ) (o : Op) where
     pub is-rel : cell (S .a) (S .b) (o .x) kindAt ≡ relKind
     pub below-rel : KidsBelow (shift N (o .base)) (S .first) k rel
     pub all : Bool
-    pub is-all : all ≡ eqb (cell (S .a) (S .b) (o .idx) partShortestAt) 2
+    pub is-all : all ≡ eqb (cell (S .a) (S .b) (o .idx) partShortestAt) allShortest
     pub is : recs ≡ op ReadOp.ShortestPath (o .input, (N (o .base + suc (o .idx + 1)), (N (o .base + suc (o .y)), (N (o .base + suc (o .idx)), (all, tt))))) ∷ specRecs (shift N (o .base)) A rel
 
   -- a `with`, at its clause: its items, and its predicate if it has one

@@ -125,6 +125,10 @@ planForms mapped k = varId ∷ var ∷ []
 planForms planEntry k = text ∷ []
 planForms planExpr k = planExprForms k
 
+-- the second field of a part: 0 no shortest path, 1 one, 2 all of them. The table has the number itself, which tools/format.py reads there
+abbrev pub allShortest : ℕ
+allShortest = 2
+
 abbrev pub forms : (s : Sort) → Kind s → List Form
 -- clauses, arms
 forms statement k = count ∷ count ∷ []

@@ -9,7 +9,7 @@ use lib.Dec.{eqb}
 use Rattle.model.specs.Text.{Bytes, tab, lineFeed, behind, bytes, bytesFrom, decimal, digits, escape}
 use Rattle.model.specs.Field.{Fields, text, spell, spellFlag, spellOption, spellFields}
 use Rattle.model.specs.Kind.{ReadOp, Clause, clause, patternElement}
-use Rattle.model.specs.Record.{Rec, one, forms, keyword, planKeyword, opKeyword, spellRec, spellRecs}
+use Rattle.model.specs.Record.{Rec, one, allShortest, forms, keyword, planKeyword, opKeyword, spellRec, spellRecs}
 use Rattle.model.specs.Tree.{Tree, node}
 use Rattle.model.specs.Lower.{Recs, op, source}
 use Rattle.output.specs.Page.{Page, Puts}
@@ -25,7 +25,7 @@ use Rattle.lower.specs.Render.{Notes, Ops, specRecs}
 use Rattle.lower.specs.Shows.{shift, InBounds, Shows, Stored, OverExpr, ByLabels, ByRel, ByShortest, ByPath, ByWith, ByItems, ByParted, ByKeys, ByCall, shows-all, shows-no-parts, shows-source, shows-filter, shows-expand, shows-short, shows-path, shows-optional, shows-with, shows-project, shows-aggregate, shows-order, shows-skip, shows-limit, shows-distinct, shows-unwind, shows-union, shows-call}
 use Rattle.plan_line.specs.Keywords.{word, letters, sourceWord, filterWord, expandWord, shortWord, pathWord, optionalWord, withWord, projectWord, aggWord, orderWord, skipWord, limitWord, distinctWord, unwindWord, unionWord, callWord}
 use Rattle.plan_line.specs.Row.{numbersText, rowText, callText}
-use Rattle.plan_sheet.specs.Due.{noted, Room, Near, Tabled, SomePlan, OpShown, WroteFirst, Many, WroteMany, Element, WroteElement, WroteOp, TextAsked, NotesIn, FirstAsked, allShortest, textAt}
+use Rattle.plan_sheet.specs.Due.{noted, Room, Near, Tabled, SomePlan, OpShown, WroteFirst, Many, WroteMany, Element, WroteElement, WroteOp, TextAsked, NotesIn, FirstAsked, textAt}
 use Rattle.plan_sheet.specs.Parted.{Items, WroteItems}
 use Rattle.plan_sheet.specs.Asked.{elementOf, ExprsAsked, ExprsWrote, ElementAsked, ElementWrote, ItemsAsked, ItemsWrote}
 use Rattle.plan_sheet.specs.declared.write.At.{At}

@@ -70,10 +70,6 @@ pub record NotedAsked (a b rest : List ℕ) (o : Op) (X : Type 0) : Type 0 where
   pub notes : NotesIn rest o
   pub due : X
 
--- a part that asks for all shortest paths, and not for one
-abbrev pub allShortest : ℕ
-allShortest = 2
-
 -- some expression begins at record i
 pub record ExprAt (sheet : Bytes) (a b : List ℕ) (i : ℕ) : Type 0 where
   pub kind : Expr

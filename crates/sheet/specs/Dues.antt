@@ -11,6 +11,7 @@ use lib.Seq.{getD-set-same, getD-set-other}
 use Rattle.model.specs.Call.{workWords}
 use Rattle.words.specs.Places.{sortCount, kindCount}
 use Rattle.model.specs.Kind.{Sort}
+use Rattle.words.specs.Words.{Roomy, maxRecords}
 use Rattle.words.specs.GroupLaws.{none-behind}
 use Rattle.words.specs.Table.{groupNumbers, sortOf, groupSort, groupSource, countOf, groupsFrom, groupCount}
 use Rattle.sheet.specs.Due.{Due, due, dueOf}
@@ -183,6 +184,25 @@ pub record Space (w : List ℕ) (n m d : ℕ) : Type 0 where
   pub each : (g : ℕ) → g < groupCount → m + groupCount + slack (sortOf (groupSort n g)) ≤ allowed d
   pub fit : Fit (dues w m)
   pub sorted : Sorted w m
+
+-- ── what the functions ask ──
+
+-- group g of record i, which is of kind n, on top of m others
+pub record GroupAsked (a b w : List ℕ) (m i n g : ℕ) : Type 0 where
+  pub kind : n < kindCount
+  pub among : g < groupCount
+  pub low : i < maxRecords
+  pub words : Roomy a b
+  pub room : Room w m
+
+-- all its groups, each with room d
+pub record GroupsAsked (a b w : List ℕ) (m i n d : ℕ) : Type 0 where
+  pub kind : n < kindCount
+  pub low : i < maxRecords
+  pub words : Roomy a b
+  pub space : Space w n m d
+
+-- ── all groups of a record ──
 
 pub groups-none : (w : List ℕ) (n : ℕ) (ws : List ℕ) (m d : ℕ) → Space w n m d → Groups w w n ws groupCount 0 m d m
 unfolding groupsFrom dueOf

@@ -11,7 +11,7 @@ use lib.Dec.{eqb}
 use lib.ListN.{drop, getD}
 use lib.Seq.{slice}
 use Rattle.sheet.specs.Stack.{dueWords, dueCountAt, dueRoomAt}
-use Rattle.words.specs.Places.{writeKind, kindCount, sortCount, lineStartAt, childrenAt, lineEndAt}
+use Rattle.words.specs.Places.{writeKind, sortCount, lineStartAt, childrenAt, lineEndAt}
 use Rattle.model.specs.Text.{Bytes, lineFeed, split}
 use Rattle.model.specs.Field.{Fields}
 use Rattle.model.specs.Kind.{Sort, Kind}
@@ -34,7 +34,7 @@ use Rattle.sheet.specs.LineLaws.{line-first, line-more, line-stands}
 use Rattle.sheet.specs.Due.{roomBelow, isZero}
 use Rattle.sheet.specs.Writes.{writes, writeAmong}
 use Rattle.sheet.specs.Progress.{placeAt, readRest, line-refused, no-feed, too-many, deep, unformed, well-formed}
-use Rattle.sheet.specs.Dues.{dues, dues-length, group, Room, Popped, Groups, Space}
+use Rattle.sheet.specs.Dues.{dues, dues-length, group, Room, Popped, Groups, GroupsAsked}
 use Rattle.sheet.specs.Steps.{writes-kind, space, due-now}
 use Rattle.sheet.specs.Reader.{readOnly, Reads, Ends, SoFar, writeOf, rest-refused, top-is, advance, seen-more, seen-write}
 
@@ -66,7 +66,7 @@ module _ {depth : ℕ} (sheet : Bytes) (a b w : List ℕ) (i pos m wr : ℕ) (o 
   unfolding dues
   top-room = record { few = omega (arith, state .fit .2, dues-length w m); long = state .long }
 
-  pub roomy-still : (sort : Sort) (e : ℕ) (a′ b′ : List ℕ) (l : Line) → IntoRead sort sheet pos e i a b a′ b′ l → Roomy a′ b′
+  roomy-still : (sort : Sort) (e : ℕ) (a′ b′ : List ℕ) (l : Line) → IntoRead sort sheet pos e i a b a′ b′ l → Roomy a′ b′
   roomy-still sort e a′ b′ l into = record { first = omega (arith, o .roomy .first, into .first); second = omega (arith, o .roomy .second, into .second) }
 
   line-refuses : (x : ℕ → Refusal) → readLine (group w m .sort) (isZero (group w m .room)) (placeAt sheet pos (suc i)) ≡ refused (x (suc i)) → readOnly depth sheet ≡ refuse (x (i + 1))
@@ -119,11 +119,15 @@ module _ {depth : ℕ} (sheet : Bytes) (a b w : List ℕ) (i pos m wr : ℕ) (o 
         unfolding fields
         kids = got-it .kids ∙ ap (λ x. x % two32) (children-are (getD w (m * dueWords) 0) top-sort n (got-it .kind) (got-it .named) sheet (part a′ b′ i) (got-it .flags))
 
-        pub next-low : n < kindCount
-        next-low = got-it .low
-
-        pub next-space : Space w′ n r d
-        next-space = space w w′ m r n (state .long) (state .fit) (state .sorted) pop deep-enough (got-it .kind) (got-it .named) d below
+        -- what its groups ask
+        pub next-asked : GroupsAsked a′ b′ w′ r i n d
+        next-asked =
+            record {
+              kind = got-it .low;
+              low = low;
+              words = roomy-still (group w m .sort) e a′ b′ l into;
+              space = space w w′ m r n (state .long) (state .fit) (state .sorted) pop deep-enough (got-it .kind) (got-it .named) d below;
+            }
 
         writes-is : writes (group w m .sort) (got-it .kind) ≡ eqb n writeKind
         writes-is = writes-kind (getD w (m * dueWords) 0) top-sort n (got-it .kind) (got-it .named)

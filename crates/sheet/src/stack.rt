@@ -1,11 +1,10 @@
 // The stack of due groups: three words a group (sort, count, room), group m from word 3m on.
-ghost use Prim.Native.Nat.{_+_, _*_, _-_, _<_};
+ghost use Prim.Native.Nat.{_+_, _*_, _<_};
 ghost use lib.ListN.{getD};
 ghost use Rattle.sheet.specs.Stack.{dueWords, dueCountAt};
-ghost use Rattle.words.specs.Words.{Roomy, part, maxRecords};
-ghost use Rattle.words.specs.Places.{kindCount};
+ghost use Rattle.words.specs.Words.{part};
 ghost use Rattle.words.specs.Table.{groupSort, groupSource, countOf, groupCount};
-ghost use Rattle.sheet.specs.Dues.{Pushed, Popped, Room, Grouped, Groups, Space};
+ghost use Rattle.sheet.specs.Dues.{Pushed, Popped, Room, Grouped, Groups, GroupAsked, GroupsAsked};
 use line::group::group_count;
 use line::group::group_sort;
 use words::table::groups_of;
@@ -55,10 +54,7 @@ fn push_group(
     g: usize,
     room: u32,
 ) -> usize
-    requires { ⌜ (kind < kindCount) × (g < groupCount) ⌝ }
-    requires { ⌜ i < maxRecords ⌝ }
-    requires { ⌜ Roomy (now a) (now b) ⌝ }
-    requires { ⌜ Room (now stack) m ⌝ }
+    requires { ⌜ GroupAsked (now a) (now b) (now stack) m i kind g ⌝ }
     ensures { λ r. ⌜ Grouped (now (stack .entry)) (now (stack .exit)) m (groupSort kind g) (countOf (part (now (a .entry)) (now (b .entry)) i) (groupSource kind g)) room r ⌝ }
 {
     let n = group_count(a, b, i, kind, g);
@@ -80,10 +76,7 @@ pub fn push_groups(
     kind: u32,
     room: u32,
 ) -> usize
-    requires { ⌜ kind < kindCount ⌝ }
-    requires { ⌜ i < maxRecords ⌝ }
-    requires { ⌜ Roomy (now a) (now b) ⌝ }
-    requires { ⌜ Space (now stack) kind m room ⌝ }
+    requires { ⌜ GroupsAsked (now a) (now b) (now stack) m i kind room ⌝ }
     ensures { λ r. ⌜ Groups (now (stack .entry)) (now (stack .exit)) kind (part (now (a .entry)) (now (b .entry)) i) 0 groupCount m room r ⌝ }
 {
     let mut g = groups_of(kind);

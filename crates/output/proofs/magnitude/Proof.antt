@@ -1,6 +1,7 @@
 -- `magnitude` meets its contract: nothing overflows on the way, the least number included. Assumes nothing.
 use borrow.Author.Needs.{needs}
-use Rattle.output.proofs.Signed.{distance-fits, distance-cast, magnitude-fits, magnitude-below, plain-cast}
+use Rattle.laws.specs.SignedLaws.{distance-fits, distance-cast, plain-cast}
+use Rattle.output.proofs.Signed.{magnitude-fits, magnitude-below}
 use Rattle.output.proofs.magnitude.Statement.{statement}
 use Rattle.output.proofs.magnitude.Tie as tie
 

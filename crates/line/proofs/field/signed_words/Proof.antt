@@ -1,5 +1,6 @@
 -- `line::field::signed_words` meets its contract: the words of a signed number, the least included. Assumes nothing.
-use Rattle.line.proofs.SignedLaws.{distance-fits, distance-cast, distance-high, distance-words, plain-cast, plain-high, plain-words}
+use Rattle.laws.specs.SignedLaws.{distance-fits, distance-cast, plain-cast}
+use Rattle.line.proofs.SignedLaws.{distance-high, distance-words, plain-high, plain-words}
 use Rattle.line.proofs.field.signed_words.Statement.{statement}
 use Rattle.line.proofs.field.signed_words.Tie as tie
 

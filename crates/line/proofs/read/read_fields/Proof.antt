@@ -38,8 +38,8 @@ back-at-loop c = search
 ruleset ways = (back-x, back-read-form, back-else1, back-in-loop, back-at-loop)
 
 -- the line that is read
-abbrev line : (s : here tie.Start) → LineEnd (s .args .sheet .now) (s .args .p) (s .pre .0 .fed .end)
-line s = s .pre .0 .fed .line
+abbrev line : (s : here tie.Start) → LineEnd (s .args .sheet .now) (s .args .p) (s .pre .line .fed .end)
+line s = s .pre .line .fed .line
 
 -- there is room for a field
 room : (n : here tie.In-loop) → back-in-loop n .loop .g < 6
@@ -51,7 +51,7 @@ room n =
 loop-holds : here tie.Need-loop-holds
 loop-holds c =
     let s : here tie.Start = search ways in
-    fill-start _ _ _ _ (s .pre .1 .1 .0) (s .pre .1 .1 .1) (s .pre .1 .0) _ (c .form-code .ensures)
+    fill-start _ _ _ _ (s .pre .kind) (s .pre .words) (s .pre .stop) _ (c .form-code .ensures)
 
 shared-slice-read-if1 : here tie.Need-shared-slice-read-if1
 shared-slice-read-if1 c =
@@ -63,7 +63,7 @@ same-length : here tie.Need-same-length
 same-length c =
     let l : here tie.At-loop = search ways in
     let s : here tie.Start = search ways in
-    omega (arith, l .loop .inv _ (line s) .long, s .pre .1 .1 .1)
+    omega (arith, l .loop .inv _ (line s) .long, s .pre .words)
 
 returns : here tie.Need-returns
 returns c =
@@ -84,13 +84,13 @@ read-form-requires c κs =
     let l : here tie.At-loop = search ways in
     let s : here tie.Start = search ways in
     let t : here tie.Else1 = search ways in
-    (record { fed = record { end = s .pre .0 .fed .end; line = fill-line _ _ _ _ (line s) _ _ _ _ _ (l .loop .inv _ (line s)) (n .loop-test .taken) (t .if1 .left) }; short = s .pre .0 .short }, (omega (arith, n .loop-test .taken), fill-code _ _ _ _ (line s) _ _ _ _ _ (l .loop .inv _ (line s))))
+    (record { fed = record { end = s .pre .line .fed .end; line = fill-line _ _ _ _ (line s) _ _ _ _ _ (l .loop .inv _ (line s)) (n .loop-test .taken) (t .if1 .left) }; short = s .pre .line .short }, (omega (arith, n .loop-test .taken), fill-code _ _ _ _ (line s) _ _ _ _ _ (l .loop .inv _ (line s))))
 
 same-length-2 : here tie.Need-same-length-2
 same-length-2 c =
     let l : here tie.At-loop = search ways in
     let s : here tie.Start = search ways in
-    omega (arith, l .loop .inv _ (line s) .long, s .pre .1 .1 .1)
+    omega (arith, l .loop .inv _ (line s) .long, s .pre .words)
 
 returns-2 : here tie.Need-returns-2
 returns-2 c =
@@ -155,7 +155,7 @@ form-code-requires-2 c κs =
     let n : here tie.In-loop = search ways in
     let l : here tie.At-loop = search ways in
     let s : here tie.Start = search ways in
-    (s .pre .1 .1 .0, omega (arith, room n))
+    (s .pre .kind, omega (arith, room n))
 
 loop-less : here tie.Need-loop-less
 loop-less c =
@@ -184,7 +184,7 @@ same-length-3 : here tie.Need-same-length-3
 same-length-3 c =
     let l : here tie.At-loop = search ways in
     let s : here tie.Start = search ways in
-    omega (arith, l .loop .inv _ (line s) .long, s .pre .1 .1 .1)
+    omega (arith, l .loop .inv _ (line s) .long, s .pre .words)
 
 returns-3 : here tie.Need-returns-3
 returns-3 c =
@@ -197,7 +197,7 @@ same-length-4 : here tie.Need-same-length-4
 same-length-4 c =
     let l : here tie.At-loop = search ways in
     let s : here tie.Start = search ways in
-    omega (arith, l .loop .inv _ (line s) .long, s .pre .1 .1 .1)
+    omega (arith, l .loop .inv _ (line s) .long, s .pre .words)
 
 returns-4 : here tie.Need-returns-4
 returns-4 c =

@@ -33,17 +33,20 @@ read-fields-requires c κs =
     let a : tie.After-k = search ways in
     let n : tie.After-kind-named = search ways in
     let k : tie.After-read-keyword = search ways in
-    let s : tie.Start = search ways in (
-      record { fed = fed-at _ _ _ (s .pre .0 .fed) (k .read-keyword .ensures .ends); short = s .pre .0 .short },
-      (k .read-keyword .ensures .ends .stop, (line-low _ _ _ _ (s .pre .1 .0) _ (k .read-keyword .ensures) _ (n .kind-named .ensures) _ (a .k .given .1), rw (length-set, length-set) (s .pre .1 .1))),
-    )
+    let s : tie.Start = search ways in
+    record {
+      line = record { fed = fed-at _ _ _ (s .pre .line .fed) (k .read-keyword .ensures .ends); short = s .pre .line .short };
+      stop = k .read-keyword .ensures .ends .stop;
+      kind = line-low _ _ _ _ (s .pre .sort) _ (k .read-keyword .ensures) _ (n .kind-named .ensures) _ (a .k .given .1);
+      words = rw (length-set, length-set) (s .pre .words);
+    }
 
 same-length : tie.Need-same-length
 same-length c =
     let f : tie.After-read-fields = search ways in
     let k : tie.After-read-keyword = search ways in
     let s : tie.Start = search ways in
-    omega (arith, s .pre .1 .1, fields-long _ _ _ _ (s .pre .0 .fed) (k .read-keyword .ensures .ends) _ _ _ (f .read-fields .ensures))
+    omega (arith, s .pre .words, fields-long _ _ _ _ (s .pre .line .fed) (k .read-keyword .ensures .ends) _ _ _ (f .read-fields .ensures))
 
 returns-2 : tie.Need-returns-2
 returns-2 c =
@@ -52,7 +55,7 @@ returns-2 c =
     let n : tie.After-kind-named = search ways in
     let k : tie.After-read-keyword = search ways in
     let s : tie.Start = search ways in
-    line-not _ _ _ _ (s .pre .1 .0) _ (k .read-keyword .ensures) _ (n .kind-named .ensures) _ (a .k .given .1) (s .args .part .now) _ (s .pre .1 .1) _ (f .read-fields .ensures) (c .enum-told2 .given .1)
+    line-not _ _ _ _ (s .pre .sort) _ (k .read-keyword .ensures) _ (n .kind-named .ensures) _ (a .k .given .1) (s .args .part .now) _ (s .pre .words) _ (f .read-fields .ensures) (c .enum-told2 .given .1)
 
 add-behind : tie.Need-add-behind
 add-behind c =
@@ -60,7 +63,7 @@ add-behind c =
     let k : tie.After-read-keyword = search ways in
     let s : tie.Start = search ways in
     let e : tie.After-e = search ways in
-    omega (arith, s .pre .0 .short, fields-end _ _ _ _ (s .pre .0 .fed) (k .read-keyword .ensures .ends) _ _ _ (f .read-fields .ensures) _ (e .e .given .1))
+    omega (arith, s .pre .line .short, fields-end _ _ _ _ (s .pre .line .fed) (k .read-keyword .ensures .ends) _ _ _ (f .read-fields .ensures) _ (e .e .given .1))
 
 cast-part-2 : tie.Need-cast-part-2
 cast-part-2 c =
@@ -68,7 +71,7 @@ cast-part-2 c =
     let k : tie.After-read-keyword = search ways in
     let s : tie.Start = search ways in
     let e : tie.After-e = search ways in
-    record { fits = omega (arith, s .pre .0 .short, fields-end _ _ _ _ (s .pre .0 .fed) (k .read-keyword .ensures .ends) _ _ _ (f .read-fields .ensures) _ (e .e .given .1)) }
+    record { fits = omega (arith, s .pre .line .short, fields-end _ _ _ _ (s .pre .line .fed) (k .read-keyword .ensures .ends) _ _ _ (f .read-fields .ensures) _ (e .e .given .1)) }
 
 children-of-requires : tie.Need-children-of-requires
 children-of-requires c κs =
@@ -77,28 +80,28 @@ children-of-requires c κs =
     let n : tie.After-kind-named = search ways in
     let k : tie.After-read-keyword = search ways in
     let s : tie.Start = search ways in
-    (line-low _ _ _ _ (s .pre .1 .0) _ (k .read-keyword .ensures) _ (n .kind-named .ensures) _ (a .k .given .1), fields-long _ _ _ _ (s .pre .0 .fed) (k .read-keyword .ensures .ends) _ _ _ (f .read-fields .ensures))
+    (line-low _ _ _ _ (s .pre .sort) _ (k .read-keyword .ensures) _ (n .kind-named .ensures) _ (a .k .given .1), fields-long _ _ _ _ (s .pre .line .fed) (k .read-keyword .ensures .ends) _ _ _ (f .read-fields .ensures))
 
 slice-write-part-4 : tie.Need-slice-write-part-4
 slice-write-part-4 c =
     let f : tie.After-read-fields = search ways in
     let k : tie.After-read-keyword = search ways in
     let s : tie.Start = search ways in
-    rw length-set (omega (arith, fields-long _ _ _ _ (s .pre .0 .fed) (k .read-keyword .ensures .ends) _ _ _ (f .read-fields .ensures)))
+    rw length-set (omega (arith, fields-long _ _ _ _ (s .pre .line .fed) (k .read-keyword .ensures .ends) _ _ _ (f .read-fields .ensures)))
 
 slice-write-part-3 : tie.Need-slice-write-part-3
 slice-write-part-3 c =
     let f : tie.After-read-fields = search ways in
     let k : tie.After-read-keyword = search ways in
     let s : tie.Start = search ways in
-    omega (arith, fields-long _ _ _ _ (s .pre .0 .fed) (k .read-keyword .ensures .ends) _ _ _ (f .read-fields .ensures))
+    omega (arith, fields-long _ _ _ _ (s .pre .line .fed) (k .read-keyword .ensures .ends) _ _ _ (f .read-fields .ensures))
 
 same-length-2 : tie.Need-same-length-2
 same-length-2 c =
     let f : tie.After-read-fields = search ways in
     let k : tie.After-read-keyword = search ways in
     let s : tie.Start = search ways in
-    rw (length-set, length-set) (omega (arith, s .pre .1 .1, fields-long _ _ _ _ (s .pre .0 .fed) (k .read-keyword .ensures .ends) _ _ _ (f .read-fields .ensures)))
+    rw (length-set, length-set) (omega (arith, s .pre .words, fields-long _ _ _ _ (s .pre .line .fed) (k .read-keyword .ensures .ends) _ _ _ (f .read-fields .ensures)))
 
 returns-3 : tie.Need-returns-3
 returns-3 c =
@@ -109,7 +112,7 @@ returns-3 c =
     let k : tie.After-read-keyword = search ways in
     let s : tie.Start = search ways in
     let m : tie.After-children-of = search ways in
-    line-got _ _ _ _ (s .pre .1 .0) _ (k .read-keyword .ensures) _ (n .kind-named .ensures) _ (a .k .given .1) (s .args .part .now) _ (s .pre .1 .1) _ (f .read-fields .ensures) _ (e .e .given .1) _ (m .children-of .ensures)
+    line-got _ _ _ _ (s .pre .sort) _ (k .read-keyword .ensures) _ (n .kind-named .ensures) _ (a .k .given .1) (s .args .part .now) _ (s .pre .words) _ (f .read-fields .ensures) _ (e .e .given .1) _ (m .children-of .ensures)
 
 pub read-line-spec : {M : Type 1} → statement M
 read-line-spec =

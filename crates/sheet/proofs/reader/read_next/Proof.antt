@@ -1,5 +1,5 @@
 -- `read_next` meets its contract: one line by the law of a line, its groups on the stack, or a refusal. Assumes nothing.
-use Rattle.sheet.specs.Next.{top-room, top-sort, top-count, roomy-still, next-many, next-deep, next-unformed, next-low, next-space, next-more}
+use Rattle.sheet.specs.Next.{top-room, top-sort, top-count, next-many, next-deep, next-unformed, next-asked, next-more}
 use native.Mathlib.Omega.{arith}
 use borrow.Author.Needs.{needs}
 use Rattle.sheet.proofs.reader.read_next.Statement.{statement}
@@ -72,10 +72,13 @@ returns-2 c =
 read-into-requires : tie.Need-read-into-requires
 read-into-requires c κs =
     let else1 : tie.Else1 = search ways depth 11 in
-    let start : tie.Start = search ways depth 11 in (
-      start .pre .0,
-      ((top-sort _ _ _ _ _ _ _ _ (start .pre .1 .1), omega (arith, (start .pre .1 .1) .few, else1 .if1 .left)), (start .pre .1 .1) .roomy),
-    )
+    let start : tie.Start = search ways depth 11 in
+    record {
+      line = start .pre .0;
+      sort = top-sort _ _ _ _ _ _ _ _ (start .pre .1 .1);
+      low = omega (arith, (start .pre .1 .1) .few, else1 .if1 .left);
+      words = (start .pre .1 .1) .roomy;
+    }
 
 returns-3 : tie.Need-returns-3
 returns-3 c =
@@ -122,66 +125,33 @@ push-groups-requires c κs =
     let after-read-into : tie.After-read-into = search ways depth 11 in
     let else2 : tie.Else2 = search ways depth 11 in
     let else1 : tie.Else1 = search ways depth 11 in
-    let start : tie.Start = search ways depth 11 in (
-      next-low
-          _
-          _
-          _
-          _
-          _
-          _
-          _
-          _
-          (start .pre .1 .1)
-          _
-          (start .pre .0 .fed .line)
-          (else1 .if1 .left)
-          (else2 .if2 .left)
-          _
-          _
-          _
-          _
-          _
-          _
-          _
-          _
-          (after-read-into .read-into .ensures _ (start .pre .0 .fed .line))
-          (after-kind .kind .given .1)
-          (after-pop .pop .ensures)
-          (after-room-below .room-below .ensures),
-      (
-        omega (arith, (start .pre .1 .1) .few, else1 .if1 .left),
-        (
-          roomy-still _ _ _ _ _ _ _ _ (start .pre .1 .1) _ _ _ _ _ (after-read-into .read-into .ensures _ (start .pre .0 .fed .line)),
-          next-space
-              _
-              _
-              _
-              _
-              _
-              _
-              _
-              _
-              (start .pre .1 .1)
-              _
-              (start .pre .0 .fed .line)
-              (else1 .if1 .left)
-              (else2 .if2 .left)
-              _
-              _
-              _
-              _
-              _
-              _
-              _
-              _
-              (after-read-into .read-into .ensures _ (start .pre .0 .fed .line))
-              (after-kind .kind .given .1)
-              (after-pop .pop .ensures)
-              (after-room-below .room-below .ensures),
-        ),
-      ),
-    )
+    let start : tie.Start = search ways depth 11 in
+    next-asked
+    _
+    _
+    _
+    _
+    _
+    _
+    _
+    _
+    (start .pre .1 .1)
+    _
+    (start .pre .0 .fed .line)
+    (else1 .if1 .left)
+    (else2 .if2 .left)
+    _
+    _
+    _
+    _
+    _
+    _
+    _
+    _
+    (after-read-into .read-into .ensures _ (start .pre .0 .fed .line))
+    (after-kind .kind .given .1)
+    (after-pop .pop .ensures)
+    (after-room-below .room-below .ensures)
 
 write-line-requires : tie.Need-write-line-requires
 write-line-requires c κs =

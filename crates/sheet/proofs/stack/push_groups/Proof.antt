@@ -36,9 +36,9 @@ ruleset ways = (back-push-group, back-in-loop, back-at-loop)
 loop-holds : here tie.Need-loop-holds
 loop-holds c =
     let start : here tie.Start = search ways in
-    let low : start .args .kind < kindCount = start .pre .0 in
+    let low : start .args .kind < kindCount = start .pre .kind in
     let few = groups-few _ low in
-    let passed = groups-behind _ _ _ _ _ (start .pre .1 .1 .1) low (groupCount - getD groupNumbers (start .args .kind) 0) (omega arith) in
+    let passed = groups-behind _ _ _ _ _ (start .pre .space) low (groupCount - getD groupNumbers (start .args .kind) 0) (omega arith) in
     rw (c .groups-of .ensures) (few, begun _ _ _ _ _ _ few passed)
 
 loop-again : here tie.Need-loop-again
@@ -57,7 +57,7 @@ loop-again c =
           _
           _
           _
-          (start .pre .1 .1 .1)
+          (start .pre .space)
           (in-loop .loop-test .taken)
           (at-loop .loop .inv .0)
           (at-loop .loop .inv .1)
