@@ -1,4 +1,6 @@
 // The lowering of a whole statement: its clauses one after another, then its union arms, over the tables of crate context.
+#![tactic(auto)]
+
 ghost use Rattle.std.proofs.Math.Option.{none};
 ghost use Rattle.std.specs.Prelude.{◌-◌};
 ghost use Rattle.model.specs.Kind.{union_arm, clause};
@@ -15,7 +17,7 @@ use words::{field, kind};
 pub mod reading;
 
 // The record behind what is lowered, the operator that it leaves, if it leaves one, and the state.
-#[derive(Drop)]
+#[derive(Clone, Copy)]
 pub struct Current {
     pub next: usize,
     pub op: Before,

@@ -5,14 +5,14 @@ ghost use Rattle.context.specs.Tables.{max_vars, max_indexed, links_at, var_word
 
 use crate::{HALF_WORD, LINKS_AT, MAX_INDEXED, NAMED_WORDS, NUMBER_WORD};
 
-#[derive(Drop)]
+#[derive(Clone, Copy)]
 pub enum Found {
     At(u32),
     Nothing,
 }
 
 // Where a way down ends: at a variable, with bits of the id still to come, of which the last one names a side.
-#[derive(Drop)]
+#[derive(Clone, Copy)]
 struct End {
     place: usize,
     bits: u32,

@@ -1,4 +1,6 @@
 // The state of the lowering, by value, over tables in lent slices: numbers are issued, noted and looked up, and operators pushed.
+#![tactic(auto)]
+
 ghost use Rattle.std.specs.Prelude.{◌≡◌, ◌+◌, ◌<◌, ◌≤◌, length};
 ghost use Rattle.model.specs.Call.{work_words};
 ghost use Rattle.model.specs.Lower.{lookup, map_var, endpoint_var};
@@ -39,7 +41,7 @@ pub const LINKS_AT: usize = NAMED_WORDS * MAX_VARS;
 pub const HALF_WORD: u32 = 65536;
 
 // How many operators, variable numbers and named variables there are. The operators' count goes on beyond their table.
-#[derive(Drop)]
+#[derive(Clone, Copy)]
 pub struct LowerCtx {
     pub ops: usize,
     pub numbers: u32,
@@ -47,7 +49,7 @@ pub struct LowerCtx {
 }
 
 // Where something is lowered: the records from i on, how deep their trees may be, and where the notes of the pass begin.
-#[derive(Drop)]
+#[derive(Clone, Copy)]
 pub struct At {
     pub base: usize,
     pub i: usize,
@@ -55,21 +57,21 @@ pub struct At {
 }
 
 // The operator that stands before, if there is one.
-#[derive(Drop)]
+#[derive(Clone, Copy)]
 pub enum Before {
     Nothing,
     Op(usize),
 }
 
 // The variable of a node, a rel or a part, if it has one.
-#[derive(Drop)]
+#[derive(Clone, Copy)]
 pub enum Bind {
     Unnamed,
     Var(u32),
 }
 
 // A number issued, and the state behind it.
-#[derive(Drop)]
+#[derive(Clone, Copy)]
 pub struct Numbered {
     pub number: u32,
     pub ctx: LowerCtx,

@@ -79,7 +79,7 @@ pub const UNION: u32 = 16;
 
 pub const PROCEDURE_CALL: u32 = 17;
 
-#[derive(Drop)]
+#[derive(Clone, Copy)]
 pub struct Op {
     pub kind: u32,
     pub idx: u32,

@@ -1,4 +1,6 @@
 // The reader on the list of cases from standard input: a label and a sheet, each ended by a bar. For each a line: its label, the number of the refusal or 0, and the refusal's line or how many records were read.
+#![tactic(auto)]
+
 ghost use Rattle.std.specs.Prelude.{◌≤◌, ◌<◌, length};
 ghost use Rattle.model.specs.Call.{max_bytes};
 ghost use Rattle.sheet.specs.Reader.{ReaderAsked};

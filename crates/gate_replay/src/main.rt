@@ -1,4 +1,6 @@
 // The lowering call on the sheets of a file from standard input, an empty line behind each. For each: the number, line, start, end, kind and length of the answer, and the plan. What the gate feeds it and what it has to print, the Rust's answers, are made by `compare sample` (rust/README.md).
+#![tactic(auto)]
+
 ghost use Rattle.std.specs.Prelude.{◌≤◌, ◌<◌, length};
 ghost use Rattle.gate_replay.specs.File.{file_bytes};
 

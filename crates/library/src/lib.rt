@@ -1,4 +1,6 @@
 // The calls for programs in other languages: numbers and slices, and the answer as six words.
+#![tactic(auto)]
+
 ghost use Rattle.std.specs.Prelude.{◌≡◌, [], ◌∷◌, ◌≤◌, length, drop};
 ghost use Rattle.model.specs.Call.{SizeCall, lower_call};
 ghost use Rattle.values.specs.Told.{told};

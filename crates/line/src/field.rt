@@ -12,14 +12,14 @@ use record::piece::piece_end;
 use record::{AliasAt, Decimal, DecimalAt, OptDecimalAt, Signed, TextAt};
 
 // A field's words, or none.
-#[derive(Drop)]
+#[derive(Clone, Copy)]
 pub enum Words {
     Is(u32, u32),
     Not,
 }
 
 // A field's words and where its last piece ends, or none.
-#[derive(Drop)]
+#[derive(Clone, Copy)]
 pub enum FieldRead {
     Is(u32, u32, usize),
     Not,

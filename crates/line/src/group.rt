@@ -28,7 +28,7 @@ pub fn group_sort(kind: u32, g: usize) -> u32
 }
 
 // Where the count of a group stands: the table has it, or a word of the record does.
-#[derive(Drop)]
+#[derive(Clone, Copy)]
 pub enum Counted {
     Fixed(u32),
     InWord(usize),

@@ -10,7 +10,7 @@ use record::piece::{piece_end, separates};
 use words::{BYTE_VALUES, key, kind, sort};
 
 // The number of a kind, or none.
-#[derive(Drop)]
+#[derive(Clone, Copy)]
 pub enum KindFound {
     Is(u32),
     Not,
@@ -23,7 +23,7 @@ fn wide(b: u8) -> u64
 }
 
 // A keyword as one number, its bytes behind a leading 1, and where it ends; 0 for one of more than seven bytes.
-#[derive(Drop)]
+#[derive(Clone, Copy)]
 pub struct Keyword {
     pub word: u64,
     pub end: usize,

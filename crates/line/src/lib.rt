@@ -1,4 +1,6 @@
 // One line of a statement sheet, read into the words of a record.
+#![tactic(auto)]
+
 pub mod field;
 pub mod form;
 pub mod group;

@@ -10,14 +10,14 @@ use words::table::form_code;
 use words::{field, form};
 
 // Where the line ends, of which all fields are read; or none.
-#[derive(Drop)]
+#[derive(Clone, Copy)]
 pub enum FieldsTo {
     End(usize),
     Not,
 }
 
 // The number of a record's kind and the place behind its line, or none.
-#[derive(Drop)]
+#[derive(Clone, Copy)]
 pub enum Line {
     Kind(u32, usize),
     Not,

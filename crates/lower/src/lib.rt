@@ -1,4 +1,6 @@
 // The lowering of a statement that the words hold: operators, notes and variables into the tables. a and b hold the records, ops the operators, rest the notes and the variables; a place says at which record, how deep a tree may be, and where the pass's notes begin.
+#![tactic(auto)]
+
 ghost use Rattle.std.specs.Prelude.{◌≡◌, ℕ, ◌+◌, ◌-◌, ◌<◌, List};
 ghost use Rattle.model.specs.Kind.{expr, pattern_part, pattern_element};
 ghost use Rattle.model.specs.Lower.{root_of};
@@ -19,14 +21,14 @@ use words::{field, kind, records};
 const SPECIAL_ELEMENTS: u32 = 3;
 
 // The last operator of a chain and its node's number, if there is one.
-#[derive(Drop)]
+#[derive(Clone, Copy)]
 pub enum Last {
     Nothing,
     Op(usize, u32),
 }
 
 // What is read of an element: its variable, the record behind its names, and how many props it has there, one or none.
-#[derive(Drop)]
+#[derive(Clone, Copy)]
 pub struct Read {
     pub bind: Bind,
     pub first: usize,
@@ -34,14 +36,14 @@ pub struct Read {
 }
 
 // The rel that waits for its far node, its record and what is read of it, if one does.
-#[derive(Drop)]
+#[derive(Clone, Copy)]
 pub enum Pending {
     Nothing,
     Rel(usize, Read),
 }
 
 // Elements of a part, so far: the next one's record; the last operator; the rel that waits, from which on nothing is lowered yet; how many numbers the path has.
-#[derive(Drop)]
+#[derive(Clone, Copy)]
 pub struct Chain {
     pub next: usize,
     pub ctx: LowerCtx,
@@ -51,7 +53,7 @@ pub struct Chain {
 }
 
 // A node behind a rel: what is read of it, the rel's record and what is read of that, the operator before and its node's number.
-#[derive(Drop)]
+#[derive(Clone, Copy)]
 pub struct Link {
     pub node: Read,
     pub rel: usize,
@@ -61,14 +63,14 @@ pub struct Link {
 }
 
 // An element of a part.
-#[derive(Drop)]
+#[derive(Clone, Copy)]
 pub enum Element {
     Node(Read),
     Rel(Read),
 }
 
 // The elements of a special part: what is read of its near node and of its far one, and the records of the rel and of the far node.
-#[derive(Drop)]
+#[derive(Clone, Copy)]
 pub struct NodeRelNode {
     pub near: Read,
     pub rel: usize,
@@ -77,14 +79,14 @@ pub struct NodeRelNode {
 }
 
 // The record behind what is lowered, and the state.
-#[derive(Drop)]
+#[derive(Clone, Copy)]
 pub struct Reached {
     pub next: usize,
     pub ctx: LowerCtx,
 }
 
 // A root operator too.
-#[derive(Drop)]
+#[derive(Clone, Copy)]
 pub struct Root {
     pub next: usize,
     pub op: usize,

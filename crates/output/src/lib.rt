@@ -1,4 +1,6 @@
 // Bytes into a lent slice. A text that does not fit is only counted, so that the same code measures, on an empty part of a slice, and writes.
+#![tactic(auto)]
+
 ghost use Rattle.std.specs.Prelude.{◌≡◌, [], ◌∷◌, ◌+◌, ◌<◌, ◌≤◌, min, nat_abs, length};
 ghost use Rattle.std.proofs.lemmas.List.Edits.{sets};
 ghost use Rattle.model.specs.Text.{tab, decimal, signed};

@@ -1,4 +1,6 @@
 // The lowering call on a sheet from standard input: prints the plan sheet, or one line that says how the sheet is refused.
+#![tactic(auto)]
+
 use libc::{STDIN_FILENO, STDOUT_FILENO};
 use values::call::lower;
 use values::refusal;

@@ -15,7 +15,7 @@ use plan_line::{row, word};
 use words::{field, kind};
 
 // Where the text ended, and the record behind what was written.
-#[derive(Drop)]
+#[derive(Clone, Copy)]
 pub struct Wrote {
     pub next: usize,
     pub out: usize,

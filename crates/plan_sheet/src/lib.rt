@@ -1,4 +1,6 @@
 // Expressions and operators, written off the tables that the lowering leaves.
+#![tactic(auto)]
+
 pub mod behind;
 pub mod clause;
 pub mod head;

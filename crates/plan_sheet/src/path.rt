@@ -17,14 +17,14 @@ use plan_line::word;
 use words::{field, kind};
 
 // The record of the rel that waits for its far node, if one does.
-#[derive(Drop)]
+#[derive(Clone, Copy)]
 pub enum Waits {
     Nothing,
     Rel(usize),
 }
 
 // So far: whether there was a node, the rel that waits, and the cursor.
-#[derive(Drop)]
+#[derive(Clone, Copy)]
 pub struct Path {
     pub seen: bool,
     pub waits: Waits,

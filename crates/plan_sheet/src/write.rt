@@ -14,7 +14,7 @@ use words::records::{count, skip};
 use words::{field, kind};
 
 // What is at record i: its tree is at most `left` deep, the notes of its pass begin at `base`, and it copies operators below `below`.
-#[derive(Drop)]
+#[derive(Clone, Copy)]
 pub struct At {
     pub base: usize,
     pub i: usize,
@@ -23,7 +23,7 @@ pub struct At {
 }
 
 // The same of n things one behind another.
-#[derive(Drop)]
+#[derive(Clone, Copy)]
 pub struct Run {
     pub base: usize,
     pub i: usize,
@@ -33,7 +33,7 @@ pub struct Run {
 }
 
 // The same of an item's expression, with the part of the items that is asked for: the aggregates, or else the keys.
-#[derive(Drop)]
+#[derive(Clone, Copy)]
 pub struct Part {
     pub base: usize,
     pub i: usize,
@@ -43,7 +43,7 @@ pub struct Part {
 }
 
 // The same of n items.
-#[derive(Drop)]
+#[derive(Clone, Copy)]
 pub struct Parts {
     pub base: usize,
     pub i: usize,

@@ -1,4 +1,6 @@
 // The whole plan sheet: measured first, and written only if it fits.
+#![tactic(auto)]
+
 ghost use Rattle.std.specs.Prelude.{◌≤◌, length};
 ghost use Rattle.output.specs.Page.{on};
 ghost use Rattle.context.specs.Tables.{max_vars};
@@ -10,14 +12,14 @@ use plan_line::row::put_row2;
 use plan_line::word;
 
 // What became of the plan: it did not fit, or it has so many bytes.
-#[derive(Drop)]
+#[derive(Clone, Copy)]
 pub enum Plan {
     NoRoom,
     Written(usize),
 }
 
 // The numbers of some operators: from `first` on, and below `end`.
-#[derive(Drop)]
+#[derive(Clone, Copy)]
 struct Range {
     first: usize,
     end: usize,

@@ -1,4 +1,6 @@
 // The check of a resolved statement that the words hold: the first record, in sheet order, that the lowering does not take. It rests on the reader's promise alone.
+#![tactic(auto)]
+
 ghost use Rattle.std.specs.Prelude.{◌≡◌, ℕ, ◌<◌, ◌≤◌};
 ghost use Rattle.model.specs.Kind.{statement, union_arm, clause, expr, pattern_part, pattern_element};
 ghost use Rattle.model.specs.Check.{Verdict, no_span, precheck_statement};
@@ -16,14 +18,14 @@ use words::records::{children, count};
 use words::{field, kind};
 
 // A part of the source text.
-#[derive(Drop)]
+#[derive(Clone, Copy)]
 pub struct HirSpan {
     pub start: u32,
     pub end: u32,
 }
 
 // What the check finds that the lowering does not take, with the line of its record.
-#[derive(Drop)]
+#[derive(Clone, Copy)]
 pub enum PlanLowerError {
     UnresolvedName { line: u32, span: HirSpan },
     UndesugaredExpr { line: u32, span: HirSpan, kind: u32 },
@@ -31,14 +33,14 @@ pub enum PlanLowerError {
 }
 
 // The check's answer.
-#[derive(Drop)]
+#[derive(Clone, Copy)]
 pub enum Checked {
     Fine,
     Refused(PlanLowerError),
 }
 
 // Where a walk over records goes on, or what stopped it.
-#[derive(Drop)]
+#[derive(Clone, Copy)]
 enum Walk {
     Go(usize),
     Refused(PlanLowerError),
@@ -59,7 +61,7 @@ fn span_at(a: &[u32], b: &[u32], i: usize, c: usize) -> HirSpan
 }
 
 // The expression that a node or a rel may have behind its labels or types, and the span that is reported inside it.
-#[derive(Drop)]
+#[derive(Clone, Copy)]
 struct Props {
     first: usize,
     n: usize,

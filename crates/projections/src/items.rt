@@ -10,7 +10,7 @@ use context::{At, LowerCtx};
 use lower::Reached;
 
 // The record behind the items, the state, and how many of the items are aggregates.
-#[derive(Drop)]
+#[derive(Clone, Copy)]
 pub struct Parted {
     pub next: usize,
     pub ctx: LowerCtx,

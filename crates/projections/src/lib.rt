@@ -1,4 +1,6 @@
 // The lowering of a `with` or a `return` into the tables. a and b hold the records, ops the operators, rest the notes and the variables; a clause's place has no pass of its own.
+#![tactic(auto)]
+
 ghost use Rattle.std.specs.Prelude.{List, ℕ};
 ghost use Rattle.std.proofs.Math.Option.{some};
 ghost use Rattle.words.specs.Places.{with_kind};

@@ -11,7 +11,7 @@ use context::{At, Before, LowerCtx, SECOND_PASS, op};
 use lower::Root;
 
 // The items of a `return`: the clause's record, how many they are, and how deep their trees may be.
-#[derive(Drop)]
+#[derive(Clone, Copy)]
 pub struct ReturnItems {
     pub i: usize,
     pub n: usize,

@@ -13,7 +13,7 @@ use lower::Root;
 use words::field;
 
 // A skip or a limit, over an operator.
-#[derive(Drop)]
+#[derive(Clone, Copy)]
 pub enum Trailer {
     Skip(usize),
     Limit(usize),

@@ -1,4 +1,6 @@
 // Reading the fields of a sheet's line: each from its own bytes, or in place up to the end of its piece. What each function answers is what the definition reads.
+#![tactic(auto)]
+
 pub mod hex;
 pub mod int;
 pub mod length;
@@ -7,14 +9,14 @@ pub mod number;
 pub mod piece;
 
 // A number that is read, or none.
-#[derive(Drop)]
+#[derive(Clone, Copy)]
 pub enum Decimal {
     Is(u64),
     Not,
 }
 
 // A number that is read, a dash, or neither.
-#[derive(Drop)]
+#[derive(Clone, Copy)]
 pub enum OptDecimal {
     Is(u64),
     Absent,
@@ -22,14 +24,14 @@ pub enum OptDecimal {
 }
 
 // A number in place and where its piece ends, or none.
-#[derive(Drop)]
+#[derive(Clone, Copy)]
 pub enum DecimalAt {
     Is(u64, usize),
     Not,
 }
 
 // A number in place, a dash, or neither.
-#[derive(Drop)]
+#[derive(Clone, Copy)]
 pub enum OptDecimalAt {
     Is(u64, usize),
     Absent(usize),
@@ -37,14 +39,14 @@ pub enum OptDecimalAt {
 }
 
 // Where a name ends, or none.
-#[derive(Drop)]
+#[derive(Clone, Copy)]
 pub enum TextAt {
     To(usize),
     Not,
 }
 
 // Where a dash ends, or a name; or neither.
-#[derive(Drop)]
+#[derive(Clone, Copy)]
 pub enum AliasAt {
     Absent(usize),
     Named(usize),
@@ -52,7 +54,7 @@ pub enum AliasAt {
 }
 
 // A signed number that is read, or none.
-#[derive(Drop)]
+#[derive(Clone, Copy)]
 pub enum Signed {
     Is(i64),
     Not,

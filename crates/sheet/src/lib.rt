@@ -1,3 +1,5 @@
 // The reader of a statement sheet: lines into records of words, with a stack of what is due.
+#![tactic(auto)]
+
 pub mod reader;
 mod stack;

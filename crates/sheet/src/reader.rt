@@ -15,7 +15,7 @@ use line::read::{Line, read_into};
 use words::sort;
 
 // The number of records, or a refusal with its line.
-#[derive(Drop)]
+#[derive(Clone, Copy)]
 pub enum Read {
     Records(usize),
     BadLine(u32),
@@ -38,7 +38,7 @@ fn finish(sheet: &[u8], i: usize, pos: usize, write: u32) -> Read
 }
 
 // How far a line leads: the next position, how many groups are due then, and the line of the first write.
-#[derive(Drop)]
+#[derive(Clone, Copy)]
 pub enum Reached {
     More(usize, usize, u32),
     Bad,

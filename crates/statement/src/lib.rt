@@ -1,4 +1,6 @@
 // The calls: a statement sheet, four work slices, an answer.
+#![tactic(auto)]
+
 ghost use Rattle.std.specs.Prelude.{◌≡◌, false, List, [], ◌∷◌, ℕ, ◌≤◌, length};
 ghost use Rattle.model.specs.Text.{Bytes};
 ghost use Rattle.model.specs.Kind.{statement};
@@ -18,7 +20,7 @@ use sheet::reader::{Read, read_sheet};
 const RECORD_OPERATORS: usize = 4;
 
 // What a call answers: accepted with a length or figure, or a refusal of document 01's table with what it carries. A name is not carried: its record is that of the line.
-#[derive(Drop)]
+#[derive(Clone, Copy)]
 pub enum Answer {
     Accepted(usize),
     ShortWork,

@@ -1,4 +1,6 @@
 // The six values that document 01 gives an answer: as numbers, for printing and for callers in other languages.
+#![tactic(auto)]
+
 ghost use Rattle.std.specs.Prelude.{◌≡◌};
 ghost use Rattle.model.specs.Refusal.{line_refusal, tree_refusal};
 ghost use Rattle.precheck.specs.Answer.{span_of};
@@ -12,7 +14,7 @@ pub mod text;
 use precheck::{HirSpan, PlanLowerError};
 use statement::Answer;
 
-#[derive(Drop)]
+#[derive(Clone, Copy)]
 pub struct Values {
     pub number: u32,
     pub line: u32,

@@ -1,4 +1,6 @@
 // Words that hold records: where a record's words stand.
+#![tactic(auto)]
+
 ghost use Rattle.std.specs.Prelude.{◌≡◌, ◌<◌};
 ghost use Rattle.words.specs.Words.{Roomy, cell, max_records, record_words};
 
