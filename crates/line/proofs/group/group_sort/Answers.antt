@@ -1,0 +1,7 @@
+-- `line::group::group_sort` meets its contract: an entry of the table. Assumes nothing.
+use Rattle.words.specs.GroupLaws.{entries_low}
+use borrow.Author.Rules.{rules}
+use Rattle.line.proofs.group.group_sort.Goals as goal
+
+pub returns : goal.returns
+returns c = (c.group_entry.ensures, rw c.group_entry.ensures (entries_low _ _ c.requires.0 c.requires.1).0)

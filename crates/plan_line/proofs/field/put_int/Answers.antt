@@ -1,0 +1,14 @@
+-- `put_int` meets its contract. Assumes nothing.
+use Rattle.plan_line.proofs.SignedLaws.{put_held, read_from}
+use Rattle.output.specs.Writes.{◌⨾◌}
+use borrow.Author.Rules.{rules}
+use Rattle.plan_line.specs.Row.{int_text}
+use Rattle.plan_line.proofs.field.put_int.Goals as goal
+
+pub returns : goal.returns
+unfolding int_text
+returns c =
+    let is = read_from c.signed_of-n.ensures c.word-low.ensures c.word-high.ensures in
+    c.put_keyword-o.ensures
+    ⨾ (c.put_byte-p.ensures ⨾ put_held _ _ c.signed_of-n.ok is c.put_signed-q.ensures)
+    ⨾ c.put_byte.ensures

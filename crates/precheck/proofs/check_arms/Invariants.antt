@@ -1,0 +1,16 @@
+-- `check_arms` meets its contract: the invariant says that what remains has the verdict of the whole. Assumes nothing.
+use native.Mathlib.Omega.{arith}
+use borrow.Author.Rules.{rules}
+use Rattle.model.specs.Check.{no_span}
+use Rattle.model.specs.Kind.{union_arm}
+use Rattle.precheck.specs.Stands.{At}
+use Rattle.precheck.proofs.Clauses.{as_arm}
+use Rattle.precheck.proofs.Checks.{some_turned, walks_turned, standing}
+use Rattle.precheck.proofs.Laws
+use Rattle.precheck.proofs.check_arms.Given as goal
+
+abbrev pub invariant-loop-m : goal.invariant-loop-m
+invariant-loop-m l = Laws.Remaining (At l.a l.b union_arm l.left no_span) l.n l.i l.m l.at
+
+abbrev pub decreases-loop-m : goal.decreases-loop-m
+decreases-loop-m l = l.m

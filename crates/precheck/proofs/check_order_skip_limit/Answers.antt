@@ -1,0 +1,62 @@
+-- `check_order_skip_limit` meets its contract: keys, then skip, then limit. Assumes nothing.
+use borrow.Author.Rules.{rules}
+use Rattle.precheck.proofs.Checks.{some_counted, walks_counted}
+use Rattle.precheck.proofs.Laws
+use Rattle.precheck.proofs.check_order_skip_limit.Goals as goal
+
+pub check_exprs-ordered-requires : goal.check_exprs-ordered-requires
+check_exprs-ordered-requires c =
+    record {
+      roomy = c.requires.words;
+      some = some_counted c.count-keys.ensures.0 (Laws.first-of c.requires.there);
+    }
+
+pub returns-in_default : goal.returns-in_default
+returns-in_default c = Laws.then_stopped (walks_counted c.count-keys.ensures.0 c.check_exprs-ordered.ensures) c.in_default.is
+
+pub check_exprs-skipped-requires : goal.check_exprs-skipped-requires
+check_exprs-skipped-requires c =
+    let t = let start : tie.Start = search ways depth 9 in (
+      start.pre.words,
+      some_counted
+          c.count-skip.ensures.0
+          (Laws.first-of
+          (Laws.after
+          (walks_counted c.count-keys.ensures.0 c.check_exprs-ordered.ensures)
+          c.in-Go.is
+          start.pre.there)),
+    ) in
+    record { roomy = t.0; some = t.1 }
+
+pub returns-in_default-skipped : goal.returns-in_default-skipped
+returns-in_default-skipped c =
+    Laws.then_walks
+    (walks_counted c.count-keys.ensures.0 c.check_exprs-ordered.ensures)
+    c.in-Go.is
+    (Laws.then_stopped (walks_counted c.count-skip.ensures.0 c.check_exprs-skipped.ensures) c.in_default-skipped.is)
+
+pub check_exprs-requires : goal.check_exprs-requires
+check_exprs-requires c =
+    let t = let start : tie.Start = search ways depth 9 in (
+      start.pre.words,
+      some_counted
+          c.count-limit.ensures.0
+          (Laws.after
+          (walks_counted c.count-skip.ensures.0 c.check_exprs-skipped.ensures)
+          c.in-Go-skipped.is
+          (Laws.after
+          (walks_counted c.count-keys.ensures.0 c.check_exprs-ordered.ensures)
+          c.in-Go.is
+          start.pre.there)),
+    ) in
+    record { roomy = t.0; some = t.1 }
+
+pub returns : goal.returns
+returns c =
+    Laws.then_walks
+    (walks_counted c.count-keys.ensures.0 c.check_exprs-ordered.ensures)
+    c.in-Go.is
+    (Laws.then_walks
+    (walks_counted c.count-skip.ensures.0 c.check_exprs-skipped.ensures)
+    c.in-Go-skipped.is
+    (walks_counted c.count-limit.ensures.0 c.check_exprs.ensures))

@@ -1,0 +1,13 @@
+-- `expr_verdict` meets its contract: by the number of the kind. Assumes nothing.
+use borrow.Author.Rules.{rules}
+use Rattle.precheck.proofs.Checks.{own_unresolved, own_undesugared, own_other}
+use Rattle.precheck.proofs.expr_verdict.Goals as goal
+
+pub returns-then-kind-lt-UNRES : goal.returns-then-kind-lt-UNRES
+returns-then-kind-lt-UNRES c = own_other c.requires.roomy c.requires.i_lt_max_records.1 c.if-kind-lt-UNRES.true
+
+pub returns-then-kind-eq-UNRES : goal.returns-then-kind-eq-UNRES
+returns-then-kind-eq-UNRES c = own_unresolved c.requires.roomy c.requires.i_lt_max_records.1 c.if-kind-eq-UNRES.true
+
+pub returns : goal.returns
+returns c = own_undesugared c.requires.roomy c.requires.i_lt_max_records.1 c.word-x.ensures c.if-kind-lt-UNRES.false c.if-kind-eq-UNRES.false

@@ -1,0 +1,13 @@
+-- `record::piece::piece_end` meets its contract. The loop's invariant: no separator is passed. Assumes nothing.
+use Prim.Native.Nat.{◌-◌}
+use native.Mathlib.Omega.{arith}
+use lib.ListN.{length}
+use borrow.Author.Rules.{rules}
+use Rattle.record.proofs.PlaceLaws.{fed_in, Passing, pass_start, pass_on, pass_done}
+use Rattle.record.proofs.piece.piece_end.Given as goal
+
+abbrev pub invariant-loop-i : goal.invariant-loop-i
+invariant-loop-i l = Passing l.s l.p l.i
+
+abbrev pub decreases-loop-i : goal.decreases-loop-i
+decreases-loop-i l = length l.s - l.i

@@ -1,0 +1,42 @@
+-- `words::records::skip` meets its contract: what is due from a record on is the whole tree there. Assumes nothing.
+use Rattle.words.proofs.Counting
+use Rattle.words.specs.Words.{max_records}
+use Prim.Native.Nat.{◌-◌, ◌≤◌}
+use native.Mathlib.Omega.{arith}
+use Rattle.words.proofs.records.skip.Goals as goal
+
+pub loop-due-init : goal.loop-due-init
+loop-due-init c = (omega (arith, Counting.start_low c.requires.starts), Counting.first _)
+
+pub children-n-requires : goal.children-n-requires
+children-n-requires c =
+    record {
+      i_lt_max_records = Counting.in_range c.requires.starts c.loop-due.invariant.1 c.loop-due-test.true;
+      roomy = c.requires.roomy;
+    }
+
+pub overflow_sub-due : goal.overflow_sub-due
+overflow_sub-due c = omega arith
+
+pub overflow_add-due : goal.overflow_add-due
+overflow_add-due c =
+    let p = Counting.few c.requires.starts c.loop-due.invariant.1 c.loop-due.invariant.0 in
+    omega (arith, c.children-n.ensures.1)
+
+pub overflow_add-at : goal.overflow_add-at
+overflow_add-at c =
+    let p = c.loop-due.invariant.0 in
+    omega arith
+
+pub loop-due-smaller : goal.loop-due-smaller
+loop-due-smaller c =
+    let p = Counting.in_range c.requires.starts c.loop-due.invariant.1 c.loop-due-test.true in
+    omega arith
+
+pub loop-due-preserved : goal.loop-due-preserved
+loop-due-preserved c =
+    let p = Counting.in_range c.requires.starts c.loop-due.invariant.1 c.loop-due-test.true in
+    (omega arith, Counting.again c.requires.roomy c.loop-due-test.true c.children-n.ensures.0 c.loop-due.invariant.1)
+
+pub returns : goal.returns
+returns c = Counting.done c.loop-due-test.false c.loop-due.invariant.1

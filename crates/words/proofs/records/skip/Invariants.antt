@@ -1,0 +1,12 @@
+-- `words::records::skip` meets its contract: what is due from a record on is the whole tree there. Assumes nothing.
+use Rattle.words.proofs.Counting
+use Rattle.words.specs.Words.{max_records}
+use Prim.Native.Nat.{◌-◌, ◌≤◌}
+use native.Mathlib.Omega.{arith}
+use Rattle.words.proofs.records.skip.Given as goal
+
+abbrev pub invariant-loop-due : goal.invariant-loop-due
+invariant-loop-due l = (l.at ≤ max_records) × Counting.Remaining l.a l.b l.i l.due l.at
+
+abbrev pub decreases-loop-due : goal.decreases-loop-due
+decreases-loop-due l = max_records - l.at

@@ -1,0 +1,7 @@
+-- `words::table::form_code` meets its contract: a digit of its row. Assumes nothing.
+use Rattle.words.proofs.DigitLaws.{code_digit}
+use borrow.Author.Rules.{rules}
+use Rattle.words.proofs.table.form_code.Goals as goal
+
+pub returns : goal.returns
+returns c = code_digit _ _ _ c.form_row-row.ensures c.requires.0 c.requires.1
