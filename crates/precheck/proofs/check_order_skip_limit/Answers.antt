@@ -16,17 +16,16 @@ returns-in_default c = Laws.then_stopped (walks_counted c.count-keys.ensures.0 c
 
 pub check_exprs-skipped-requires : goal.check_exprs-skipped-requires
 check_exprs-skipped-requires c =
-    let t = let start : tie.Start = search ways depth 9 in (
-      start.pre.words,
-      some_counted
+    record {
+      roomy = c.requires.words;
+      some = (some_counted
           c.count-skip.ensures.0
           (Laws.first-of
           (Laws.after
           (walks_counted c.count-keys.ensures.0 c.check_exprs-ordered.ensures)
           c.in-Go.is
-          start.pre.there)),
-    ) in
-    record { roomy = t.0; some = t.1 }
+          c.requires.there)), );
+    }
 
 pub returns-in_default-skipped : goal.returns-in_default-skipped
 returns-in_default-skipped c =
@@ -37,9 +36,9 @@ returns-in_default-skipped c =
 
 pub check_exprs-requires : goal.check_exprs-requires
 check_exprs-requires c =
-    let t = let start : tie.Start = search ways depth 9 in (
-      start.pre.words,
-      some_counted
+    record {
+      roomy = c.requires.words;
+      some = (some_counted
           c.count-limit.ensures.0
           (Laws.after
           (walks_counted c.count-skip.ensures.0 c.check_exprs-skipped.ensures)
@@ -47,9 +46,8 @@ check_exprs-requires c =
           (Laws.after
           (walks_counted c.count-keys.ensures.0 c.check_exprs-ordered.ensures)
           c.in-Go.is
-          start.pre.there)),
-    ) in
-    record { roomy = t.0; some = t.1 }
+          c.requires.there)), );
+    }
 
 pub returns : goal.returns
 returns c =

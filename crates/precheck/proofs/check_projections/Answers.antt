@@ -16,15 +16,14 @@ returns-in_default c = Laws.then_stopped (walks_counted c.count-items.ensures.0 
 
 pub check_exprs-filtered-requires : goal.check_exprs-filtered-requires
 check_exprs-filtered-requires c =
-    let t = let start : tie.Start = search ways depth 7 in (
-      start.pre.words,
-      Laws.first-of
+    record {
+      roomy = c.requires.words;
+      some = (Laws.first-of
           (Laws.after
           (walks_counted c.count-items.ensures.0 c.check_exprs-projected.ensures)
           c.in-Go.is
-          start.pre.there),
-    ) in
-    record { roomy = t.0; some = t.1 }
+          c.requires.there), );
+    }
 
 pub returns-in_default-filtered : goal.returns-in_default-filtered
 returns-in_default-filtered c =

@@ -15,12 +15,11 @@ pub returns-then-vars-k : goal.returns-then-vars-k
 returns-then-vars-k c = Laws.hit _ _ _ (λ (z : _ ≡ 0). absurd (omega (arith, z, c.loop-k-test.true))) c.if-vars-k.true ∙ sym c.loop-k.invariant.2
 
 pub loop-k-preserved : goal.loop-k-preserved
-loop-k-preserved c =
-    let at-loop : here tie.At-loop = search ways in (
-      omega arith,
-      Tree.late _ c.loop-k-test.true ∙ at-loop.loop.inv.1,
-      at-loop.loop.inv.2 ∙ Laws.miss _ _ _ (λ (z : _ ≡ 0). absurd (omega (arith, z, c.loop-k-test.true))) c.if-vars-k.false,
-    )
+loop-k-preserved c = (
+  omega arith,
+  Tree.late _ c.loop-k-test.true ∙ c.loop-k.invariant.1,
+  c.loop-k.invariant.2 ∙ Laws.miss _ _ _ (λ (z : _ ≡ 0). absurd (omega (arith, z, c.loop-k-test.true))) c.if-vars-k.false,
+)
 
 pub find_indexed-requires : goal.find_indexed-requires
 find_indexed-requires c = (omega (arith, c.loop-k-test.false), record { long = c.requires.1.long; index = Tree.index_late _ _ _ c.loop-k.invariant.1 c.requires.1.index })

@@ -9,13 +9,12 @@ pub returns-then-k-eq0 : goal.returns-then-k-eq0
 returns-then-k-eq0 c = root c.if-k-eq0.true refl
 
 pub set_child-requires : goal.set_child-requires
-set_child-requires c =
-    let start : tie.Start = search ways in (
-      search rules,
-      search rules,
-      search rules,
-      c.descend-end.ensures.end (Tree.not_met _ _ _ start.pre.1 _ c.descend-end.ensures.way.low),
-    )
+set_child-requires c = (
+  search rules,
+  search rules,
+  search rules,
+  c.descend-end.ensures.end (Tree.not_met _ _ _ c.requires.id_value _ c.descend-end.ensures.way.low),
+)
 
 pub returns : goal.returns
 returns c =

@@ -5,16 +5,16 @@ use Rattle.line.proofs.CodeLaws.{arm_flag, arm_var, arm_var_or_absent, arm_int, 
 use Rattle.line.proofs.form.read_form.Goals as goal
 
 pub overflow_sub-form : goal.overflow_sub-form
-overflow_sub-form c = omega (arith, ((record { from = search (behind_length, rules); to = c.requires.form_nonzero.1 })).from)
+overflow_sub-form c = omega (arith, ((let q : Number c.args.form = record { from = search (behind_length, rules); to = c.requires.form_nonzero.1 } in q)).from)
 
 pub limit-requires : goal.limit-requires
-limit-requires c = omega (arith, ((record { from = search (behind_length, rules); to = c.requires.form_nonzero.1 })).from, ((record { from = search (behind_length, rules); to = c.requires.form_nonzero.1 })).to)
+limit-requires c = omega (arith, ((let q : Number c.args.form = record { from = search (behind_length, rules); to = c.requires.form_nonzero.1 } in q)).from, ((let q : Number c.args.form = record { from = search (behind_length, rules); to = c.requires.form_nonzero.1 } in q)).to)
 
 pub number-requires-in_default : goal.number-requires-in_default
 number-requires-in_default c =
     record {
       fed = c.requires.in_line.fed;
-      limit_le_u32 = rw c.limit.ensures (code_low _ ((record { from = search (behind_length, rules); to = c.requires.form_nonzero.1 })));
+      limit_le_u32 = rw c.limit.ensures (code_low _ ((let q : Number c.args.form = record { from = search (behind_length, rules); to = c.requires.form_nonzero.1 } in q)));
     }
 
 pub returns-in-1 : goal.returns-in-1
@@ -45,4 +45,4 @@ pub returns-in-9 : goal.returns-in-9
 returns-in-9 c = search (arm_length, rules)
 
 pub returns-in_default : goal.returns-in_default
-returns-in_default c = arm_number _ ((record { from = search (behind_length, rules); to = c.requires.form_nonzero.1 })) _ c.limit.ensures _ _ _ c.number-in_default.ensures
+returns-in_default c = arm_number _ ((let q : Number c.args.form = record { from = search (behind_length, rules); to = c.requires.form_nonzero.1 } in q)) _ c.limit.ensures _ _ _ c.number-in_default.ensures

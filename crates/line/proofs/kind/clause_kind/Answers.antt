@@ -33,4 +33,5 @@ unfolding keyed keyed_from
 returns-in-1612532249701 c = rw c.in-1612532249701.is
 
 pub returns-in_default : goal.returns-in_default
+unfolding keyed keyed_from
 returns-in_default c = none_keyed _ match_kind 7 c.in_default.in_default-own.rest

@@ -13,4 +13,5 @@ unfolding keyed keyed_from
 returns-in-24274284 c = rw c.in-24274284.is
 
 pub returns-in_default : goal.returns-in_default
+unfolding keyed keyed_from
 returns-in_default c = none_keyed _ node_kind 2 c.in_default.in_default-own.rest

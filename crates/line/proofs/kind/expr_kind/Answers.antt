@@ -93,4 +93,5 @@ unfolding keyed keyed_from
 returns-in-1603874874739 c = rw c.in-1603874874739.is
 
 pub returns-in_default : goal.returns-in_default
+unfolding keyed keyed_from
 returns-in_default c = none_keyed _ null_kind 22 c.in_default.in_default-own.rest

@@ -37,34 +37,34 @@ pub returns-in_default : goal.returns-in_default
 returns-in_default c = λ e h. fill_not _ _ _ _ h _ _ _ _ _ (c.loop-form.invariant e h) c.loop-form-test.true c.if-sheet-at-ne9.false _ (c.read_form.ensures e (fill_line _ _ _ _ h _ _ _ _ _ (c.loop-form.invariant e h) c.loop-form-test.true c.if-sheet-at-ne9.false)) c.in_default.is
 
 pub overflow_add-part : goal.overflow_add-part
-overflow_add-part c = omega (arith, (let l = back-in-loop c in let s = back-at-loop l in fill_room _ _ _ _ ((c.requires.line.fed.line)) _ _ _ _ _ (l.loop.inv _ ((c.requires.line.fed.line))) c.loop-form-test.true))
+overflow_add-part c = omega (arith, (fill_room _ _ _ _ ((c.requires.line.fed.line)) _ _ _ _ _ (c.loop-form.invariant _ ((c.requires.line.fed.line))) c.loop-form-test.true))
 
 pub overflow_add-part-in-loop-form : goal.overflow_add-part-in-loop-form
-overflow_add-part-in-loop-form c = omega (arith, (let l = back-in-loop c in let s = back-at-loop l in fill_room _ _ _ _ ((c.requires.line.fed.line)) _ _ _ _ _ (l.loop.inv _ ((c.requires.line.fed.line))) c.loop-form-test.true))
+overflow_add-part-in-loop-form c = omega (arith, (fill_room _ _ _ _ ((c.requires.line.fed.line)) _ _ _ _ _ (c.loop-form.invariant _ ((c.requires.line.fed.line))) c.loop-form-test.true))
 
 pub offset_bounds-part-g : goal.offset_bounds-part-g
-offset_bounds-part-g c = omega (arith, (let l = back-in-loop c in let s = back-at-loop l in fill_room _ _ _ _ ((c.requires.line.fed.line)) _ _ _ _ _ (l.loop.inv _ ((c.requires.line.fed.line))) c.loop-form-test.true))
+offset_bounds-part-g c = omega (arith, (fill_room _ _ _ _ ((c.requires.line.fed.line)) _ _ _ _ _ (c.loop-form.invariant _ ((c.requires.line.fed.line))) c.loop-form-test.true))
 
 pub bounds-part-g : goal.bounds-part-g
-bounds-part-g c = omega (arith, (let l = back-in-loop c in let s = back-at-loop l in fill_room _ _ _ _ ((c.requires.line.fed.line)) _ _ _ _ _ (l.loop.inv _ ((c.requires.line.fed.line))) c.loop-form-test.true), (c.loop-form.invariant _ ((c.requires.line.fed.line))).long)
+bounds-part-g c = omega (arith, (fill_room _ _ _ _ ((c.requires.line.fed.line)) _ _ _ _ _ (c.loop-form.invariant _ ((c.requires.line.fed.line))) c.loop-form-test.true), (c.loop-form.invariant _ ((c.requires.line.fed.line))).long)
 
 pub overflow_add-part-in-loop-form-2 : goal.overflow_add-part-in-loop-form-2
-overflow_add-part-in-loop-form-2 c = omega (arith, (let l = back-in-loop c in let s = back-at-loop l in fill_room _ _ _ _ ((c.requires.line.fed.line)) _ _ _ _ _ (l.loop.inv _ ((c.requires.line.fed.line))) c.loop-form-test.true))
+overflow_add-part-in-loop-form-2 c = omega (arith, (fill_room _ _ _ _ ((c.requires.line.fed.line)) _ _ _ _ _ (c.loop-form.invariant _ ((c.requires.line.fed.line))) c.loop-form-test.true))
 
 pub overflow_add-part-in-loop-form-3 : goal.overflow_add-part-in-loop-form-3
-overflow_add-part-in-loop-form-3 c = omega (arith, (let l = back-in-loop c in let s = back-at-loop l in fill_room _ _ _ _ ((c.requires.line.fed.line)) _ _ _ _ _ (l.loop.inv _ ((c.requires.line.fed.line))) c.loop-form-test.true))
+overflow_add-part-in-loop-form-3 c = omega (arith, (fill_room _ _ _ _ ((c.requires.line.fed.line)) _ _ _ _ _ (c.loop-form.invariant _ ((c.requires.line.fed.line))) c.loop-form-test.true))
 
 pub offset_bounds-part-g-in-loop-form : goal.offset_bounds-part-g-in-loop-form
-offset_bounds-part-g-in-loop-form c = omega (arith, (let l = back-in-loop c in let s = back-at-loop l in fill_room _ _ _ _ ((c.requires.line.fed.line)) _ _ _ _ _ (l.loop.inv _ ((c.requires.line.fed.line))) c.loop-form-test.true))
+offset_bounds-part-g-in-loop-form c = omega (arith, (fill_room _ _ _ _ ((c.requires.line.fed.line)) _ _ _ _ _ (c.loop-form.invariant _ ((c.requires.line.fed.line))) c.loop-form-test.true))
 
 pub bounds-part-g-in-loop-form : goal.bounds-part-g-in-loop-form
-bounds-part-g-in-loop-form c = rw length-set (omega (arith, (let l = back-in-loop c in let s = back-at-loop l in fill_room _ _ _ _ ((c.requires.line.fed.line)) _ _ _ _ _ (l.loop.inv _ ((c.requires.line.fed.line))) c.loop-form-test.true), (c.loop-form.invariant _ ((c.requires.line.fed.line))).long))
+bounds-part-g-in-loop-form c = rw length-set (omega (arith, (fill_room _ _ _ _ ((c.requires.line.fed.line)) _ _ _ _ _ (c.loop-form.invariant _ ((c.requires.line.fed.line))) c.loop-form-test.true), (c.loop-form.invariant _ ((c.requires.line.fed.line))).long))
 
 pub overflow_add-g : goal.overflow_add-g
-overflow_add-g c = omega (arith, (let l = back-in-loop c in let s = back-at-loop l in fill_room _ _ _ _ ((c.requires.line.fed.line)) _ _ _ _ _ (l.loop.inv _ ((c.requires.line.fed.line))) c.loop-form-test.true))
+overflow_add-g c = omega (arith, (fill_room _ _ _ _ ((c.requires.line.fed.line)) _ _ _ _ _ (c.loop-form.invariant _ ((c.requires.line.fed.line))) c.loop-form-test.true))
 
 pub form_code-form-requires-in-loop-form : goal.form_code-form-requires-in-loop-form
-form_code-form-requires-in-loop-form c = (c.requires.kind, omega (arith, (let l = back-in-loop c in let s = back-at-loop l in fill_room _ _ _ _ ((c.requires.line.fed.line)) _ _ _ _ _ (l.loop.inv _ ((c.requires.line.fed.line))) c.loop-form-test.true)))
+form_code-form-requires-in-loop-form c = (c.requires.kind, omega (arith, (fill_room _ _ _ _ ((c.requires.line.fed.line)) _ _ _ _ _ (c.loop-form.invariant _ ((c.requires.line.fed.line))) c.loop-form-test.true)))
 
 pub loop-form-smaller : goal.loop-form-smaller
 loop-form-smaller c = fill_less _ _ _ _ ((c.requires.line.fed.line)) _ _ _ _ _ (c.loop-form.invariant _ ((c.requires.line.fed.line))) c.loop-form-test.true

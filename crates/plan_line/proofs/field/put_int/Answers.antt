@@ -10,5 +10,5 @@ unfolding int_text
 returns c =
     let is = read_from c.signed_of-n.ensures c.word-low.ensures c.word-high.ensures in
     c.put_keyword-o.ensures
-    ⨾ (c.put_byte-p.ensures ⨾ put_held _ _ c.signed_of-n.ok is c.put_signed-q.ensures)
+    ⨾ (c.put_byte-p.ensures ⨾ put_held _ _ c.signed_of-n.type_inv is c.put_signed-q.ensures)
     ⨾ c.put_byte.ensures
