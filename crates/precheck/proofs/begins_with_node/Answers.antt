@@ -12,8 +12,11 @@ overflow_add-i c = omega (arith, c.requires.some_at.low)
 
 pub word-head-requires : goal.word-head-requires
 word-head-requires c =
-    let t = (begins_low c.requires.roomy c.word-elements.ensures c.if-elements-eq0.false c.requires.some_at, search rules) in
-    record { i_lt_max_records = t.0; c_lt_record_words = t.1.0; roomy = t.1.1 }
+    record {
+      i_lt_max_records = begins_low c.requires.roomy c.word-elements.ensures c.if-elements-eq0.false c.requires.some_at;
+      c_lt_record_words = search rules;
+      roomy = search rules;
+    }
 
 pub returns-then-head-eq-NODE : goal.returns-then-head-eq-NODE
 returns-then-head-eq-NODE c = begins_node c.requires.roomy c.word-elements.ensures c.if-elements-eq0.false c.word-head.ensures c.if-head-eq-NODE.true

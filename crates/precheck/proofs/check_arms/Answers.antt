@@ -14,8 +14,11 @@ loop-m-init c = Laws.whole
 
 pub count-clauses-requires : goal.count-clauses-requires
 count-clauses-requires c =
-    let t = ((standing c.requires.words (Laws.child c.loop-m.invariant c.loop-m-test.true c.requires.there)).low, search rules) in
-    record { i_lt_max_records = t.0; c_lt_record_words = t.1.0; roomy = t.1.1 }
+    record {
+      i_lt_max_records = (standing c.requires.words (Laws.child c.loop-m.invariant c.loop-m-test.true c.requires.there)).low;
+      c_lt_record_words = search rules;
+      roomy = search rules;
+    }
 
 pub overflow_add-first : goal.overflow_add-first
 overflow_add-first c = omega (arith, (standing c.requires.words (Laws.child c.loop-m.invariant c.loop-m-test.true c.requires.there)).low)

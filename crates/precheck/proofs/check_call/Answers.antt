@@ -9,7 +9,7 @@ pub check_exprs-checked-requires : goal.check_exprs-checked-requires
 check_exprs-checked-requires c =
     record {
       roomy = c.requires.words;
-      some = some_counted c.count-args.ensures.0 (Laws.first-of c.requires.there);
+      some = some_counted c.count-args.ensures.0 (Laws.first_of_law c.requires.there);
     }
 
 pub returns-in_default : goal.returns-in_default

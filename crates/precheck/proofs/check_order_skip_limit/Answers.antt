@@ -8,7 +8,7 @@ pub check_exprs-ordered-requires : goal.check_exprs-ordered-requires
 check_exprs-ordered-requires c =
     record {
       roomy = c.requires.words;
-      some = some_counted c.count-keys.ensures.0 (Laws.first-of c.requires.there);
+      some = some_counted c.count-keys.ensures.0 (Laws.first_of_law c.requires.there);
     }
 
 pub returns-in_default : goal.returns-in_default
@@ -18,13 +18,13 @@ pub check_exprs-skipped-requires : goal.check_exprs-skipped-requires
 check_exprs-skipped-requires c =
     record {
       roomy = c.requires.words;
-      some = (some_counted
+      some = some_counted
           c.count-skip.ensures.0
-          (Laws.first-of
+          (Laws.first_of_law
           (Laws.after
           (walks_counted c.count-keys.ensures.0 c.check_exprs-ordered.ensures)
           c.in-Go.is
-          c.requires.there)), );
+          c.requires.there));
     }
 
 pub returns-in_default-skipped : goal.returns-in_default-skipped
@@ -38,7 +38,7 @@ pub check_exprs-requires : goal.check_exprs-requires
 check_exprs-requires c =
     record {
       roomy = c.requires.words;
-      some = (some_counted
+      some = some_counted
           c.count-limit.ensures.0
           (Laws.after
           (walks_counted c.count-skip.ensures.0 c.check_exprs-skipped.ensures)
@@ -46,7 +46,7 @@ check_exprs-requires c =
           (Laws.after
           (walks_counted c.count-keys.ensures.0 c.check_exprs-ordered.ensures)
           c.in-Go.is
-          c.requires.there)), );
+          c.requires.there));
     }
 
 pub returns : goal.returns

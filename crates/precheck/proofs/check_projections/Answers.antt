@@ -8,7 +8,7 @@ pub check_exprs-projected-requires : goal.check_exprs-projected-requires
 check_exprs-projected-requires c =
     record {
       roomy = c.requires.words;
-      some = some_counted c.count-items.ensures.0 (Laws.first-of c.requires.there);
+      some = some_counted c.count-items.ensures.0 (Laws.first_of_law c.requires.there);
     }
 
 pub returns-in_default : goal.returns-in_default
@@ -18,11 +18,11 @@ pub check_exprs-filtered-requires : goal.check_exprs-filtered-requires
 check_exprs-filtered-requires c =
     record {
       roomy = c.requires.words;
-      some = (Laws.first-of
+      some = Laws.first_of_law
           (Laws.after
           (walks_counted c.count-items.ensures.0 c.check_exprs-projected.ensures)
           c.in-Go.is
-          c.requires.there), );
+          c.requires.there);
     }
 
 pub returns-in_default-filtered : goal.returns-in_default-filtered

@@ -22,7 +22,7 @@ check_clauses-head-requires c =
     record {
       words = c.requires.roomy;
       deep = omega (arith, c.requires.least_depth_le_depth);
-      there = Laws.first-of (some_turned (as_statement c.requires.roomy c.count-clauses.ensures.0 c.count-arms.ensures.0) (some_held c.requires.held_some));
+      there = Laws.first_of_law (some_turned (as_statement c.requires.roomy c.count-clauses.ensures.0 c.count-arms.ensures.0) (some_held c.requires.held_some));
     }
 
 pub returns-in_default : goal.returns-in_default

@@ -8,8 +8,11 @@ use Rattle.precheck.proofs.record_taken.Goals as goal
 
 pub word-kind-requires : goal.word-kind-requires
 word-kind-requires c =
-    let t = (start_low c.requires.starts, search rules) in
-    record { i_lt_max_records = t.0; c_lt_record_words = t.1.0; roomy = t.1.1 }
+    record {
+      i_lt_max_records = start_low c.requires.starts;
+      c_lt_record_words = search rules;
+      roomy = search rules;
+    }
 
 pub begins_with_node-requires : goal.begins_with_node-requires
 begins_with_node-requires c =
