@@ -44,7 +44,7 @@ check_elements-returns t c = search (Laws.done, rules)
 -- ── check_expr ──
 
 pub check_expr-returns-then-is_leaf : goal.check_expr-returns-then-is_leaf
-check_expr-returns-then-is_leaf t c = as_leaf c.requires.roomy c.word-kind.ensures (sym c.is_IsLeaf.ensures ∙ c.if-is_leaf.true)
+check_expr-returns-then-is_leaf t c = as_leaf c.requires.roomy c.word-kind.ensures (sym c.is_leaf.ensures ∙ c.if-is_leaf.true)
 
 pub check_expr-expr_verdict-own-requires : goal.check_expr-expr_verdict-own-requires
 check_expr-expr_verdict-own-requires t c =

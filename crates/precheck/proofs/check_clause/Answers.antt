@@ -6,13 +6,11 @@ use Rattle.precheck.proofs.check_clause.Goals as goal
 
 pub check_pattern-requires : goal.check_pattern-requires
 check_pattern-requires c =
-    let t = search (some_turned, as_match, rules) in
-    record { roomy = t.0; some = t.1 }
+    record { roomy = search rules; some = search (some_turned, as_match, rules) }
 
 pub check_exprs-requires : goal.check_exprs-requires
 check_exprs-requires c =
-    let t = search (some_turned, as_where, rules) in
-    record { roomy = t.0; some = t.1 }
+    record { roomy = search rules; some = search (some_turned, as_where, rules) }
 
 pub check_projections-requires : goal.check_projections-requires
 check_projections-requires c = record { words = search rules; low = search rules; deep = search rules; there = search (some_turned, as_with, rules) }
@@ -22,8 +20,7 @@ check_projections-requires-in-5 c = record { words = search rules; low = search 
 
 pub check_exprs-requires-in-6 : goal.check_exprs-requires-in-6
 check_exprs-requires-in-6 c =
-    let t = search (some_turned, as_unwind, rules) in
-    record { roomy = t.0; some = t.1 }
+    record { roomy = search rules; some = search (some_turned, as_unwind, rules) }
 
 pub check_call-requires : goal.check_call-requires
 check_call-requires c = record { words = search rules; low = search rules; deep = search rules; there = search (some_turned, as_call, rules) }

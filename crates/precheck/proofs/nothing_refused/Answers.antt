@@ -5,6 +5,7 @@ use native.Mathlib.Omega.{arith}
 use Rattle.words.specs.Words.{max_records}
 use Rattle.words.proofs.Counting
 use Rattle.precheck.proofs.Flat.{TakenTo, none_yet, one_more, all_taken, told}
+use Rattle.std.proofs.lemmas.Bool.{not-false}
 use Rattle.precheck.proofs.nothing_refused.Goals as goal
 
 pub loop-due-init : goal.loop-due-init
@@ -50,7 +51,7 @@ loop-due-preserved c =
     let p = Counting.in_range c.requires.starts c.loop-due.invariant.1 c.loop-due-test.true in (
       omega arith,
       Counting.again c.requires.roomy c.loop-due-test.true c.children-n.ensures.0 c.loop-due.invariant.1,
-      one_more c.loop-due.invariant.2 (told c.record_taken.ensures c.if-not-record_taken.false),
+      one_more c.loop-due.invariant.2 (c.record_taken.ensures.so c.if-not-record_taken.false),
     )
 
 pub returns : goal.returns

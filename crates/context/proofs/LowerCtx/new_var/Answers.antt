@@ -9,4 +9,4 @@ pub bounds-vars-at-2 : goal.bounds-vars-at-2
 bounds-vars-at-2 c = simp length-set (omega arith)
 
 pub returns : goal.returns
-returns c = Adding.new-var _ _ _ _ c.requires.can_map.met c.requires.can_map.held.long c.enter.ensures c.requires.id_value
+returns c = Adding.new_var _ _ _ _ c.requires.can_map.met c.requires.can_map.held.long c.enter.ensures c.requires.id_value

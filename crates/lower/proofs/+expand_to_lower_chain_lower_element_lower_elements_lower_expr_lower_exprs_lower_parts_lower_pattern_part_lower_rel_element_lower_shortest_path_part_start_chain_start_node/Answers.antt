@@ -1,0 +1,1563 @@
+-- `expand_to`, of the cycle.
+-- `lower_chain`, of the cycle.
+-- `lower_element`, of the cycle.
+-- `lower_elements`, of the cycle.
+-- `lower_expr`, of the cycle.
+-- `lower_exprs`, of the cycle.
+-- `lower_parts`, of the cycle.
+-- `lower_pattern_part`, of the cycle.
+-- `lower_rel_element`, of the cycle.
+-- `lower_shortest_path_part`, of the cycle.
+-- `start_chain`, of the cycle.
+-- `start_node`, of the cycle.
+use Rattle.lower.proofs.Linking
+use Rattle.lower.specs.Exprs
+use Rattle.lower.proofs.Room
+use Rattle.lower.proofs.Chaining
+use Rattle.lower.proofs.Part
+use Rattle.lower.proofs.Links
+use Rattle.lower.proofs.Named
+use Rattle.lower.proofs.Arms
+use Rattle.lower.proofs.Parts
+use Rattle.lower.proofs.Asking
+use Rattle.lower.proofs.Special
+use Rattle.lower.proofs.Start
+use Prim.Native.Nat.{ℕ, ◌-◌, ◌+◌}
+use Rattle.context.specs.OpLaws.{pushed_as}
+use Rattle.lower.proofs.Reading.{endpoint_read, exprs_read, var_read}
+use mathlib.Core.Path.{refl, ◌∙◌, sym}
+use native.Mathlib.Omega.{arith}
+use mathlib.Core.Logic.{inl, inr}
+use borrow.Author.Rules.{rules}
+use Rattle.lower.specs.Chains.{LowersElements}
+use native.Mathlib.Nat.{le_refl}
+use Rattle.lower.specs.Pieces.{LowersExprs}
+use Rattle.lower.specs.Rep.{mem}
+use Rattle.lower.proofs.+expand_to_lower_chain_lower_element_lower_elements_lower_expr_lower_exprs_lower_parts_lower_pattern_part_lower_rel_element_lower_shortest_path_part_start_chain_start_node.Goals as goal
+
+-- ── expand_to ──
+
+pub expand_to-overflow_add-i : goal.expand_to-overflow_add-i
+expand_to-overflow_add-i t c = omega (arith, Room.chain_bounds c.requires.chain)
+
+pub expand_to-overflow_add-base : goal.expand_to-overflow_add-base
+expand_to-overflow_add-base t c = omega (arith, Room.chain_bounds c.requires.chain)
+
+pub expand_to-endpoint_var-m-requires : goal.expand_to-endpoint_var-m-requires
+expand_to-endpoint_var-m-requires t c =
+    let l = Room.chain_bounds c.requires.chain in
+    Room.can_number c.requires.chain.room _ _ _ c.requires.chain.pass (omega arith) refl
+
+pub expand_to-lower_rel_element-s-requires : goal.expand_to-lower_rel_element-s-requires
+expand_to-lower_rel_element-s-requires t c = (
+  omega (arith, c.decreases),
+  record {
+    asked = record {
+      words = c.requires.chain.words;
+      tree = Room.waiting_rel c.requires.chain.words c.requires.waits c.requires.chain.anchored;
+      room =
+          Room.room_at
+          (Room.from_rel c.args.ch c.requires.waits)
+          (Room.numbered
+          c.requires.chain.room
+          c.endpoint_var-m.ensures.issued
+          c.endpoint_var-m.auto.rest
+          (Room.deep c.requires.chain.tree));
+      depth = c.requires.chain.depth;
+      pass = c.requires.chain.pass;
+    };
+    read = Room.waiting_read c.requires.chain.words c.requires.waits c.requires.chain.anchored;
+  },
+)
+
+pub expand_to-overflow_sub-less : goal.expand_to-overflow_sub-less
+expand_to-overflow_sub-less t c = omega (arith, Room.chain_bounds c.requires.chain)
+
+pub expand_to-lower_exprs-t-requires : goal.expand_to-lower_exprs-t-requires
+expand_to-lower_exprs-t-requires t c =
+    let l₁ = Room.deep c.requires.chain.tree in
+    let l₀ =
+    Room.waiting_end
+    c.requires.chain.words
+    c.requires.waits
+    c.requires.chain.anchored
+    c.lower_rel_element-s.ensures
+    in
+    let l₀' = Room.names_low c.requires.chain.words c.requires.chain.tree in
+    let n₀ = c.requires.read.first in
+    let l₀'' = Room.low c.requires.chain.tree in
+    let l₂ = c.requires.chain.depth in
+    let l₃ = c.requires.chain.pass in (
+      omega (arith, c.decreases),
+      record {
+        words = c.requires.chain.words;
+        tree =
+            Room.node_some
+            c.requires.chain.words
+            c.requires.chain.tree
+            c.requires.is
+            _
+            _
+            c.requires.read.props
+            c.requires.read.first;
+        room =
+            Room.after_rel
+            _
+            (Room.room_at (Room.from_rel c.args.ch c.requires.waits) (Room.numbered
+            c.requires.chain.room
+            c.endpoint_var-m.ensures.issued
+            c.endpoint_var-m.auto.rest
+            (Room.deep c.requires.chain.tree)))
+            c.lower_rel_element-s.ensures
+            (omega arith)
+            (omega arith);
+        depth = omega arith;
+        pass = c.requires.chain.pass;
+      },
+    )
+
+pub expand_to-expand-requires : goal.expand_to-expand-requires
+expand_to-expand-requires t c =
+    let l₀ = Room.low c.requires.chain.tree in
+    let l₂ = c.requires.chain.depth in
+    let q = c.requires.chain.bounded.from in
+    let fr = Room.from_rel c.args.ch c.requires.waits in
+    let g = Room.few_ops c.requires.chain.room in
+    let q' = c.requires.chain.bounded.last.op _ _ c.requires.has in
+    (Room.fits c.requires.chain.pass (omega arith) (omega arith), omega arith, omega arith)
+
+pub expand_to-push-z-requires : goal.expand_to-push-z-requires
+expand_to-push-z-requires t c =
+    let l₀ =
+    Room.waiting_end
+    c.requires.chain.words
+    c.requires.waits
+    c.requires.chain.anchored
+    c.lower_rel_element-s.ensures
+    in
+    let l₀' = Room.names_low c.requires.chain.words c.requires.chain.tree in
+    let n₀ = c.requires.read.first in
+    Exprs.can_push
+    (Exprs.room_after
+    c.lower_exprs-t.ensures.moved
+    (Room.after_rel
+    _
+    (Room.room_at (Room.from_rel c.args.ch c.requires.waits) (Room.numbered
+    c.requires.chain.room
+    c.endpoint_var-m.ensures.issued
+    c.endpoint_var-m.auto.rest
+    (Room.deep c.requires.chain.tree)))
+    c.lower_rel_element-s.ensures
+    (omega arith)
+    (omega arith)))
+
+pub expand_to-overflow_add-kept : goal.expand_to-overflow_add-kept
+expand_to-overflow_add-kept t c =
+    let q = c.requires.chain.bounded.kept in
+    let q' = c.requires.chain.bounded.next in
+    omega arith
+
+pub expand_to-shape_of-ops : goal.expand_to-shape_of-ops
+expand_to-shape_of-ops t c = c.push-z.auto.ops ∙ c.lower_exprs-t.auto.ops ∙ c.lower_rel_element-s.auto.ops
+
+pub expand_to-shape_of-rest : goal.expand_to-shape_of-rest
+expand_to-shape_of-rest t c =
+    c.lower_exprs-t.auto.rest ∙
+    c.lower_rel_element-s.auto.rest ∙
+    c.endpoint_var-m.auto.rest
+
+pub expand_to-returns : goal.expand_to-returns
+expand_to-returns t c =
+    Linking.expand_law
+    _
+    _
+    _
+    c.requires.chain.words
+    c.requires.chain.pass
+    c.requires.chain.depth
+    c.requires.chain.bounded
+    c.requires.waits
+    c.requires.has
+    c.requires.is
+    (Room.low c.requires.chain.tree)
+    refl
+    (endpoint_read c.requires.read.bind c.endpoint_var-m.ensures)
+    c.endpoint_var-m.auto.rest
+    refl
+    c.lower_rel_element-s.ensures.noted
+    c.lower_rel_element-s.ensures.kept
+    refl
+    c.lower_rel_element-s.ensures.props
+    c.requires.read.props
+    (exprs_read c.requires.read.first c.lower_exprs-t.ensures)
+    (pushed_as c.expand.ensures c.push-z.ensures)
+    c.push-z.auto.ops
+    c.requires.chain.tree
+    c.requires.chain.anchored
+
+-- ── lower_chain ──
+
+pub lower_chain-count-n-requires : goal.lower_chain-count-n-requires
+lower_chain-count-n-requires t c =
+    record {
+      i_lt_max_records = Room.low c.requires.tree;
+      c_lt_record_words = omega arith;
+      roomy = c.requires.words;
+    }
+
+pub lower_chain-overflow_sub-less : goal.lower_chain-overflow_sub-less
+lower_chain-overflow_sub-less t c = omega (arith, Room.bounds c.requires)
+
+pub lower_chain-lower_elements-ch-requires : goal.lower_chain-lower_elements-ch-requires
+lower_chain-lower_elements-ch-requires t c =
+    let l = Room.bounds c.requires in (
+      omega arith,
+      Room.asked_on _ _ _ c.requires (omega arith)
+          (record { low = l.low; trees = Chaining.some_elements c.requires.words c.count-n.ensures.0 c.requires.tree })
+          (Exprs.room_from (omega arith) (omega arith) (omega arith) c.requires.room),
+    )
+
+pub lower_chain-root_of-root-requires : goal.lower_chain-root_of-root-requires
+lower_chain-root_of-root-requires t c = tt
+
+pub lower_chain-or_source_all-q-requires : goal.lower_chain-or_source_all-q-requires
+lower_chain-or_source_all-q-requires t c =
+    let l = Room.bounds c.requires in
+    let room =
+    Exprs.room_after
+    c.lower_elements-ch.ensures.moved
+    (Exprs.room_from
+    {d' = c.args.at.left - 1}
+    {j = c.args.at.i + 1}
+    (omega arith)
+    (omega arith)
+    (omega arith)
+    c.requires.room)
+    in (
+      Exprs.can_push room,
+      Chaining.root_under c.root_of-root.ensures c.lower_elements-ch.ensures.bounded.last,
+    )
+
+pub lower_chain-word-named-requires : goal.lower_chain-word-named-requires
+lower_chain-word-named-requires t c =
+    record {
+      i_lt_max_records = Room.low c.requires.tree;
+      c_lt_record_words = omega arith;
+      roomy = c.requires.words;
+    }
+
+pub lower_chain-shape_of-ops-then-named-eq0 : goal.lower_chain-shape_of-ops-then-named-eq0
+lower_chain-shape_of-ops-then-named-eq0 t c = c.or_source_all-q.auto.ops ∙ c.lower_elements-ch.auto.ops
+
+pub lower_chain-shape_of-rest-then-named-eq0 : goal.lower_chain-shape_of-rest-then-named-eq0
+lower_chain-shape_of-rest-then-named-eq0 t c = c.lower_elements-ch.auto.rest
+
+pub lower_chain-returns-then-named-eq0 : goal.lower_chain-returns-then-named-eq0
+lower_chain-returns-then-named-eq0 t c =
+    rw
+    c.or_source_all-q.ensures.same
+    (Chaining.unnamed_law
+    _
+    _
+    c.requires.words
+    c.requires.pass
+    c.count-n.ensures.0
+    c.lower_elements-ch.ensures
+    (Chaining.source_as c.root_of-root.ensures (c.or_source_all-q.ensures.source _))
+    (c.or_source_all-q.ensures.since _ c.lower_elements-ch.ensures.moved.grow (Chaining.root_since c.root_of-root.ensures (Chaining.start_since _ c.lower_elements-ch.ensures)))
+    (sym c.word-named.ensures ∙ c.if-named-eq0.true))
+
+pub lower_chain-word-id-requires : goal.lower_chain-word-id-requires
+lower_chain-word-id-requires t c =
+    record {
+      i_lt_max_records = Room.low c.requires.tree;
+      c_lt_record_words = omega arith;
+      roomy = c.requires.words;
+    }
+
+pub lower_chain-overflow_add-i : goal.lower_chain-overflow_add-i
+lower_chain-overflow_add-i t c = omega (arith, Room.bounds c.requires)
+
+pub lower_chain-overflow_add-at : goal.lower_chain-overflow_add-at
+lower_chain-overflow_add-at t c = omega (arith, Room.bounds c.requires)
+
+pub lower_chain-number-m-requires : goal.lower_chain-number-m-requires
+lower_chain-number-m-requires t c =
+    let l = Room.bounds c.requires in
+    Room.source_number
+    (Exprs.room_after
+    c.lower_elements-ch.ensures.moved
+    (Exprs.room_from {d' = c.args.at.left - 1} {j = c.args.at.i + 1} (omega arith) (omega arith) (omega arith) c.requires.room))
+    (c.or_source_all-q.ensures.source _)
+    _
+    _
+    _
+    c.requires.pass
+    (omega arith)
+    refl
+
+pub lower_chain-bind_path-requires : goal.lower_chain-bind_path-requires
+lower_chain-bind_path-requires t c =
+    let l = Room.bounds c.requires in
+    let x =
+    (Room.source_few
+    (Exprs.room_after
+    c.lower_elements-ch.ensures.moved
+    (Exprs.room_from
+    {d' = c.args.at.left - 1}
+    {j = c.args.at.i + 1}
+    (omega arith)
+    (omega arith)
+    (omega arith)
+    c.requires.room))
+    (c.or_source_all-q.ensures.source _)).1
+    in
+    (Room.fits l.near (omega arith) (omega arith), omega arith)
+
+pub lower_chain-push-z-requires : goal.lower_chain-push-z-requires
+lower_chain-push-z-requires t c =
+    let l = Room.bounds c.requires in
+    let x =
+    (Room.source_few
+    (Exprs.room_after
+    c.lower_elements-ch.ensures.moved
+    (Exprs.room_from
+    {d' = c.args.at.left - 1}
+    {j = c.args.at.i + 1}
+    (omega arith)
+    (omega arith)
+    (omega arith)
+    c.requires.room))
+    (c.or_source_all-q.ensures.source _)).0
+    in
+    let y = c.number-m.ensures.issued.ops in
+    record {
+      few = omega arith;
+      long = rw
+          c.or_source_all-q.auto.ops
+          (Exprs.room_after
+          c.lower_elements-ch.ensures.moved
+          (Exprs.room_from
+          {d' = c.args.at.left - 1}
+          {j = c.args.at.i + 1}
+          (omega arith)
+          (omega arith)
+          (omega arith)
+          c.requires.room)).in_ops;
+    }
+
+pub lower_chain-shape_of-ops : goal.lower_chain-shape_of-ops
+lower_chain-shape_of-ops t c = c.push-z.auto.ops ∙ c.or_source_all-q.auto.ops ∙ c.lower_elements-ch.auto.ops
+
+pub lower_chain-shape_of-rest : goal.lower_chain-shape_of-rest
+lower_chain-shape_of-rest t c = c.number-m.auto.rest ∙ c.lower_elements-ch.auto.rest
+
+pub lower_chain-returns : goal.lower_chain-returns
+lower_chain-returns t c =
+    rw
+    c.or_source_all-q.ensures.same
+    (Chaining.named_law
+    _
+    _
+    c.requires.words
+    c.requires.pass
+    c.count-n.ensures.0
+    c.lower_elements-ch.ensures
+    (Chaining.source_as c.root_of-root.ensures (c.or_source_all-q.ensures.source _))
+    c.requires.depth
+    (λ e. c.if-named-eq0.false (c.word-named.ensures ∙ e))
+    refl
+    (var_read c.word-id.ensures c.number-m.ensures)
+    c.number-m.auto.rest
+    (pushed_as c.bind_path.ensures c.push-z.ensures)
+    c.push-z.auto.ops)
+
+-- ── lower_element ──
+
+pub lower_element-read_element-requires : goal.lower_element-read_element-requires
+lower_element-read_element-requires t c =
+    record {
+      roomy = c.requires.words;
+      i_lt_max_records = Room.low c.requires.tree;
+    }
+
+pub lower_element-skip-end-requires : goal.lower_element-skip-end-requires
+lower_element-skip-end-requires t c =
+    record {
+      roomy = c.requires.words;
+      starts = Part.starts c.requires.tree;
+    }
+
+pub lower_element-start_chain-requires : goal.lower_element-start_chain-requires
+lower_element-start_chain-requires t c = (
+  omega arith,
+  record { chain = c.requires; is = (Part.node_read c.read_element.ensures c.in-Node.is).is; read = (Part.node_read c.read_element.ensures c.in-Node.is).read; anew = inl c.in_default.is },
+)
+
+pub lower_element-shape_of-ops-in_default : goal.lower_element-shape_of-ops-in_default
+lower_element-shape_of-ops-in_default t c = c.start_chain.auto.ops
+
+pub lower_element-shape_of-rest-in_default : goal.lower_element-shape_of-rest-in_default
+lower_element-shape_of-rest-in_default t c = c.start_chain.auto.rest
+
+pub lower_element-returns-in_default : goal.lower_element-returns-in_default
+lower_element-returns-in_default t c = c.start_chain.ensures
+
+pub lower_element-start_chain-requires-in_default-last : goal.lower_element-start_chain-requires-in_default-last
+lower_element-start_chain-requires-in_default-last t c = (
+  omega arith,
+  record { chain = c.requires; is = (Part.node_read c.read_element.ensures c.in-Node.is).is; read = (Part.node_read c.read_element.ensures c.in-Node.is).read; anew = inr c.in_default-last.is },
+)
+
+pub lower_element-shape_of-ops-in_default-last : goal.lower_element-shape_of-ops-in_default-last
+lower_element-shape_of-ops-in_default-last t c = c.start_chain-in_default-last.auto.ops
+
+pub lower_element-shape_of-rest-in_default-last : goal.lower_element-shape_of-rest-in_default-last
+lower_element-shape_of-rest-in_default-last t c = c.start_chain-in_default-last.auto.rest
+
+pub lower_element-returns-in_default-last : goal.lower_element-returns-in_default-last
+lower_element-returns-in_default-last t c = c.start_chain-in_default-last.ensures
+
+pub lower_element-expand_to-requires : goal.lower_element-expand_to-requires
+lower_element-expand_to-requires t c = (
+  omega arith,
+  record {
+    chain = c.requires;
+    is = (Part.node_read c.read_element.ensures c.in-Node.is).is;
+    read = (Part.node_read c.read_element.ensures c.in-Node.is).read;
+    waits = c.in-Rel-pending.is;
+    has = c.in-Op.is;
+  },
+)
+
+pub lower_element-returns-in-Rel : goal.lower_element-returns-in-Rel
+lower_element-returns-in-Rel t c =
+    Linking.rel_law
+    _
+    _
+    _
+    _
+    _
+    _
+    c.requires.words
+    c.requires.bounded
+    (Part.other_kind
+    c.requires.words
+    c.requires.tree
+    (Part.rel_read c.read_element.ensures c.in-Rel.is).is)
+    c.skip-end.ensures
+    (Part.rel_read c.read_element.ensures c.in-Rel.is).read
+    c.requires.tree
+
+pub lower_element-shape_of-ops : goal.lower_element-shape_of-ops
+lower_element-shape_of-ops t c = c.expand_to.auto.ops
+
+pub lower_element-shape_of-rest : goal.lower_element-shape_of-rest
+lower_element-shape_of-rest t c = c.expand_to.auto.rest
+
+pub lower_element-returns-in-Op : goal.lower_element-returns-in-Op
+lower_element-returns-in-Op t c = c.expand_to.ensures
+
+-- ── lower_elements ──
+
+pub lower_elements-overflow_add-first : goal.lower_elements-overflow_add-first
+lower_elements-overflow_add-first t c = omega (arith, c.requires.tree.low)
+
+pub lower_elements-loop-m-init : goal.lower_elements-loop-m-init
+lower_elements-loop-m-init t c =
+    let l = c.requires.tree.low in
+    record {
+      some = c.requires.tree.trees;
+      room_for = Exprs.room_from (le_refl _) (omega arith) (omega arith) c.requires.room;
+      bounded = Chaining.start_bounded _ _ (omega arith);
+      anchored = Chaining.start_anchored c.args.a.now c.args.b.now c.requires.tree.trees.sheet _ _ _;
+      finish = λ ch' os' rs' q. q;
+    }
+
+pub lower_elements-lower_element-s-requires : goal.lower_elements-lower_element-s-requires
+lower_elements-lower_element-s-requires t c = (
+  omega arith,
+  record {
+    words = c.requires.words;
+    tree = Links.child c.loop-m-test.true c.loop-m.invariant;
+    room = c.loop-m.invariant.room_for;
+    depth = c.requires.depth;
+    pass = c.requires.pass;
+    bounded = c.loop-m.invariant.bounded;
+    anchored = c.loop-m.invariant.anchored;
+  },
+)
+
+pub lower_elements-overflow_sub-m : goal.lower_elements-overflow_sub-m
+lower_elements-overflow_sub-m t c =
+    let h = c.loop-m-test.true in
+    omega arith
+
+pub lower_elements-loop-m-smaller : goal.lower_elements-loop-m-smaller
+lower_elements-loop-m-smaller t c =
+    let h = c.loop-m-test.true in
+    omega arith
+
+pub lower_elements-loop-m-preserved : goal.lower_elements-loop-m-preserved
+lower_elements-loop-m-preserved t c = Links.again c.loop-m-test.true c.loop-m.invariant c.lower_element-s.ensures
+
+pub lower_elements-shape_of-ops : goal.lower_elements-shape_of-ops
+lower_elements-shape_of-ops t c = (Links.done c.loop-m-test.false c.loop-m.invariant).moved.in_ops
+
+pub lower_elements-shape_of-rest : goal.lower_elements-shape_of-rest
+lower_elements-shape_of-rest t c = (Links.done c.loop-m-test.false c.loop-m.invariant).moved.in_rest
+
+pub lower_elements-returns : goal.lower_elements-returns
+lower_elements-returns t c = Links.done c.loop-m-test.false c.loop-m.invariant
+
+-- ── lower_expr ──
+
+pub lower_expr-word-kind-requires : goal.lower_expr-word-kind-requires
+lower_expr-word-kind-requires t c =
+    record {
+      i_lt_max_records = Room.low c.requires.tree;
+      c_lt_record_words = omega arith;
+      roomy = c.requires.words;
+    }
+
+pub lower_expr-children-n-requires : goal.lower_expr-children-n-requires
+lower_expr-children-n-requires t c =
+    record {
+      i_lt_max_records = Room.low c.requires.tree;
+      roomy = c.requires.words;
+    }
+
+pub lower_expr-overflow_add-kid : goal.lower_expr-overflow_add-kid
+lower_expr-overflow_add-kid t c = omega (arith, Room.bounds c.requires)
+
+pub lower_expr-overflow_add-place : goal.lower_expr-overflow_add-place
+lower_expr-overflow_add-place t c = omega (arith, Room.bounds c.requires)
+
+pub lower_expr-overflow_sub-left : goal.lower_expr-overflow_sub-left
+lower_expr-overflow_sub-left t c = omega (arith, Room.bounds c.requires)
+
+pub lower_expr-word-id-requires : goal.lower_expr-word-id-requires
+lower_expr-word-id-requires t c =
+    record {
+      i_lt_max_records = Room.low c.requires.tree;
+      c_lt_record_words = omega arith;
+      roomy = c.requires.words;
+    }
+
+pub lower_expr-number-m-requires : goal.lower_expr-number-m-requires
+lower_expr-number-m-requires t c =
+    let l = Room.bounds c.requires in
+    Room.can_number c.requires.room _ _ _ c.requires.pass (omega arith) refl
+
+pub lower_expr-lower_exprs-requires : goal.lower_expr-lower_exprs-requires
+lower_expr-lower_exprs-requires t c =
+    let l = Room.bounds c.requires in (
+      omega arith,
+      Room.asked_on _ _ _ c.requires (omega arith)
+          (
+          Arms.headed_some
+          (λ sheet t hd. Arms.mapped c.requires.words t hd (sym c.word-kind.ensures ∙ c.in-33.is))
+          c.children-n.ensures.0
+          c.requires.tree)
+          (Exprs.room_from (omega arith) (omega arith) (omega arith) c.requires.room),
+    )
+
+pub lower_expr-lower_parts-r-requires : goal.lower_expr-lower_parts-r-requires
+lower_expr-lower_parts-r-requires t c =
+    let l = Room.bounds c.requires in
+    let k = sym c.word-kind.ensures ∙ c.in-35.is in (
+      omega arith,
+      Room.asked_on _ _ _ c.requires (omega arith)
+          (record {
+            low = l.low;
+            trees =
+                Named.pattern_some
+                (λ sheet t hd. Named.pattern c.requires.words t hd k)
+                c.children-n.ensures.0
+                c.requires.tree;
+          })
+          (Exprs.room_from (omega arith) (omega arith) (omega arith) c.requires.room),
+    )
+
+pub lower_expr-overflow_cast-r : goal.lower_expr-overflow_cast-r
+lower_expr-overflow_cast-r t c =
+    let p = c.lower_parts-r.ensures.low in
+    let v = c.lower_parts-r.ensures.moved.few in
+    let h = c.lower_parts-r.ensures.moved.here in
+    let g = Room.few_ops c.requires.room in
+    omega arith
+
+pub lower_expr-note-requires : goal.lower_expr-note-requires
+lower_expr-note-requires t c =
+    let l = Room.bounds c.requires in
+    (omega arith, rw c.lower_parts-r.ensures.moved.in_rest c.requires.room.in_rest)
+
+pub lower_expr-word-id-requires-in-36 : goal.lower_expr-word-id-requires-in-36
+lower_expr-word-id-requires-in-36 t c =
+    record {
+      i_lt_max_records = Room.low c.requires.tree;
+      c_lt_record_words = omega arith;
+      roomy = c.requires.words;
+    }
+
+pub lower_expr-number-m-requires-in-36 : goal.lower_expr-number-m-requires-in-36
+lower_expr-number-m-requires-in-36 t c =
+    let l = Room.bounds c.requires in
+    Room.can_number c.requires.room _ _ _ c.requires.pass (omega arith) refl
+
+pub lower_expr-lower_exprs-requires-in-36 : goal.lower_expr-lower_exprs-requires-in-36
+lower_expr-lower_exprs-requires-in-36 t c =
+    let l = Room.bounds c.requires in (
+      omega arith,
+      Room.asked_on _ _ _ c.requires (omega arith)
+          (
+          Named.naming_some
+          (λ sheet t hd. Named.predicate c.requires.words t hd (sym c.word-kind.ensures ∙ c.in-36.is))
+          c.children-n.ensures.0
+          c.requires.tree)
+          (
+          Room.numbered_on
+          c.requires.room
+          _
+          _
+          c.number-m-in-36.ensures.issued
+          c.number-m-in-36.auto.rest
+          (omega arith)
+          (omega arith)
+          (omega arith)),
+    )
+
+pub lower_expr-lower_exprs-requires-in_default : goal.lower_expr-lower_exprs-requires-in_default
+lower_expr-lower_exprs-requires-in_default t c =
+    let l = Room.bounds c.requires in (
+      omega arith,
+      Room.asked_on _ _ _ c.requires (omega arith)
+          (Arms.headed_some
+          (λ sheet t hd.
+          Arms.plainly
+          c.requires.words
+          t
+          hd
+          (λ e. c.in_default.in_default-own.rest.0.0.0.1 (c.word-kind.ensures ∙ e))
+          (λ e. c.in_default.in_default-own.rest.0.0.1 (c.word-kind.ensures ∙ e))
+          (λ e. c.in_default.in_default-own.rest.0.1 (c.word-kind.ensures ∙ e))
+          (λ e. c.in_default.in_default-own.rest.1 (c.word-kind.ensures ∙ e)))
+          c.children-n.ensures.0
+          c.requires.tree)
+          (Exprs.room_from (omega arith) (omega arith) (omega arith) c.requires.room),
+    )
+
+pub lower_expr-shape_of-rest-in-32 : goal.lower_expr-shape_of-rest-in-32
+lower_expr-shape_of-rest-in-32 t c = c.number-m.auto.rest
+
+pub lower_expr-returns-in-32 : goal.lower_expr-returns-in-32
+lower_expr-returns-in-32 t c =
+    let l = Room.bounds c.requires in
+    Named.naming_law
+    (λ sheet t hd. Named.variable c.requires.words t hd (sym c.word-kind.ensures ∙ c.in-32.is))
+    (Named.count_none c.requires.words c.requires.tree (sym c.word-kind.ensures ∙ c.in-32.is))
+    c.requires.pass
+    (Room.low c.requires.tree)
+    refl
+    (var_read c.word-id.ensures c.number-m.ensures)
+    c.number-m.auto.rest
+    (Exprs.nil_law c.args.a.now c.args.b.now _ _ _ _ _ (omega arith))
+
+pub lower_expr-shape_of-ops-in-33 : goal.lower_expr-shape_of-ops-in-33
+lower_expr-shape_of-ops-in-33 t c = c.lower_exprs.auto.ops
+
+pub lower_expr-shape_of-rest-in-33 : goal.lower_expr-shape_of-rest-in-33
+lower_expr-shape_of-rest-in-33 t c = c.lower_exprs.auto.rest
+
+pub lower_expr-returns-in-33 : goal.lower_expr-returns-in-33
+lower_expr-returns-in-33 t c =
+    let l = Room.bounds c.requires in
+    Arms.headed_law
+    (λ sheet t hd. Arms.mapped c.requires.words t hd (sym c.word-kind.ensures ∙ c.in-33.is))
+    c.children-n.ensures.0
+    (omega arith)
+    c.lower_exprs.ensures
+
+pub lower_expr-shape_of-ops-in-35 : goal.lower_expr-shape_of-ops-in-35
+lower_expr-shape_of-ops-in-35 t c = c.lower_parts-r.auto.ops
+
+pub lower_expr-shape_of-rest-in-35 : goal.lower_expr-shape_of-rest-in-35
+lower_expr-shape_of-rest-in-35 t c = c.note.auto.rest ∙ c.lower_parts-r.auto.rest
+
+pub lower_expr-returns-in-35 : goal.lower_expr-returns-in-35
+lower_expr-returns-in-35 t c =
+    Named.pattern_law
+    (λ sheet t hd. Named.pattern c.requires.words t hd (sym c.word-kind.ensures ∙ c.in-35.is))
+    c.children-n.ensures.0
+    c.requires.pass
+    (Room.low c.requires.tree)
+    refl
+    c.lower_parts-r.ensures
+    c.note.ensures
+    c.note.auto.rest
+
+pub lower_expr-shape_of-ops-in-36 : goal.lower_expr-shape_of-ops-in-36
+lower_expr-shape_of-ops-in-36 t c = c.lower_exprs-in-36.auto.ops
+
+pub lower_expr-shape_of-rest-in-36 : goal.lower_expr-shape_of-rest-in-36
+lower_expr-shape_of-rest-in-36 t c = c.lower_exprs-in-36.auto.rest ∙ c.number-m-in-36.auto.rest
+
+pub lower_expr-returns-in-36 : goal.lower_expr-returns-in-36
+lower_expr-returns-in-36 t c =
+    Named.naming_law
+    (λ sheet t hd. Named.predicate c.requires.words t hd (sym c.word-kind.ensures ∙ c.in-36.is))
+    c.children-n.ensures.0
+    c.requires.pass
+    (Room.low c.requires.tree)
+    refl
+    (var_read c.word-id-in-36.ensures c.number-m-in-36.ensures)
+    c.number-m-in-36.auto.rest
+    c.lower_exprs-in-36.ensures
+
+pub lower_expr-shape_of-ops-in_default : goal.lower_expr-shape_of-ops-in_default
+lower_expr-shape_of-ops-in_default t c = c.lower_exprs-in_default.auto.ops
+
+pub lower_expr-shape_of-rest-in_default : goal.lower_expr-shape_of-rest-in_default
+lower_expr-shape_of-rest-in_default t c = c.lower_exprs-in_default.auto.rest
+
+pub lower_expr-returns-in_default : goal.lower_expr-returns-in_default
+lower_expr-returns-in_default t c =
+    let l = Room.bounds c.requires in
+    Arms.headed_law
+    (λ sheet t hd.
+    Arms.plainly
+    c.requires.words
+    t
+    hd
+    (λ e. c.in_default.in_default-own.rest.0.0.0.1 (c.word-kind.ensures ∙ e))
+    (λ e. c.in_default.in_default-own.rest.0.0.1 (c.word-kind.ensures ∙ e))
+    (λ e. c.in_default.in_default-own.rest.0.1 (c.word-kind.ensures ∙ e))
+    (λ e. c.in_default.in_default-own.rest.1 (c.word-kind.ensures ∙ e)))
+    c.children-n.ensures.0
+    (omega arith)
+    c.lower_exprs-in_default.ensures
+
+-- ── lower_exprs ──
+
+pub lower_exprs-loop-m-init : goal.lower_exprs-loop-m-init
+lower_exprs-loop-m-init t c = record { some = c.requires.tree; room_for = c.requires.room; finish = λ e m' q. q }
+
+pub lower_exprs-overflow_add-j : goal.lower_exprs-overflow_add-j
+lower_exprs-overflow_add-j t c =
+    let l = Room.low (Exprs.child c.loop-m-test.true c.loop-m.invariant) in
+    omega arith
+
+pub lower_exprs-lower_expr-s-requires : goal.lower_exprs-lower_expr-s-requires
+lower_exprs-lower_expr-s-requires t c =
+    let x = Exprs.child c.loop-m-test.true c.loop-m.invariant in
+    let l = Room.low x in
+    (omega arith, Room.asked_on _ _ _ c.requires (le_refl _) x (Exprs.room_from (le_refl _) (omega arith) (omega arith) c.loop-m.invariant.room_for))
+
+pub lower_exprs-overflow_sub-m : goal.lower_exprs-overflow_sub-m
+lower_exprs-overflow_sub-m t c =
+    let h = c.loop-m-test.true in
+    omega arith
+
+pub lower_exprs-loop-m-smaller : goal.lower_exprs-loop-m-smaller
+lower_exprs-loop-m-smaller t c =
+    let h = c.loop-m-test.true in
+    omega arith
+
+pub lower_exprs-loop-m-preserved : goal.lower_exprs-loop-m-preserved
+lower_exprs-loop-m-preserved t c = Exprs.again c.loop-m-test.true c.loop-m.invariant c.lower_expr-s.ensures
+
+pub lower_exprs-shape_of-ops : goal.lower_exprs-shape_of-ops
+lower_exprs-shape_of-ops t c = (Exprs.done c.loop-m-test.false c.loop-m.invariant).moved.in_ops
+
+pub lower_exprs-shape_of-rest : goal.lower_exprs-shape_of-rest
+lower_exprs-shape_of-rest t c = (Exprs.done c.loop-m-test.false c.loop-m.invariant).moved.in_rest
+
+pub lower_exprs-returns : goal.lower_exprs-returns
+lower_exprs-returns t c = Exprs.done c.loop-m-test.false c.loop-m.invariant
+
+-- ── lower_parts ──
+
+pub lower_parts-lower_no_parts-requires : goal.lower_parts-lower_no_parts-requires
+lower_parts-lower_no_parts-requires t c =
+    let y = c.requires.room.low in
+    let h = c.requires.tree.low in
+    (Exprs.can_push c.requires.room, omega arith, h)
+
+pub lower_parts-shape_of-ops-then-n-eq0 : goal.lower_parts-shape_of-ops-then-n-eq0
+lower_parts-shape_of-ops-then-n-eq0 t c = c.lower_no_parts.auto.ops
+
+pub lower_parts-returns-then-n-eq0 : goal.lower_parts-returns-then-n-eq0
+lower_parts-returns-then-n-eq0 t c = rw c.if-n-eq0.true (c.lower_no_parts.ensures.1 c.args.a.now c.args.b.now _ _ _)
+
+pub lower_parts-overflow_add-first : goal.lower_parts-overflow_add-first
+lower_parts-overflow_add-first t c =
+    let h = c.requires.tree.low in
+    omega arith
+
+pub lower_parts-lower_pattern_part-r-requires : goal.lower_parts-lower_pattern_part-r-requires
+lower_parts-lower_pattern_part-r-requires t c =
+    let h = c.requires.tree.low in (
+      omega arith,
+      Room.asked_on _ _ _ c.requires (le_refl _)
+          (Parts.some_child c.if-n-eq0.false c.requires.tree.trees)
+          (Exprs.room_from (le_refl _) (omega arith) (omega arith) c.requires.room),
+    )
+
+pub lower_parts-overflow_sub-m : goal.lower_parts-overflow_sub-m
+lower_parts-overflow_sub-m t c =
+    let h = c.if-n-eq0.false in
+    omega arith
+
+pub lower_parts-loop-m-init : goal.lower_parts-loop-m-init
+lower_parts-loop-m-init t c =
+    let h = c.requires.tree.low in
+    Parts.behind_first
+    _
+    c.if-n-eq0.false
+    c.requires.tree.trees
+    (Exprs.room_from (le_refl _) (omega arith) (omega arith) c.requires.room)
+    c.lower_pattern_part-r.ensures
+
+pub lower_parts-lower_pattern_part-s-requires : goal.lower_parts-lower_pattern_part-s-requires
+lower_parts-lower_pattern_part-s-requires t c = (omega arith, Room.asked_on _ _ _ c.requires (le_refl _) (Parts.some_child c.loop-m-test.true c.loop-m.invariant.some) c.loop-m.invariant.room_for)
+
+pub lower_parts-overflow_sub-m-in-loop-m : goal.lower_parts-overflow_sub-m-in-loop-m
+lower_parts-overflow_sub-m-in-loop-m t c =
+    let h = c.loop-m-test.true in
+    omega arith
+
+pub lower_parts-loop-m-smaller : goal.lower_parts-loop-m-smaller
+lower_parts-loop-m-smaller t c =
+    let h = c.loop-m-test.true in
+    omega arith
+
+pub lower_parts-loop-m-preserved : goal.lower_parts-loop-m-preserved
+lower_parts-loop-m-preserved t c = Parts.again c.loop-m-test.true c.loop-m.invariant c.lower_pattern_part-s.ensures
+
+pub lower_parts-shape_of-ops : goal.lower_parts-shape_of-ops
+lower_parts-shape_of-ops t c = (Parts.done c.loop-m-test.false c.loop-m.invariant).moved.in_ops ∙ c.lower_pattern_part-r.auto.ops
+
+pub lower_parts-shape_of-rest : goal.lower_parts-shape_of-rest
+lower_parts-shape_of-rest t c = (Parts.done c.loop-m-test.false c.loop-m.invariant).moved.in_rest ∙ c.lower_pattern_part-r.auto.rest
+
+pub lower_parts-returns : goal.lower_parts-returns
+lower_parts-returns t c =
+    Parts.first_done
+    _
+    c.if-n-eq0.false
+    c.lower_pattern_part-r.ensures
+    (Parts.done c.loop-m-test.false c.loop-m.invariant)
+
+-- ── lower_pattern_part ──
+
+pub lower_pattern_part-word-shortest-requires : goal.lower_pattern_part-word-shortest-requires
+lower_pattern_part-word-shortest-requires t c =
+    record {
+      i_lt_max_records = Room.low c.requires.tree;
+      c_lt_record_words = omega arith;
+      roomy = c.requires.words;
+    }
+
+pub lower_pattern_part-lower_chain-requires : goal.lower_pattern_part-lower_chain-requires
+lower_pattern_part-lower_chain-requires t c = (omega arith, c.requires)
+
+pub lower_pattern_part-shape_of-ops-then-shortest-eq0 : goal.lower_pattern_part-shape_of-ops-then-shortest-eq0
+lower_pattern_part-shape_of-ops-then-shortest-eq0 t c = c.lower_chain.auto.ops
+
+pub lower_pattern_part-shape_of-rest-then-shortest-eq0 : goal.lower_pattern_part-shape_of-rest-then-shortest-eq0
+lower_pattern_part-shape_of-rest-then-shortest-eq0 t c = c.lower_chain.auto.rest
+
+pub lower_pattern_part-returns-then-shortest-eq0 : goal.lower_pattern_part-returns-then-shortest-eq0
+lower_pattern_part-returns-then-shortest-eq0 t c =
+    Part.chain_part
+    (Part.no_shortest _ _ c.requires.words (sym c.word-shortest.ensures ∙ c.if-shortest-eq0.true))
+    c.lower_chain.ensures
+
+pub lower_pattern_part-word-n-requires : goal.lower_pattern_part-word-n-requires
+lower_pattern_part-word-n-requires t c =
+    record {
+      i_lt_max_records = Room.low c.requires.tree;
+      c_lt_record_words = omega arith;
+      roomy = c.requires.words;
+    }
+
+pub lower_pattern_part-lower_chain-requires-then-n-ne-SPECIAL_ELEMENTS : goal.lower_pattern_part-lower_chain-requires-then-n-ne-SPECIAL_ELEMENTS
+lower_pattern_part-lower_chain-requires-then-n-ne-SPECIAL_ELEMENTS t c = (omega arith, c.requires)
+
+pub lower_pattern_part-shape_of-ops-then-n-ne-SPECIAL_ELEMENTS : goal.lower_pattern_part-shape_of-ops-then-n-ne-SPECIAL_ELEMENTS
+lower_pattern_part-shape_of-ops-then-n-ne-SPECIAL_ELEMENTS t c = c.lower_chain-then-n-ne-SPECIAL_ELEMENTS.auto.ops
+
+pub lower_pattern_part-shape_of-rest-then-n-ne-SPECIAL_ELEMENTS : goal.lower_pattern_part-shape_of-rest-then-n-ne-SPECIAL_ELEMENTS
+lower_pattern_part-shape_of-rest-then-n-ne-SPECIAL_ELEMENTS t c = c.lower_chain-then-n-ne-SPECIAL_ELEMENTS.auto.rest
+
+pub lower_pattern_part-returns-then-n-ne-SPECIAL_ELEMENTS : goal.lower_pattern_part-returns-then-n-ne-SPECIAL_ELEMENTS
+lower_pattern_part-returns-then-n-ne-SPECIAL_ELEMENTS t c =
+    Part.chain_part
+    (Part.not_three _ _ c.requires.words (λ e. c.if-n-ne-SPECIAL_ELEMENTS.true (c.word-n.ensures ∙ e)))
+    c.lower_chain-then-n-ne-SPECIAL_ELEMENTS.ensures
+
+pub lower_pattern_part-overflow_add-first : goal.lower_pattern_part-overflow_add-first
+lower_pattern_part-overflow_add-first t c = omega (arith, Room.bounds c.requires)
+
+pub lower_pattern_part-skip-rel-requires : goal.lower_pattern_part-skip-rel-requires
+lower_pattern_part-skip-rel-requires t c =
+    record {
+      roomy = c.requires.words;
+      starts = Part.starts (Part.first_some _ _ c.requires.words (sym c.word-n.ensures ∙ c.if-n-ne-SPECIAL_ELEMENTS.false) c.requires.tree);
+    }
+
+pub lower_pattern_part-read_element-requires : goal.lower_pattern_part-read_element-requires
+lower_pattern_part-read_element-requires t c =
+    record {
+      roomy = c.requires.words;
+      i_lt_max_records = Room.low (Part.first_some _ _ c.requires.words (sym c.word-n.ensures ∙ c.if-n-ne-SPECIAL_ELEMENTS.false) c.requires.tree);
+    }
+
+pub lower_pattern_part-lower_chain-requires-in_default : goal.lower_pattern_part-lower_chain-requires-in_default
+lower_pattern_part-lower_chain-requires-in_default t c = (omega arith, c.requires)
+
+pub lower_pattern_part-shape_of-ops-in_default : goal.lower_pattern_part-shape_of-ops-in_default
+lower_pattern_part-shape_of-ops-in_default t c = c.lower_chain-in_default.auto.ops
+
+pub lower_pattern_part-shape_of-rest-in_default : goal.lower_pattern_part-shape_of-rest-in_default
+lower_pattern_part-shape_of-rest-in_default t c = c.lower_chain-in_default.auto.rest
+
+pub lower_pattern_part-returns-in_default : goal.lower_pattern_part-returns-in_default
+lower_pattern_part-returns-in_default t c =
+    Part.chain_part
+    (Part.not_first
+    _
+    _
+    c.requires.words
+    (sym c.word-n.ensures ∙ c.if-n-ne-SPECIAL_ELEMENTS.false)
+    c.skip-rel.ensures
+    (Part.rel_read c.read_element.ensures c.in_default.is).is)
+    c.lower_chain-in_default.ensures
+
+pub lower_pattern_part-skip-far-requires : goal.lower_pattern_part-skip-far-requires
+lower_pattern_part-skip-far-requires t c =
+    record {
+      roomy = c.requires.words;
+      starts = Part.starts
+          (Part.some_second
+          _
+          _
+          c.requires.words
+          (sym c.word-n.ensures ∙ c.if-n-ne-SPECIAL_ELEMENTS.false)
+          c.skip-rel.ensures
+          c.requires.tree);
+    }
+
+pub lower_pattern_part-read_element-requires-2 : goal.lower_pattern_part-read_element-requires-2
+lower_pattern_part-read_element-requires-2 t c =
+    record {
+      roomy = c.requires.words;
+      i_lt_max_records = Room.low
+          (Part.some_second
+          _
+          _
+          c.requires.words
+          (sym c.word-n.ensures ∙ c.if-n-ne-SPECIAL_ELEMENTS.false)
+          c.skip-rel.ensures
+          c.requires.tree);
+    }
+
+pub lower_pattern_part-lower_chain-requires-in_default-read_element : goal.lower_pattern_part-lower_chain-requires-in_default-read_element
+lower_pattern_part-lower_chain-requires-in_default-read_element t c = (omega arith, c.requires)
+
+pub lower_pattern_part-shape_of-ops-in_default-read_element : goal.lower_pattern_part-shape_of-ops-in_default-read_element
+lower_pattern_part-shape_of-ops-in_default-read_element t c = c.lower_chain-in_default-read_element.auto.ops
+
+pub lower_pattern_part-shape_of-rest-in_default-read_element : goal.lower_pattern_part-shape_of-rest-in_default-read_element
+lower_pattern_part-shape_of-rest-in_default-read_element t c = c.lower_chain-in_default-read_element.auto.rest
+
+pub lower_pattern_part-returns-in_default-read_element : goal.lower_pattern_part-returns-in_default-read_element
+lower_pattern_part-returns-in_default-read_element t c =
+    Part.chain_part
+    (Part.not_second
+    _
+    _
+    c.requires.words
+    (sym c.word-n.ensures ∙ c.if-n-ne-SPECIAL_ELEMENTS.false)
+    c.skip-rel.ensures
+    (Part.node_read c.read_element.ensures c.in-Node.is).is
+    (Part.node_read c.read_element-2.ensures c.in_default-read_element.is).is)
+    c.lower_chain-in_default-read_element.ensures
+
+pub lower_pattern_part-read_element-requires-3 : goal.lower_pattern_part-read_element-requires-3
+lower_pattern_part-read_element-requires-3 t c =
+    record {
+      roomy = c.requires.words;
+      i_lt_max_records = Room.low
+          (Part.some_third
+          _
+          _
+          c.requires.words
+          (sym c.word-n.ensures ∙ c.if-n-ne-SPECIAL_ELEMENTS.false)
+          c.skip-rel.ensures
+          c.skip-far.ensures
+          c.requires.tree);
+    }
+
+pub lower_pattern_part-lower_chain-requires-in_default-read_element-2 : goal.lower_pattern_part-lower_chain-requires-in_default-read_element-2
+lower_pattern_part-lower_chain-requires-in_default-read_element-2 t c = (
+  omega (arith, c.decreases),
+  c.requires,
+)
+
+pub lower_pattern_part-shape_of-ops-in_default-read_element-2 : goal.lower_pattern_part-shape_of-ops-in_default-read_element-2
+lower_pattern_part-shape_of-ops-in_default-read_element-2 t c = c.lower_chain-in_default-read_element-2.auto.ops
+
+pub lower_pattern_part-shape_of-rest-in_default-read_element-2 : goal.lower_pattern_part-shape_of-rest-in_default-read_element-2
+lower_pattern_part-shape_of-rest-in_default-read_element-2 t c = c.lower_chain-in_default-read_element-2.auto.rest
+
+pub lower_pattern_part-returns-in_default-read_element-2 : goal.lower_pattern_part-returns-in_default-read_element-2
+lower_pattern_part-returns-in_default-read_element-2 t c =
+    Part.chain_part
+    (Part.not_third
+    _
+    _
+    c.requires.words
+    (sym c.word-n.ensures ∙ c.if-n-ne-SPECIAL_ELEMENTS.false)
+    c.skip-rel.ensures
+    c.skip-far.ensures
+    (Part.node_read c.read_element.ensures c.in-Node.is).is
+    (Part.rel_read c.read_element-2.ensures c.in-Rel.is).is
+    (Part.rel_read c.read_element-3.ensures c.in_default-read_element-2.is).is)
+    c.lower_chain-in_default-read_element-2.ensures
+
+pub lower_pattern_part-lower_shortest_path_part-requires : goal.lower_pattern_part-lower_shortest_path_part-requires
+lower_pattern_part-lower_shortest_path_part-requires t c = (
+  omega (arith, c.decreases),
+  record {
+    part = c.requires;
+    special = record {
+      shortest = λ e. c.if-shortest-eq0.false (c.word-shortest.ensures ∙ e);
+      three = (sym c.word-n.ensures ∙ c.if-n-ne-SPECIAL_ELEMENTS.false);
+      first = (Part.node_read c.read_element.ensures c.in-Node.is).is;
+      second =
+          Part.other_kind
+          c.requires.words
+          (Part.some_second
+          _
+          _
+          c.requires.words
+          (sym c.word-n.ensures ∙ c.if-n-ne-SPECIAL_ELEMENTS.false)
+          c.skip-rel.ensures
+          c.requires.tree)
+          (Part.rel_read c.read_element-2.ensures c.in-Rel.is).is;
+      third = (Part.node_read c.read_element-3.ensures c.in-Node-read_element.is).is;
+      first_end = c.skip-rel.ensures;
+      second_end = c.skip-far.ensures;
+    };
+    near = (Part.node_read c.read_element.ensures c.in-Node.is).read;
+    rel = (Part.rel_read c.read_element-2.ensures c.in-Rel.is).read;
+    to = (Part.node_read c.read_element-3.ensures c.in-Node-read_element.is).read;
+  },
+)
+
+pub lower_pattern_part-shape_of-ops : goal.lower_pattern_part-shape_of-ops
+lower_pattern_part-shape_of-ops t c = c.lower_shortest_path_part.auto.ops
+
+pub lower_pattern_part-shape_of-rest : goal.lower_pattern_part-shape_of-rest
+lower_pattern_part-shape_of-rest t c = c.lower_shortest_path_part.auto.rest
+
+pub lower_pattern_part-returns : goal.lower_pattern_part-returns
+lower_pattern_part-returns t c = c.lower_shortest_path_part.ensures
+
+-- ── lower_rel_element ──
+
+pub lower_rel_element-overflow_add-i : goal.lower_rel_element-overflow_add-i
+lower_rel_element-overflow_add-i t c = omega (arith, Room.element_bounds c.requires.asked)
+
+pub lower_rel_element-overflow_add-at : goal.lower_rel_element-overflow_add-at
+lower_rel_element-overflow_add-at t c = omega (arith, Room.element_bounds c.requires.asked)
+
+pub lower_rel_element-endpoint_var-m-requires : goal.lower_rel_element-endpoint_var-m-requires
+lower_rel_element-endpoint_var-m-requires t c =
+    let l = Room.element_bounds c.requires.asked in
+    Room.can_number c.requires.asked.room _ _ _ c.requires.asked.pass (omega arith) refl
+
+pub lower_rel_element-overflow_sub-less : goal.lower_rel_element-overflow_sub-less
+lower_rel_element-overflow_sub-less t c = omega (arith, Room.element_bounds c.requires.asked)
+
+pub lower_rel_element-lower_exprs-requires : goal.lower_rel_element-lower_exprs-requires
+lower_rel_element-lower_exprs-requires t c =
+    let l = Room.element_bounds c.requires.asked in
+    let l₀' = Room.names_low c.requires.asked.words c.requires.asked.tree.tree in
+    let n₀ = c.requires.read.first in (
+      omega arith,
+      Room.asked_on _ _ _ c.requires.asked (omega arith)
+          (Room.prop_some
+          c.requires.asked.words
+          c.requires.asked.tree.tree
+          c.requires.asked.tree.is
+          _
+          _
+          c.requires.read.props
+          c.requires.read.first)
+          (Room.numbered_on
+          c.requires.asked.room
+          _
+          _
+          c.endpoint_var-m.ensures.issued
+          c.endpoint_var-m.auto.rest
+          (le_refl _)
+          (omega arith)
+          (omega arith)),
+    )
+
+pub lower_rel_element-shape_of-ops : goal.lower_rel_element-shape_of-ops
+lower_rel_element-shape_of-ops t c = c.lower_exprs.auto.ops
+
+pub lower_rel_element-shape_of-rest : goal.lower_rel_element-shape_of-rest
+lower_rel_element-shape_of-rest t c = c.lower_exprs.auto.rest ∙ c.endpoint_var-m.auto.rest
+
+pub lower_rel_element-returns : goal.lower_rel_element-returns
+lower_rel_element-returns t c =
+    Room.rel_done
+    _
+    refl
+    (endpoint_read c.requires.read.bind c.endpoint_var-m.ensures)
+    c.endpoint_var-m.auto.rest
+    c.requires.read.props
+    c.requires.read.first
+    c.lower_exprs.ensures
+
+-- ── lower_shortest_path_part ──
+
+pub lower_shortest_path_part-overflow_add-first : goal.lower_shortest_path_part-overflow_add-first
+lower_shortest_path_part-overflow_add-first t c =
+    let l = Room.bounds c.requires.part in
+    let l₄ = Room.low (Asking.first_of_law c.requires).tree in
+    omega arith
+
+pub lower_shortest_path_part-overflow_sub-left : goal.lower_shortest_path_part-overflow_sub-left
+lower_shortest_path_part-overflow_sub-left t c =
+    let l = Room.bounds c.requires.part in
+    let l₄ = Room.low (Asking.first_of_law c.requires).tree in
+    omega arith
+
+pub lower_shortest_path_part-overflow_add-first-2 : goal.lower_shortest_path_part-overflow_add-first-2
+lower_shortest_path_part-overflow_add-first-2 t c =
+    let l = Room.bounds c.requires.part in
+    let l₄ = Room.low (Asking.first_of_law c.requires).tree in
+    omega arith
+
+pub lower_shortest_path_part-overflow_add-base : goal.lower_shortest_path_part-overflow_add-base
+lower_shortest_path_part-overflow_add-base t c =
+    let l = Room.bounds c.requires.part in
+    let l₄ = Room.low (Asking.first_of_law c.requires).tree in
+    omega arith
+
+pub lower_shortest_path_part-endpoint_var-from-requires : goal.lower_shortest_path_part-endpoint_var-from-requires
+lower_shortest_path_part-endpoint_var-from-requires t c =
+    let l = Room.bounds c.requires.part in
+    let l₄ = Room.low (Asking.first_of_law c.requires).tree in
+    Room.can_number c.requires.part.room _ _ _ c.requires.part.pass (omega arith) refl
+
+pub lower_shortest_path_part-start_node-r-requires : goal.lower_shortest_path_part-start_node-r-requires
+lower_shortest_path_part-start_node-r-requires t c = (
+  omega (arith, c.decreases, Room.bounds c.requires.part),
+  record {
+    asked =
+        Room.asked_on
+        _
+        _
+        _
+        c.requires.part
+        (omega (arith, Room.bounds c.requires.part))
+        (Asking.first_of_law c.requires)
+        (Asking.near_room c.requires c.endpoint_var-from.ensures c.endpoint_var-from.auto.rest);
+    read = c.requires.near;
+  },
+)
+
+pub lower_shortest_path_part-lower_rel_element-s-requires : goal.lower_shortest_path_part-lower_rel_element-s-requires
+lower_shortest_path_part-lower_rel_element-s-requires t c = (
+  omega (arith, c.decreases, Room.bounds c.requires.part),
+  record {
+    asked =
+        Room.asked_on
+        _
+        _
+        _
+        c.requires.part
+        (omega (arith, Room.bounds c.requires.part))
+        (Asking.rel_of c.requires)
+        (Asking.rel_room
+        c.requires
+        c.endpoint_var-from.ensures
+        c.endpoint_var-from.auto.rest
+        c.start_node-r.ensures);
+    read = c.requires.rel;
+  },
+)
+
+pub lower_shortest_path_part-overflow_add-far : goal.lower_shortest_path_part-overflow_add-far
+lower_shortest_path_part-overflow_add-far t c =
+    let l₃ = c.requires.part.pass in
+    let l₄ =
+    Room.low
+    (Asking.far_of c.requires).tree
+    in
+    omega arith
+
+pub lower_shortest_path_part-overflow_add-base-2 : goal.lower_shortest_path_part-overflow_add-base-2
+lower_shortest_path_part-overflow_add-base-2 t c =
+    let l₃ = c.requires.part.pass in
+    let l₄ =
+    Room.low
+    (Asking.far_of c.requires).tree
+    in
+    omega arith
+
+pub lower_shortest_path_part-endpoint_var-to-requires : goal.lower_shortest_path_part-endpoint_var-to-requires
+lower_shortest_path_part-endpoint_var-to-requires t c =
+    let l = Room.bounds c.requires.part in
+    let l₄ = Room.low (Asking.first_of_law c.requires).tree in
+    let l₅ =
+    Room.rel_ends
+    c.requires.part.words
+    c.requires.special.second
+    (Asking.rel_of c.requires).tree
+    c.lower_rel_element-s.ensures
+    c.requires.special.second_end
+    in
+    let l₄' =
+    Room.low
+    (Asking.far_of c.requires).tree
+    in
+    Room.can_number
+    (Asking.far_room
+    c.requires
+    (Asking.rel_room
+    c.requires
+    c.endpoint_var-from.ensures
+    c.endpoint_var-from.auto.rest
+    c.start_node-r.ensures)
+    c.lower_rel_element-s.ensures)
+    _
+    _
+    _
+    c.requires.part.pass
+    (omega arith)
+    refl
+
+pub lower_shortest_path_part-read_bind-bind-requires : goal.lower_shortest_path_part-read_bind-bind-requires
+lower_shortest_path_part-read_bind-bind-requires t c =
+    record {
+      roomy = c.requires.part.words;
+      i_lt_max_records = Room.low c.requires.part.tree;
+    }
+
+pub lower_shortest_path_part-overflow_add-base-3 : goal.lower_shortest_path_part-overflow_add-base-3
+lower_shortest_path_part-overflow_add-base-3 t c =
+    let l = Room.bounds c.requires.part in
+    let l₄ = Room.low (Asking.first_of_law c.requires).tree in
+    omega arith
+
+pub lower_shortest_path_part-endpoint_var-path-requires : goal.lower_shortest_path_part-endpoint_var-path-requires
+lower_shortest_path_part-endpoint_var-path-requires t c =
+    let l = Room.bounds c.requires.part in
+    let l₄ = Room.low (Asking.first_of_law c.requires).tree in
+    let l₅ =
+    Room.rel_ends
+    c.requires.part.words
+    c.requires.special.second
+    (Asking.rel_of c.requires).tree
+    c.lower_rel_element-s.ensures
+    c.requires.special.second_end
+    in
+    let l₄' =
+    Room.low
+    (Asking.far_of c.requires).tree
+    in
+    Room.can_again
+    (Asking.far_room
+    c.requires
+    (Asking.rel_room
+    c.requires
+    c.endpoint_var-from.ensures
+    c.endpoint_var-from.auto.rest
+    c.start_node-r.ensures)
+    c.lower_rel_element-s.ensures)
+    c.endpoint_var-to.ensures.issued
+    l₄'
+    c.endpoint_var-to.auto.rest
+    _
+    _
+    _
+    c.requires.part.pass
+    (omega arith)
+    refl
+
+pub lower_shortest_path_part-shortest_path-requires : goal.lower_shortest_path_part-shortest_path-requires
+lower_shortest_path_part-shortest_path-requires t c =
+    let l = Room.bounds c.requires.part in
+    let l₄ = Room.low (Asking.first_of_law c.requires).tree in
+    let x =
+    Room.few_ops
+    (Asking.rel_room
+    c.requires
+    c.endpoint_var-from.ensures
+    c.endpoint_var-from.auto.rest
+    c.start_node-r.ensures)
+    in
+    let y = c.start_node-r.ensures.low in
+    let l₅ =
+    Room.low (Asking.rel_of c.requires).tree
+    in
+    let l₆ =
+    Room.low
+    (Asking.far_of c.requires).tree
+    in
+    (Room.fits c.requires.part.pass (omega arith) (omega arith), omega arith, omega arith, omega arith)
+
+pub lower_shortest_path_part-push-z-requires : goal.lower_shortest_path_part-push-z-requires
+lower_shortest_path_part-push-z-requires t c =
+    let l = Room.bounds c.requires.part in
+    let l₄ = Room.low (Asking.first_of_law c.requires).tree in
+    let l₅ =
+    Room.rel_ends
+    c.requires.part.words
+    c.requires.special.second
+    (Asking.rel_of c.requires).tree
+    c.lower_rel_element-s.ensures
+    c.requires.special.second_end
+    in
+    let l₄' =
+    Room.low
+    (Asking.far_of c.requires).tree
+    in
+    Room.push_again
+    (Asking.far_room
+    c.requires
+    (Asking.rel_room
+    c.requires
+    c.endpoint_var-from.ensures
+    c.endpoint_var-from.auto.rest
+    c.start_node-r.ensures)
+    c.lower_rel_element-s.ensures)
+    c.endpoint_var-to.ensures.issued
+    c.endpoint_var-path.ensures.issued
+
+pub lower_shortest_path_part-skip-end-requires : goal.lower_shortest_path_part-skip-end-requires
+lower_shortest_path_part-skip-end-requires t c =
+    record {
+      roomy = c.requires.part.words;
+      starts = Part.starts
+          (Asking.far_of c.requires).tree;
+    }
+
+pub lower_shortest_path_part-shape_of-ops : goal.lower_shortest_path_part-shape_of-ops
+lower_shortest_path_part-shape_of-ops t c = c.push-z.auto.ops ∙ c.lower_rel_element-s.auto.ops ∙ c.start_node-r.auto.ops
+
+pub lower_shortest_path_part-shape_of-rest : goal.lower_shortest_path_part-shape_of-rest
+lower_shortest_path_part-shape_of-rest t c =
+    c.endpoint_var-path.auto.rest ∙
+    c.endpoint_var-to.auto.rest ∙
+    c.lower_rel_element-s.auto.rest ∙
+    c.start_node-r.auto.rest ∙
+    c.endpoint_var-from.auto.rest
+
+pub lower_shortest_path_part-returns : goal.lower_shortest_path_part-returns
+lower_shortest_path_part-returns t c =
+    Special.special_law
+    _
+    _
+    _
+    _
+    _
+    _
+    c.requires.part.words
+    c.requires.part.pass
+    c.requires.part.depth
+    c.requires.special.shortest
+    c.requires.special.three
+    c.requires.special.first
+    c.requires.special.second
+    c.requires.special.third
+    c.requires.special.first_end
+    c.requires.special.second_end
+    c.skip-end.ensures
+    refl
+    (endpoint_read c.requires.near.bind c.endpoint_var-from.ensures)
+    c.endpoint_var-from.auto.rest
+    c.start_node-r.ensures
+    c.lower_rel_element-s.ensures
+    refl
+    (endpoint_read c.requires.to.bind c.endpoint_var-to.ensures)
+    c.endpoint_var-to.auto.rest
+    refl
+    (endpoint_read c.read_bind-bind.ensures c.endpoint_var-path.ensures)
+    c.endpoint_var-path.auto.rest
+    (pushed_as c.shortest_path.ensures c.push-z.ensures)
+    c.push-z.auto.ops
+    c.requires.part.tree
+
+-- ── start_chain ──
+
+pub start_chain-overflow_add-i : goal.start_chain-overflow_add-i
+start_chain-overflow_add-i t c = omega (arith, Room.chain_bounds c.requires.chain)
+
+pub start_chain-overflow_add-base : goal.start_chain-overflow_add-base
+start_chain-overflow_add-base t c = omega (arith, Room.chain_bounds c.requires.chain)
+
+pub start_chain-endpoint_var-m-requires : goal.start_chain-endpoint_var-m-requires
+start_chain-endpoint_var-m-requires t c =
+    let l = Room.chain_bounds c.requires.chain in
+    Room.can_number c.requires.chain.room _ _ _ c.requires.chain.pass (omega arith) refl
+
+pub start_chain-start_node-r-requires : goal.start_chain-start_node-r-requires
+start_chain-start_node-r-requires t c = (
+  omega arith,
+  record {
+    asked = record {
+      words = c.requires.chain.words;
+      tree = record { tree = c.requires.chain.tree; is = c.requires.is };
+      room =
+          Exprs.room_from
+          (le_refl _)
+          c.requires.chain.bounded.from
+          c.requires.chain.bounded.next
+          (Room.numbered
+          c.requires.chain.room
+          c.endpoint_var-m.ensures.issued
+          c.endpoint_var-m.auto.rest
+          (Room.deep c.requires.chain.tree));
+      depth = c.requires.chain.depth;
+      pass = c.requires.chain.pass;
+    };
+    read = c.requires.read;
+  },
+)
+
+pub start_chain-overflow_add-kept : goal.start_chain-overflow_add-kept
+start_chain-overflow_add-kept t c =
+    let q = c.requires.chain.bounded.kept in
+    let q' = c.requires.chain.bounded.next in
+    omega arith
+
+pub start_chain-shape_of-ops : goal.start_chain-shape_of-ops
+start_chain-shape_of-ops t c = c.start_node-r.auto.ops
+
+pub start_chain-shape_of-rest : goal.start_chain-shape_of-rest
+start_chain-shape_of-rest t c = c.start_node-r.auto.rest ∙ c.endpoint_var-m.auto.rest
+
+pub start_chain-returns : goal.start_chain-returns
+start_chain-returns t c =
+    Linking.start_law
+    _
+    _
+    _
+    c.requires.chain.words
+    c.requires.chain.pass
+    c.requires.chain.bounded
+    c.requires.is
+    c.requires.anew
+    refl
+    (endpoint_read c.requires.read.bind c.endpoint_var-m.ensures)
+    c.endpoint_var-m.auto.rest
+    c.start_node-r.ensures
+    c.requires.chain.tree
+
+-- ── start_node ──
+
+pub start_node-overflow_sub-less : goal.start_node-overflow_sub-less
+start_node-overflow_sub-less t c = omega (arith, Room.element_bounds c.requires.asked)
+
+pub start_node-source-requires : goal.start_node-source-requires
+start_node-source-requires t c =
+    let l₀ = Room.low c.requires.asked.tree.tree in
+    let l₂ = c.requires.asked.depth in
+    Room.fits c.requires.asked.pass (omega arith) (omega arith)
+
+pub start_node-push-p-requires : goal.start_node-push-p-requires
+start_node-push-p-requires t c = Exprs.can_push c.requires.asked.room
+
+pub start_node-shape_of-ops-then-node-eq0 : goal.start_node-shape_of-ops-then-node-eq0
+start_node-shape_of-ops-then-node-eq0 t c = c.push-p.auto.ops
+
+pub start_node-returns-then-node-eq0 : goal.start_node-returns-then-node-eq0
+start_node-returns-then-node-eq0 t c =
+    Start.bare_read
+    _
+    _
+    _
+    c.requires.asked.words
+    c.requires.asked.tree.is
+    (c.requires.asked.depth, c.requires.asked.pass)
+    c.requires.read.first
+    (pushed_as c.source.ensures c.push-p.ensures)
+    c.push-p.auto.ops
+    (sym c.requires.read.props ∙ c.if-node-eq0.true)
+    c.requires.asked.tree.tree
+
+pub start_node-lower_expr-s-requires : goal.start_node-lower_expr-s-requires
+start_node-lower_expr-s-requires t c =
+    let l = Room.element_bounds c.requires.asked in
+    let l₀' = Room.names_low c.requires.asked.words c.requires.asked.tree.tree in
+    let n₀ = c.requires.read.first in (
+      omega arith,
+      Room.asked_on _ _ _ c.requires.asked (omega arith)
+          (Start.prop_read
+          _
+          _
+          _
+          c.requires.asked.words
+          c.requires.asked.tree.is
+          c.requires.read.first
+          c.requires.asked.tree.tree
+          (λ e. c.if-node-eq0.false (c.requires.read.props ∙ e)))
+          (Room.pushed_on
+          c.requires.asked.room
+          _
+          _
+          c.push-p.ensures
+          c.push-p.auto.ops
+          (le_refl _)
+          (omega arith)
+          (omega arith)),
+    )
+
+pub start_node-filter-requires : goal.start_node-filter-requires
+start_node-filter-requires t c =
+    let l₀ = Room.names_low c.requires.asked.words c.requires.asked.tree.tree in
+    let l₂ = c.requires.asked.depth in
+    let n₀ = c.requires.read.first in
+    let g = Room.few_ops c.requires.asked.room in
+    (Room.fits c.requires.asked.pass (omega arith) (omega arith), omega arith)
+
+pub start_node-push-z-requires : goal.start_node-push-z-requires
+start_node-push-z-requires t c =
+    let l₀ = Room.names_low c.requires.asked.words c.requires.asked.tree.tree in
+    let l = Room.element_bounds c.requires.asked in
+    let n₀ = c.requires.read.first in
+    Exprs.can_push
+    (Exprs.room_after
+    c.lower_expr-s.ensures.moved
+    (Room.pushed_on c.requires.asked.room _ _ c.push-p.ensures c.push-p.auto.ops (le_refl _) (omega arith) (omega arith)))
+
+pub start_node-shape_of-ops : goal.start_node-shape_of-ops
+start_node-shape_of-ops t c = c.push-z.auto.ops ∙ c.lower_expr-s.auto.ops ∙ c.push-p.auto.ops
+
+pub start_node-shape_of-rest : goal.start_node-shape_of-rest
+start_node-shape_of-rest t c = c.lower_expr-s.auto.rest
+
+pub start_node-returns : goal.start_node-returns
+start_node-returns t c =
+    Start.filtered_read
+    _
+    _
+    _
+    c.requires.asked.words
+    c.requires.asked.tree.is
+    (c.requires.asked.depth, c.requires.asked.pass)
+    c.requires.read.first
+    (pushed_as c.source.ensures c.push-p.ensures)
+    c.push-p.auto.ops
+    (λ e. c.if-node-eq0.false (c.requires.read.props ∙ e))
+    c.lower_expr-s.ensures
+    (pushed_as c.filter.ensures c.push-z.ensures)
+    c.push-z.auto.ops

@@ -1,0 +1,79 @@
+-- The measures of the cycle and the invariants of its loops.
+use Rattle.lower.proofs.Linking
+use Rattle.lower.specs.Exprs
+use Rattle.lower.proofs.Room
+use Rattle.lower.proofs.Chaining
+use Rattle.lower.proofs.Part
+use Rattle.lower.proofs.Links
+use Rattle.lower.proofs.Named
+use Rattle.lower.proofs.Arms
+use Rattle.lower.proofs.Parts
+use Rattle.lower.proofs.Asking
+use Rattle.lower.proofs.Special
+use Rattle.lower.proofs.Start
+use Prim.Native.Nat.{ℕ, ◌-◌, ◌+◌, ◌*◌, ◌<◌}
+use Rattle.context.specs.OpLaws.{pushed_as}
+use Rattle.lower.proofs.Reading.{endpoint_read, exprs_read, var_read}
+use mathlib.Core.Path.{refl, ◌∙◌, sym}
+use native.Mathlib.Omega.{arith}
+use mathlib.Core.Logic.{inl, inr}
+use borrow.Author.Rules.{rules}
+use Rattle.lower.specs.Chains.{LowersElements}
+use native.Mathlib.Nat.{le_refl}
+use Rattle.lower.specs.Pieces.{LowersExprs}
+use Rattle.lower.specs.Rep.{mem}
+use Rattle.lower.proofs.+expand_to_lower_chain_lower_element_lower_elements_lower_expr_lower_exprs_lower_parts_lower_pattern_part_lower_rel_element_lower_shortest_path_part_start_chain_start_node.Given as goal
+
+abbrev pub decreases-expand_to : goal.decreases-expand_to
+decreases-expand_to l = 8 * l.left + 2
+
+abbrev pub decreases-lower_chain : goal.decreases-lower_chain
+decreases-lower_chain l = 8 * l.at.left + 1
+
+abbrev pub decreases-lower_element : goal.decreases-lower_element
+decreases-lower_element l = 8 * l.left + 3
+
+abbrev pub decreases-lower_elements : goal.decreases-lower_elements
+decreases-lower_elements l = 8 * l.at.left + 4
+
+abbrev pub decreases-lower_expr : goal.decreases-lower_expr
+decreases-lower_expr l = 8 * l.at.left
+
+abbrev pub decreases-lower_exprs : goal.decreases-lower_exprs
+decreases-lower_exprs l = 8 * l.at.left + 1
+
+abbrev pub decreases-lower_parts : goal.decreases-lower_parts
+decreases-lower_parts l = 8 * l.at.left + 3
+
+abbrev pub decreases-lower_pattern_part : goal.decreases-lower_pattern_part
+decreases-lower_pattern_part l = 8 * l.at.left + 2
+
+abbrev pub decreases-lower_rel_element : goal.decreases-lower_rel_element
+decreases-lower_rel_element l = 8 * l.at.left + 1
+
+abbrev pub decreases-lower_shortest_path_part : goal.decreases-lower_shortest_path_part
+decreases-lower_shortest_path_part l = 8 * l.at.left + 1
+
+abbrev pub decreases-start_chain : goal.decreases-start_chain
+decreases-start_chain l = 8 * l.left + 2
+
+abbrev pub decreases-start_node : goal.decreases-start_node
+decreases-start_node l = 8 * l.at.left + 1
+
+abbrev pub invariant-lower_elements-loop-m : goal.invariant-lower_elements-loop-m
+invariant-lower_elements-loop-m l = Links.Remaining l.a l.b l.at.left l.at.base (λ ch' os' rs'. LowersElements l.a l.b l.n l.at.left l.at.base l.initial.ch ch' l.initial.ops os' l.initial.rest rs') l.m l.ch l.ops l.rest
+
+abbrev pub decreases-lower_elements-loop-m : goal.decreases-lower_elements-loop-m
+decreases-lower_elements-loop-m l = l.m
+
+abbrev pub invariant-lower_exprs-loop-m : goal.invariant-lower_exprs-loop-m
+invariant-lower_exprs-loop-m l = Exprs.Remaining l.a l.b l.gap l.at.left l.at.base (λ e m'. LowersExprs l.a l.b l.n l.gap l.at.left l.at.base l.at.i e (mem l.initial.cur l.initial.ops l.initial.rest) m') l.m l.i (mem l.cur l.ops l.rest)
+
+abbrev pub decreases-lower_exprs-loop-m : goal.decreases-lower_exprs-loop-m
+decreases-lower_exprs-loop-m l = l.m
+
+abbrev pub invariant-lower_parts-loop-m : goal.invariant-lower_parts-loop-m
+invariant-lower_parts-loop-m l = Parts.Remaining l.a l.b l.at.left l.at.base (λ e k m'. Parts.LowersFurther l.a l.b l.initial.m l.at.left l.at.base l.initial.i e l.initial.op k (mem l.initial.cur l.initial.ops l.initial.rest) m') l.m l.i l.op (mem l.cur l.ops l.rest)
+
+abbrev pub decreases-lower_parts-loop-m : goal.decreases-lower_parts-loop-m
+decreases-lower_parts-loop-m l = l.m
