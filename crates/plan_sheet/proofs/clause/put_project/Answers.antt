@@ -1,0 +1,6 @@
+-- `put_project` meets its contract. Assumes nothing.
+use borrow.Author.Rules.{rules}
+use Rattle.plan_sheet.proofs.clause.put_project.Goals as goal
+
+pub returns : goal.returns
+returns c = rw c.word-items.ensures at c.put_row2.ensures

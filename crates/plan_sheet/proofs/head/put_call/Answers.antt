@@ -1,0 +1,11 @@
+-- `put_call` meets its contract. Assumes nothing.
+use Rattle.plan_sheet.proofs.NameLaws.{named_in}
+use native.Mathlib.Omega.{arith}
+use borrow.Author.Rules.{rules}
+use Rattle.plan_sheet.proofs.head.put_call.Goals as goal
+
+pub put_named1-requires : goal.put_named1-requires
+put_named1-requires c = named_in c.word-s.ensures c.word-e.ensures c.requires (omega arith)
+
+pub returns : goal.returns
+returns c = rw (c.word-s.ensures, c.word-e.ensures, c.word-n.ensures) at c.put_named1.ensures

@@ -1,0 +1,11 @@
+-- `put_own_name` meets its contract. Assumes nothing.
+use Rattle.plan_sheet.proofs.NameLaws.{named_in}
+use native.Mathlib.Omega.{arith}
+use borrow.Author.Rules.{rules}
+use Rattle.plan_sheet.proofs.item.put_own_name.Goals as goal
+
+pub put_named0-requires : goal.put_named0-requires
+put_named0-requires c = named_in c.word-s.ensures c.word-e.ensures c.requires (omega arith)
+
+pub returns : goal.returns
+returns c = rw (c.word-s.ensures, c.word-e.ensures) at c.put_named0.ensures

@@ -1,0 +1,8 @@
+-- `call_bytes` meets its contract. Assumes nothing.
+use Rattle.plan_sheet.proofs.MeasureLaws
+use native.Mathlib.Omega.{arith}
+use borrow.Author.Rules.{rules}
+use Rattle.plan_sheet.proofs.measure.call_bytes.Goals as goal
+
+pub returns : goal.returns
+returns c = MeasureLaws.call_bytes c.word-s.ensures c.word-e.ensures c.word-args.ensures c.number_bytes.ensures (omega arith)

@@ -1,0 +1,6 @@
+-- `put_source` meets its contract. Assumes nothing.
+use borrow.Author.Rules.{rules}
+use Rattle.plan_sheet.proofs.op.put_source.Goals as goal
+
+pub returns : goal.returns
+returns c = rw c.word-labels.ensures at c.put_row2.ensures

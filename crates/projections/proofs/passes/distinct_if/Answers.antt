@@ -1,0 +1,12 @@
+-- `projections::passes::distinct_if` meets its contract.
+use mathlib.Core.Path.{refl}
+use borrow.Author.Rules.{rules}
+use Rattle.context.specs.OpLaws.{pushed_as}
+use Rattle.projections.specs.Promises.{none_pushed, one_pushed}
+use Rattle.projections.proofs.passes.distinct_if.Goals as goal
+
+pub returns-then-distinct-eq0 : goal.returns-then-distinct-eq0
+returns-then-distinct-eq0 c = (refl, none_pushed c.if-distinct-eq0.true refl refl refl)
+
+pub returns : goal.returns
+returns c = (refl, one_pushed c.if-distinct-eq0.false refl (pushed_as c.distinct.ensures c.push-z.ensures) c.push-z.auto.ops)
