@@ -261,7 +261,7 @@ pub write_expr-returns-then-is_leaf : goal.write_expr-returns-then-is_leaf
 write_expr-returns-then-is_leaf t c =
     DueLaws.lined
     c.put_before-line.ensures
-    (CycleLaws.leaf_wrote c.requires.room.records c.word-kind.ensures (sym c.is_IsLeaf.ensures ∙ c.if-is_leaf.true) c.note_of-n.ensures c.put_expr-o.ensures)
+    (CycleLaws.leaf_wrote c.requires.room.records c.word-kind.ensures (sym c.is_leaf.ensures ∙ c.if-is_leaf.true) c.note_of-n.ensures c.put_expr-o.ensures)
 
 pub write_expr-write_op-p-requires : goal.write_expr-write_op-p-requires
 write_expr-write_op-p-requires t c =

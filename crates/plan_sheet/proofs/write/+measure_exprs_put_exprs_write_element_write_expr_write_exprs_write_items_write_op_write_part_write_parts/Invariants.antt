@@ -12,35 +12,40 @@ use lib.ListN.{length}
 use Rattle.output.specs.Page.{on}
 use Rattle.words.specs.Words.{max_records}
 use borrow.Author.Rules.{rules}
+use Rattle.context.specs.Tables.{deepest}
 use Prim.Native.Nat.{ℕ, ◌-◌, ◌+◌, ◌≤◌, ◌<◌, ◌*◌}
 use Rattle.plan_sheet.proofs.write.+measure_exprs_put_exprs_write_element_write_expr_write_exprs_write_items_write_op_write_part_write_parts.Given as goal
 
+-- how far the measure falls from one operator to the one before
+abbrev per_op : ℕ
+per_op = 4 * deepest
+
 abbrev pub decreases-measure_exprs : goal.decreases-measure_exprs
-decreases-measure_exprs l = perOp * l.run.below
+decreases-measure_exprs l = per_op * l.run.below
 
 abbrev pub decreases-put_exprs : goal.decreases-put_exprs
-decreases-put_exprs l = perOp * l.run.below + 3 * l.run.left + 2
+decreases-put_exprs l = per_op * l.run.below + 3 * l.run.left + 2
 
 abbrev pub decreases-write_element : goal.decreases-write_element
-decreases-write_element l = perOp * l.at.below + 3 * l.at.left + 2
+decreases-write_element l = per_op * l.at.below + 3 * l.at.left + 2
 
 abbrev pub decreases-write_expr : goal.decreases-write_expr
-decreases-write_expr l = perOp * l.at.below + 3 * l.at.left
+decreases-write_expr l = per_op * l.at.below + 3 * l.at.left
 
 abbrev pub decreases-write_exprs : goal.decreases-write_exprs
-decreases-write_exprs l = perOp * l.run.below + 3 * l.run.left + 1
+decreases-write_exprs l = per_op * l.run.below + 3 * l.run.left + 1
 
 abbrev pub decreases-write_items : goal.decreases-write_items
-decreases-write_items l = perOp * l.run.below + 3 * l.run.left + 3
+decreases-write_items l = per_op * l.run.below + 3 * l.run.left + 3
 
 abbrev pub decreases-write_op : goal.decreases-write_op
-decreases-write_op l = perOp * l.k + 3 * deepest + 4
+decreases-write_op l = per_op * l.k + 3 * deepest + 4
 
 abbrev pub decreases-write_part : goal.decreases-write_part
-decreases-write_part l = perOp * l.part.below + 3 * l.part.left + 1
+decreases-write_part l = per_op * l.part.below + 3 * l.part.left + 1
 
 abbrev pub decreases-write_parts : goal.decreases-write_parts
-decreases-write_parts l = perOp * l.parts.below + 3 * l.parts.left + 2
+decreases-write_parts l = per_op * l.parts.below + 3 * l.parts.left + 2
 
 abbrev pub invariant-measure_exprs-loop-due : goal.invariant-measure_exprs-loop-due
 invariant-measure_exprs-loop-due l = DueLaws.Going l.sheet l.a l.b l.ops l.rest l.run.below l.run.base l.run.left l.run.n l.run.i (on l.initial.plan l.initial.o) l.due l.i (on l.plan l.o)

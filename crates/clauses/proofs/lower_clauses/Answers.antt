@@ -1,0 +1,36 @@
+-- `clauses::lower_clauses` meets its contract.
+use mathlib.Core.Path.{◌∙◌}
+use Rattle.clauses.proofs.Room as Inputs
+use Rattle.clauses.proofs.Turning
+use mathlib.Core.Path.{◌≡◌, refl}
+use mathlib.Core.Option.{none}
+use lib.ListN.{length}
+use Rattle.model.specs.Kind.{clause}
+use Rattle.context.specs.Ops.{before_of}
+use Rattle.lower.specs.Rep.{mem}
+use Rattle.clauses.specs.Steps.{clause_turn, LowersClauses}
+use borrow.Author.Rules.{rules}
+use Rattle.clauses.proofs.lower_clauses.Goals as goal
+
+pub loop-m-init : goal.loop-m-init
+loop-m-init c = (Turning.from_nothing c.requires.held c.requires.ready, refl, refl)
+
+pub lower_clause-s-requires : goal.lower_clause-s-requires
+lower_clause-s-requires c =
+    let remaining = c.loop-m.invariant.0 in
+    record { words = c.requires.words; held = Turning.child c.loop-m-test.true remaining; ready = remaining.ready; depth = c.requires.depth; stands = Inputs.stands_under _ _ remaining.stands }
+
+pub loop-m-preserved : goal.loop-m-preserved
+loop-m-preserved c =
+    let kept = c.lower_clause-s.kept in
+    let again = Turning.again c.loop-m-test.true c.loop-m.invariant.0 (Turning.clause_turn_law c.lower_clause-s.ensures) in
+    (again, kept.1.1.1.0 ∙ c.loop-m.invariant.1, kept.1.1.1.1.0 ∙ c.loop-m.invariant.2)
+
+pub shape_of-ops : goal.shape_of-ops
+shape_of-ops c = c.loop-m.invariant.1
+
+pub shape_of-rest : goal.shape_of-rest
+shape_of-rest c = c.loop-m.invariant.2
+
+pub returns : goal.returns
+returns c = Turning.done c.loop-m-test.false c.loop-m.invariant.0
