@@ -21,9 +21,9 @@ lower_arm-s-requires c =
 
 pub loop-arms-preserved : goal.loop-arms-preserved
 loop-arms-preserved c =
-    let kept = c.lower_arm-s.kept in
+    let kept = c.lower_arm-s.auto in
     let again = Turning.again c.loop-arms-test.true c.loop-arms.invariant.0 c.lower_arm-s.ensures in
-    (again, kept.1.1.1.0 ∙ c.loop-arms.invariant.1, kept.1.1.1.1.0 ∙ c.loop-arms.invariant.2)
+    (again, kept.ops ∙ c.loop-arms.invariant.1, kept.rest ∙ c.loop-arms.invariant.2)
 
 pub shape_of-ops : goal.shape_of-ops
 shape_of-ops c = c.loop-arms.invariant.1

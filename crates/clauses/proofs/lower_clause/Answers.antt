@@ -26,7 +26,7 @@ lower_reading_clause-r-requires c =
     record {
       words = c.requires.words;
       held = c.requires.held;
-      c = λ e. c.if-kind-eq-WRITE.false (c.word-kind.ensures ∙ e);
+      reads = λ e. c.if-kind-eq-WRITE.false (c.word-kind.ensures ∙ e);
       ready = c.requires.ready;
       depth = c.requires.depth;
       stands = c.requires.stands;

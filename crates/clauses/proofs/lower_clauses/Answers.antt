@@ -22,9 +22,9 @@ lower_clause-s-requires c =
 
 pub loop-m-preserved : goal.loop-m-preserved
 loop-m-preserved c =
-    let kept = c.lower_clause-s.kept in
+    let kept = c.lower_clause-s.auto in
     let again = Turning.again c.loop-m-test.true c.loop-m.invariant.0 (Turning.clause_turn_law c.lower_clause-s.ensures) in
-    (again, kept.1.1.1.0 ∙ c.loop-m.invariant.1, kept.1.1.1.1.0 ∙ c.loop-m.invariant.2)
+    (again, kept.ops ∙ c.loop-m.invariant.1, kept.rest ∙ c.loop-m.invariant.2)
 
 pub shape_of-ops : goal.shape_of-ops
 shape_of-ops c = c.loop-m.invariant.1

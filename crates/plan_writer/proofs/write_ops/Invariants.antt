@@ -1,0 +1,12 @@
+-- `write_ops` meets its contract. Assumes nothing.
+use Rattle.plan_writer.proofs.WholeLaws
+use Rattle.output.specs.Page.{on}
+use Prim.Native.Nat.{◌-◌}
+use borrow.Author.Rules.{rules}
+use Rattle.plan_writer.proofs.write_ops.Given as goal
+
+abbrev pub invariant-loop-k : goal.invariant-loop-k
+invariant-loop-k l = WholeLaws.Writing l.sheet l.a l.b l.ops l.rest l.initial.k l.end (on l.initial.plan l.initial.o) l.k (on l.plan l.o)
+
+abbrev pub decreases-loop-k : goal.decreases-loop-k
+decreases-loop-k l = l.end - l.k
