@@ -1,14 +1,15 @@
 -- Short texts and the numbers that they are packed into: one tells the other, and the packing loop gathers it byte by byte. Assumes nothing.
 use mathlib.Core.Path.{◌≡◌, refl, sym, ap, ◌∙◌}
 use Prim.Native.Nat.{ℕ, zero, suc, ◌+◌, ◌*◌, ◌-◌, ◌/◌, ◌%◌, ◌^◌, ◌<◌, ◌≤◌}
-use mathlib.Core.Bool.{Bool, true, false, cond, not}
+use mathlib.Core.Bool.{Bool, true, false, cond}
 use mathlib.Core.List.{[], ◌∷◌, ◌++◌, append-nil}
 use native.Mathlib.Nat.{add-zero, mul-add-div_right, mul-add-mod_self_right, mod-eq_of_lt, div-eq_of_lt, pow-le-pow_right, pow-suc}
 use native.Mathlib.Omega.{arith}
-use borrow.Author.Tests.{lt-ltb, le-ltb, ltb-true, leb-true, le-leb, eqb-true, eqb-false, ne_eqb, not-true}
+use borrow.Author.Tests.{lt-ltb, le-ltb, ltb-true, leb-true, le-leb, eqb-true, eqb-false, ne_eqb}
 use lib.Dec.{ltb, leb, eqb}
 use lib.ListN.{length, get_or}
 use lib.Seq.{slice, slice_empty, length-slice}
+use Rattle.std.proofs.lemmas.Bool.{not_from_true, not_from_false}
 use Rattle.model.specs.Text.{Bytes, same}
 use Rattle.laws.specs.TextLaws.{and_left, and_right, same_sound, same_refl}
 use Rattle.words.specs.Table.{byte_values, max_keyword, pack_on, packed}
@@ -77,16 +78,14 @@ same_not s w h = go (same s w) refl
     go true e = absurd (h (same_sound s w e))
     go false e = refl
 
+packed_same : (s w : Bytes) → short s ≡ true → short w ≡ true → (t : Bool) → eqb (packed s) (packed w) ≡ t → t ≡ same s w
+packed_same s w h k true e =
+    let q : s ≡ w = sym (unpack s h) ∙ rw (eqb-true (packed s) (packed w) e) (unpack w k) in
+    rw q (sym (same_refl w))
+packed_same s w h k false e = sym (same_not s w (λ q. eqb-false _ _ e (ap packed q)))
+
 pub packed_tells : (s : Bytes) → short s ≡ true → Packed s (packed s)
-packed_tells s h =
-    record {
-      tells = λ w k.
-          let go : (t : Bool) → eqb (packed s) (packed w) ≡ t → t ≡ same s w = λ t. elim t [
-            | true ↦ (λ e. let q : s ≡ w = sym (unpack s h) ∙ rw (eqb-true (packed s) (packed w) e) (unpack w k) in rw q (sym (same_refl w)))
-            | false ↦ (λ e. sym (same_not s w (λ q. eqb-false _ _ e (ap packed q))))
-          ] in
-          go (eqb (packed s) (packed w)) refl;
-    }
+packed_tells s h = record { tells = λ w k. packed_same s w h k (eqb (packed s) (packed w)) refl }
 
 pub long_tells : (s : Bytes) → max_keyword < length s → Packed s 0
 long_tells s h =
@@ -134,19 +133,19 @@ module _ (s : Bytes) (p v i : ℕ) (g : Packing s p v i) (t : Bool) (e : t ≡ s
 
   -- ── the piece ends ──
 
-  pub pack_done : not t ≡ false → KeywordAt s p v i
+  pub pack_done : t ≡ true → KeywordAt s p v i
   unfolding short packed
   pack_done z =
       let plain : short (slice p i s) ≡ true = rw (le-leb (length (slice p i s)) max_keyword (omega (arith, counted, g.few))) g.bytes in
-      record { ends = pass_done s p i g.pass t e z; packed = rw g.is (packed_tells (slice p i s) plain) }
+      record { ends = pass_done s p i g.pass t e (not_from_true t z); packed = rw g.is (packed_tells (slice p i s) plain) }
 
   -- ── it goes on ──
 
-  module _ (z : not t ≡ true) where
+  module _ (z : t ≡ false) where
     -- with more than seven bytes
     pub pack_long : i ≡ p + max_keyword → (r : ℕ) → Ends s i r → KeywordAt s p 0 r
     pack_long q r h =
-        let past : separates (get_or s i 0) ≡ false = sym e ∙ not-true t z in
+        let past : separates (get_or s i 0) ≡ false = sym e ∙ z in
         let on : i < r = ends_later s i r h past in
         let whole = along_back s p i g.pass.along r h in
         record { ends = whole; packed = long_tells (slice p r s) (omega (arith, length-slice p r s (omega (arith, h.to)))) }
@@ -164,7 +163,7 @@ module _ (s : Bytes) (p v i : ℕ) (g : Packing s p v i) (t : Bool) (e : t ≡ s
           let one : slice p (i + 1) s ≡ slice p i s ++ (get_or s i 0 ∷ []) = slice_snoc p i s 0 from inside in
           let sum : i + 1 - p ≡ suc (i - p) = omega (arith, from) in
           record {
-            pass = pass_on s p i g.pass t e z;
+            pass = pass_on s p i g.pass t e (not_from_false t z);
             few = omega (arith, g.few, n);
             is = rw (one, pack_on_append, ← g.is, q);
             bytes = rw one (bytes_append (slice p i s) _ g.bytes (rw (← q, lt-ltb _ _ l)));

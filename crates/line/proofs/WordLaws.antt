@@ -23,7 +23,6 @@ use Rattle.record.specs.declared.OptDecimal.{OptDecimal}
 use Rattle.record.specs.declared.DecimalAt.{DecimalAt}
 use Rattle.record.specs.declared.OptDecimalAt.{OptDecimalAt}
 use Rattle.words.specs.Words.{field_of, option_of, two32}
-use Rattle.words.specs.Words
 use Rattle.laws.specs.PartLaws.{part_is}
 use Rattle.line.specs.FieldRead.{WordsOf, WordsFit, words_value, WordsAt, placed}
 use Rattle.line.specs.declared.field.FieldRead.{FieldRead}

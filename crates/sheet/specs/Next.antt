@@ -9,7 +9,7 @@ use Rattle.sheet.specs.Stack.{due_words, due_count_at, due_room_at}
 use Rattle.words.specs.Places.{write_kind, sort_count, line_start_at, children_at, line_end_at}
 use Rattle.model.specs.Text.{Bytes, line_feed, split}
 use Rattle.model.specs.Field.{Fields}
-use Rattle.model.specs.Kind.{Sort, Kind}
+use Rattle.model.specs.Kind.{Sort}
 use Rattle.model.specs.Record.{Rec, rec, forms, children, read_rec}
 use Rattle.model.specs.Sheet.{refused, read_line, or_else}
 use Rattle.model.specs.Refusal.{Refusal}

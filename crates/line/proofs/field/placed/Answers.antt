@@ -1,5 +1,4 @@
 -- `line::field::placed` meets its contract. Assumes nothing.
-use borrow.Author.Rules.{rules}
 use Rattle.line.proofs.field.placed.Goals as goal
 
 pub returns-in-Is : goal.returns-in-Is

@@ -1,6 +1,5 @@
 -- `line::group::count_in` meets its contract: what stands where the count does. Assumes nothing.
 use native.Mathlib.Omega.{arith}
-use borrow.Author.Rules.{rules}
 use Rattle.line.proofs.CountLaws.{fixed_is, word_among, word_is}
 use Rattle.line.proofs.group.count_in.Goals as goal
 

@@ -1,7 +1,6 @@
 -- `line::group::group_count` meets its contract: what stands where the count does. Assumes nothing.
 use mathlib.Core.Path.{◌∙◌}
 use Rattle.words.specs.Words.{part}
-use borrow.Author.Rules.{rules}
 use Rattle.line.proofs.CountLaws.{fixed_is, word_among, cell_is}
 use Rattle.line.proofs.group.group_count.Goals as goal
 

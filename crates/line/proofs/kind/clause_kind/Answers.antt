@@ -1,4 +1,5 @@
 -- `line::kind::clause_kind` meets its contract: the kind of each keyword of a clause. Assumes nothing.
+use borrow.Author.Rules.{rules}
 use Rattle.words.specs.Places.{match_kind}
 use Rattle.line.specs.Kinds.{keyed, keyed_from}
 use Rattle.line.proofs.KindLaws.{none_keyed}
@@ -34,4 +35,4 @@ returns-in-1612532249701 c = rw c.in-1612532249701.is
 
 pub returns-in_default : goal.returns-in_default
 unfolding keyed keyed_from
-returns-in_default c = none_keyed _ match_kind 7 c.in_default.in_default-own.rest
+returns-in_default c = none_keyed c.args.w match_kind 7 (search rules)

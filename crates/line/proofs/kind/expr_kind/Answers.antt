@@ -1,4 +1,5 @@
 -- `line::kind::expr_kind` meets its contract: the kind of each keyword of an expression. Assumes nothing.
+use borrow.Author.Rules.{rules}
 use Rattle.words.specs.Places.{null_kind}
 use Rattle.line.specs.Kinds.{keyed, keyed_from}
 use Rattle.line.proofs.KindLaws.{none_keyed}
@@ -94,4 +95,4 @@ returns-in-1603874874739 c = rw c.in-1603874874739.is
 
 pub returns-in_default : goal.returns-in_default
 unfolding keyed keyed_from
-returns-in_default c = none_keyed _ null_kind 22 c.in_default.in_default-own.rest
+returns-in_default c = none_keyed c.args.w null_kind 22 (search rules)

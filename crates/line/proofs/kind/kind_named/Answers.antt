@@ -49,4 +49,4 @@ returns-in-9 c s k = keyed_named entry_sort c.in-9.is (omega arith) k c.only-in-
 
 pub returns-in_default : goal.returns-in_default
 unfolding keyed keyed_from
-returns-in_default c s k = keyed_named expr_sort (last_is _ 10 c.requires c.in_default.in_default-own.rest) (omega arith) k c.expr_kind.ensures
+returns-in_default c s k = keyed_named expr_sort (last_is _ 10 c.requires (search rules)) (omega arith) k c.expr_kind.ensures

@@ -1,10 +1,8 @@
 -- `line::kind::read_keyword` meets its contract: a short text packs into a number that tells it from every other short text. The invariant: the bytes passed are packed. Assumes nothing.
-use Prim.Native.Nat.{◌-◌}
 use native.Mathlib.Omega.{arith}
-use lib.ListN.{length}
 use borrow.Author.Rules.{rules}
 use Rattle.record.proofs.PlaceLaws.{fed_in}
-use Rattle.line.proofs.PackLaws.{Packing, pack_none, pack_room, pack_more, pack_long, pack_done}
+use Rattle.line.proofs.PackLaws.{pack_none, pack_room, pack_more, pack_long, pack_done}
 use Rattle.line.proofs.kind.read_keyword.Goals as goal
 
 pub overflow_add-most : goal.overflow_add-most

@@ -1,11 +1,9 @@
 -- `line::read::read_fields` meets its contract: the fields, one by one. The invariant: what the fields left come to is what all come to. Assumes nothing.
-use Prim.Native.Nat.{ℕ, ◌<◌}
-use native.Mathlib.Omega.{arith}
-use lib.ListN.{length, length-set}
-use borrow.Author.Rules.{rules}
+use Prim.Native.Nat.{ℕ}
+use lib.ListN.{length}
 use Rattle.record.specs.Place.{LineEnd}
 use Rattle.words.specs.Table.{forms_from}
-use Rattle.line.proofs.FillLaws.{Filling, fill_start, fill_code, fill_in, fill_room, fill_less, fill_few, fill_line, fill_not, fill_more, fill_yes, fill_no}
+use Rattle.line.proofs.FillLaws.{Filling}
 use Rattle.line.proofs.read.read_fields.Given as goal
 
 abbrev pub invariant-loop-form : goal.invariant-loop-form

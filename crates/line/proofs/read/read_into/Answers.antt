@@ -1,5 +1,4 @@
 -- `line::read::read_into` meets its contract: a line in one of two slices. Assumes nothing.
-use borrow.Author.Rules.{rules}
 use Rattle.line.proofs.IntoLaws.{into_first, into_second}
 use Rattle.line.proofs.read.read_into.Goals as goal
 
