@@ -12,7 +12,7 @@ use Rattle.model.specs.Record.{Rec, rec, op_forms, spell_recs, inputs}
 use Rattle.model.specs.Tree.{Tree, records}
 use Rattle.model.specs.Sheet.{read_sheet, first_write}
 use Rattle.model.specs.Check.{Verdict, fine, precheck_statement}
-use Rattle.model.specs.Lower.{Recs, LowerCtx, op, lower, empty, lower_statement, at}
+use Rattle.model.specs.Lower.{Recs, LowerCtx, op, lower, empty, lower_statement}
 use Rattle.model.specs.Plan.{mapped_recs, first_rec, plan_sheet}
 use Rattle.model.specs.Refusal.{Refusal, values_of}
 use Rattle.model.specs.Call.{Outcome, Test, refuse, pass, then, test_write, test_check, test_plan, checked, planned, written, outcome, lower_call, max_depth, max_plan}
