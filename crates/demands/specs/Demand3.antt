@@ -29,10 +29,11 @@ use Rattle.alike.specs.Alike.{same_but_spans, mapped_paired, mapped_long, same_p
 use Rattle.alike.specs.Pairs.{first, second, tree_first, records_second, tree_of, place_of, reads_second, met}
 use Rattle.bounds.specs.Earlier.{All, ◌∷ᵃ◌, at_low}
 use Rattle.bounds.specs.Earlier as Bounds
-use Rattle.bounds.specs.Inputs.{earlier}
+use Rattle.bounds.proofs.Inputs.{earlier}
 use Rattle.bounds.specs.Ends.{Ending, ending_of, ends_on}
 use Rattle.bounds.specs.Root.{Newest, newest}
-use Rattle.bounds.specs.Ended.{Ended, nowhere, on, ends}
+use Rattle.bounds.specs.Ended.{Ended, nowhere, on}
+use Rattle.bounds.proofs.Ended.{ends}
 use Rattle.demands.specs.Sheets.{WellFormed, ReadOnly, answer, checked_from, checked_is}
 use Rattle.demands.specs.Demand1.{no_room, row_number, Tested, stops, goes_on, Planned, planned_tested}
 use Rattle.demands.specs.Operators.{from, by_number, operator_lines, by_number_newest, by_number_length, plan_by_number}

@@ -23,8 +23,8 @@ use Rattle.demands.specs.Sheets.{WellFormed, ReadOnly}
 use Rattle.demands.specs.Within.{Within, Checked, checked_within, both_fine, TakenExpr, NodeFirst, own_expr, own_elements}
 use Rattle.model.specs.Call.{record_count, record_operators, record_numbers, max_depth}
 use Rattle.laws.specs.SheetLaws.{sheet_sound}
-use Rattle.bounds.specs.Counts.{numbers_few, operators_few}
-use Rattle.bounds.specs.Ended.{or_else_none}
+use Rattle.bounds.proofs.Counts.{numbers_few, operators_few}
+use Rattle.bounds.proofs.Ended.{or_else_none}
 use Rattle.bounds.specs.Ends.{Ending}
 use Rattle.bounds.specs.Root.{Newest, newest, parts_ends}
 
