@@ -21,11 +21,11 @@ use Rattle.laws.specs.SheetLaws.{sheet_sound}
 use Rattle.alike.specs.Statement.{blank, ids, Stands, Named, LongEnough, RefusedAlike, Paired}
 use Rattle.alike.specs.Relation.{Tree~}
 use Rattle.alike.specs.Action.{Ctx~, ctx~}
-use Rattle.alike.specs.Lowering.{lower_statement~}
+use Rattle.alike.proofs.Lowering.{lower_statement~}
 use Rattle.alike.specs.Checking.{Verdict~, fine~, violated~, precheck_statement~, first_write~}
-use Rattle.alike.specs.Relating.{records~, standing, standing_one}
+use Rattle.alike.proofs.Relating.{records~, standing, standing_one}
 use Rattle.alike.specs.Reading.{Read, alike_read}
-use Rattle.alike.specs.Alike.{same_but_spans, mapped_paired, mapped_long, same_path}
+use Rattle.alike.proofs.Alike.{same_but_spans, mapped_paired, mapped_long, same_path}
 use Rattle.alike.specs.Pairs.{first, second, tree_first, records_second, tree_of, place_of, reads_second, met}
 use Rattle.bounds.specs.Earlier.{All, ◌∷ᵃ◌, at_low}
 use Rattle.bounds.specs.Earlier as Bounds
