@@ -98,7 +98,7 @@ pub data Demand3 (t u : Tree statement) (o p : Outcome) : Type 0 where
 
 -- ── the second sentence, of every call that accepts ──
 
--- the sheet is well-formed and read_only and passes the check, and its plan was written
+-- the sheet is well-formed and read-only and passes the check, and its plan was written
 pub record Accepted (sheet : Bytes) (o : Outcome) : Type 0 where
   pub tree : Tree statement
   pub well_formed : WellFormed sheet tree
