@@ -3,10 +3,8 @@ pub mod Relation
 pub mod Action
 pub mod Pattern
 pub mod Folding
-pub mod Lowering
 pub mod Checking
 pub mod Children
 pub mod Relating
 pub mod Reading
-pub mod Alike
 pub mod Pairs

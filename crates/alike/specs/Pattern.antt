@@ -1,5 +1,5 @@
 -- Patterns alike lower alike: elements, chains, special shortest parts and parts. Assumes nothing but the parameters: R, which joins the ids, and that R is one to one.
-use Rattle.std.specs.Prelude.{◌≡◌, Bool, eqb, length}
+use Rattle.std.specs.Prelude.{◌≡◌, Bool, eqb}
 use Rattle.std.proofs.Math.Path.{refl}
 use Prim.Native.Nat.{ℕ, zero, suc}
 use Rattle.std.proofs.Math.Bool.{true, false}

@@ -115,7 +115,7 @@ Named (node statement line k f (cs ▸ arms ▸ end)) = NamedClauses cs × Named
 
 -- ── the premises ──
 
--- S is well-formed and read_only, with the tree t; T has S's records line for line, the same but for spans and ids
+-- S is well-formed and read-only, with the tree t; T has S's records line for line, the same but for spans and ids
 pub record TwoSheets (S T : Bytes) (t : Tree statement) (rt : List Rec) : Type 0 where
   pub short_s : ListN.length S ≤ max_bytes
   pub behind : Place

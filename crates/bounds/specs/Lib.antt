@@ -4,7 +4,6 @@ pub mod Pattern
 pub mod Size
 pub mod Expr
 pub mod Clause
-pub mod Inputs
 pub mod Counts
 pub mod Ends
 pub mod Root

@@ -11,7 +11,7 @@ use Rattle.model.specs.Sheet.{Place, Reading, got, refused, read_sheet, first_wr
 use Rattle.model.specs.Refusal.{Refusal, accepted, values_of}
 use Rattle.model.specs.Check.{violated, precheck_statement}
 use Rattle.model.specs.Call.{Test, refuse, pass, then, short, test_work, test_bytes, test_reading, test_write, test_check, checked, Sized, refusal, figure, Figure, record_count, work_words, max_bytes, max_depth}
-use Rattle.bounds.specs.Counts as Counts
+use Rattle.bounds.proofs.Counts as Counts
 use Rattle.words.specs.Words.{max_records}
 use Rattle.words.specs.Held.{Held, HeldSome}
 use Rattle.laws.specs.SheetLaws.{sheet_sound}

@@ -181,7 +181,7 @@ module _ (R : ℕ → ℕ → Type 0) (one_to_one : (a b x y : ℕ) → R a b �
   lower_clauses~ : {n m : ℕ} {cs : Trees clause n} {ds : Trees clause m} → NamedClauses cs → Trees~ R clause n m cs ds → (current : Option ℕ) → Does~ R (lower_clauses cs current) (lower_clauses ds current)
   unfolding NamedClauses lower_clauses
   lower_clauses~ w []ᵗ~ current = ret~ R current
-  lower_clauses~ (w, ws) (c ∷ᵗ~ cs) current = then~ R (lower_clause~ w c current) λ left. lower_clauses~ ws cs left
+  lower_clauses~ w (c ∷ᵗ~ cs) current = then~ R (lower_clause~ w.0 c current) λ left. lower_clauses~ w.1 cs left
 
   -- ── the statement ──
 

@@ -6,7 +6,7 @@ use Rattle.model.specs.Lower.{at, empty, lower_statement}
 use Rattle.model.specs.Record.{inputs}
 use Rattle.bounds.specs.Earlier.{All, Earlier, []ᵉ, at_low}
 use Rattle.bounds.specs.Bounded.{Ordered, []ᶠ}
-use Rattle.bounds.specs.Clause.{lower✓}
+use Rattle.bounds.proofs.Clause.{lower✓}
 
 pub ordered_empty : Ordered empty
 unfolding empty

@@ -20,9 +20,9 @@ use Rattle.laws.specs.SheetLaws.{sheet_sound}
 use Rattle.alike.specs.Statement.{ids, Stands, TwoSheets, LongEnough, Paired, unpaired, pair, RefusedAlike, AcceptedAlike, AlikeOutcomes, refused_alike, accepted_alike}
 use Rattle.alike.specs.Relation.{Equal, equal, List~, []~, ◌∷~◌}
 use Rattle.alike.specs.Action.{Var~, var~, Ctx~, ctx~}
-use Rattle.alike.specs.Lowering.{lower_statement~}
+use Rattle.alike.proofs.Lowering.{lower_statement~}
 use Rattle.alike.specs.Checking.{Refusal~, unresolved~, undesugared~, empty_part~, Verdict~, fine~, violated~, precheck_statement~, first_write~}
-use Rattle.alike.specs.Relating.{records~, standing, standing_one}
+use Rattle.alike.proofs.Relating.{records~, standing, standing_one}
 use Rattle.alike.specs.Reading.{Read, alike_read}
 
 -- ── one call ──
