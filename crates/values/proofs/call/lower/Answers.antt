@@ -1,0 +1,15 @@
+-- `lower` meets its contract: the values of the call's answer. Assumes nothing.
+use Rattle.values.proofs.Numbers.{with_values}
+use mathlib.Core.Path.{ap}
+use native.Mathlib.Omega.{arith}
+use Rattle.model.specs.Refusal.{Answer}
+use Rattle.statement.specs.Fits.{answer_fits}
+use borrow.Author.Rules.{rules}
+use Rattle.values.proofs.call.lower.Goals as goal
+
+pub returns : goal.returns
+returns c =
+    record {
+      plan_after = with_values c.values_of.ensures c.lower_statement.ensures;
+      length_in_bounds = omega (arith, ap (λ (a : Answer). a.length) c.values_of.ensures, answer_fits _ _ _ _ _ c.lower_statement.ensures);
+    }
