@@ -3,14 +3,13 @@
 
   python3 oracle/compare.py DIR [--first N]      DIR has sheets, NAME.sheet: all of them, or the first N by name
 
-`compare answer DIR` (rust/compare) is asked for the Rust's answers, NAME.answer, unless they are all there. A scratch repository below
-target/ gets a copy of crates/model and a crate of equations `compute sheet slice ≡ what the Rust answered`, each proved by `refl`. Prints
-each sheet whose equation is refused, and the counts last. Exit status 1 where there is one.
+`compare answer DIR` (rust/compare) is asked for the Rust's answers, NAME.answer, unless they are all there. A scratch repository, which
+does not outlast the run, gets a copy of crates/model and a crate of equations `compute sheet slice ≡ what the Rust answered`, each proved
+by `refl`. Prints each sheet whose equation is refused, and the counts last. Exit status 1 where there is one.
 """
-import argparse, glob, os, re, shutil, subprocess, sys
+import argparse, glob, os, re, shutil, subprocess, sys, tempfile
 
 COMPARE = "target/rust/release/compare"
-SCRATCH = "target/oracle/compare"
 BATCH = 50
 
 
@@ -44,22 +43,26 @@ def main():
         raise SystemExit(f"{words.folder}: no sheets")
     if not all(os.path.exists(answer_to(path)) for path in sheets):
         subprocess.run([COMPARE, "answer", words.folder], check=True)
-    shutil.rmtree(SCRATCH, ignore_errors=True)
-    specs = f"{SCRATCH}/crates/compare/specs"
+    # Outside the repository, where `rt ci` allows no second crates.txt.
+    with tempfile.TemporaryDirectory(prefix="equations-") as scratch:
+        sys.exit(hold(sheets, scratch))
+
+
+def hold(sheets, scratch):
+    """Holds sheets in a scratch repository; 0 if no equation is refused."""
+    specs = f"{scratch}/crates/compare/specs"
     os.makedirs(specs)
-    os.makedirs(f"{SCRATCH}/crates/compare/src")
-    open(f"{SCRATCH}/crates/compare/src/lib.rt", "w").close()
-    shutil.copytree("crates/model", f"{SCRATCH}/crates/model", ignore=shutil.ignore_patterns("must-fail"))
-    open(f"{SCRATCH}/crates.txt", "w").write("model:\ncompare: model\n")
+    os.makedirs(f"{scratch}/crates/compare/src")
+    open(f"{scratch}/crates/compare/src/lib.rt", "w").write("// No code: the equations stand in specs/.\n#![tactic(auto)]\n")
+    shutil.copytree("crates/model", f"{scratch}/crates/model", ignore=shutil.ignore_patterns("must-fail", "out"))
+    open(f"{scratch}/crates.txt", "w").write("model:\ncompare: model\n")
     names, modules = {}, []
     for at in range(0, len(sheets), BATCH):
         module = f"Batch{at // BATCH}"
         modules.append(module)
         text = [
-            "use mathlib.Core.Path.{_≡_, refl}",
-            "use mathlib.Core.List.{List, [], _∷_}",
-            "use lib.ListN.{replicate}",
-            "use Rattle·model.specs.Examples.{compute}",
+            "use Rattle.std.specs.Prelude.{◌≡◌, refl, [], ◌∷◌, replicate}",
+            "use Rattle.model.specs.Examples.{compute}",
             "",
         ]
         for i, path in enumerate(sheets[at : at + BATCH]):
@@ -69,7 +72,7 @@ def main():
             text.append(equation(name, open(path, "rb").read(), answer))
         open(f"{specs}/{module}.antt", "w").write("\n".join(text))
     open(f"{specs}/Lib.antt", "w").write("".join(f"pub mod {m}\n" for m in modules))
-    r = subprocess.run(["rt", "check", "compare"], cwd=SCRATCH, capture_output=True, text=True)
+    r = subprocess.run(["rt", "check"], cwd=f"{scratch}/crates/compare", capture_output=True, text=True)
     out = r.stdout + r.stderr
     bad = set()
     for m in re.finditer(r"(Batch\d+)\.antt:\d+:\d+: error: `(e\d+)`", out):
@@ -79,7 +82,7 @@ def main():
     if r.returncode and not bad:
         print(out[-3000:])
     print(f"{len(sheets)} sheets, {len(bad)} differences" + ("" if r.returncode == 0 or bad else ", check failed"))
-    sys.exit(1 if r.returncode else 0)
+    return 1 if r.returncode else 0
 
 
 main()

@@ -12,8 +12,9 @@ if ! command -v rt >/dev/null; then
     exit 1
 fi
 folder=target/staticlib
-rt staticlib library >&2
-cp "$folder/liblibrary.a" "$folder/libdresserhawk.a.new"
+(cd crates/library_c && rt lib) >&2
+mkdir -p "$folder"
+cp crates/library_c/out/liblibrary_c.a "$folder/libdresserhawk.a.new"
 rt version >"$folder/libdresserhawk.kit"
 mv "$folder/libdresserhawk.a.new" "$folder/libdresserhawk.a"
 if ! cmp -s kit.txt "$folder/libdresserhawk.kit"; then

@@ -10,7 +10,7 @@ It looks at every file *.md of the repository, in all folders but target/. In ea
 - the blocks that begin with ```sh. Each runs in a shell of its own at the repository's root. Every command has to
   end with status 0, in a pipe each program of it. A block that begins with ```text, with nothing but empty lines
   between it and the ```sh block before it, is what that block prints on standard output.
-- commands in the text, as `rt check plan`, and in a ```text block that nothing prints, as compare one FILE: a
+- commands in the text, as `rt all check`, and in a ```text block that nothing prints, as compare one FILE: a
   program of PROGRAMS and at least one word behind it. Its words, up to one that stands for something else (NAME,
   [..], ..), have to be words, in this order, of a command that is run or held; or rt's help has them. A script
   that is named by itself, as `tools/archive.sh`, has to be there.
@@ -28,7 +28,7 @@ other is a fault:
   # needs valgrind         the same where there is no valgrind
   # ends with status N     it has to end with this status
 
-A command must not change a file of the repository. Where a command uses target/bin/plan, `rt check plan` is run
+A command must not change a file of the repository. Where a command uses target/bin/plan, tools/plan.sh is run
 first, and where one uses the archive, tools/archive.sh if there is none. Behind `rt ci` that takes a second. In a
 clone where nothing is proved it proves, which takes minutes: the documents' commands are of no use without the
 program, so they are not left out there. The command `dresserhawk` is looked for where cargo puts it.
@@ -44,8 +44,8 @@ import sys
 import time
 
 ROOT = pathlib.Path(__file__).resolve().parent.parent
-# What runs these tests, and what that runs: here a command stands that is held.
-GATE = [".ci/run", "tools/archive.sh"]
+# What runs these tests, and what that or they run: the first has the commands that are held.
+GATE = [".ci/run", "tools/archive.sh", "tools/plan.sh"]
 # A block that takes longer than this, in seconds, is ended: all documents together are to take under two minutes.
 LONGEST = 300
 # What the commands use of what rt makes.
@@ -54,7 +54,7 @@ PLAN, ARCHIVE = "target/bin/plan", "target/staticlib/libdresserhawk.a"
 NAMES = ("sh", "text", "c", "rust", "toml")
 PROGRAMS = ("rt", "cargo", "rustc", "python3", "bash", "make", "cc", "git", "dresserhawk", "compare", "valgrind",
             "callgrind_annotate", "ulimit", "nm")
-SCRIPT = re.compile(r"((tools|oracle|rust)/\w+\.(py|sh)|\.ci/\w+|tools/proof)$")
+SCRIPT = re.compile(r"((tools|oracle|rust)/\w+\.(py|sh)|\.ci/\w+)$")
 SET_OFF = re.compile(r" {4}(\$ |\(?cd |target/|tools/|(" + "|".join(PROGRAMS) + ") )")
 FENCE = re.compile(r"( *)```(.*)$")
 SPAN = re.compile(r"(?<!`)`([^`]+)`(?!`)")
@@ -64,7 +64,7 @@ HELD = "# run by .ci/run"
 STATUS = re.compile(r"# ends with status (\d+)$")
 NEEDS = {"# needs cyrs": "no cyrs at hand", "# needs valgrind": "no valgrind"}
 # The gate and what it runs: such a command is held, and would not end here.
-GATES = (["rt", "ci"], ["rt", "prove"], ["cargo", "test"], [".ci/run"])
+GATES = (["rt", "ci"], ["cargo", "test"], [".ci/run"])
 SET_BY_CARGO = ("CARGO_PKG_", "CARGO_MANIFEST_", "CARGO_BIN_", "CARGO_CRATE_")
 
 
@@ -256,7 +256,15 @@ def is_of(words, command):
 
 @functools.cache
 def help_of_rt():
-    return subprocess.run(["rt"], capture_output=True, text=True).stdout if shutil.which("rt") else ""
+    """The commands that rt's help has, each as its words: `rt check|run [NAME]` is two, `rt all [check|test]` two."""
+    text = subprocess.run(["rt", "help"], capture_output=True, text=True).stderr if shutil.which("rt") else ""
+    found = set()
+    for line in text.splitlines():
+        if usage := re.match(r"(?:usage:)? *rt ([a-z|-]+)(?: \[([a-z|]+)\])?", line):
+            commands, kinds = (part.split("|") if part else [] for part in usage.groups())
+            found |= {(command, *kind) for command in commands for kind in ([], *([each] for each in kinds))}
+            found |= {(command, option) for command in commands for option in re.findall(r"\[(--[a-z-]+)", line)}
+    return found
 
 
 def stale(words, ran):
@@ -269,7 +277,7 @@ def stale(words, ran):
         return False
     sure = next((at for at, word in enumerate(words) if ANY.match(word)), len(words))
     words = words[:sure]
-    return not any(is_of(words, command) for command in ran) and not (words[0] == "rt" and " ".join(words) in help_of_rt())
+    return not any(is_of(words, command) for command in ran) and not (words[0] == "rt" and tuple(words[1:]) in help_of_rt())
 
 
 def environment():
@@ -315,7 +323,7 @@ def run(block, script):
 def prepare(paths):
     """Makes what the commands use: the program each time, the archive if it is not there."""
     used = "".join(path.read_text(encoding="utf-8") for path in paths)
-    makers = [["rt", "check", "plan"]] if PLAN in used else []
+    makers = [["tools/plan.sh"]] if PLAN in used else []
     makers += [["tools/archive.sh"]] if ARCHIVE in used and not (ROOT / ARCHIVE).exists() else []
     for maker in makers:
         made = subprocess.run(maker, cwd=ROOT, capture_output=True, text=True)

@@ -5,7 +5,7 @@
 """
 import re, subprocess, sys
 
-r = subprocess.run(["rt", "check", "model"], capture_output=True, text=True)
+r = subprocess.run(["rt", "check"], cwd="crates/model", capture_output=True, text=True)
 if r.returncode:
     print(r.stdout + r.stderr)
     sys.exit(r.returncode)

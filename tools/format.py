@@ -9,16 +9,16 @@ SPEC = open("crates/model/specs/Record.antt", encoding="utf-8").read()
 PAGE = open("docs/FORMAT.md", encoding="utf-8").read()
 
 # what a table calls a type: the forms of the definitions, where they have another name
-TYPES = {"id": "var", "id?": "varOrAbsent", "op": "opId", "op?": "numberOrAbsent operator", "variable": "varId"}
+TYPES = {"id": "var", "id?": "var_or_absent", "op": "op_id", "op?": "number_or_absent operator", "variable": "var_id"}
 # what a table calls a group of children: their sorts in the statement sheet and in the plan sheet
 SORTS = {
-    "clauses": ("clause", None), "arms": ("unionArm", None), "parts": ("patternPart", None),
-    "items": ("projection", "planProjection"), "keys": ("orderItem", "orderKey"), "yields": ("yieldItem", "yieldItem"),
-    "elements": ("patternElement", "pathElement"), "labels": ("name", "name"), "types": ("name", "name"),
-    "operators": (None, "readOp"), "mapped": (None, "mapped"), "aggs": (None, "aggExpr"),
+    "clauses": ("clause", None), "arms": ("union_arm", None), "parts": ("pattern_part", None),
+    "items": ("projection", "plan_projection"), "keys": ("order_item", "order_key"), "yields": ("yield_item", "yield_item"),
+    "elements": ("pattern_element", "path_element"), "labels": ("name", "name"), "types": ("name", "name"),
+    "operators": (None, "read_op"), "mapped": (None, "mapped"), "aggs": (None, "agg_expr"),
 }
 ONES = {"one expression": "1", "two expressions": "2"}
-ALONE = {"one `rel`": "relSpec:1", "one `to`": "nodeSpec:1", "one operator, copied whole": "readOp:1"}
+ALONE = {"one `rel`": "rel_spec:1", "one `to`": "node_spec:1", "one operator, copied whole": "read_op:1"}
 
 
 def definition(function):
@@ -34,8 +34,8 @@ def forms(right):
 def groups(right):
     """Children as sort:count, an expression's sort being `expr` in both sheets."""
     out = []
-    for sort, count in re.findall(r"\((?:inPlan )?(\w+)?, ((?:[^()]|\([^()]*\))*)\)", right.replace("(inPlan ", "(")):
-        sort = "expr" if sort == "planExpr" else sort
+    for sort, count in re.findall(r"\((?:in_plan )?(\w+)?, ((?:[^()]|\([^()]*\))*)\)", right.replace("(in_plan ", "(")):
+        sort = "expr" if sort == "plan_expr" else sort
         for term in terms(count):
             out.append(f"{sort}:{term}")
     return out
@@ -54,17 +54,17 @@ def records():
         table[sheet][re.search('"(.*)"', keyword).group(1)] = (names, forms(right), children)
 
     arity = definition("arity")
-    for kind, (comment, right) in definition("sameForms").items():
-        add("statement", definition("sameKeyword")[kind][1], comment, right, [f"expr:{t}" for t in terms(arity[kind][1])])
-    for sheet, some in (("statement", ("expr", "clause", "element")), ("plan", ("op", "planExpr"))):
+    for kind, (comment, right) in definition("same_forms").items():
+        add("statement", definition("same_keyword")[kind][1], comment, right, [f"expr:{t}" for t in terms(arity[kind][1])])
+    for sheet, some in (("statement", ("expr", "clause", "element")), ("plan", ("op", "plan_expr"))):
         for of in some:
-            for kind, (comment, right) in definition(of + "Forms").items():
+            for kind, (comment, right) in definition(of + "_forms").items():
                 if kind == "Over":
                     continue
-                add(sheet, definition(of + "Keyword")[kind][1], comment, right, groups(definition(of + "Children")[kind][1]))
-    for sheet, f, k, c in (("statement", "forms", "keyword", "children"), ("plan", "planForms", "planKeyword", "planChildren")):
+                add(sheet, definition(of + "_keyword")[kind][1], comment, right, groups(definition(of + "_children")[kind][1]))
+    for sheet, f, k, c in (("statement", "forms", "keyword", "children"), ("plan", "plan_forms", "plan_keyword", "plan_children")):
         for sort, (comment, right) in definition(f).items():
-            if "∷" in right and sort not in ("entry", "planEntry"):
+            if "∷" in right and sort not in ("entry", "plan_entry"):
                 add(sheet, definition(k)[sort][1], comment, right, groups(definition(c)[sort][1]))
     # records of the statement sheet that stand in the plan sheet too; a yield's variable has its number there
     table["plan"]["name"] = table["statement"]["name"]

@@ -4,7 +4,7 @@
     python3 tools/growth.py [--page docs/PERFORMANCE.md] [--quick]
 
 makes sheets of many shapes, each in three sizes, has valgrind's callgrind count
-the instructions of target/bin/plan on each (`rt check plan` makes it), and
+the instructions of target/bin/plan on each (tools/plan.sh makes it), and
 prints them for one record of the sheet and for one byte read or written, less
 what the program needs for a sheet with no clause. A record's cost rises with the
 length of the plan lines that it makes (numbers get more digits, copies nest);

@@ -1,7 +1,7 @@
 -- What a text of a list of cases stands for. Assumes nothing: these are definitions.
-use Rattle.std.specs.Prelude.{cond, [], ◌∷◌, ◌++◌, ℕ, zero, suc, ◌+◌, ◌-◌, ltb, length, take, drop}
+use Rattle.std.specs.Prelude.{◌==◌, cond, [], ◌∷◌, ◌++◌, ℕ, zero, suc, ◌+◌, ◌-◌, ltb, length, take, drop}
+use Rattle.std.specs.List.{position_or_len}
 use Rattle.std.proofs.Math.Option.{Option, none, some}
-use Rattle.bytes.specs.Bytes.{index_of, slice}
 use Rattle.model.specs.Text.{Bytes}
 use Rattle.model.specs.Field.{Form, read}
 use Rattle.model.specs.Call.{max_bytes}
@@ -11,9 +11,9 @@ unfoldable pub again : ℕ → Bytes → Bytes
 again zero t = []
 again (suc n) t = again n t ++ t
 
--- where a byte stands next; behind a text it stands everywhere
+-- where a byte stands next, or where the text ends; behind a text it stands everywhere
 unfoldable pub place : ℕ → ℕ → Bytes → ℕ
-place b at t = cond (ltb (length t) at) at (at + index_of b (slice at (length t) t))
+place b at t = at + position_or_len (λ x. x == b) (drop at t)
 
 abbrev pub star : ℕ
 star = 42

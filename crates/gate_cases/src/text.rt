@@ -4,7 +4,6 @@ ghost use Rattle.model.specs.Call.{max_bytes};
 ghost use Rattle.output.specs.Page.{on, Puts};
 ghost use Rattle.gate_cases.specs.Text.{again, place, sheet_of};
 
-use bytes::scan::find;
 use output::put_part;
 use record::Decimal;
 use record::number::decimal;
@@ -14,10 +13,11 @@ pub fn next(text: &[u8], at: usize, byte: u8) -> usize
     ensures value { result ≡ place byte at text.now }
     ensures lower_bound { (at ≤ result) × (result ≤ at + length text.now) }
 {
-    if at > text.len() {
-        return at;
+    let mut i = at;
+    while i < text.len() && text[i] != byte {
+        i += 1;
     }
-    find(text, at, text.len(), byte)
+    i
 }
 
 // A text so many times.

@@ -5,7 +5,9 @@ ghost use Rattle.std.specs.Prelude.{◌≤◌, ◌<◌, length};
 ghost use Rattle.gate_replay.specs.File.{file_bytes};
 
 use gate_cases::text::next;
-use libc::{STDIN_FILENO, STDOUT_FILENO};
+use input::read_full;
+use std::io;
+use std::io::Write;
 use values::call::lower;
 use values::text::write_values;
 
@@ -34,43 +36,61 @@ fn sheet_end(file: &[u8], at: usize) -> usize
 }
 
 // The answer to a sheet and its plan, which is empty for a refused one.
-fn show(sheet: &[u8], a: &mut [u32], b: &mut [u32], c: &mut [u32], d: &mut [u32], plan: &mut [u8]) {
+fn show<W: Write>(
+    out: &mut W,
+    sheet: &[u8],
+    a: &mut [u32],
+    b: &mut [u32],
+    c: &mut [u32],
+    d: &mut [u32],
+    plan: &mut [u8],
+) -> io::Result<()> {
     let v = lower(sheet, a, b, c, d, plan);
     let n = v.length;
     let mut line = [0u8; VALUES_BYTES];
     let k = write_values(&mut line, b' ', v);
-    io::write_all(STDOUT_FILENO, b"answer");
-    io::write_all(STDOUT_FILENO, &line[0..k]);
-    io::write_all(STDOUT_FILENO, b"\n");
-    io::write_all(STDOUT_FILENO, &plan[0..n]);
+    out.write_all(b"answer")?;
+    out.write_all(&line[0..k])?;
+    out.write_all(b"\n")?;
+    out.write_all(&plan[0..n])
 }
 
 // All sheets. The slices are not cleared between them.
-fn show_all(
+fn show_all<W: Write>(
+    out: &mut W,
     file: &[u8],
     a: &mut [u32],
     b: &mut [u32],
     c: &mut [u32],
     d: &mut [u32],
     plan: &mut [u8],
-)
+) -> io::Result<()>
     requires { length file.now ≤ file_bytes }
 {
     let mut at = 0;
     while at < file.len() {
         let end = sheet_end(file, at);
-        show(&file[at..end], a, b, c, d, plan);
+        show(out, &file[at..end], a, b, c, d, plan)?;
         at = end + 1;
     }
+    Ok(())
 }
 
-fn main() {
+fn main(rt: HostRuntime) -> io::Result<()> {
     let mut file = [0u8; FILE_BYTES];
     let mut a = [0u32; words::WORK_WORDS];
     let mut b = [0u32; words::WORK_WORDS];
     let mut c = [0u32; words::WORK_WORDS];
     let mut d = [0u32; words::WORK_WORDS];
     let mut plan = [0u8; PLAN_BYTES];
-    let n = io::read_full(STDIN_FILENO, &mut file);
-    show_all(&file[0..n], &mut a, &mut b, &mut c, &mut d, &mut plan);
+    let n = read_full(&mut rt.stdin(), &mut file)?;
+    show_all(
+        &mut rt.stdout(),
+        &file[0..n],
+        &mut a,
+        &mut b,
+        &mut c,
+        &mut d,
+        &mut plan,
+    )
 }

@@ -1,4 +1,4 @@
-// The calls for programs in other languages: numbers and slices, and the answer as six words.
+// The calls as numbers and slices, with the answer as six words: `library_c` exports them to programs in other languages.
 #![tactic(auto)]
 
 ghost use Rattle.std.specs.Prelude.{◌≡◌, [], ◌∷◌, ◌≤◌, length, drop};
@@ -63,8 +63,7 @@ fn put_answer(answer: &mut [usize], v: Values)
 }
 
 // The sizing call. False, with nothing written, if the answer has no room for six words.
-#[unsafe(no_mangle)]
-pub extern "C" fn dresserhawk_size(
+pub fn dresserhawk_size(
     sheet: &[u8],
     a: &mut [u32],
     b: &mut [u32],
@@ -82,8 +81,7 @@ pub extern "C" fn dresserhawk_size(
 }
 
 // The lowering call, with the plan in its slice. False, with nothing written, if the answer has no room for six words.
-#[unsafe(no_mangle)]
-pub extern "C" fn dresserhawk_lower(
+pub fn dresserhawk_lower(
     sheet: &[u8],
     a: &mut [u32],
     b: &mut [u32],

@@ -1,23 +1,32 @@
 // The lowering call on a sheet from standard input: prints the plan sheet, or one line that says how the sheet is refused.
 #![tactic(auto)]
 
-use libc::{STDIN_FILENO, STDOUT_FILENO};
+use input::read_full;
+use std::io;
+use std::io::Write;
 use values::call::lower;
 use values::refusal;
 use values::text::write_refusal;
 
 // The plan, or a refusal, parted as a sheet's fields are; a refusal leaves the plan's slice free for its line.
-fn show(sheet: &[u8], a: &mut [u32], b: &mut [u32], c: &mut [u32], d: &mut [u32], plan: &mut [u8]) {
+fn show<W: Write>(
+    out: &mut W,
+    sheet: &[u8],
+    a: &mut [u32],
+    b: &mut [u32],
+    c: &mut [u32],
+    d: &mut [u32],
+    plan: &mut [u8],
+) -> io::Result<()> {
     let v = lower(sheet, a, b, c, d, plan);
     if v.number != refusal::ACCEPTED {
         let n = write_refusal(plan, b'\t', v);
-        io::write_all(STDOUT_FILENO, b"refused");
-        io::write_all(STDOUT_FILENO, &plan[0..n]);
-        io::write_all(STDOUT_FILENO, b"\n");
-        return;
+        out.write_all(b"refused")?;
+        out.write_all(&plan[0..n])?;
+        return out.write_all(b"\n");
     }
     let n = v.length;
-    io::write_all(STDOUT_FILENO, &plan[0..n]);
+    out.write_all(&plan[0..n])
 }
 
 // One byte more than a sheet may have, so that a longer one is refused however long it is.
@@ -26,13 +35,21 @@ const SHEET_BYTES: usize = words::MAX_BYTES + 1;
 // The plan's slice.
 const PLAN_BYTES: usize = 65536;
 
-fn main() {
+fn main(rt: HostRuntime) -> io::Result<()> {
     let mut sheet = [0u8; SHEET_BYTES];
     let mut a = [0u32; words::WORK_WORDS];
     let mut b = [0u32; words::WORK_WORDS];
     let mut c = [0u32; words::WORK_WORDS];
     let mut d = [0u32; words::WORK_WORDS];
     let mut plan = [0u8; PLAN_BYTES];
-    let n = io::read_full(STDIN_FILENO, &mut sheet);
-    show(&sheet[0..n], &mut a, &mut b, &mut c, &mut d, &mut plan);
+    let n = read_full(&mut rt.stdin(), &mut sheet)?;
+    show(
+        &mut rt.stdout(),
+        &sheet[0..n],
+        &mut a,
+        &mut b,
+        &mut c,
+        &mut d,
+        &mut plan,
+    )
 }

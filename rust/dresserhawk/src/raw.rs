@@ -1,7 +1,7 @@
 //! The exported calls as they are, on slices of any length.
 //!
 //! These are the only declarations of them, and the only unsafe code of the
-//! library; a test holds their text against crates/library/src/lib.rt. A slice
+//! library; a test holds their text against crates/library_c/src/lib.rt. A slice
 //! passes as a pointer and a length. The calls ask nothing of their arguments, so
 //! any slices do; Rust's own rule that two `&mut` never overlap is all they need.
 

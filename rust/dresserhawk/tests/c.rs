@@ -5,7 +5,7 @@ use std::path::PathBuf;
 use std::process::{Command, Stdio};
 
 const C: &str = concat!(env!("CARGO_MANIFEST_DIR"), "/../../c");
-const EXPORTED: &str = include_str!("../../../crates/library/src/lib.rt");
+const EXPORTED: &str = include_str!("../../../crates/library_c/src/lib.rt");
 const HEADER: &str = include_str!("../../../c/dresserhawk.h");
 const RAW: &str = include_str!("../src/raw.rs");
 
@@ -76,7 +76,7 @@ struct Exported {
     slices: Vec<(&'static str, &'static str)>,
 }
 
-/// What crates/library exports.
+/// What crates/library_c exports.
 fn exported() -> Vec<Exported> {
     let heads = EXPORTED.split("pub extern \"C\" fn ").skip(1);
     heads

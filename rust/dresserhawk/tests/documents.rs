@@ -124,7 +124,7 @@ fn a_command_that_went_stale_is_found() {
         ("named", "`rt ci`, `echo b`\n\n```sh\necho a b\ntrue; make -v\n```\n`make -v`\n", None),
         (
             "for another",
-            "`rt must-fail NAME`, `rt staticlib library`, `rt check [NAME...]`\n",
+            "`rt must-fail NAME`, `rt lib`, `rt all check`, `rt check [NAME...]`\n",
             None,
         ),
         (

@@ -9,15 +9,25 @@ use std::process::Command;
 const ROOT: &str = concat!(env!("CARGO_MANIFEST_DIR"), "/../..");
 
 /// What the scripts use besides.
-const TOOLS: [&str; 15] = [
-    "bash", "env", "dirname", "mktemp", "tee", "tail", "rm", "cp", "mv", "cat", "cmp", "mkdir",
-    "make", "python3", "valgrind",
+const TOOLS: [&str; 16] = [
+    "bash", "env", "dirname", "mktemp", "tee", "tail", "grep", "rm", "cp", "mv", "cat", "cmp",
+    "mkdir", "make", "python3", "valgrind",
 ];
 
 const RT: &str = r#"#!/bin/bash
 case "$1" in
-ci) echo "rt: proving"; echo "5 passed, ${FAILED:-0} failed"; exit "${CI_STATUS:-0}" ;;
-staticlib) echo "rt $*" >>called; mkdir -p target/staticlib; echo archive >target/staticlib/liblibrary.a ;;
+ci)
+    [ $# -eq 1 ] || exit 2
+    echo "rt: proving"
+    [ "${CI_STATUS:-0}" -ne 0 ] || echo "rt: ok; handles allowed: none; must-fail edits: 9 refused${BAD:-}; all"
+    echo "5 passed, ${FAILED:-0} failed"
+    exit "${CI_STATUS:-0}"
+    ;;
+lib)
+    echo "rt $* in ${PWD##*/}" >>../../called
+    mkdir -p out
+    echo archive >out/liblibrary_c.a
+    ;;
 version) echo "${KIT:-kit 1}" ;;
 esac
 "#;
@@ -36,7 +46,7 @@ fn program(path: &Path, text: &str) {
 fn scene(name: &str, cargo: bool) -> PathBuf {
     let scene = PathBuf::from(env!("CARGO_TARGET_TMPDIR")).join("gate").join(name);
     let _ = fs::remove_dir_all(&scene);
-    for folder in [".ci", "tools", "rust", "bin", "cyrs/crates"] {
+    for folder in [".ci", "tools", "rust", "bin", "crates/library_c", "cyrs/crates"] {
         fs::create_dir_all(scene.join(folder)).expect("made");
     }
     for file in [".ci/run", "tools/archive.sh"] {
@@ -92,7 +102,7 @@ fn all_tests_follow_a_gate_that_passes() {
     let cyrs = scene.join("cyrs").display().to_string();
     let ended = gate(&scene, &[("CYRS_SRC", &cyrs)]);
     assert_eq!((ended.status, ended.last()), (0, "5 passed, 0 failed"), "{}", ended.said);
-    let due = "rt staticlib library\ncargo test --release -p dresserhawk libdresserhawk.a\n\
+    let due = "rt lib in library_c\ncargo test --release -p dresserhawk libdresserhawk.a\n\
                cargo test --release -p cyrs-sheet -p compare libdresserhawk.a\n";
     assert_eq!(ended.called, due);
     assert!(!ended.said.contains("last proved with"), "{}", ended.said);
@@ -107,6 +117,18 @@ fn a_gate_that_does_not_pass_ends_as_rt_does() {
             (ended.status.to_string().as_str(), ended.last()),
             (status, "5 passed, 1 failed")
         );
+        assert_eq!(ended.called, "", "nothing is tested then");
+    }
+}
+
+/// `rt ci` passes an edit that it could not try. The gate does not.
+#[test]
+fn a_bad_edit_fails_the_gate() {
+    let scene = scene("bad-edit", true);
+    for bad in [", 1 bad", ", 2 of them only by a limit, 12 bad"] {
+        let ended = gate(&scene, &[("BAD", bad)]);
+        assert_eq!(ended.status, 1, "{}", ended.said);
+        assert!(!ended.last().contains("passed, 0 failed"), "{}", ended.said);
         assert_eq!(ended.called, "", "nothing is tested then");
     }
 }

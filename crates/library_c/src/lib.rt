@@ -1,0 +1,37 @@
+// The calls of `library` as C names them: the archive for programs in other languages. A slice is passed as a pointer and a length.
+#![tactic(auto)]
+
+ghost use Rattle.std.specs.Prelude.{◌≡◌, [], ◌∷◌, length};
+ghost use Rattle.model.specs.Call.{SizeCall, lower_call};
+ghost use Rattle.library.specs.Told.{Told, Lowers};
+
+// The sizing call. False, with nothing written, if the answer has no room for six words.
+#[unsafe(no_mangle)]
+pub extern "C" fn dresserhawk_size(
+    sheet: &[u8],
+    a: &mut [u32],
+    b: &mut [u32],
+    c: &mut [u32],
+    d: &mut [u32],
+    answer: &mut [usize],
+) -> bool
+    ensures { Told (SizeCall (length a.old ∷ length b.old ∷ length c.old ∷ length d.old ∷ []) sheet.now) answer.old answer.new result }
+{
+    library::dresserhawk_size(sheet, a, b, c, d, answer)
+}
+
+// The lowering call, with the plan in its slice. False, with nothing written, if the answer has no room for six words.
+#[unsafe(no_mangle)]
+pub extern "C" fn dresserhawk_lower(
+    sheet: &[u8],
+    a: &mut [u32],
+    b: &mut [u32],
+    c: &mut [u32],
+    d: &mut [u32],
+    plan: &mut [u8],
+    answer: &mut [usize],
+) -> bool
+    ensures { Lowers (lower_call (length a.old ∷ length b.old ∷ length c.old ∷ length d.old ∷ []) sheet.now plan.old) plan.old plan.new answer.old answer.new result }
+{
+    library::dresserhawk_lower(sheet, a, b, c, d, plan, answer)
+}
