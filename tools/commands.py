@@ -54,7 +54,7 @@ PLAN, ARCHIVE = "target/bin/plan", "target/staticlib/libdresserhawk.a"
 NAMES = ("sh", "text", "c", "rust", "toml")
 PROGRAMS = ("rt", "cargo", "rustc", "python3", "bash", "make", "cc", "git", "dresserhawk", "compare", "valgrind",
             "callgrind_annotate", "ulimit", "nm")
-SCRIPT = re.compile(r"((tools|oracle|rust)/\w+\.(py|sh)|\.ci/\w+)$")
+SCRIPT = re.compile(r"((tools|oracle|rust)/\w+\.(py|sh)|\.ci/\w+|tools/proof)$")
 SET_OFF = re.compile(r" {4}(\$ |\(?cd |target/|tools/|(" + "|".join(PROGRAMS) + ") )")
 FENCE = re.compile(r"( *)```(.*)$")
 SPAN = re.compile(r"(?<!`)`([^`]+)`(?!`)")
