@@ -9,4 +9,7 @@ pub mod Check
 pub mod Lower
 pub mod Plan
 pub mod Call
+pub mod Side
+pub mod Pair
 pub mod Examples
+pub mod PairExamples

@@ -600,3 +600,25 @@ empty = record { ops = []; scope = record { vars = []; next_var = 0 } }
 
 unfoldable pub lower_statement : Tree statement → LowerCtx
 lower_statement t = (lower t empty).1
+
+-- ── two statements ──
+
+-- the variables are forgotten; the next number and the operators stay
+abbrev pub without_vars : LowerCtx → LowerCtx
+without_vars c = record { ops = c.ops; scope = record { vars = []; next_var = c.scope.next_var } }
+
+unfoldable pub forget_vars : Lowering (Unit {0})
+forget_vars = λ c. (tt, without_vars c)
+
+-- the number of the `union` that the lowering of a pair ends on
+unfoldable pub lower_union_pair : (left right : Tree statement) (all : Bool) → Lowering ℕ
+lower_union_pair left right all = do
+  left_root ← lower left
+  forgotten ← forget_vars
+  right_root ← lower right
+  l ← or_source_all left_root
+  r ← or_source_all right_root
+  push (op ReadOp.Union (l, (r, (all, tt))) ∷ [])
+
+unfoldable pub lower_pair : (left right : Tree statement) (all : Bool) → LowerCtx
+lower_pair left right all = (lower_union_pair left right all empty).1
