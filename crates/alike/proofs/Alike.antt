@@ -33,11 +33,11 @@ unfolding checked then test_work test_bytes test_reading test_write
 checked_is work sheet t p w l r f = rw (w, le-ltb max_bytes (length sheet) l, r, f)
 
 -- a plan that finds room
-record Holds (o : Outcome) (text : Bytes) : Type 0 where
-  number : o.answer.number ≡ 0
-  text_is : take o.answer.length o.slice ≡ text
+pub record Holds (o : Outcome) (text : Bytes) : Type 0 where
+  pub number : o.answer.number ≡ 0
+  pub text_is : take o.answer.length o.slice ≡ text
 
-written_holds : (text slice : Bytes) → length text ≤ length slice → Holds (written text slice) text
+pub written_holds : (text slice : Bytes) → length text ≤ length slice → Holds (written text slice) text
 unfolding written
 written_holds text slice l = rw (le-ltb (length slice) (length text) l) (record { number = refl; text_is = take-append_seam text (drop (length text) slice) })
 
@@ -69,7 +69,7 @@ module _ (s t : List ℕ) where
 
   -- ── two plans ──
 
-  plans_alike : {c d : LowerCtx} {o p : Outcome} → Ctx~ (λ a b. Stands s t a b) c d → Holds o (plan_sheet c) → Holds p (plan_sheet d) → AcceptedAlike s t o p
+  pub plans_alike : {c d : LowerCtx} {o p : Outcome} → Ctx~ (λ a b. Stands s t a b) c d → Holds o (plan_sheet c) → Holds p (plan_sheet d) → AcceptedAlike s t o p
   unfolding plan_sheet plan_recs first_rec
   plans_alike (ctx~ {ops = ops} {vs = vs} {ws = ws} h) x y =
       let e = mapped_long h in
@@ -113,7 +113,7 @@ pub same_path : {A : Type 0} {a b : A} → Equal a b → a ≡ b
 same_path equal = refl
 
 -- T is read as a tree alike
-alike_tree : (S T : Bytes) (t : Tree statement) (rt : List Rec) → TwoSheets S T t rt → Read (λ a b. Stands (ids (records t)) (ids rt) a b) max_depth T t
+pub alike_tree : (S T : Bytes) (t : Tree statement) (rt : List Rec) → TwoSheets S T t rt → Read (λ a b. Stands (ids (records t)) (ids rt) a b) max_depth T t
 alike_tree S T t rt h = rw h.spelled (alike_read (λ a b. Stands (ids (records t)) (ids rt) a b) max_depth S t rt (sheet_sound max_depth S t h.behind h.reads).0 (records~ (λ a b. Stands (ids (records t)) (ids rt) a b) (records t) rt h.same (standing (ids (records t)) (ids rt))) h.fit)
 
 alike_calls : (S T : Bytes) (t : Tree statement) (rt : List Rec) → TwoSheets S T t rt → Read (λ a b. Stands (ids (records t)) (ids rt) a b) max_depth T t → (work work' : List ℕ) (slice slice' : Bytes) → LongEnough work S slice → LongEnough work' T slice' → AlikeOutcomes (ids (records t)) (ids rt) (lower_call work S slice) (lower_call work' T slice')

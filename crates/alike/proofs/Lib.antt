@@ -1,3 +1,4 @@
 pub mod Lowering
 pub mod Relating
 pub mod Alike
+pub mod PairAlike

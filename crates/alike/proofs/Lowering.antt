@@ -206,10 +206,10 @@ module _ (R : ℕ → ℕ → Type 0) (one_to_one : (a b x y : ℕ) → R a b �
   unfolding Named lower
   statement_step~ line (_, (_, _)) (_, (_, _)) (cs ▸~ arms ▸~ end~) (w, ws) = then~ R (lower_clauses~ w cs none) λ head. lower_arms~ ws arms head
 
-  lower~ : {t u : Tree statement} → Named t → Tree~ R statement t u → Does~ R (lower t) (lower u)
+  pub lower~ : {t u : Tree statement} → Named t → Tree~ R statement t u → Does~ R (lower t) (lower u)
   lower~ w (node~ v kids) = statement_step~ _ _ _ kids w
 
-  state~ : {A : Type 0} {W : A → A → Type 0} (x y : A × LowerCtx) → Ran~ R W x y → Ctx~ R x.1 y.1
+  pub state~ : {A : Type 0} {W : A → A → Type 0} (x y : A × LowerCtx) → Ran~ R W x y → Ctx~ R x.1 y.1
   state~ x y (ran~ w e) = e
 
   pub lower_statement~ : {t u : Tree statement} → Named t → Tree~ R statement t u → Ctx~ R (lower_statement t) (lower_statement u)

@@ -1,5 +1,5 @@
 -- What is said of two sheets alike, in the words of document 01's section 'Two sheets alike'. Assumes nothing: these are definitions.
-use Rattle.std.specs.Prelude.{◌≡◌, ◌↔◌, ℕ, ◌<◌, ◌≤◌, false, List, [], ◌∷◌, ◌++◌, map, get_or, take}
+use Rattle.std.specs.Prelude.{◌≡◌, ◌↔◌, ℕ, ◌<◌, ◌≤◌, Bool, false, List, [], ◌∷◌, ◌++◌, map, get_or, take}
 use Rattle.std.proofs.Math.Option.{Option, none, some}
 use Rattle.std.proofs.Math.ListN as ListN
 use Rattle.model.specs.Text.{Bytes}
@@ -11,6 +11,7 @@ use Rattle.model.specs.Sheet.{Place, got, read_sheet, first_write}
 use Rattle.model.specs.Lower.{LowerCtx}
 use Rattle.model.specs.Plan.{plan_sheet}
 use Rattle.model.specs.Call.{Outcome, pass, short, planned, max_bytes, max_depth}
+use Rattle.model.specs.Pair.{pass_side, planned_pair}
 use Rattle.laws.specs.TextLaws.{Each}
 use Rattle.laws.specs.RecordLaws.{Fits}
 
@@ -135,6 +136,11 @@ pub record TwoSheets (S T : Bytes) (t : Tree statement) (rt : List Rec) : Type 0
 pub record LongEnough (work : List ℕ) (sheet slice : Bytes) : Type 0 where
   pub words : short work ≡ false
   pub room : (c : LowerCtx) → planned max_depth work sheet ≡ pass c → ListN.length (plan_sheet c) ≤ ListN.length slice
+
+-- those of a call with two sheets
+pub record PairLongEnough (work : List ℕ) (left right : Bytes) (all : Bool) (slice : Bytes) : Type 0 where
+  pub words : short work ≡ false
+  pub room : (c : LowerCtx) → planned_pair max_depth work left right all ≡ pass_side c → ListN.length (plan_sheet c) ≤ ListN.length slice
 
 -- ── the conclusion ──
 

@@ -4,3 +4,4 @@ pub mod Clause
 pub mod Inputs
 pub mod Counts
 pub mod Ended
+pub mod Pair
