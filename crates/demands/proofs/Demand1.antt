@@ -33,11 +33,11 @@ choice_tested true r x row = stops row
 choice_tested false r x row = goes_on (refl, refl)
 
 -- behind test 4: the tree that was read
-record Got (sheet : Bytes) (t : Tree statement) : Type 0 where
-  place : Place
-  reads : read_sheet max_depth sheet ≡ got t place
+pub record Got (sheet : Bytes) (t : Tree statement) : Type 0 where
+  pub place : Place
+  pub reads : read_sheet max_depth sheet ≡ got t place
 
-numbers : {sheet : Bytes} {t : Tree statement} → Got sheet t → numbered t 1 ≡ t
+pub numbers : {sheet : Bytes} {t : Tree statement} → Got sheet t → numbered t 1 ≡ t
 numbers {sheet} {t} g = (sheet_sound max_depth sheet t g.place g.reads).0.numbers
 
 reading_tested : (sheet : Bytes) {r : Reading (Tree statement)} → read_sheet max_depth sheet ≡ r → Numbered r → Tested (Got sheet) (test_reading r)

@@ -41,7 +41,7 @@ use Rattle.demands.specs.Demand3.{SheetsAlike, operators, variables, InputsBelow
 
 -- ── inputs and the last operator ──
 
-earlier_from : {ops : List Recs} → Bounds.Earlier ops → (k n : ℕ) → Earlier k (from ops k n)
+pub earlier_from : {ops : List Recs} → Bounds.Earlier ops → (k n : ℕ) → Earlier k (from ops k n)
 unfolding from InputsBelow
 earlier_from e k zero = no_more
 earlier_from e k (suc n) = operator (at_low e k) (earlier_from e (suc k) n)
@@ -50,7 +50,7 @@ inputs_by_number : (t : Tree statement) → Earlier 0 (operators t)
 unfolding by_number
 inputs_by_number t = earlier_from (earlier t) 0 (length (lower_statement t).ops)
 
-newest_last : {e : Ending} {n : ℕ} {ops : List Recs} → Newest e n ops → LastIs (some e) (some n) (by_number ops)
+pub newest_last : {e : Ending} {n : ℕ} {ops : List Recs} → Newest e n ops → LastIs (some e) (some n) (by_number ops)
 newest_last (newest {k = k} {f = f} {rs = rs} {ops = ops}) = rw (by_number_newest (op k f ∷ rs) ops, ← by_number_length ops) (last (by_number ops) k f rs)
 
 ended_last : {e : Option Ending} {r : Option ℕ} {ops : List Recs} → Ended e r ops → LastIs e r (by_number ops)
@@ -60,7 +60,7 @@ ended_last (on h) = newest_last h
 
 -- ── a call whose plan finds room ──
 
-mapped_length : (vs : List (ℕ × ℕ)) → length (mapped_recs vs) ≡ length vs
+pub mapped_length : (vs : List (ℕ × ℕ)) → length (mapped_recs vs) ≡ length vs
 unfolding mapped_recs
 mapped_length [] = refl
 mapped_length (v ∷ vs) = omega (arith, length-append (mapped_recs vs) (rec (in_plan mapped) tt (v.1, (v.0, tt)) ∷ []), mapped_length vs)
@@ -82,7 +82,7 @@ wrote t slice r l = rw (le-ltb (length slice) (length (plan_sheet (lower_stateme
 
 -- ── the pair ──
 
-abbrev Standing : (t u : Tree statement) → ℕ → ℕ → Type 0
+abbrev pub Standing : (t u : Tree statement) → ℕ → ℕ → Type 0
 Standing t u a b = Stands (ids (records t)) (ids (records u)) a b
 
 abbrev Lowered~ : (t u : Tree statement) → Type 0
@@ -98,17 +98,17 @@ after_check t v = then (test_check t v) λ u. test_plan (lower_statement u)
 
 -- of states alike
 module _ (R : ℕ → ℕ → Type 0) where
-  same_ops : {c d : LowerCtx} → Ctx~ R c d → c.ops ≡ d.ops
+  pub same_ops : {c d : LowerCtx} → Ctx~ R c d → c.ops ≡ d.ops
   same_ops (ctx~ h) = refl
 
   same_numbers : {c d : LowerCtx} → Ctx~ R c d → c.scope.next_var ≡ d.scope.next_var
   same_numbers (ctx~ h) = refl
 
 module _ (s t : List ℕ) where
-  vars_paired : {c d : LowerCtx} → Ctx~ (λ a b. Stands s t a b) c d → Paired s t (mapped_recs c.scope.vars) (mapped_recs d.scope.vars)
+  pub vars_paired : {c d : LowerCtx} → Ctx~ (λ a b. Stands s t a b) c d → Paired s t (mapped_recs c.scope.vars) (mapped_recs d.scope.vars)
   vars_paired (ctx~ h) = mapped_paired s t h
 
-  vars_many : {c d : LowerCtx} → Ctx~ (λ a b. Stands s t a b) c d → length (mapped_recs c.scope.vars) ≡ length (mapped_recs d.scope.vars)
+  pub vars_many : {c d : LowerCtx} → Ctx~ (λ a b. Stands s t a b) c d → length (mapped_recs c.scope.vars) ≡ length (mapped_recs d.scope.vars)
   vars_many (ctx~ {vs = vs} {ws = ws} h) = omega (arith, (mapped_long s t h).1, mapped_length ws)
 
 module _ (t u : Tree statement) (slice slice' : Bytes) where
@@ -139,7 +139,7 @@ module _ (t u : Tree statement) (slice slice' : Bytes) where
   verdicts_alike (violated~ x) r r' c l l' = refused_alike_law (same_but_spans x)
 
 -- the trees are alike
-trees_alike : (S T : Bytes) (t u : Tree statement) → WellFormed S t → WellFormed T u → SheetsAlike t u → Tree~ (λ a b. Standing t u a b) statement t u
+pub trees_alike : (S T : Bytes) (t u : Tree statement) → WellFormed S t → WellFormed T u → SheetsAlike t u → Tree~ (λ a b. Standing t u a b) statement t u
 trees_alike S T t u h h' a =
     let R : ℕ → ℕ → Type 0 = λ a b. Standing t u a b in
     let s = (sheet_sound max_depth S t h.behind h.reads).0 in
@@ -171,7 +171,7 @@ demand3 S T t u h h' a work work' slice slice' l l' = writes_alike S T t u work 
 
 -- ── the second sentence, of every call that accepts ──
 
-room : (text slice : Bytes) → (written text slice).answer.number ≡ 0 → length text ≤ length slice
+pub room : (text slice : Bytes) → (written text slice).answer.number ≡ 0 → length text ≤ length slice
 unfolding written
 room text slice z = go (ltb (length slice) (length text)) refl z
   where

@@ -4,3 +4,7 @@ pub mod Demand2
 pub mod Operators
 pub mod Demand3
 pub mod Unreachable
+pub mod FormKinds
+pub mod PairDemand1
+pub mod PairDemand3
+pub mod PairOrder

@@ -8,3 +8,6 @@ pub mod Operators
 pub mod Demand3
 pub mod Within
 pub mod Unreachable
+pub mod PairDemand1
+pub mod PairDemand3
+pub mod PairOrder

@@ -146,7 +146,7 @@ rest_fits : (f : Form) (fs : List Form) (v : Val f) (vs : Fields fs) → fits_al
 unfolding fits_all
 rest_fits f fs v vs e = and_right (fits f v) _ e
 
-limit : (l n : ℕ) (fs : List Form) (vs : Fields fs) → fits_all (num l ∷ fs) (n, vs) ≡ true → n ≤ l
+pub limit : (l n : ℕ) (fs : List Form) (vs : Fields fs) → fits_all (num l ∷ fs) (n, vs) ≡ true → n ≤ l
 unfolding fits
 limit l n fs vs e = leb-true n l (first_fits (num l) fs n vs e)
 
