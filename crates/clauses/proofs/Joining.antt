@@ -31,10 +31,10 @@ use Rattle.projections.specs.Passes.{sub_before, both_next}
 use Rattle.clauses.proofs.Opened.{an_arm}
 use Rattle.clauses.proofs.Turning.{clauses_turns}
 
-union_bounded : (i l r all : ℕ) → i < max_records → all ≤ 1 → InBounds (union_op i l r all)
+pub union_bounded : (i l r all : ℕ) → i < max_records → all ≤ 1 → InBounds (union_op i l r all)
 union_bounded i l r all h f = record { shallow = omega arith; near = omega arith; low = h; far = λ e. absurd (omega arith); flagged = λ e. f }
 
-union_is : (l l' r r' all : ℕ) → l ≡ l' → r ≡ r' → ◌≡◌ {A = Recs} (op ReadOp.Union (l', (r', (eqb all 1, tt))) ∷ []) (op ReadOp.Union (l, (r, (eqb all 1, tt))) ∷ [])
+pub union_is : (l l' r r' all : ℕ) → l ≡ l' → r ≡ r' → ◌≡◌ {A = Recs} (op ReadOp.Union (l', (r', (eqb all 1, tt))) ∷ []) (op ReadOp.Union (l, (r, (eqb all 1, tt))) ∷ [])
 union_is l l' r r' all e e' = rw (e, e')
 
 pub some_clauses : {sheet : Bytes} {a b : List ℕ} {n d i : ℕ} → Roomy a b → n ≡ cell a b i arm_clauses_at → HeldSome sheet a b union_arm d i → HeldMany sheet a b clause n (d - 1) (i + 1)

@@ -9,3 +9,4 @@ pub mod Turning
 pub mod Clausing
 pub mod Joining
 pub mod Whole
+pub mod Pairing

@@ -102,11 +102,11 @@ pub begins : (sheet : Bytes) (a b os rs : List ℕ) {S : Side} {W : Written} {s 
 unfolding vars_of
 begins sheet a b os rs r = record { count = r.count; state = rw (ap (λ (z : State). z.scope.next_var) r.state); from = le_refl _; shows = λ k o h. absurd (omega arith) }
 
-start_rep : (sheet : Bytes) (a b os rs : List ℕ) → Rep (side sheet a b 0) [] empty (mem start os rs)
+pub start_rep : (sheet : Bytes) (a b os rs : List ℕ) → Rep (side sheet a b 0) [] empty (mem start os rs)
 unfolding empty vars_of
 start_rep sheet a b os rs = record { count = refl; state = refl; from = le_refl _; shows = λ k o h. absurd (omega arith) }
 
-start_blank : (lo hi : ℕ) → BothBlank [] lo hi
+pub start_blank : (lo hi : ℕ) → BothBlank [] lo hi
 start_blank lo hi = record { first = record { at = λ q a b i. i }; second = record { at = λ q a b i. i } }
 
 module _ {sheet : Bytes} {a b : List ℕ} {e : ℕ} {o : Option ℕ} {os rs : List ℕ} {m : Mem} (lo : work_words ≤ length os) (lr : work_words ≤ length rs) (p : LowersFrom sheet a b max_depth e o (mem start os rs) m) where

@@ -14,6 +14,7 @@ ghost use Rattle.clauses.specs.Statement.{StatementAsked, LowersFrom, WholeAsked
 use context::{At, Before, LowerCtx, op};
 use words::{field, kind};
 
+pub mod pair;
 pub mod reading;
 
 // The record behind what is lowered, the operator that it leaves, if it leaves one, and the state.
