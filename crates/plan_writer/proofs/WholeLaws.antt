@@ -109,11 +109,11 @@ module _ {rest : List ℕ} {n : ℕ} {start : Page} where
 
 -- ── the whole ──
 
-first_line : (n m : ℕ) → spell_rec (rec (in_plan plan) tt (n, (m, tt))) ≡ row_text plan_word (n ∷ m ∷ [])
+pub first_line : (n m : ℕ) → spell_rec (rec (in_plan plan) tt (n, (m, tt))) ≡ row_text plan_word (n ∷ m ∷ [])
 unfolding keyword plan_keyword word letters bytes bytes_from spell_fields spell
 first_line n m = row_rec _ plan_word (n ∷ m ∷ []) refl refl
 
-vars_count : (n : ℕ) (vs : List ℕ) → length (vars_of n vs) ≡ n
+pub vars_count : (n : ℕ) (vs : List ℕ) → length (vars_of n vs) ≡ n
 unfolding vars_of
 vars_count zero vs = refl
 vars_count (suc n) vs = ap suc (vars_count n vs)

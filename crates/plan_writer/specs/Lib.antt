@@ -1,2 +1,4 @@
 pub mod Whole
 pub mod Promise
+pub mod Pair
+pub mod PairPromise

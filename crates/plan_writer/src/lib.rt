@@ -11,6 +11,8 @@ ghost use Rattle.model.specs.Call.{work_words};
 use plan_line::row::put_row2;
 use plan_line::word;
 
+pub mod pair;
+
 // What became of the plan: it did not fit, or it has so many bytes.
 #[derive(Clone, Copy)]
 pub enum Plan {
