@@ -8,3 +8,4 @@ pub mod FormKinds
 pub mod PairDemand1
 pub mod PairDemand3
 pub mod PairOrder
+pub mod WriteFound

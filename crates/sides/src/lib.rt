@@ -1,0 +1,122 @@
+// The tests on two sheets: each on the left, then on the right, before the next.
+#![tactic(auto)]
+
+ghost use Rattle.std.specs.Prelude.{◌≡◌};
+ghost use Rattle.model.specs.Text.{Bytes};
+ghost use Rattle.model.specs.Kind.{statement};
+ghost use Rattle.model.specs.Call.{max_depth};
+ghost use Rattle.words.specs.Words.{Roomy};
+ghost use Rattle.words.specs.Held.{HeldSome};
+ghost use Rattle.sheet.specs.Reader.{ReaderAsked};
+ghost use Rattle.sides.specs.Sides.{each_of, unread_of, writes_of, read_of, ChecksSheet, TestedBoth};
+
+use precheck::{Checked, PlanLowerError, precheck_statement};
+use sheet::reader::{Read, read_sheet};
+
+// What is wrong with a sheet: a refusal of the tests 2 to 8 with what it carries.
+#[derive(Clone, Copy)]
+pub enum Fault {
+    LongSheet,
+    BadLine(u32),
+    BigTree(u32),
+    WriteClause(u32),
+    Refused(PlanLowerError),
+}
+
+// What a test finds in a sheet.
+#[derive(Clone, Copy)]
+pub enum Found {
+    Nothing,
+    Wrong(Fault),
+}
+
+// What tests on two sheets find: nothing, or the first fault and its side.
+#[derive(Clone, Copy)]
+pub enum Tested {
+    Passed,
+    Left(Fault),
+    Right(Fault),
+}
+
+// One test on both sheets: the left's fault is reported first.
+fn each(left: Found, right: Found) -> Tested
+    ensures { result ≡ each_of left right }
+{
+    match left {
+        Found::Wrong(x) => Tested::Left(x),
+        Found::Nothing => match right {
+            Found::Wrong(x) => Tested::Right(x),
+            Found::Nothing => Tested::Passed,
+        },
+    }
+}
+
+// Tests 3 and 4, of what the reader answers.
+fn unread(read: Read) -> Found
+    ensures { result ≡ unread_of read }
+{
+    match read {
+        Read::Records(_) => Found::Nothing,
+        Read::BadLine(l) => Found::Wrong(Fault::BadLine(l)),
+        Read::BigTree(l) => Found::Wrong(Fault::BigTree(l)),
+        Read::WriteClause(_) => Found::Nothing,
+    }
+}
+
+// Test 5, of what the reader answers.
+fn writes(read: Read) -> Found
+    ensures { result ≡ writes_of read }
+{
+    match read {
+        Read::Records(_) => Found::Nothing,
+        Read::BadLine(_) => Found::Nothing,
+        Read::BigTree(_) => Found::Nothing,
+        Read::WriteClause(l) => Found::Wrong(Fault::WriteClause(l)),
+    }
+}
+
+// Tests 3 and 4 on both sheets, and then 5 on both, of what the reader answers to each.
+fn both_read(left: Read, right: Read) -> Tested
+    ensures { result ≡ read_of left right }
+{
+    match each(unread(left), unread(right)) {
+        Tested::Passed => each(writes(left), writes(right)),
+        Tested::Left(x) => Tested::Left(x),
+        Tested::Right(x) => Tested::Right(x),
+    }
+}
+
+// Tests 6 to 8 on the statement that the words hold.
+fn checks(a: &[u32], b: &[u32]) -> Found
+    requires roomy { Roomy a.now b.now }
+    requires held_some { (sheet : Bytes) × HeldSome sheet a.now b.now statement max_depth 0 }
+    ensures { ChecksSheet a.now b.now result }
+{
+    match precheck_statement(a, b, words::MAX_DEPTH) {
+        Checked::Fine => Found::Nothing,
+        Checked::Refused(e) => Found::Wrong(Fault::Refused(e)),
+    }
+}
+
+// Tests 3 to 8 on sheets that are not too long; what passes stands in the words.
+pub fn test_sides(
+    left: &[u8],
+    la: &mut [u32],
+    lb: &mut [u32],
+    lc: &mut [u32],
+    right: &[u8],
+    ra: &mut [u32],
+    rb: &mut [u32],
+    rc: &mut [u32],
+) -> Tested
+    requires { ReaderAsked left.now la.old lb.old lc.old × ReaderAsked right.now ra.old rb.old rc.old }
+    ensures { TestedBoth left.now la.new lb.new right.now ra.new rb.new result }
+{
+    let l = read_sheet(left, la, lb, lc, words::MAX_DEPTH);
+    let r = read_sheet(right, ra, rb, rc, words::MAX_DEPTH);
+    match both_read(l, r) {
+        Tested::Passed => each(checks(la, lb), checks(ra, rb)),
+        Tested::Left(x) => Tested::Left(x),
+        Tested::Right(x) => Tested::Right(x),
+    }
+}
