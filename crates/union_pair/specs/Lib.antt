@@ -1,0 +1,2 @@
+pub mod PairAnswer
+pub mod PairCall
