@@ -8,6 +8,7 @@ ghost use Rattle.statement.specs.Answer.{answer_of, error_answer};
 ghost use Rattle.values.specs.Told.{told};
 
 pub mod call;
+pub mod pair;
 pub mod refusal;
 pub mod text;
 

@@ -9,7 +9,7 @@ use crate::Values;
 use output::{put_byte, put_decimal};
 
 // A number behind a separator.
-fn put_number(page: &mut [u8], out: usize, separator: u8, n: u64) -> usize
+pub fn put_number(page: &mut [u8], out: usize, separator: u8, n: u64) -> usize
     ensures { Puts (separator ∷ decimal n) (on page.old out) (on page.new result) }
 {
     let o = put_byte(page, out, separator);
