@@ -3,11 +3,16 @@
 
 ghost use Rattle.std.specs.Prelude.{◌≡◌, [], ◌∷◌, ◌≤◌, length, drop};
 ghost use Rattle.model.specs.Call.{SizeCall, lower_call};
+ghost use Rattle.model.specs.Pair.{pair_call};
+ghost use Rattle.union_pair.specs.PairCall.{works};
+ghost use Rattle.values.specs.PairTold.{told_pair};
 ghost use Rattle.values.specs.Told.{told};
 ghost use Rattle.library.specs.Told.{answer_words, noted, Told, Lowers};
 
 use statement::lowering::lower_statement;
 use statement::size_statement;
+use union_pair::lower_union_pair;
+use values::pair::{PairValues, values_of_pair};
 use values::{Values, values_of};
 
 // An answer has so many words, and each value its place among them.
@@ -96,5 +101,52 @@ pub fn dresserhawk_lower(
         return false;
     }
     put_answer(answer, values_of(lower_statement(sheet, a, b, c, d, plan)));
+    true
+}
+
+// The six words of an answer to two sheets.
+fn put_pair_answer(answer: &mut [usize], v: PairValues)
+    requires { answer_words ≤ length answer.old }
+    ensures { answer.new ≡ noted (told_pair v) answer.old }
+{
+    put(
+        answer,
+        v.number as usize,
+        v.line as usize,
+        v.start as usize,
+        v.end as usize,
+        v.kind,
+        v.length,
+    );
+}
+
+// The lowering call with two sheets, with the plan in its slice. False, with nothing written, if the answer has no room for six words.
+pub fn dresserhawk_lower_pair(
+    left: &[u8],
+    right: &[u8],
+    all: bool,
+    left_a: &mut [u32],
+    left_b: &mut [u32],
+    left_c: &mut [u32],
+    left_d: &mut [u32],
+    right_a: &mut [u32],
+    right_b: &mut [u32],
+    right_c: &mut [u32],
+    right_d: &mut [u32],
+    plan: &mut [u8],
+    answer: &mut [usize],
+) -> bool
+    ensures { Lowers (pair_call (works left_a.old left_b.old left_c.old left_d.old right_a.old right_b.old right_c.old right_d.old) left.now right.now all plan.old) plan.old plan.new answer.old answer.new result }
+{
+    if answer.len() < ANSWER_WORDS {
+        return false;
+    }
+    put_pair_answer(
+        answer,
+        values_of_pair(lower_union_pair(
+            left, right, all, left_a, left_b, left_c, left_d, right_a, right_b, right_c, right_d,
+            plan,
+        )),
+    );
     true
 }

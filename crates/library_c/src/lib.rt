@@ -3,6 +3,8 @@
 
 ghost use Rattle.std.specs.Prelude.{◌≡◌, [], ◌∷◌, length};
 ghost use Rattle.model.specs.Call.{SizeCall, lower_call};
+ghost use Rattle.model.specs.Pair.{pair_call};
+ghost use Rattle.union_pair.specs.PairCall.{works};
 ghost use Rattle.library.specs.Told.{Told, Lowers};
 
 // The sizing call. False, with nothing written, if the answer has no room for six words.
@@ -34,4 +36,29 @@ pub extern "C" fn dresserhawk_lower(
     ensures { Lowers (lower_call (length a.old ∷ length b.old ∷ length c.old ∷ length d.old ∷ []) sheet.now plan.old) plan.old plan.new answer.old answer.new result }
 {
     library::dresserhawk_lower(sheet, a, b, c, d, plan, answer)
+}
+
+// The lowering call with two sheets, with the plan in its slice. False, with nothing written, if the answer has no room for six words.
+#[unsafe(no_mangle)]
+pub extern "C" fn dresserhawk_lower_pair(
+    left: &[u8],
+    right: &[u8],
+    all: bool,
+    left_a: &mut [u32],
+    left_b: &mut [u32],
+    left_c: &mut [u32],
+    left_d: &mut [u32],
+    right_a: &mut [u32],
+    right_b: &mut [u32],
+    right_c: &mut [u32],
+    right_d: &mut [u32],
+    plan: &mut [u8],
+    answer: &mut [usize],
+) -> bool
+    ensures { Lowers (pair_call (works left_a.old left_b.old left_c.old left_d.old right_a.old right_b.old right_c.old right_d.old) left.now right.now all plan.old) plan.old plan.new answer.old answer.new result }
+{
+    library::dresserhawk_lower_pair(
+        left, right, all, left_a, left_b, left_c, left_d, right_a, right_b, right_c, right_d, plan,
+        answer,
+    )
 }

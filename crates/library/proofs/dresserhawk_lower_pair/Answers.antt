@@ -1,0 +1,18 @@
+-- `dresserhawk_lower_pair` meets its contract: the call's answer in six words, or nothing written. Assumes nothing.
+use mathlib.Core.Path.{◌∙◌, ap}
+use Rattle.model.specs.Refusal.{Answer}
+use Rattle.model.specs.Call.{Outcome}
+use Rattle.library.specs.Told.{noted}
+use Rattle.library.proofs.dresserhawk_lower_pair.Goals as goal
+
+pub returns : goal.returns
+returns c = (
+  c.if-answer-lt-ANSWER_WORDS.false,
+  (
+    ap (λ (p : Outcome). p.slice) c.lower_union_pair.ensures,
+    (c.put_pair_answer.ensures ∙
+        ap
+        (λ (x : Answer). noted x c.args.answer.now)
+        (c.values_of_pair.ensures ∙ ap (λ (p : Outcome). p.answer) c.lower_union_pair.ensures)),
+  ),
+)
