@@ -12,7 +12,7 @@ use Rattle.words.specs.Words.{part, cell, record_words, two32}
 use Rattle.words.specs.Places.{kind_count}
 use Rattle.words.specs.Held.{total}
 use Rattle.words.specs.Table.{source_count, fixed_sources, source_shift, count_of, group_count, group_numbers, group_source, groups_from, groups_of}
-use Rattle.words.specs.GroupLaws.{part_cell, entries_low, groups_few, none_counted}
+use Rattle.words.proofs.GroupLaws.{part_cell, entries_low, groups_few, none_counted}
 use Rattle.line.specs.LineRead.{Alike}
 use Rattle.line.specs.Group.{CountedAt}
 use Rattle.line.specs.declared.group.Counted.{Counted}

@@ -9,7 +9,7 @@ use Rattle.model.specs.Field.{Fields}
 use Rattle.model.specs.Kind.{Same, Expr, PlanExpr, expr}
 use Rattle.model.specs.Record.{Rec, expr_forms}
 use Rattle.model.specs.Tree.{Tree, node, end, ◌▸◌, fold}
-use Rattle.model.specs.Lower.{Recs, made, ◌>>=◌, ret, over, expr_step, lower_expr, at, plan_expr_rec}
+use Rattle.model.specs.Lower.{Recs, made, ◌>>=◌, ret, over, expr_step, lower_expr, plan_expr_rec}
 use Rattle.words.specs.Words.{Roomy, cell, max_records}
 use Rattle.words.specs.Held.{Held, RecordAt, size}
 use Rattle.words.specs.Cells.{shown}

@@ -16,7 +16,6 @@ use Rattle.model.specs.Lower
 use Rattle.words.specs.Words.{Roomy, cell, option_of, fields_of, field_of, max_records}
 use Rattle.words.specs.Held.{Held, HeldOf, size, size_of}
 use Rattle.context.specs.Tables.{Pushed, Numbers, second_pass, deepest}
-use Rattle.context.specs.declared.op.Op.{Op}
 use Rattle.context.specs.declared.LowerCtx.{LowerCtx}
 use Rattle.context.specs.declared.Numbered.{Numbered}
 use Rattle.words.specs.Cells.{shown}

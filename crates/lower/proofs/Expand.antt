@@ -23,7 +23,7 @@ use Rattle.context.specs.Ops.{expand_op}
 use Rattle.lower.specs.Side.{Side, side}
 use Rattle.lower.specs.Render.{Notes, Ops, render_of, spec_recs}
 use Rattle.lower.specs.Shows.{shift, InBounds, shows_expand}
-use Rattle.lower.specs.Rep.{at_place, State, Mem, mem, notes, Written, Sub, Blank, Future, Rep, To}
+use Rattle.lower.specs.Rep.{at_place, State, Mem, mem, Written, Sub, Blank, Future, Rep, To}
 use Rattle.lower.specs.Pieces.{lower_c, render_c, LowersExprs}
 use Rattle.lower.specs.Chains.{step_of}
 use Rattle.lower.specs.State.{sub_more, sub_within, blank_within, blank_before, blank_behind, back, to_then, to_wider, push_to, Given, number_to}

@@ -23,7 +23,7 @@ use Rattle.words.specs.Count.{Ends}
 use Rattle.lower.specs.Side.{side}
 use Rattle.lower.specs.Render.{Notes, kept_rel, kept_from}
 use Rattle.lower.specs.Shows.{shift}
-use Rattle.lower.specs.Rep.{at_place, State, Mem, mem, notes, Written, Sub, Blank, Rep, Moved}
+use Rattle.lower.specs.Rep.{at_place, State, Mem, mem, Written, Sub, Blank, Rep, Moved}
 use Rattle.lower.specs.Pieces.{SomeTree, LowersExprs}
 use Rattle.lower.specs.Chains.{last_of, ReadAt, has_last, pending_line, from_of, from, LastUnder, LastSince, step_of, Waiting, no_rel_law, a_rel, SameChain, ChainInBounds, Anchored, Chained, LowersElement, start_l, LowersStart, StartsAnew}
 use Rattle.lower.specs.declared.Last.{Last}

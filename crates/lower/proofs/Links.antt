@@ -4,7 +4,6 @@ use Prim.Native.Nat.{ℕ, zero, suc, ◌+◌, ◌-◌}
 use native.Mathlib.Nat.{le_refl, le_trans}
 use native.Mathlib.Omega.{arith}
 use mathlib.Core.List.{List, ◌∷◌, append-nil}
-use mathlib.Core.Option.{some}
 use Rattle.model.specs.Text.{Bytes}
 use Rattle.model.specs.Kind.{pattern_element}
 use Rattle.model.specs.Tree.{Trees, []ᵗ, ◌∷ᵗ◌, to_list, fold}

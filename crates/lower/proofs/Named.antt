@@ -23,7 +23,7 @@ use Rattle.lower.specs.Side.{side}
 use Rattle.lower.specs.Render.{Ops, render, render_of, recs_over, expr_recs, expr_rest, Below, below_in, copies_below}
 use Rattle.lower.specs.Render
 use Rattle.lower.specs.Shows.{shift}
-use Rattle.lower.specs.Rep.{State, Mem, mem, notes, Written, Sub, Blank, Future, Rep, Ran}
+use Rattle.lower.specs.Rep.{State, Mem, mem, Written, Sub, Blank, Future, Rep, Ran}
 use Rattle.lower.specs.Pieces.{expr_piece, Carried, []ᶜ, lower_c, render_c, BelowC, size_c, HeldC, carried_piece, SomeTree, SomeCarried, LowersExpr, LowersExprs}
 use Rattle.lower.specs.Patterns.{parts_l, SomeTrees, LowersParts}
 use Rattle.lower.specs.State.{sub_more, sub_within, blank_within, blank_before, blank_behind, back, to_then, to_wider, Given, number_to, note_to}

@@ -9,7 +9,7 @@ use lib.ListN.{length}
 use Rattle.model.specs.Text.{Bytes}
 use Rattle.model.specs.Kind.{pattern_element, expr}
 use Rattle.model.specs.Tree.{Tree, to_list, fold_of}
-use Rattle.model.specs.Lower.{Recs, Lowered, made, ◌>>=◌, ret, push, source, filter, filter_by_props, props_of, lower_expr, NodeStep, of_node, at}
+use Rattle.model.specs.Lower.{Recs, Lowered, made, ◌>>=◌, ret, push, source, filter, filter_by_props, props_of, lower_expr, NodeStep, of_node}
 use Rattle.words.specs.Words.{Roomy, cell, option_of, max_records}
 use Rattle.words.specs.Held.{Held}
 use Rattle.context.specs.Tables.{Pushed, second_pass, deepest}

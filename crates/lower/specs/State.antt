@@ -18,7 +18,7 @@ use Rattle.lower.specs.Side.{Side}
 use Rattle.lower.specs.Render.{Ops}
 use Rattle.lower.specs.Render
 use Rattle.lower.specs.Shows.{Stored}
-use Rattle.lower.specs.Rep.{State, Mem, mem, notes, Written, In, Sub, Blank, Future, Rep, To}
+use Rattle.lower.specs.Rep.{State, Mem, mem, Written, In, Sub, Blank, Future, Rep, To}
 use Rattle.words.specs.Words.{max_records}
 
 -- ── ranges ──

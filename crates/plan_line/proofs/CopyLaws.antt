@@ -9,7 +9,7 @@ use Rattle.model.specs.Text.{Bytes}
 use Rattle.model.specs.Record.{rec, spell_rec}
 use Rattle.output.specs.Page.{Page, Puts}
 use Rattle.words.specs.Words.{cell, part, two32}
-use Rattle.words.specs.GroupLaws.{part_cell}
+use Rattle.words.proofs.GroupLaws.{part_cell}
 use Rattle.words.specs.Places.{line_start_at, line_end_at}
 use Rattle.plan_line.specs.Copy.{SomeRecord, Copied, LineBytes}
 

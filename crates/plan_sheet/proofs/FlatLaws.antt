@@ -2,12 +2,11 @@
 use mathlib.Core.Path.{◌≡◌, refl, ap, ◌∙◌}
 use Prim.Native.Nat.{ℕ, ◌+◌, ◌-◌, ◌≤◌, ◌<◌}
 use native.Mathlib.Omega.{arith}
-use mathlib.Core.List.{List, [], ◌∷◌, ◌++◌, append_assoc}
+use mathlib.Core.List.{List, ◌∷◌, ◌++◌, append_assoc}
 use lib.ListN.{length}
 use Rattle.model.specs.Text.{Bytes}
 use Rattle.model.specs.Kind.{expr}
 use Rattle.model.specs.Record.{spell_rec, spell_recs}
-use Rattle.model.specs.Tree.{Tree}
 use Rattle.model.specs.Lower.{Recs, expr_head}
 use Rattle.output.specs.Page.{Page, Puts}
 use Rattle.output.specs.Writes.{◌⨾◌}
@@ -17,7 +16,7 @@ use Rattle.words.specs.Fits.{tree_fits}
 use Rattle.words.specs.Count.{count_at, Ends}
 use Rattle.words.specs.Places.{kind_at, pat_kind}
 use Rattle.context.specs.Read.{note_of}
-use Rattle.lower.specs.Render.{Notes, Ops, render}
+use Rattle.lower.specs.Render.{Notes, render}
 use Rattle.lower.specs.Shows.{shift}
 use Rattle.plan_sheet.specs.Due.{noted, ExprAt, Line, One, Carried, carried_recs, carried_end, Many, many_text, WroteLine}
 use Rattle.plan_sheet.specs.Due

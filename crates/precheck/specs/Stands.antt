@@ -1,6 +1,5 @@
 -- What stands in the words, for the check: a tree that they hold, with its verdict and the record behind it; and what the small functions read off a record. Assumes nothing: these are definitions.
 use Rattle.std.specs.Prelude.{◌≡◌, ℕ, suc, ◌+◌, ◌-◌, ◌<◌, ◌≤◌, Bool, true, false, cond, List, [], ◌∷◌, eqb}
-use Rattle.std.proofs.Math.Option.{some}
 use Rattle.model.specs.Text.{Bytes}
 use Rattle.model.specs.Field.{Span}
 use Rattle.model.specs.Kind.{Sort, expr, pattern_part, pattern_element}

@@ -6,7 +6,7 @@ use Rattle.model.specs.Call.{work_words}
 use Rattle.words.specs.Places.{sort_count, kind_count}
 use Rattle.model.specs.Kind.{Sort}
 use Rattle.words.specs.Words.{Roomy, max_records}
-use Rattle.words.specs.GroupLaws.{none_behind}
+use Rattle.words.proofs.GroupLaws.{none_behind}
 use Rattle.words.specs.Table.{group_numbers, sort_of, group_sort, group_source, count_of, groups_from, group_count}
 use Rattle.sheet.specs.Due.{Due, due, due_of}
 use Rattle.sheet.specs.Stack.{Alike, alike_refl, alike_sym, alike_trans, alike_under, alike_none, slack, Fit, due_words, due_count_at, due_room_at, allowed, max_room}

@@ -15,7 +15,7 @@ use Rattle.model.specs.Sheet.{refused, read_line, or_else}
 use Rattle.model.specs.Refusal.{Refusal}
 use Rattle.model.specs.Call.{refuse}
 use Rattle.words.specs.Table.{group_count}
-use Rattle.words.specs.GroupLaws.{children_are}
+use Rattle.words.proofs.GroupLaws.{children_are}
 use Rattle.words.specs.Words.{Roomy, part, decode, rec_of, fields_of, max_records, two32}
 use Rattle.record.specs.Place.{LineEnd}
 use Rattle.line.specs.LineRead.{Got, IntoRead}

@@ -11,7 +11,7 @@ use Rattle.words.specs.Words.{kind_of, first_kind, fields_of}
 use Rattle.words.specs.Held.{Flags}
 use Rattle.words.specs.Table.{sorts, sort_of, group_sort, groups_from, groups_of, group_count}
 use Rattle.words.specs.TableLaws.{Rows, done, ◌▸◌, kind_row}
-use Rattle.words.specs.GroupLaws.{groups_are}
+use Rattle.words.proofs.GroupLaws.{groups_are}
 use Rattle.sheet.specs.Due.{due, due_of, room_below}
 use Rattle.sheet.specs.Writes.{writes}
 use Rattle.sheet.specs.Stack.{Alike, alike_trans, alike_behind, alike_groups, slack, Fit, due_words, allowed, entry_slack, max_room}

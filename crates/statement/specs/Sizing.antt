@@ -78,13 +78,6 @@ checked_answer t (PlanLowerError.EmptyPatternPart line span) unresolved = refusa
 abbrev pub figure_of : ℕ → ℕ
 figure_of n = n * 4
 
-fits : (t : Tree statement) (n : ℕ) → record_count t ≡ n → Figure t (figure_of n)
-fits t n k = let f = Counts.figure t in record { enough = omega (arith, f.enough); few = omega arith }
-
-pub check_fine : (t : Tree statement) (n : ℕ) (r : Checked) → r ≡ Checked.Fine → Says r (precheck_statement t) → record_count t ≡ n → Sized (test_check t (precheck_statement t)) (accepted (figure_of n))
-unfolding test_check
-check_fine t n r e h k = let f = rw e at h in rw f (figure (fits t n k))
-
 pub check_refused : (t : Tree statement) (r : Checked) (x : PlanLowerError) → r ≡ Checked.Refused x → Says r (precheck_statement t) → Sized (test_check t (precheck_statement t)) (error_answer x)
 check_refused t r x e h = let f : Found x (precheck_statement t) = rw e at h in rw f.is (checked_answer t x f.unresolved)
 

@@ -14,7 +14,7 @@ use Rattle.words.specs.Words.{max_records, Roomy, cell}
 use Rattle.words.specs.Held.{RecordAt, Held, HeldOf, HeldIn, size, size_of, size_in, room_in, total}
 use Rattle.words.specs.Cells.{shown}
 use Rattle.words.specs.Fits.{tree_fits, forest_fits, tree_low}
-use Rattle.words.specs.GroupLaws.{part_cell}
+use Rattle.words.proofs.GroupLaws.{part_cell}
 use Rattle.words.specs.Count.{count_at, is_leaf, Due, none_due, one_due, Starts, Ends}
 use Rattle.words.specs.Numbers.{same_number, expr_number, expr_number_law}
 use Rattle.words.specs.Places.{kind_at, children_at}

@@ -1,7 +1,6 @@
 -- `aggregate::is_aggregate` meets its contract. An answer names a place by its type, and `search` finds the way back to it. Assumes nothing.
 use mathlib.Core.Path.{sym, ◌∙◌}
 use native.Mathlib.Omega.{arith}
-use borrow.Author.Rules.{rules}
 use Rattle.aggregate.proofs.CallLaws.{low, no_call, call_place, call_is}
 use Rattle.aggregate.proofs.is_aggregate.Goals as goal
 

@@ -3,7 +3,6 @@ use Rattle.aggregate.proofs.NameLaws.{name_within}
 use Rattle.aggregate.specs.Names.{aggregate, letters}
 use Rattle.model.specs.Text.{bytes, bytes_from}
 use native.Mathlib.Numerals.{add-one}
-use borrow.Author.Rules.{rules}
 use Rattle.aggregate.proofs.is_aggregate_at.Goals as goal
 
 -- src/lib.rt:57:1

@@ -2,7 +2,6 @@
 use Rattle.aggregate.proofs.EscapeLaws.{by_place}
 use Rattle.laws.specs.PartLaws.{part_is}
 use mathlib.Core.Path.{◌∙◌}
-use borrow.Author.Rules.{rules}
 use Rattle.aggregate.proofs.is_aggregate_func.Goals as goal
 
 pub returns : goal.returns

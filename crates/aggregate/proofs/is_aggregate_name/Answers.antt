@@ -1,11 +1,6 @@
 -- `aggregate::is_aggregate_name` meets its contract. The loop's invariant: the name is among those left exactly if it is among all. Assumes nothing.
-use Rattle.aggregate.proofs.NameLaws.{lowered, from, all_names, found, on, tried}
-use Rattle.model.specs.Lower.{among, aggregates}
-use Rattle.aggregate.specs.Names.{names}
-use Prim.Native.Nat.{◌-◌, ◌≤◌}
-use mathlib.Core.Path.{◌≡◌}
+use Rattle.aggregate.proofs.NameLaws.{all_names, found, on, tried}
 use native.Mathlib.Omega.{arith}
-use borrow.Author.Rules.{rules}
 use Rattle.aggregate.proofs.is_aggregate_name.Goals as goal
 
 pub loop-k-init : goal.loop-k-init

@@ -1,9 +1,6 @@
 -- `aggregate::same_name` meets its contract. The loop's invariant: the bytes left are the same exactly if all are. Assumes nothing.
-use Rattle.aggregate.proofs.NameLaws.{lowered, other_long, other, alike, ended}
-use Rattle.model.specs.Text.{same}
-use lib.ListN.{length, drop}
-use Prim.Native.Nat.{◌-◌, ◌≤◌}
-use mathlib.Core.Path.{◌≡◌, refl}
+use Rattle.aggregate.proofs.NameLaws.{other_long, other, alike, ended}
+use mathlib.Core.Path.{refl}
 use native.Mathlib.Omega.{arith}
 use borrow.Author.Rules.{rules}
 use Rattle.aggregate.proofs.same_name.Goals as goal

@@ -1,11 +1,9 @@
 -- `aggregate::same_name` meets its contract. The loop's invariant: the bytes left are the same exactly if all are. Assumes nothing.
-use Rattle.aggregate.proofs.NameLaws.{lowered, other_long, other, alike, ended}
+use Rattle.aggregate.proofs.NameLaws.{lowered}
 use Rattle.model.specs.Text.{same}
 use lib.ListN.{length, drop}
 use Prim.Native.Nat.{◌-◌, ◌≤◌}
-use mathlib.Core.Path.{◌≡◌, refl}
-use native.Mathlib.Omega.{arith}
-use borrow.Author.Rules.{rules}
+use mathlib.Core.Path.{◌≡◌}
 use Rattle.aggregate.proofs.same_name.Given as goal
 
 abbrev pub invariant-loop-i : goal.invariant-loop-i

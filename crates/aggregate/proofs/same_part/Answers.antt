@@ -1,6 +1,5 @@
 -- `aggregate::same_part` meets its contract. Assumes nothing.
 use Rattle.laws.specs.PartLaws.{part_is}
-use borrow.Author.Rules.{rules}
 use Rattle.aggregate.proofs.same_part.Goals as goal
 
 pub returns : goal.returns

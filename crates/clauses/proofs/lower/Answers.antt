@@ -1,7 +1,6 @@
 -- `clauses::lower` meets its contract.
 use native.Mathlib.Omega.{arith}
 use Rattle.clauses.proofs.Whole
-use borrow.Author.Rules.{rules}
 use Rattle.clauses.proofs.lower.Goals as goal
 
 pub lower_from-r-requires : goal.lower_from-r-requires

@@ -2,13 +2,7 @@
 use mathlib.Core.Path.{◌∙◌}
 use Rattle.clauses.proofs.Room as Inputs
 use Rattle.clauses.proofs.Turning
-use mathlib.Core.Path.{◌≡◌, refl}
-use lib.ListN.{length}
-use Rattle.model.specs.Kind.{union_arm}
-use Rattle.context.specs.Ops.{before_of}
-use Rattle.lower.specs.Rep.{mem}
-use Rattle.clauses.specs.Steps.{arm_turn, LowersArms}
-use borrow.Author.Rules.{rules}
+use mathlib.Core.Path.{refl}
 use Rattle.clauses.proofs.lower_arms.Goals as goal
 
 pub loop-arms-init : goal.loop-arms-init

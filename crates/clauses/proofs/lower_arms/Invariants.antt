@@ -1,14 +1,11 @@
 -- `clauses::lower_arms` meets its contract.
-use mathlib.Core.Path.{◌∙◌}
-use Rattle.clauses.proofs.Room as Inputs
 use Rattle.clauses.proofs.Turning
-use mathlib.Core.Path.{◌≡◌, refl}
+use mathlib.Core.Path.{◌≡◌}
 use lib.ListN.{length}
 use Rattle.model.specs.Kind.{union_arm}
 use Rattle.context.specs.Ops.{before_of}
 use Rattle.lower.specs.Rep.{mem}
 use Rattle.clauses.specs.Steps.{arm_turn, LowersArms}
-use borrow.Author.Rules.{rules}
 use Rattle.clauses.proofs.lower_arms.Given as goal
 
 abbrev pub invariant-loop-arms : goal.invariant-loop-arms

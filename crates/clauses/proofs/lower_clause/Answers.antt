@@ -4,7 +4,6 @@ use native.Mathlib.Omega.{arith}
 use Rattle.projections.specs.Room
 use Rattle.clauses.proofs.Room as Inputs
 use Rattle.clauses.proofs.Clausing
-use borrow.Author.Rules.{rules}
 use Rattle.clauses.proofs.lower_clause.Goals as goal
 
 pub word-kind-requires : goal.word-kind-requires

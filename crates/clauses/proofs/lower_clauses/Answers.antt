@@ -2,14 +2,7 @@
 use mathlib.Core.Path.{◌∙◌}
 use Rattle.clauses.proofs.Room as Inputs
 use Rattle.clauses.proofs.Turning
-use mathlib.Core.Path.{◌≡◌, refl}
-use mathlib.Core.Option.{none}
-use lib.ListN.{length}
-use Rattle.model.specs.Kind.{clause}
-use Rattle.context.specs.Ops.{before_of}
-use Rattle.lower.specs.Rep.{mem}
-use Rattle.clauses.specs.Steps.{clause_turn, LowersClauses}
-use borrow.Author.Rules.{rules}
+use mathlib.Core.Path.{refl}
 use Rattle.clauses.proofs.lower_clauses.Goals as goal
 
 pub loop-m-init : goal.loop-m-init

@@ -1,15 +1,12 @@
 -- `clauses::lower_clauses` meets its contract.
-use mathlib.Core.Path.{◌∙◌}
-use Rattle.clauses.proofs.Room as Inputs
 use Rattle.clauses.proofs.Turning
-use mathlib.Core.Path.{◌≡◌, refl}
+use mathlib.Core.Path.{◌≡◌}
 use mathlib.Core.Option.{none}
 use lib.ListN.{length}
 use Rattle.model.specs.Kind.{clause}
 use Rattle.context.specs.Ops.{before_of}
 use Rattle.lower.specs.Rep.{mem}
 use Rattle.clauses.specs.Steps.{clause_turn, LowersClauses}
-use borrow.Author.Rules.{rules}
 use Rattle.clauses.proofs.lower_clauses.Given as goal
 
 abbrev pub invariant-loop-m : goal.invariant-loop-m

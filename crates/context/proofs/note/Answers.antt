@@ -1,6 +1,5 @@
 -- `note` meets its contract. Assumes nothing.
 use Rattle.context.proofs.Laws
-use borrow.Author.Rules.{rules}
 use Rattle.context.proofs.note.Goals as goal
 
 pub returns : goal.returns

@@ -1,12 +1,9 @@
--- `gate_calls::say_words` is safe and ends: each word lies behind the one before. Assumes nothing.
-use Prim.Native.Nat.{◌-◌, ◌≤◌}
-use native.Mathlib.Omega.{arith}
-use lib.ListN.{length}
-use borrow.Author.Rules.{rules}
+-- `say_words` is safe and ends: the words that are left fall. Assumes nothing.
+use Rattle.std.specs.Prelude.{◌≤◌, ◌-◌, length}
 use Rattle.gate_calls.proofs.say_words.Given as goal
 
 abbrev pub invariant-loop-i : goal.invariant-loop-i
-invariant-loop-i l = l.initial.i ≤ length l.initial.out
+invariant-loop-i g l = l.i ≤ length l.words
 
 abbrev pub decreases-loop-i : goal.decreases-loop-i
-decreases-loop-i l = length l.initial.out - l.initial.i
+decreases-loop-i g l = length l.words - l.i

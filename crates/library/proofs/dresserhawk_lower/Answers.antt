@@ -3,7 +3,6 @@ use mathlib.Core.Path.{◌∙◌, ap}
 use Rattle.model.specs.Refusal.{Answer}
 use Rattle.model.specs.Call.{Outcome}
 use Rattle.library.specs.Told.{noted}
-use borrow.Author.Rules.{rules}
 use Rattle.library.proofs.dresserhawk_lower.Goals as goal
 
 pub returns : goal.returns

@@ -2,7 +2,6 @@
 use mathlib.Core.Path.{◌∙◌, ap}
 use Rattle.model.specs.Refusal.{Answer}
 use Rattle.library.specs.Told.{noted}
-use borrow.Author.Rules.{rules}
 use Rattle.library.proofs.dresserhawk_size.Goals as goal
 
 pub returns : goal.returns

@@ -1,5 +1,4 @@
 -- `put_answer` meets its contract: each value in its place. Assumes nothing.
-use borrow.Author.Rules.{rules}
 use Rattle.library.proofs.put_answer.Goals as goal
 
 pub returns : goal.returns

@@ -22,17 +22,13 @@ use Rattle.lower.proofs.Parts
 use Rattle.lower.proofs.Asking
 use Rattle.lower.proofs.Special
 use Rattle.lower.proofs.Start
-use Prim.Native.Nat.{ℕ, ◌-◌, ◌+◌}
+use Prim.Native.Nat.{◌-◌, ◌+◌}
 use Rattle.context.specs.OpLaws.{pushed_as}
 use Rattle.lower.proofs.Reading.{endpoint_read, exprs_read, var_read}
 use mathlib.Core.Path.{refl, ◌∙◌, sym}
 use native.Mathlib.Omega.{arith}
 use mathlib.Core.Logic.{inl, inr}
-use borrow.Author.Rules.{rules}
-use Rattle.lower.specs.Chains.{LowersElements}
 use native.Mathlib.Nat.{le_refl}
-use Rattle.lower.specs.Pieces.{LowersExprs}
-use Rattle.lower.specs.Rep.{mem}
 use Rattle.lower.proofs.+expand_to_lower_chain_lower_element_lower_elements_lower_expr_lower_exprs_lower_parts_lower_pattern_part_lower_rel_element_lower_shortest_path_part_start_chain_start_node.Goals as goal
 
 -- ── expand_to ──

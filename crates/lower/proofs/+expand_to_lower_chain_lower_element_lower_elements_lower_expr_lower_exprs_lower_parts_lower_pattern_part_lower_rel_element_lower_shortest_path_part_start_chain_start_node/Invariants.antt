@@ -1,25 +1,9 @@
 -- The measures of the cycle and the invariants of its loops.
-use Rattle.lower.proofs.Linking
 use Rattle.lower.specs.Exprs
-use Rattle.lower.proofs.Room
-use Rattle.lower.proofs.Chaining
-use Rattle.lower.proofs.Part
 use Rattle.lower.proofs.Links
-use Rattle.lower.proofs.Named
-use Rattle.lower.proofs.Arms
 use Rattle.lower.proofs.Parts
-use Rattle.lower.proofs.Asking
-use Rattle.lower.proofs.Special
-use Rattle.lower.proofs.Start
-use Prim.Native.Nat.{ℕ, ◌-◌, ◌+◌, ◌*◌, ◌<◌}
-use Rattle.context.specs.OpLaws.{pushed_as}
-use Rattle.lower.proofs.Reading.{endpoint_read, exprs_read, var_read}
-use mathlib.Core.Path.{refl, ◌∙◌, sym}
-use native.Mathlib.Omega.{arith}
-use mathlib.Core.Logic.{inl, inr}
-use borrow.Author.Rules.{rules}
+use Prim.Native.Nat.{◌+◌, ◌*◌}
 use Rattle.lower.specs.Chains.{LowersElements}
-use native.Mathlib.Nat.{le_refl}
 use Rattle.lower.specs.Pieces.{LowersExprs}
 use Rattle.lower.specs.Rep.{mem}
 use Rattle.lower.proofs.+expand_to_lower_chain_lower_element_lower_elements_lower_expr_lower_exprs_lower_parts_lower_pattern_part_lower_rel_element_lower_shortest_path_part_start_chain_start_node.Given as goal

@@ -2,7 +2,6 @@
 use Rattle.lower.proofs.Parts
 use Rattle.context.specs.OpLaws.{pushed_as}
 use mathlib.Core.Path.{refl}
-use borrow.Author.Rules.{rules}
 use Rattle.lower.proofs.lower_no_parts.Goals as goal
 
 pub returns : goal.returns

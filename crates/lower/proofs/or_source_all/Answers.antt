@@ -2,7 +2,6 @@
 use Rattle.context.specs.OpLaws.{pushed_as}
 use Rattle.lower.proofs.Chaining
 use mathlib.Core.Path.{refl}
-use borrow.Author.Rules.{rules}
 use Rattle.lower.proofs.or_source_all.Goals as goal
 
 pub returns-in-Op : goal.returns-in-Op

@@ -3,7 +3,6 @@ use Rattle.words.specs.Words.{option_of}
 use Rattle.lower.proofs.Chaining.{option_some}
 use Rattle.lower.proofs.Reading
 use mathlib.Core.Path.{sym, ◌∙◌}
-use borrow.Author.Rules.{rules}
 use Rattle.lower.proofs.read_bind.Goals as goal
 
 pub returns-then-named-eq0 : goal.returns-then-named-eq0

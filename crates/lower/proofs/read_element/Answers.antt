@@ -2,7 +2,6 @@
 use native.Mathlib.Omega.{arith}
 use mathlib.Core.Path.{refl, sym, ◌∙◌}
 use Rattle.lower.specs.Chains.{node_at, rel_at}
-use borrow.Author.Rules.{rules}
 use Rattle.lower.proofs.read_element.Goals as goal
 
 pub read_at-requires : goal.read_at-requires

@@ -1,7 +1,6 @@
 -- `root_of` meets its contract, case by case. Assumes nothing.
 use Rattle.context.specs.Ops.{before_of}
 use Rattle.model.specs.Lower.{root_of}
-use borrow.Author.Rules.{rules}
 use Rattle.lower.proofs.root_of.Goals as goal
 
 pub returns-in-Op : goal.returns-in-Op

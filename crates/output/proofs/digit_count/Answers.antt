@@ -1,5 +1,4 @@
 -- `digit_count` meets its contract. Assumes nothing.
-use borrow.Author.Rules.{rules}
 use Rattle.output.proofs.digit_count.Goals as goal
 
 pub returns-then-few-ne0 : goal.returns-then-few-ne0

@@ -1,5 +1,4 @@
 -- `magnitude` meets its contract: nothing overflows on the way, the least number included. Assumes nothing.
-use borrow.Author.Rules.{rules}
 use Rattle.laws.specs.SignedLaws.{distance_fits, distance_cast, plain_cast}
 use Rattle.output.proofs.Signed.{magnitude_fits, magnitude_below}
 use Rattle.output.proofs.magnitude.Goals as goal

@@ -1,6 +1,5 @@
 -- `store_digits` meets its contract. The loop's invariant: k digits are left, and those behind them are stored. Assumes nothing.
-use borrow.Author.Rules.{rules}
-use Rattle.output.proofs.Storing.{Filling, fill_start, fill_more, fill_all}
+use Rattle.output.proofs.Storing.{Filling}
 use Rattle.output.proofs.store_digits.Given as goal
 
 abbrev pub invariant-loop-k : goal.invariant-loop-k

@@ -1,8 +1,7 @@
 -- `store_part` meets its contract. The loop's invariant: the first i bytes are stored. Assumes nothing.
 use Prim.Native.Nat.{◌-◌}
 use lib.ListN.{length}
-use borrow.Author.Rules.{rules}
-use Rattle.output.proofs.Storing.{Copying, copy_start, copy_more, copy_all}
+use Rattle.output.proofs.Storing.{Copying}
 use Rattle.output.proofs.store_part.Given as goal
 
 abbrev pub invariant-loop-i : goal.invariant-loop-i

@@ -1,8 +1,5 @@
 -- `write_ops` meets its contract. Assumes nothing.
 use Rattle.plan_writer.proofs.WholeLaws
-use Rattle.output.specs.Page.{on}
-use Prim.Native.Nat.{◌-◌}
-use borrow.Author.Rules.{rules}
 use Rattle.plan_writer.proofs.write_ops.Goals as goal
 
 pub loop-k-init : goal.loop-k-init

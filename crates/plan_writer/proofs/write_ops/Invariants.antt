@@ -2,7 +2,6 @@
 use Rattle.plan_writer.proofs.WholeLaws
 use Rattle.output.specs.Page.{on}
 use Prim.Native.Nat.{◌-◌}
-use borrow.Author.Rules.{rules}
 use Rattle.plan_writer.proofs.write_ops.Given as goal
 
 abbrev pub invariant-loop-k : goal.invariant-loop-k

@@ -1,6 +1,5 @@
 -- `write_plan` meets its contract. Assumes nothing.
 use native.Mathlib.Omega.{arith}
-use borrow.Author.Rules.{rules}
 use Rattle.plan_writer.specs.Whole.{answer_of}
 use Rattle.output.specs.Whole.{refuses, accepts}
 use Rattle.plan_writer.proofs.write_plan.Goals as goal

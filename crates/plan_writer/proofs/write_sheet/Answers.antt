@@ -1,6 +1,5 @@
 -- `write_sheet` meets its contract. Assumes nothing.
 use Rattle.plan_writer.proofs.WholeLaws
-use borrow.Author.Rules.{rules}
 use Rattle.plan_writer.proofs.write_sheet.Goals as goal
 
 pub returns : goal.returns

@@ -1,9 +1,7 @@
 -- `write_vars` meets its contract. Assumes nothing.
 use Rattle.plan_writer.proofs.WholeLaws
-use Rattle.output.specs.Writes.{same}
 use Rattle.output.specs.Page.{on}
 use Prim.Native.Nat.{◌-◌}
-use borrow.Author.Rules.{rules}
 use Rattle.plan_writer.proofs.write_vars.Given as goal
 
 abbrev pub invariant-loop-k : goal.invariant-loop-k

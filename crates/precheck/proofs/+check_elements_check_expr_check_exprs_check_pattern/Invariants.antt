@@ -1,13 +1,9 @@
 -- The measures of the cycle and the invariants of its loops.
 use Rattle.precheck.proofs.Laws
-use Prim.Native.Nat.{ℕ, ◌+◌, ◌*◌, ◌-◌, ◌<◌}
-use native.Mathlib.Omega.{arith}
-use borrow.Author.Rules.{rules}
+use Prim.Native.Nat.{◌+◌, ◌*◌}
 use Rattle.model.specs.Check.{no_span}
 use Rattle.model.specs.Kind.{pattern_element, expr, pattern_part}
-use Rattle.precheck.specs.Stands.{At, Standing}
-use Rattle.precheck.proofs.Checks.{some_turned, walks_turned, standing, some_at, as_props, own_refused, as_leaf, as_entries, as_pattern, as_plain, as_elements}
-use mathlib.Core.Path.{sym, ◌∙◌}
+use Rattle.precheck.specs.Stands.{At}
 use Rattle.precheck.specs.Answer.{span_of}
 use Rattle.precheck.proofs.+check_elements_check_expr_check_exprs_check_pattern.Given as goal
 

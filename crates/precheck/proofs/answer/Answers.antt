@@ -1,5 +1,4 @@
 -- `answer` meets its contract: a walk over the whole statement says what the answer is. Assumes nothing.
-use borrow.Author.Rules.{rules}
 use Rattle.precheck.proofs.Checks.{fine_answer, refused_answer}
 use Rattle.precheck.proofs.answer.Goals as goal
 

@@ -1,9 +1,6 @@
 -- `check_arms` meets its contract: the invariant says that what remains has the verdict of the whole. Assumes nothing.
 use native.Mathlib.Omega.{arith}
 use borrow.Author.Rules.{rules}
-use Rattle.model.specs.Check.{no_span}
-use Rattle.model.specs.Kind.{union_arm}
-use Rattle.precheck.specs.Stands.{At}
 use Rattle.precheck.proofs.Clauses.{as_arm}
 use Rattle.precheck.proofs.Checks.{some_turned, walks_turned, standing}
 use Rattle.precheck.proofs.Laws

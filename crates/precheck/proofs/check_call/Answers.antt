@@ -1,6 +1,5 @@
 -- `check_call` meets its contract: the arguments, then the yields, which are passed over by their count. Assumes nothing.
 use native.Mathlib.Omega.{arith}
-use borrow.Author.Rules.{rules}
 use Rattle.precheck.proofs.Checks.{some_counted, walks_counted}
 use Rattle.precheck.proofs.Laws
 use Rattle.precheck.proofs.check_call.Goals as goal

@@ -1,9 +1,7 @@
 -- `check_clauses` meets its contract: the invariant says that what remains has the verdict of the whole. Assumes nothing.
-use borrow.Author.Rules.{rules}
 use Rattle.model.specs.Check.{no_span}
 use Rattle.model.specs.Kind.{clause}
 use Rattle.precheck.specs.Stands.{At}
-use Rattle.precheck.proofs.Checks.{standing}
 use Rattle.precheck.proofs.Laws
 use Rattle.precheck.proofs.check_clauses.Given as goal
 

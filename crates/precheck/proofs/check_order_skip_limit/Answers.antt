@@ -1,5 +1,4 @@
 -- `check_order_skip_limit` meets its contract: keys, then skip, then limit. Assumes nothing.
-use borrow.Author.Rules.{rules}
 use Rattle.precheck.proofs.Checks.{some_counted, walks_counted}
 use Rattle.precheck.proofs.Laws
 use Rattle.precheck.proofs.check_order_skip_limit.Goals as goal

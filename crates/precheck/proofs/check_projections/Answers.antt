@@ -1,5 +1,4 @@
 -- `check_projections` meets its contract: items, then filters, then the rest. Assumes nothing.
-use borrow.Author.Rules.{rules}
 use Rattle.precheck.proofs.Checks.{some_counted, walks_counted}
 use Rattle.precheck.proofs.Laws
 use Rattle.precheck.proofs.check_projections.Goals as goal

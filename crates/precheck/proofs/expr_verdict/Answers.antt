@@ -1,5 +1,4 @@
 -- `expr_verdict` meets its contract: by the number of the kind. Assumes nothing.
-use borrow.Author.Rules.{rules}
 use Rattle.precheck.proofs.Checks.{own_unresolved, own_undesugared, own_other}
 use Rattle.precheck.proofs.expr_verdict.Goals as goal
 

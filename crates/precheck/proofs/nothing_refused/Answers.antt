@@ -1,11 +1,8 @@
 -- `nothing_refused` meets its contract: what is due from a record on is the whole tree, and the records before it are taken. Assumes nothing.
 use mathlib.Core.Bool.{false≢true}
-use Prim.Native.Nat.{◌-◌, ◌≤◌}
 use native.Mathlib.Omega.{arith}
-use Rattle.words.specs.Words.{max_records}
 use Rattle.words.proofs.Counting
-use Rattle.precheck.proofs.Flat.{TakenTo, none_yet, one_more, all_taken, told}
-use Rattle.std.proofs.lemmas.Bool.{not-false}
+use Rattle.precheck.proofs.Flat.{none_yet, one_more, all_taken}
 use Rattle.precheck.proofs.nothing_refused.Goals as goal
 
 pub loop-due-init : goal.loop-due-init

@@ -1,10 +1,8 @@
 -- `nothing_refused` meets its contract: what is due from a record on is the whole tree, and the records before it are taken. Assumes nothing.
-use mathlib.Core.Bool.{false≢true}
 use Prim.Native.Nat.{◌-◌, ◌≤◌}
-use native.Mathlib.Omega.{arith}
 use Rattle.words.specs.Words.{max_records}
 use Rattle.words.proofs.Counting
-use Rattle.precheck.proofs.Flat.{TakenTo, none_yet, one_more, all_taken, told}
+use Rattle.precheck.proofs.Flat.{TakenTo}
 use Rattle.precheck.proofs.nothing_refused.Given as goal
 
 abbrev pub invariant-loop-due : goal.invariant-loop-due

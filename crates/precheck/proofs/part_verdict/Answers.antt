@@ -1,6 +1,5 @@
 -- `part_verdict` meets its contract: by what the part begins with. Assumes nothing.
 use native.Mathlib.Omega.{arith}
-use borrow.Author.Rules.{rules}
 use Rattle.precheck.proofs.Checks.{own_empty, own_begins}
 use Rattle.precheck.proofs.part_verdict.Goals as goal
 

@@ -1,6 +1,5 @@
 -- `precheck_statement` meets its contract: the records alone, or else the clauses of the head, then the arms. Assumes nothing.
 use native.Mathlib.Omega.{arith}
-use borrow.Author.Rules.{rules}
 use Rattle.precheck.proofs.Clauses.{as_statement, held_at, some_held}
 use Rattle.precheck.proofs.Checks.{some_turned, walks_turned}
 use Rattle.precheck.proofs.Flat.{starts_held, fine_statement}

@@ -1,5 +1,4 @@
 -- `props_of` meets its contract: a node's words, or a rel's. Assumes nothing.
-use borrow.Author.Rules.{rules}
 use Rattle.precheck.proofs.Patterns.{inside_node, inside_rel}
 use Rattle.precheck.proofs.props_of.Goals as goal
 

@@ -1,6 +1,5 @@
 -- `long_enough` meets its contract: the first slice that is too short tells. Assumes nothing.
 use Rattle.statement.specs.Sizing.{short_a, short_b, short_c, short_d}
-use borrow.Author.Rules.{rules}
 use Rattle.statement.proofs.long_enough.Goals as goal
 
 pub returns-then-a-lt-WORK_WORDS : goal.returns-then-a-lt-WORK_WORDS

@@ -1,6 +1,6 @@
 -- `size_checked` meets its contract: the check's verdict, or the figure. Assumes nothing.
-use Rattle.statement.specs.Sizing.{check_fine, check_refused}
-use borrow.Author.Rules.{rules}
+use Rattle.statement.proofs.Sizing.{check_fine}
+use Rattle.statement.specs.Sizing.{check_refused}
 use Rattle.statement.proofs.size_checked.Goals as goal
 
 pub returns-in-Fine : goal.returns-in-Fine

@@ -1,6 +1,5 @@
 -- `size_statement` meets its contract: test 1, and then the others. Assumes nothing.
 use Rattle.statement.specs.Sizing.{yes, none_short, no_size}
-use borrow.Author.Rules.{rules}
 use Rattle.statement.proofs.size_statement.Goals as goal
 
 pub size_read-requires : goal.size_read-requires

@@ -1,5 +1,4 @@
 -- `error_values` meets its contract, case by case. Assumes nothing.
-use borrow.Author.Rules.{rules}
 use Rattle.values.proofs.error_values.Goals as goal
 
 pub returns-in-UnresolvedName : goal.returns-in-UnresolvedName

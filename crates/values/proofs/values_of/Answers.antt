@@ -1,5 +1,4 @@
 -- `values_of` meets its contract, case by case. Assumes nothing.
-use borrow.Author.Rules.{rules}
 use Rattle.values.proofs.values_of.Goals as goal
 
 pub returns-in-Accepted : goal.returns-in-Accepted

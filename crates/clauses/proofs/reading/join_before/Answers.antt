@@ -4,7 +4,6 @@ use Rattle.context.specs.OpLaws.{pushed_as}
 use Rattle.clauses.proofs.Matching
 use mathlib.Core.Path.{refl}
 use mathlib.Core.Logic.{inl, inr}
-use borrow.Author.Rules.{rules}
 use Rattle.clauses.proofs.reading.join_before.Goals as goal
 
 pub returns-then-optional-eq0 : goal.returns-then-optional-eq0

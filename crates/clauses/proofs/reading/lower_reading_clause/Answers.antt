@@ -3,7 +3,6 @@ use mathlib.Core.Path.{sym, ◌∙◌}
 use native.Mathlib.Omega.{arith}
 use Rattle.projections.specs.Room
 use Rattle.clauses.proofs.Clausing
-use borrow.Author.Rules.{rules}
 use Rattle.clauses.proofs.reading.lower_reading_clause.Goals as goal
 
 pub word-kind-requires : goal.word-kind-requires

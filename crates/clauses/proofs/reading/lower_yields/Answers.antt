@@ -2,13 +2,7 @@
 use native.Mathlib.Omega.{arith}
 use mathlib.Core.Path.{◌∙◌}
 use Rattle.clauses.proofs.Yields
-use Prim.Native.Nat.{ℕ}
-use mathlib.Core.Path.{◌≡◌, refl}
-use mathlib.Core.List.{List}
-use lib.ListN.{length}
-use Rattle.lower.specs.Rep.{mem}
-use Rattle.clauses.specs.Steps.{LowersYields}
-use borrow.Author.Rules.{rules}
+use mathlib.Core.Path.{refl}
 use Rattle.clauses.proofs.reading.lower_yields.Goals as goal
 
 pub loop-m-init : goal.loop-m-init

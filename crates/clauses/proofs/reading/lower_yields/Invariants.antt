@@ -1,14 +1,11 @@
 -- `clauses::reading::lower_yields` meets its contract.
-use native.Mathlib.Omega.{arith}
-use mathlib.Core.Path.{◌∙◌}
 use Rattle.clauses.proofs.Yields
 use Prim.Native.Nat.{ℕ}
-use mathlib.Core.Path.{◌≡◌, refl}
+use mathlib.Core.Path.{◌≡◌}
 use mathlib.Core.List.{List}
 use lib.ListN.{length}
 use Rattle.lower.specs.Rep.{mem}
 use Rattle.clauses.specs.Steps.{LowersYields}
-use borrow.Author.Rules.{rules}
 use Rattle.clauses.proofs.reading.lower_yields.Given as goal
 
 abbrev pub invariant-loop-m : goal.invariant-loop-m

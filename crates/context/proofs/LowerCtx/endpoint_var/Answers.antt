@@ -1,6 +1,5 @@
 -- `endpoint_var` meets its contract: the number by the id, or the next one. Assumes nothing.
 use Rattle.context.proofs.Laws
-use borrow.Author.Rules.{rules}
 use Rattle.context.proofs.LowerCtx.endpoint_var.Goals as goal
 
 pub returns-in-Var : goal.returns-in-Var

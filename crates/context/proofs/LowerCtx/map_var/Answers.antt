@@ -1,7 +1,6 @@
 -- `map_var` meets its contract: the number that is found, or that of a new variable. Assumes nothing.
 use Rattle.context.proofs.Laws
 use mathlib.Core.Path.{sym, ◌∙◌}
-use borrow.Author.Rules.{rules}
 use Rattle.context.proofs.LowerCtx.map_var.Goals as goal
 
 pub new_var-requires : goal.new_var-requires

@@ -2,7 +2,6 @@
 use lib.ListN.{length-set}
 use native.Mathlib.Omega.{arith}
 use Rattle.context.proofs.Adding
-use borrow.Author.Rules.{rules}
 use Rattle.context.proofs.LowerCtx.new_var.Goals as goal
 
 pub bounds-vars-at-2 : goal.bounds-vars-at-2

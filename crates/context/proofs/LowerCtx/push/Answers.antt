@@ -3,7 +3,6 @@ use Rattle.context.proofs.Laws
 use lib.ListN.{length-set}
 use mathlib.Core.Path.{refl}
 use native.Mathlib.Omega.{arith}
-use borrow.Author.Rules.{rules}
 use Rattle.context.proofs.LowerCtx.push.Goals as goal
 
 pub returns-then-k-ge-MAX_STORED : goal.returns-then-k-ge-MAX_STORED

@@ -2,7 +2,6 @@
 use Rattle.context.proofs.Tree
 use native.Mathlib.Omega.{arith}
 use Prim.Native.Nat.{◌+◌}
-use borrow.Author.Rules.{rules}
 use Rattle.context.specs.Tables.{links_at}
 use Rattle.context.proofs.index.child.Goals as goal
 

@@ -1,10 +1,7 @@
 -- `descend` meets its contract. The loop's invariant: the way down has come to variable p. Assumes nothing.
 use Rattle.context.proofs.Tree
 use native.Mathlib.Omega.{arith}
-use Rattle.context.specs.Tables.{Descends}
 use mathlib.Core.Path.{sym, ◌∙◌}
-use Prim.Native.Nat.{◌-◌}
-use borrow.Author.Rules.{rules}
 use Rattle.context.proofs.index.descend.Goals as goal
 
 pub loop-p-init : goal.loop-p-init

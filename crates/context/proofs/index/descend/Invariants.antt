@@ -1,10 +1,6 @@
 -- `descend` meets its contract. The loop's invariant: the way down has come to variable p. Assumes nothing.
-use Rattle.context.proofs.Tree
-use native.Mathlib.Omega.{arith}
 use Rattle.context.specs.Tables.{Descends}
-use mathlib.Core.Path.{sym, ◌∙◌}
 use Prim.Native.Nat.{◌-◌}
-use borrow.Author.Rules.{rules}
 use Rattle.context.proofs.index.descend.Given as goal
 
 abbrev pub invariant-loop-p : goal.invariant-loop-p

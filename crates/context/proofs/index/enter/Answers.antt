@@ -1,7 +1,6 @@
 -- `enter` meets its contract: joined, with no child of its own; or beyond the index. Assumes nothing.
 use Rattle.context.proofs.Tree
 use native.Mathlib.Omega.{arith}
-use borrow.Author.Rules.{rules}
 use Rattle.context.proofs.index.enter.Goals as goal
 
 pub returns-then-k-ge-MAX_INDEXED : goal.returns-then-k-ge-MAX_INDEXED

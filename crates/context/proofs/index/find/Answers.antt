@@ -1,11 +1,8 @@
 -- `find` meets its contract. The loop's invariant: among the first k variables the id is found as among all. Assumes nothing.
 use native.Mathlib.Omega.{arith}
 use mathlib.Core.Path.{◌≡◌, refl, sym, ◌∙◌}
-use Prim.Native.Nat.{◌≤◌, ◌-◌}
 use Rattle.context.proofs.Tree
 use Rattle.context.proofs.Laws
-use borrow.Author.Rules.{rules}
-use Rattle.context.specs.Tables.{max_indexed}
 use Rattle.context.proofs.index.find.Goals as goal
 
 pub loop-k-init : goal.loop-k-init

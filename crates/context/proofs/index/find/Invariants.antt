@@ -1,10 +1,7 @@
 -- `find` meets its contract. The loop's invariant: among the first k variables the id is found as among all. Assumes nothing.
-use native.Mathlib.Omega.{arith}
-use mathlib.Core.Path.{◌≡◌, refl, sym, ◌∙◌}
+use mathlib.Core.Path.{◌≡◌}
 use Prim.Native.Nat.{◌≤◌, ◌-◌}
-use Rattle.context.proofs.Tree
 use Rattle.context.proofs.Laws
-use borrow.Author.Rules.{rules}
 use Rattle.context.specs.Tables.{max_indexed}
 use Rattle.context.proofs.index.find.Given as goal
 

@@ -1,7 +1,6 @@
 -- `find_indexed` meets its contract: the variable at the end of the way down, if it has the id. Assumes nothing.
 use Rattle.context.proofs.Tree
 use Rattle.context.proofs.Laws
-use borrow.Author.Rules.{rules}
 use Rattle.context.proofs.index.find_indexed.Goals as goal
 
 pub returns-then-count-eq0 : goal.returns-then-count-eq0

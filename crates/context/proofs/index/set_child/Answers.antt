@@ -4,7 +4,6 @@ use native.Mathlib.Omega.{arith}
 use mathlib.Core.Path.{ap}
 use lib.ListN.{get_or, set}
 use Prim.Native.Nat.{◌+◌}
-use borrow.Author.Rules.{rules}
 use Rattle.context.specs.Tables.{links_at}
 use Rattle.context.proofs.index.set_child.Goals as goal
 

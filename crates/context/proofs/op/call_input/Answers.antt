@@ -3,7 +3,6 @@ use mathlib.Core.Path.{◌≡◌, refl}
 use Prim.Native.Nat.{ℕ, zero, suc}
 use Rattle.context.specs.declared.Before.TheVariants as before
 use Rattle.context.specs.Ops.{input_if}
-use borrow.Author.Rules.{rules}
 use Rattle.context.proofs.op.call_input.Goals as goal
 
 there : (told input : ℕ) → (told ≡ 0 → ⊥) → before.Op input ≡ input_if told input

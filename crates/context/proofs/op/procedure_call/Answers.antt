@@ -1,7 +1,6 @@
 -- `procedure_call` meets its contract. Assumes nothing.
 use native.Mathlib.Omega.{arith}
 use Rattle.context.specs.Ops.{procedure_call_op}
-use borrow.Author.Rules.{rules}
 use Rattle.context.proofs.op.procedure_call.Goals as goal
 
 pub overflow_cast-result-in-Op-2 : goal.overflow_cast-result-in-Op-2

@@ -1,6 +1,5 @@
 -- `read_op` meets its contract. Assumes nothing.
 use Rattle.context.specs.Tables.{op_at}
-use borrow.Author.Rules.{rules}
 use Rattle.context.proofs.op.read_op.Goals as goal
 
 pub returns : goal.returns

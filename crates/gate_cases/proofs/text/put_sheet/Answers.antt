@@ -1,6 +1,5 @@
 -- `put_sheet` meets its contract: the text as it is, or its head, its part so many times, and its tail. Assumes nothing.
 use Rattle.gate_cases.proofs.Sheets.{plain, unread, filled}
-use borrow.Author.Rules.{rules}
 use Rattle.gate_cases.proofs.text.put_sheet.Goals as goal
 
 pub returns-then-part-text : goal.returns-then-part-text

@@ -1,10 +1,7 @@
 -- `put_times` meets its contract. The loop's invariant: the text is put i times. Assumes nothing.
 use Rattle.gate_cases.proofs.Sheets.{again_none, again_more, again_all}
-use Rattle.gate_cases.specs.Text.{again}
 use Rattle.output.specs.Writes.{same}
-use Rattle.output.specs.Page.{on, Puts}
 use native.Mathlib.Omega.{arith}
-use Prim.Native.Nat.{◌≤◌, ◌-◌}
 use borrow.Author.Rules.{rules}
 use Rattle.gate_cases.proofs.text.put_times.Goals as goal
 

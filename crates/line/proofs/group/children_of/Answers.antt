@@ -3,7 +3,7 @@ use mathlib.Core.Path.{ap}
 use Prim.Native.Nat.{◌%◌}
 use native.Mathlib.Omega.{arith}
 use Rattle.words.specs.Words.{two32}
-use Rattle.words.specs.GroupLaws.{groups_few}
+use Rattle.words.proofs.GroupLaws.{groups_few}
 use Rattle.line.proofs.CountLaws.{add_none, add_one_group, add_all}
 use Rattle.line.proofs.group.children_of.Goals as goal
 

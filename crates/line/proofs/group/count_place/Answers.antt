@@ -1,5 +1,5 @@
 -- `line::group::count_place` meets its contract: an entry of the table is a count, or names a field. Assumes nothing.
-use Rattle.words.specs.GroupLaws.{entries_low}
+use Rattle.words.proofs.GroupLaws.{entries_low}
 use Rattle.line.proofs.CountLaws.{count_fixed, count_word}
 use Rattle.line.proofs.group.count_place.Goals as goal
 

@@ -1,5 +1,5 @@
 -- `line::group::group_sort` meets its contract: an entry of the table. Assumes nothing.
-use Rattle.words.specs.GroupLaws.{entries_low}
+use Rattle.words.proofs.GroupLaws.{entries_low}
 use Rattle.line.proofs.group.group_sort.Goals as goal
 
 pub returns : goal.returns

@@ -1,7 +1,6 @@
 -- `line_bytes` meets its contract. Assumes nothing.
 use Rattle.plan_line.proofs.CopyLaws.{line_in, line_long}
 use native.Mathlib.Omega.{arith}
-use borrow.Author.Rules.{rules}
 use Rattle.plan_line.proofs.copy.line_bytes.Goals as goal
 
 pub overflow_sub-bytes : goal.overflow_sub-bytes

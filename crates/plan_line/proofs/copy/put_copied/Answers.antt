@@ -1,7 +1,6 @@
 -- `put_copied` meets its contract. Assumes nothing.
 use Rattle.plan_line.proofs.CopyLaws.{line_in, copied}
 use native.Mathlib.Omega.{arith}
-use borrow.Author.Rules.{rules}
 use Rattle.plan_line.proofs.copy.put_copied.Goals as goal
 
 pub put_within-requires : goal.put_within-requires

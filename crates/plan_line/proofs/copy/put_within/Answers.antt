@@ -1,6 +1,5 @@
 -- `put_within` meets its contract. Assumes nothing.
 use Rattle.laws.specs.PartLaws.{part_is}
-use borrow.Author.Rules.{rules}
 use Rattle.plan_line.proofs.copy.put_within.Goals as goal
 
 pub returns : goal.returns

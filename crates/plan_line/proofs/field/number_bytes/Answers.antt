@@ -1,6 +1,5 @@
 -- `number_bytes` meets its contract. Assumes nothing.
 use native.Mathlib.Omega.{arith}
-use borrow.Author.Rules.{rules}
 use Rattle.output.specs.Wide.{counted_long}
 use Rattle.plan_line.proofs.field.number_bytes.Goals as goal
 

@@ -1,7 +1,6 @@
 -- `put_int` meets its contract. Assumes nothing.
 use Rattle.plan_line.proofs.SignedLaws.{put_held, read_from}
 use Rattle.output.specs.Writes.{◌⨾◌}
-use borrow.Author.Rules.{rules}
 use Rattle.plan_line.specs.Row.{int_text}
 use Rattle.plan_line.proofs.field.put_int.Goals as goal
 

@@ -1,6 +1,5 @@
 -- `put_text` meets its contract. Assumes nothing.
 use Rattle.output.specs.Writes.{◌⨾◌}
-use borrow.Author.Rules.{rules}
 use Rattle.plan_line.proofs.field.put_text.Goals as goal
 
 pub returns : goal.returns

@@ -1,5 +1,4 @@
 -- `keyword_number` meets its contract: each keyword as a number. Assumes nothing.
-use borrow.Author.Rules.{rules}
 use Rattle.words.specs.LastLaws.{last_is}
 use Rattle.plan_line.proofs.keyword.keyword_number.Goals as goal
 

@@ -1,7 +1,7 @@
 -- `store_packed` meets its contract. The invariant: the bytes of w are stored but for those of v. Assumes nothing.
 use native.Mathlib.Omega.{arith}
 use borrow.Author.Rules.{rules}
-use Rattle.plan_line.proofs.KeywordLaws.{Unpacking, unpack_start, unpack_room, unpack_more, unpack_done}
+use Rattle.plan_line.proofs.KeywordLaws.{unpack_start, unpack_room, unpack_more, unpack_done}
 use Rattle.plan_line.proofs.keyword.store_packed.Goals as goal
 
 pub loop-v-init : goal.loop-v-init

@@ -1,7 +1,5 @@
 -- `store_packed` meets its contract. The invariant: the bytes of w are stored but for those of v. Assumes nothing.
-use native.Mathlib.Omega.{arith}
-use borrow.Author.Rules.{rules}
-use Rattle.plan_line.proofs.KeywordLaws.{Unpacking, unpack_start, unpack_room, unpack_more, unpack_done}
+use Rattle.plan_line.proofs.KeywordLaws.{Unpacking}
 use Rattle.plan_line.proofs.keyword.store_packed.Given as goal
 
 abbrev pub invariant-loop-v : goal.invariant-loop-v

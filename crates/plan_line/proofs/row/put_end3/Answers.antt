@@ -1,7 +1,6 @@
 -- `put_end3` meets its contract. Assumes nothing.
 use Rattle.output.specs.Writes.{◌⨾◌}
 use Rattle.plan_line.proofs.RowLaws.{ended}
-use borrow.Author.Rules.{rules}
 use Rattle.plan_line.proofs.row.put_end3.Goals as goal
 
 pub returns : goal.returns

@@ -1,7 +1,6 @@
 -- `put_named1` meets its contract. Assumes nothing.
 use Rattle.output.specs.Writes.{◌⨾◌}
 use Rattle.plan_line.proofs.RowLaws.{named}
-use borrow.Author.Rules.{rules}
 use Rattle.plan_line.proofs.row.put_named1.Goals as goal
 
 pub returns : goal.returns

@@ -1,7 +1,6 @@
 -- `put_row2` meets its contract. Assumes nothing.
 use Rattle.output.specs.Writes.{◌⨾◌}
 use Rattle.plan_line.proofs.RowLaws.{row}
-use borrow.Author.Rules.{rules}
 use Rattle.plan_line.proofs.row.put_row2.Goals as goal
 
 pub returns : goal.returns

@@ -1,7 +1,6 @@
 -- `first_of` meets its contract. Assumes nothing.
 use Rattle.plan_sheet.specs.Behind.{first_by}
 use Rattle.plan_sheet.proofs.BehindLaws
-use borrow.Author.Rules.{rules}
 use Rattle.plan_sheet.proofs.behind.first_of.Goals as goal
 
 -- src/behind.rt:36:1

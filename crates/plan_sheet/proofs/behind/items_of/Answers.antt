@@ -1,5 +1,4 @@
 -- `items_of` meets its contract. Assumes nothing.
-use borrow.Author.Rules.{rules}
 use Rattle.plan_sheet.proofs.behind.items_of.Goals as goal
 
 pub returns : goal.returns

@@ -1,7 +1,6 @@
 -- `many_of` meets its contract. Assumes nothing.
 use Rattle.plan_sheet.specs.Behind.{many_by}
 use Rattle.plan_sheet.proofs.BehindLaws
-use borrow.Author.Rules.{rules}
 use Rattle.plan_sheet.proofs.behind.many_of.Goals as goal
 
 pub returns-in-3 : goal.returns-in-3

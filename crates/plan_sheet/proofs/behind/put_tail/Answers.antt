@@ -1,7 +1,6 @@
 -- `put_tail` meets its contract. Assumes nothing.
 use Rattle.plan_sheet.proofs.BehindLaws
 use native.Mathlib.Omega.{arith}
-use borrow.Author.Rules.{rules}
 use Rattle.plan_sheet.proofs.behind.put_tail.Goals as goal
 
 pub count-labels-requires : goal.count-labels-requires

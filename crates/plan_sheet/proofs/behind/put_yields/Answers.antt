@@ -1,11 +1,7 @@
 -- `put_yields` meets its contract. Assumes nothing.
 use Rattle.plan_sheet.proofs.BehindLaws
-use Rattle.output.specs.Page.{on}
 use Rattle.output.specs.Writes.{same}
-use Prim.Native.Nat.{◌<◌}
 use native.Mathlib.Omega.{arith}
-use borrow.Author.Rules.{rules}
-use Rattle.words.specs.Words.{max_records}
 use Rattle.plan_sheet.proofs.behind.put_yields.Goals as goal
 
 pub word-due-requires : goal.word-due-requires

@@ -1,11 +1,6 @@
 -- `put_yields` meets its contract. Assumes nothing.
 use Rattle.plan_sheet.proofs.BehindLaws
 use Rattle.output.specs.Page.{on}
-use Rattle.output.specs.Writes.{same}
-use Prim.Native.Nat.{◌<◌}
-use native.Mathlib.Omega.{arith}
-use borrow.Author.Rules.{rules}
-use Rattle.words.specs.Words.{max_records}
 use Rattle.plan_sheet.proofs.behind.put_yields.Given as goal
 
 abbrev pub invariant-loop-due : goal.invariant-loop-due

@@ -1,6 +1,5 @@
 -- `put_clause_op` meets its contract. Assumes nothing.
 use Rattle.plan_sheet.proofs.OpLaws
-use borrow.Author.Rules.{rules}
 use Rattle.plan_sheet.proofs.clause.put_clause_op.Goals as goal
 
 pub put_with-requires : goal.put_with-requires

@@ -2,7 +2,6 @@
 use Rattle.model.specs.Field.{spell_option}
 use Rattle.context.specs.Ops.{before_of}
 use Rattle.output.specs.Writes.{◌⨾◌}
-use borrow.Author.Rules.{rules}
 use Rattle.plan_sheet.proofs.clause.put_input.Goals as goal
 
 pub returns-in-Nothing : goal.returns-in-Nothing

@@ -2,7 +2,6 @@
 use Rattle.plan_line.specs.Row.{call_text}
 use Rattle.output.specs.Writes.{◌⨾◌}
 use Rattle.plan_sheet.proofs.NameLaws.{text_in}
-use borrow.Author.Rules.{rules}
 use Rattle.plan_sheet.proofs.clause.put_procedure.Goals as goal
 
 pub put_text-q-requires : goal.put_text-q-requires

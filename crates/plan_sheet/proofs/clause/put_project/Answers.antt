@@ -1,5 +1,4 @@
 -- `put_project` meets its contract. Assumes nothing.
-use borrow.Author.Rules.{rules}
 use Rattle.plan_sheet.proofs.clause.put_project.Goals as goal
 
 pub returns : goal.returns

@@ -1,5 +1,4 @@
 -- `put_with` meets its contract. Assumes nothing.
-use borrow.Author.Rules.{rules}
 use Rattle.plan_sheet.proofs.clause.put_with.Goals as goal
 
 pub returns : goal.returns

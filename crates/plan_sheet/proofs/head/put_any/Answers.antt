@@ -1,5 +1,4 @@
 -- `put_any` meets its contract. Assumes nothing.
-use borrow.Author.Rules.{rules}
 use Rattle.plan_sheet.proofs.head.put_any.Goals as goal
 
 pub returns : goal.returns

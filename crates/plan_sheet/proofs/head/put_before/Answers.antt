@@ -2,7 +2,6 @@
 use Rattle.plan_sheet.proofs.HeadLaws
 use mathlib.Core.Path.{sym, ◌∙◌}
 use native.Mathlib.Omega.{arith}
-use borrow.Author.Rules.{rules}
 use Rattle.plan_sheet.proofs.head.put_before.Goals as goal
 
 pub word-kind-requires : goal.word-kind-requires

@@ -1,7 +1,6 @@
 -- `put_call` meets its contract. Assumes nothing.
 use Rattle.plan_sheet.proofs.NameLaws.{named_in}
 use native.Mathlib.Omega.{arith}
-use borrow.Author.Rules.{rules}
 use Rattle.plan_sheet.proofs.head.put_call.Goals as goal
 
 pub put_named1-requires : goal.put_named1-requires

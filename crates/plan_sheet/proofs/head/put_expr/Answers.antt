@@ -1,7 +1,6 @@
 -- `put_expr` meets its contract. Assumes nothing.
 use Rattle.plan_sheet.proofs.HeadLaws
 use mathlib.Core.Path.{sym, ◌∙◌}
-use borrow.Author.Rules.{rules}
 use Rattle.plan_sheet.proofs.head.put_expr.Goals as goal
 
 pub put_int-requires : goal.put_int-requires

@@ -1,7 +1,6 @@
 -- `put_agg` meets its contract. Assumes nothing.
 use Rattle.plan_sheet.proofs.NameLaws.{named_in}
 use native.Mathlib.Omega.{arith}
-use borrow.Author.Rules.{rules}
 use Rattle.plan_sheet.proofs.item.put_agg.Goals as goal
 
 pub put_named2-requires : goal.put_named2-requires

@@ -2,7 +2,6 @@
 use Rattle.plan_sheet.proofs.ItemLaws
 use mathlib.Core.Path.{sym, ◌∙◌}
 use native.Mathlib.Omega.{arith}
-use borrow.Author.Rules.{rules}
 use Rattle.plan_sheet.proofs.item.put_item.Goals as goal
 
 pub word-alias-requires : goal.word-alias-requires

@@ -1,6 +1,5 @@
 -- `put_no_name` meets its contract. Assumes nothing.
 use Rattle.plan_sheet.proofs.ItemLaws
-use borrow.Author.Rules.{rules}
 use Rattle.plan_sheet.proofs.item.put_no_name.Goals as goal
 
 pub returns : goal.returns

@@ -1,7 +1,6 @@
 -- `put_own_name` meets its contract. Assumes nothing.
 use Rattle.plan_sheet.proofs.NameLaws.{named_in}
 use native.Mathlib.Omega.{arith}
-use borrow.Author.Rules.{rules}
 use Rattle.plan_sheet.proofs.item.put_own_name.Goals as goal
 
 pub put_named0-requires : goal.put_named0-requires

@@ -1,7 +1,6 @@
 -- `call_bytes` meets its contract. Assumes nothing.
 use Rattle.plan_sheet.proofs.MeasureLaws
 use native.Mathlib.Omega.{arith}
-use borrow.Author.Rules.{rules}
 use Rattle.plan_sheet.proofs.measure.call_bytes.Goals as goal
 
 pub returns : goal.returns

@@ -3,7 +3,6 @@ use Rattle.plan_sheet.proofs.HeadLaws
 use Rattle.plan_sheet.proofs.MeasureLaws
 use mathlib.Core.Path.{sym, ◌∙◌}
 use native.Mathlib.Omega.{arith}
-use borrow.Author.Rules.{rules}
 use Rattle.plan_sheet.proofs.measure.expr_bytes.Goals as goal
 
 pub call_bytes-requires : goal.call_bytes-requires

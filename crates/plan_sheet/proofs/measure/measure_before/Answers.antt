@@ -3,7 +3,6 @@ use Rattle.plan_sheet.proofs.HeadLaws
 use Rattle.plan_sheet.proofs.MeasureLaws
 use mathlib.Core.Path.{sym, ◌∙◌}
 use native.Mathlib.Omega.{arith}
-use borrow.Author.Rules.{rules}
 use Rattle.plan_sheet.proofs.measure.measure_before.Goals as goal
 
 pub word-kind-requires : goal.word-kind-requires

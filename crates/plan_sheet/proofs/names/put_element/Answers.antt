@@ -1,7 +1,6 @@
 -- `put_element` meets its contract. Assumes nothing.
 use Rattle.plan_sheet.proofs.NameLaws
 use mathlib.Core.Path.{sym, ◌∙◌}
-use borrow.Author.Rules.{rules}
 use Rattle.plan_sheet.proofs.names.put_element.Goals as goal
 
 pub put_node-requires : goal.put_node-requires

@@ -1,5 +1,4 @@
 -- `put_node` meets its contract. Assumes nothing.
-use borrow.Author.Rules.{rules}
 use Rattle.plan_sheet.proofs.names.put_node.Goals as goal
 
 pub returns : goal.returns

@@ -2,7 +2,6 @@
 use Rattle.plan_line.specs.Row.{rel_text}
 use Rattle.output.specs.Writes.{◌⨾◌}
 use Rattle.plan_sheet.proofs.NameLaws.{number_as, text_as, text_in}
-use borrow.Author.Rules.{rules}
 use Rattle.plan_sheet.proofs.names.put_rel.Goals as goal
 
 pub put_text-r-requires : goal.put_text-r-requires

@@ -1,7 +1,6 @@
 -- `props_of` meets its contract. Assumes nothing.
 use borrow.Author.Tests.{eq-eqb, ne_eqb}
 use mathlib.Core.Path.{◌∙◌}
-use borrow.Author.Rules.{rules}
 use Rattle.plan_sheet.proofs.op.props_of.Goals as goal
 
 pub returns-then-kind-eq-NODE : goal.returns-then-kind-eq-NODE

@@ -1,5 +1,4 @@
 -- `put_expand` meets its contract. Assumes nothing.
-use borrow.Author.Rules.{rules}
 use Rattle.plan_sheet.proofs.op.put_expand.Goals as goal
 
 pub returns : goal.returns

@@ -1,6 +1,5 @@
 -- `put_op` meets its contract. Assumes nothing.
 use Rattle.plan_sheet.proofs.OpLaws
-use borrow.Author.Rules.{rules}
 use Rattle.plan_sheet.proofs.op.put_op.Goals as goal
 
 pub put_source-requires : goal.put_source-requires

@@ -1,5 +1,4 @@
 -- `put_source` meets its contract. Assumes nothing.
-use borrow.Author.Rules.{rules}
 use Rattle.plan_sheet.proofs.op.put_source.Goals as goal
 
 pub returns : goal.returns

@@ -3,7 +3,6 @@ use Rattle.plan_sheet.proofs.PathLaws
 use Rattle.plan_sheet.specs.Path.{WaitsLow}
 use mathlib.Core.Path.{subst}
 use native.Mathlib.Omega.{arith}
-use borrow.Author.Rules.{rules}
 use Rattle.plan_sheet.proofs.path.put_kept.Goals as goal
 
 pub returns-in_default : goal.returns-in_default

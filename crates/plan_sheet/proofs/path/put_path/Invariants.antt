@@ -1,8 +1,6 @@
 -- `put_path` meets its contract. Assumes nothing.
 use Rattle.plan_sheet.proofs.PathLaws
 use Rattle.output.specs.Page.{on}
-use native.Mathlib.Omega.{arith}
-use borrow.Author.Rules.{rules}
 use Rattle.plan_sheet.proofs.path.put_path.Given as goal
 
 abbrev pub invariant-loop-due : goal.invariant-loop-due

@@ -1,7 +1,6 @@
 -- `put_step` meets its contract. Assumes nothing.
 use Rattle.plan_sheet.proofs.PathLaws
 use native.Mathlib.Omega.{arith}
-use borrow.Author.Rules.{rules}
 use Rattle.plan_sheet.proofs.path.put_step.Goals as goal
 
 pub note_of-n-requires : goal.note_of-n-requires

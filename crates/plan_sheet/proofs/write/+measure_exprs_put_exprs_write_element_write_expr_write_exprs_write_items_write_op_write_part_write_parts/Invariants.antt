@@ -1,19 +1,10 @@
 -- The measures of the cycle and the invariants of its loops.
 use Rattle.plan_sheet.proofs.DueLaws
-use Rattle.plan_sheet.proofs.CycleLaws
-use Rattle.plan_sheet.proofs.MeasureLaws
-use Rattle.plan_sheet.proofs.FlatLaws
 use Rattle.plan_sheet.proofs.PartedLaws
-use Rattle.plan_sheet.proofs.BehindLaws
-use Rattle.plan_sheet.proofs.OpLaws
-use mathlib.Core.Path.{◌≡◌, sym, ◌∙◌}
-use native.Mathlib.Omega.{arith}
-use lib.ListN.{length}
 use Rattle.output.specs.Page.{on}
 use Rattle.words.specs.Words.{max_records}
-use borrow.Author.Rules.{rules}
 use Rattle.context.specs.Tables.{deepest}
-use Prim.Native.Nat.{ℕ, ◌-◌, ◌+◌, ◌≤◌, ◌<◌, ◌*◌}
+use Prim.Native.Nat.{ℕ, ◌-◌, ◌+◌, ◌*◌}
 use Rattle.plan_sheet.proofs.write.+measure_exprs_put_exprs_write_element_write_expr_write_exprs_write_items_write_op_write_part_write_parts.Given as goal
 
 -- how far the measure falls from one operator to the one before

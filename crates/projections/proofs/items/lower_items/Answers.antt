@@ -1,7 +1,6 @@
 -- `projections::items::lower_items` meets its contract.
 use native.Mathlib.Omega.{arith}
 use native.Mathlib.Nat.{le_refl}
-use borrow.Author.Rules.{rules}
 use Rattle.lower.specs.Exprs
 use Rattle.projections.proofs.TrailerLaws
 use Rattle.projections.proofs.items.lower_items.Goals as goal

@@ -1,5 +1,4 @@
 -- `plus_if` meets its contract. Assumes nothing.
-use borrow.Author.Rules.{rules}
 use Rattle.projections.proofs.items.plus_if.Goals as goal
 
 pub returns-then-more : goal.returns-then-more

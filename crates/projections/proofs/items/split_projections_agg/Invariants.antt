@@ -1,8 +1,6 @@
 -- `projections::items::split_projections_agg` meets its contract.
-use native.Mathlib.Omega.{arith}
 use Rattle.lower.specs.Rep.{mem}
 use Rattle.projections.specs.Promises.{LowersSplit}
-use Rattle.projections.specs.Room
 use Rattle.projections.proofs.PartLaws
 use Rattle.projections.proofs.items.split_projections_agg.Given as goal
 

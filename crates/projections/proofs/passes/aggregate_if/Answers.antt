@@ -1,6 +1,5 @@
 -- `projections::passes::aggregate_if` meets its contract.
 use mathlib.Core.Path.{refl}
-use borrow.Author.Rules.{rules}
 use Rattle.context.specs.OpLaws.{pushed_as}
 use Rattle.projections.specs.Promises.{none_pushed, one_pushed}
 use Rattle.projections.proofs.passes.aggregate_if.Goals as goal

@@ -1,5 +1,4 @@
 -- `projections::trailers::input_of` meets its contract.
-use borrow.Author.Rules.{rules}
 use Rattle.projections.proofs.trailers.input_of.Goals as goal
 
 pub returns-in-Skip : goal.returns-in-Skip

@@ -2,7 +2,6 @@
 use mathlib.Core.Path.{◌∙◌}
 use native.Mathlib.Omega.{arith}
 use native.Mathlib.Nat.{le_refl}
-use borrow.Author.Rules.{rules}
 use Rattle.context.specs.OpLaws.{pushed_as}
 use Rattle.lower.specs.Exprs
 use Rattle.projections.specs.Room

@@ -1,5 +1,4 @@
 -- `projections::trailers::trailer_op` meets its contract.
-use borrow.Author.Rules.{rules}
 use Rattle.projections.proofs.TrailerLaws
 use Rattle.projections.proofs.trailers.trailer_op.Goals as goal
 

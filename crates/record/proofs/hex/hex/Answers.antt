@@ -1,9 +1,6 @@
 -- `record::hex::hex` meets its contract. The loop's invariant: the digits left, behind the number so far, give the whole answer, and the number has as many digits as were passed. Assumes nothing.
 use native.Mathlib.Omega.{arith}
-use mathlib.Core.Path.{◌≡◌, refl}
-use Prim.Native.Nat.{◌-◌, ◌≤◌, ◌<◌, ◌^◌}
-use lib.ListN.{length, drop}
-use Rattle.record.specs.Hex.{hex_on}
+use mathlib.Core.Path.{refl}
 use Rattle.record.proofs.HexLaws.{hex_not, hex_of, hex_bad, hex_more, room, grown}
 use borrow.Author.Rules.{rules}
 use Rattle.record.proofs.hex.hex.Goals as goal

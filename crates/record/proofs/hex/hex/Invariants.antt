@@ -1,11 +1,8 @@
 -- `record::hex::hex` meets its contract. The loop's invariant: the digits left, behind the number so far, give the whole answer, and the number has as many digits as were passed. Assumes nothing.
-use native.Mathlib.Omega.{arith}
-use mathlib.Core.Path.{◌≡◌, refl}
+use mathlib.Core.Path.{◌≡◌}
 use Prim.Native.Nat.{◌-◌, ◌≤◌, ◌<◌, ◌^◌}
 use lib.ListN.{length, drop}
 use Rattle.record.specs.Hex.{hex_on}
-use Rattle.record.proofs.HexLaws.{hex_not, hex_of, hex_bad, hex_more, room, grown}
-use borrow.Author.Rules.{rules}
 use Rattle.record.proofs.hex.hex.Given as goal
 
 abbrev pub invariant-loop-i : goal.invariant-loop-i

@@ -2,7 +2,6 @@
 use Prim.Native.Nat.{◌-◌}
 use native.Mathlib.Omega.{arith}
 use Rattle.record.proofs.IntLaws.{word_fits, word_is}
-use borrow.Author.Rules.{rules}
 use Rattle.record.proofs.int.negative.Goals as goal
 
 pub overflow_sub-result : goal.overflow_sub-result

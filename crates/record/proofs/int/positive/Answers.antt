@@ -1,7 +1,6 @@
 -- `record::int::positive` meets its contract. Assumes nothing.
 use native.Mathlib.Omega.{arith}
 use Rattle.record.proofs.IntLaws.{word_positive}
-use borrow.Author.Rules.{rules}
 use Rattle.record.proofs.int.positive.Goals as goal
 
 pub returns : goal.returns

@@ -1,10 +1,8 @@
 -- `record::name::text_at` meets its contract. The loop's invariant: the bytes left come to what the whole name comes to. Assumes nothing.
-use Prim.Native.Nat.{◌-◌}
 use native.Mathlib.Omega.{arith}
-use lib.ListN.{length}
 use borrow.Author.Rules.{rules}
 use Rattle.record.proofs.PlaceLaws.{fed_in}
-use Rattle.record.proofs.NameLaws.{Naming, naming_start, char_few, naming_more, naming_broken, naming_done}
+use Rattle.record.proofs.NameLaws.{naming_start, char_few, naming_more, naming_broken, naming_done}
 use Rattle.record.proofs.name.text_at.Goals as goal
 
 pub loop-n-init : goal.loop-n-init

@@ -1,12 +1,8 @@
 -- `record::number::gather` meets its contract. The loop's invariant: the digits left, behind the number so far, give the whole answer. Assumes nothing.
-use native.Mathlib.Omega.{arith}
-use mathlib.Core.Path.{◌≡◌, refl}
-use Prim.Native.Nat.{◌+◌, ◌*◌, ◌-◌, ◌≤◌, ◌<◌}
+use mathlib.Core.Path.{◌≡◌}
+use Prim.Native.Nat.{◌-◌, ◌≤◌}
 use lib.ListN.{length, drop}
-use Rattle.model.specs.Text.{digit0}
 use Rattle.record.specs.Number.{digits_on}
-use Rattle.record.proofs.GatherLaws.{gathered, below, above, on, over}
-use borrow.Author.Rules.{rules}
 use Rattle.record.proofs.number.gather.Given as goal
 
 abbrev pub invariant-loop-i : goal.invariant-loop-i

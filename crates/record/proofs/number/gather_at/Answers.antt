@@ -1,10 +1,8 @@
 -- `record::number::gather_at` meets its contract. The loop's invariant: the digits left, behind the number so far, give the whole answer. Assumes nothing.
-use Prim.Native.Nat.{◌-◌}
 use native.Mathlib.Omega.{arith}
-use lib.ListN.{length}
 use borrow.Author.Rules.{rules}
 use Rattle.record.proofs.PlaceLaws.{fed_in}
-use Rattle.record.proofs.GatherLaws.{Digits, digits_start, digits_above, digits_over, digits_fed, digits_more, digits_end, digits_other}
+use Rattle.record.proofs.GatherLaws.{digits_start, digits_above, digits_over, digits_fed, digits_more, digits_end, digits_other}
 use Rattle.record.proofs.number.gather_at.Goals as goal
 
 pub bounds-s-p : goal.bounds-s-p

@@ -1,9 +1,7 @@
 -- `record::piece::piece_end` meets its contract. The loop's invariant: no separator is passed. Assumes nothing.
 use Prim.Native.Nat.{◌-◌}
-use native.Mathlib.Omega.{arith}
 use lib.ListN.{length}
-use borrow.Author.Rules.{rules}
-use Rattle.record.proofs.PlaceLaws.{fed_in, Passing, pass_start, pass_on, pass_done}
+use Rattle.record.proofs.PlaceLaws.{Passing}
 use Rattle.record.proofs.piece.piece_end.Given as goal
 
 abbrev pub invariant-loop-i : goal.invariant-loop-i

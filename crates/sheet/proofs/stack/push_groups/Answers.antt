@@ -4,7 +4,7 @@ use native.Mathlib.Omega.{arith}
 use lib.ListN.{get_or}
 use Rattle.words.specs.Places.{kind_count}
 use Rattle.words.specs.Table.{group_count, group_numbers}
-use Rattle.words.specs.GroupLaws.{groups_few}
+use Rattle.words.proofs.GroupLaws.{groups_few}
 use Rattle.sheet.specs.Dues.{groups_behind, begun, groups_step, groups_all, room_left}
 use borrow.Author.Rules.{rules}
 use Rattle.sheet.proofs.stack.push_groups.Goals as goal

@@ -1,7 +1,6 @@
 -- `lower_checked` meets its contract: the check's verdict, or what the lowering gives. Assumes nothing.
 use Rattle.statement.specs.Lowering.{tree_fine, tree_refused}
 use Rattle.statement.specs.Tables.{lowered}
-use borrow.Author.Rules.{rules}
 use Rattle.statement.proofs.lowering.lower_checked.Goals as goal
 
 pub lower-ctx-requires : goal.lower-ctx-requires

@@ -2,7 +2,6 @@
 use Rattle.statement.specs.declared.Answer.{Answer}
 use Rattle.statement.specs.Lowering.{lower_short, called}
 use Rattle.statement.specs.Sizing.{yes, none_short}
-use borrow.Author.Rules.{rules}
 use Rattle.statement.proofs.lowering.lower_statement.Goals as goal
 
 pub lower_read-requires : goal.lower_read-requires

@@ -1,7 +1,6 @@
 -- `write_lowered` meets its contract: test 9 by the counts, and then the writer's answer. Assumes nothing.
 use Rattle.statement.specs.Tables.{full_ops, full_numbers, some_tables, no_room, fitted}
 use native.Mathlib.Omega.{arith}
-use borrow.Author.Rules.{rules}
 use Rattle.statement.proofs.lowering.write_lowered.Goals as goal
 
 pub returns-then-ctx-gt-MAX_OPERATORS : goal.returns-then-ctx-gt-MAX_OPERATORS

@@ -4,7 +4,6 @@ use mathlib.Core.Path.{ap}
 use native.Mathlib.Omega.{arith}
 use Rattle.model.specs.Refusal.{Answer}
 use Rattle.statement.specs.Fits.{answer_fits}
-use borrow.Author.Rules.{rules}
 use Rattle.values.proofs.call.lower.Goals as goal
 
 pub returns : goal.returns

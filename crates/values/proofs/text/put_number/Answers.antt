@@ -1,6 +1,5 @@
 -- `put_number` meets its contract: a separator and a number. Assumes nothing.
 use Rattle.output.specs.Writes.{◌⨾◌}
-use borrow.Author.Rules.{rules}
 use Rattle.values.proofs.text.put_number.Goals as goal
 
 pub returns : goal.returns

@@ -1,7 +1,6 @@
 -- `put_refusal` meets its contract: five numbers one after the other. Assumes nothing.
 use Rattle.values.proofs.Numbers.{five}
 use mathlib.Core.Path.{◌∙◌}
-use borrow.Author.Rules.{rules}
 use Rattle.values.proofs.text.put_refusal.Goals as goal
 
 pub shape_of-page : goal.shape_of-page

@@ -2,7 +2,6 @@
 use Rattle.output.specs.Writes.{same}
 use Rattle.output.specs.Whole.{too_long, long_enough}
 use native.Mathlib.Omega.{arith}
-use borrow.Author.Rules.{rules}
 use Rattle.values.proofs.text.write_refusal.Goals as goal
 
 pub returns-then-out-page : goal.returns-then-out-page

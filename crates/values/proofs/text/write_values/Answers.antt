@@ -3,7 +3,6 @@ use Rattle.output.specs.Writes.{same}
 use Rattle.values.proofs.Numbers.{six}
 use Rattle.output.specs.Whole.{too_long, long_enough}
 use native.Mathlib.Omega.{arith}
-use borrow.Author.Rules.{rules}
 use Rattle.values.proofs.text.write_values.Goals as goal
 
 pub returns-then-out-page : goal.returns-then-out-page

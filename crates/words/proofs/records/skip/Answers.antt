@@ -1,7 +1,5 @@
 -- `words::records::skip` meets its contract: what is due from a record on is the whole tree there. Assumes nothing.
 use Rattle.words.proofs.Counting
-use Rattle.words.specs.Words.{max_records}
-use Prim.Native.Nat.{◌-◌, ◌≤◌}
 use native.Mathlib.Omega.{arith}
 use Rattle.words.proofs.records.skip.Goals as goal
 

@@ -2,7 +2,6 @@
 use Rattle.words.proofs.Counting
 use Rattle.words.specs.Words.{max_records}
 use Prim.Native.Nat.{◌-◌, ◌≤◌}
-use native.Mathlib.Omega.{arith}
 use Rattle.words.proofs.records.skip.Given as goal
 
 abbrev pub invariant-loop-due : goal.invariant-loop-due

@@ -1,6 +1,5 @@
 -- `words::table::form_code` meets its contract: a digit of its row. Assumes nothing.
 use Rattle.words.proofs.DigitLaws.{code_digit}
-use borrow.Author.Rules.{rules}
 use Rattle.words.proofs.table.form_code.Goals as goal
 
 pub returns : goal.returns

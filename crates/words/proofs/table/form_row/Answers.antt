@@ -1,5 +1,4 @@
 -- `words::table::form_row` meets its contract: each kind's row of codes. Assumes nothing.
-use borrow.Author.Rules.{rules}
 use Rattle.words.specs.LastLaws.{last_is}
 use Rattle.words.proofs.table.form_row.Goals as goal
 

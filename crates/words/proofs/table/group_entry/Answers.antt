@@ -1,6 +1,5 @@
 -- `words::table::group_entry` meets its contract: a digit of its row. Assumes nothing.
 use Rattle.words.proofs.DigitLaws.{group_digit}
-use borrow.Author.Rules.{rules}
 use Rattle.words.proofs.table.group_entry.Goals as goal
 
 pub returns : goal.returns

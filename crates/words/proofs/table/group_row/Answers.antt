@@ -1,5 +1,4 @@
 -- `words::table::group_row` meets its contract: each kind's row of groups. Assumes nothing.
-use borrow.Author.Rules.{rules}
 use Rattle.words.specs.LastLaws.{last_is}
 use Rattle.words.proofs.table.group_row.Goals as goal
 

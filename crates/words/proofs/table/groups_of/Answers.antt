@@ -1,5 +1,4 @@
 -- `words::table::groups_of` meets its contract: how many groups each kind has. Assumes nothing.
-use borrow.Author.Rules.{rules}
 use Rattle.words.specs.LastLaws.{last_is}
 use Rattle.words.proofs.table.groups_of.Goals as goal
 

@@ -1,5 +1,4 @@
 -- `words::table::limit` meets its contract: each number's limit. Assumes nothing.
-use borrow.Author.Rules.{rules}
 use Rattle.words.specs.LastLaws.{last_is}
 use Rattle.words.proofs.table.limit.Goals as goal
 
