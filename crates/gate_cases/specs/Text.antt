@@ -6,6 +6,10 @@ use Rattle.model.specs.Text.{Bytes}
 use Rattle.model.specs.Field.{Form, read}
 use Rattle.model.specs.Call.{max_bytes}
 
+-- how long a file of cases may be
+abbrev pub max_file : ℕ
+max_file = 262144
+
 -- a text so many times
 unfoldable pub again : ℕ → Bytes → Bytes
 again zero t = []

@@ -2,7 +2,7 @@
 ghost use Rattle.std.specs.Prelude.{◌≡◌, cond, [], ◌+◌, ◌≤◌, ltb, length, take};
 ghost use Rattle.model.specs.Call.{max_bytes};
 ghost use Rattle.output.specs.Page.{on, Puts};
-ghost use Rattle.gate_cases.specs.Text.{again, place, sheet_of};
+ghost use Rattle.gate_cases.specs.Text.{again, max_file, place, sheet_of};
 
 use output::put_part;
 use record::Decimal;
@@ -18,6 +18,21 @@ pub fn next(text: &[u8], at: usize, byte: u8) -> usize
         i += 1;
     }
     i
+}
+
+// Where the sheet that begins at `at` ends: at the next empty line, or with the file.
+pub fn sheet_end(file: &[u8], at: usize) -> usize
+    requires { (at ≤ length file.now) × (length file.now ≤ max_file) }
+    ensures { (at ≤ result) × (result ≤ length file.now) }
+{
+    let mut line = at;
+    while line < file.len() {
+        if file[line] == b'\n' {
+            return line;
+        }
+        line = next(file, line, b'\n') + 1;
+    }
+    file.len()
 }
 
 // A text so many times.
