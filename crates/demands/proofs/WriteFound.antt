@@ -6,8 +6,8 @@ use Rattle.model.specs.Text.{Bytes}
 use Rattle.model.specs.Kind.{statement}
 use Rattle.model.specs.Tree.{Tree}
 use Rattle.model.specs.Refusal.{Refusal}
-use Rattle.model.specs.Sheet.{Reading, got, refused, read_sheet, first_write}
-use Rattle.model.specs.Call.{Test, refuse, pass, then, test_reading, test_write}
+use Rattle.model.specs.Sheet.{Reading, read_sheet, first_write}
+use Rattle.model.specs.Call.{refuse, pass, then, test_reading, test_write}
 use Rattle.demands.specs.Reader.{Numbered, read, three, four, sheet_numbered}
 
 -- a tree was read, and its first write is on this line

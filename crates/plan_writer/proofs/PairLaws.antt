@@ -4,7 +4,6 @@ use Prim.Native.Nat.{ℕ, zero, suc, ◌+◌, ◌-◌}
 use native.Mathlib.Omega.{arith}
 use mathlib.Core.List.{[], ◌∷◌, ◌++◌, append-nil, append_assoc}
 use lib.ListN.{length, drop}
-use Rattle.model.specs.Kind.{mapped}
 use Rattle.model.specs.Record.{spell_recs}
 use Rattle.model.specs.Lower.{at}
 use Rattle.model.specs.Plan.{operator_recs, mapped_recs, first_rec, plan_recs, plan_sheet}

@@ -1,5 +1,5 @@
 -- The tests on two sheets, each on the left and then on the right before the next: what the code finds, and what that says of the definition's tests. Assumes nothing: these are definitions.
-use Rattle.std.specs.Prelude.{◌≡◌, ℕ, List, []}
+use Rattle.std.specs.Prelude.{◌≡◌, ℕ, List}
 use Rattle.model.specs.Text.{Bytes}
 use Rattle.model.specs.Kind.{statement}
 use Rattle.model.specs.Tree.{Tree, Many}

@@ -13,8 +13,6 @@ use Rattle.clauses.specs.Pair.{TwoTables}
 use Rattle.clauses.specs.declared.pair.Sides.{Sides}
 use Rattle.plan_sheet.specs.Due.{Room}
 use Rattle.plan_writer.specs.Pair.{SideTables, BothRoom}
-use Rattle.plan_writer.specs.Pair
-use Rattle.plan_writer.specs.Whole
 use Rattle.union_pair.specs.declared.PairAnswer.{PairAnswer}
 use Rattle.union_pair.specs.PairAnswer.{pair_answer_of}
 use Rattle.sides.specs.Sides.{read_sides}

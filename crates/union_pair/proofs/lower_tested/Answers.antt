@@ -1,5 +1,4 @@
 -- `lower_tested` meets its contract: the first fault of a side, or what the lowering and the writer give. Assumes nothing.
-use mathlib.Core.Path.{◌∙◌}
 use Rattle.sides.proofs.Laws.{tested_passed, tested_left, tested_right}
 use Rattle.union_pair.proofs.Laws.{kept_words, kept_slices, lowering_asked, stands, lowered, left_failed, right_failed, passed}
 use Rattle.union_pair.proofs.lower_tested.Goals as goal

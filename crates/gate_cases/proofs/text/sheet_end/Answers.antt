@@ -1,8 +1,5 @@
 -- `text::sheet_end` is safe and ends, and lies within the file: each line begins behind the one before. Assumes nothing.
-use Prim.Native.Nat.{◌-◌, ◌≤◌}
 use native.Mathlib.Omega.{arith}
-use lib.ListN.{length}
-use borrow.Author.Rules.{rules}
 use Rattle.gate_cases.proofs.text.sheet_end.Goals as goal
 
 pub loop-line-init : goal.loop-line-init
