@@ -1,6 +1,6 @@
 /*
- * The proved calls of Dresserhawk for C and C++: a statement sheet in, a plan
- * sheet out. docs/C.md has the rules for their arguments, docs/FORMAT.md both
+ * The proved calls of Dresserhawk for C and C++: a statement sheet in, or two, a
+ * plan sheet out. docs/C.md has the rules for their arguments, docs/FORMAT.md both
  * sheets, docs/REFUSALS.md the refusals. Link libdresserhawk.a (x86-64), which
  * tools/archive.sh makes.
  */
@@ -15,7 +15,7 @@
 extern "C" {
 #endif
 
-/* Words that each of the four work slices must have. */
+/* Words that each work slice must have. */
 #define DRESSERHAWK_WORK_WORDS 16384
 
 /* Bytes that a sheet may have. */
@@ -27,7 +27,7 @@ enum {
     DRESSERHAWK_LINE,   /* from 1; refusals 3 to 8 */
     DRESSERHAWK_START,  /* a span in the statement's text; refusals 6 to 8 */
     DRESSERHAWK_END,
-    DRESSERHAWK_KIND,   /* refusal 7 */
+    DRESSERHAWK_KIND,   /* refusal 7; of two sheets also the side */
     DRESSERHAWK_LENGTH, /* accepted: bytes of the plan, or the sizing figure */
     DRESSERHAWK_VALUES
 };
@@ -45,6 +45,16 @@ enum {
     DRESSERHAWK_EMPTY_PART = 8,   /* no elements, or a relationship first */
     DRESSERHAWK_PLAN_FULL = 9,    /* over 2,048 operators or variable numbers */
     DRESSERHAWK_NO_ROOM = 10      /* the plan is longer than its slice */
+};
+
+/*
+ * Which of two sheets is refused. In refusals 2 to 6 and 8 the kind is the side;
+ * in 7 it is ten times the side and the form: 10 to 13, or 20 to 23. In 1, 9 and
+ * 10, which are of no side, it is 0.
+ */
+enum {
+    DRESSERHAWK_LEFT = 1,
+    DRESSERHAWK_RIGHT = 2
 };
 
 /*
@@ -72,6 +82,28 @@ bool dresserhawk_lower(
     uint32_t *b, size_t b_len,
     uint32_t *c, size_t c_len,
     uint32_t *d, size_t d_len,
+    uint8_t *plan, size_t plan_len,
+    size_t *answer, size_t answer_len);
+
+/*
+ * The lowering call with two sheets: one plan, which gives the rows of both and
+ * ends in a `union`. It is UNION ALL if `all` is true, and UNION if not. Each side
+ * has its own four work slices. Each test is made on the left sheet, then on the
+ * right one, before the next test; line and span are those of the side's own
+ * sheet. The plan slice as above, and the answer but for its kind.
+ */
+bool dresserhawk_lower_pair(
+    const uint8_t *left, size_t left_len,
+    const uint8_t *right, size_t right_len,
+    bool all,
+    uint32_t *left_a, size_t left_a_len,
+    uint32_t *left_b, size_t left_b_len,
+    uint32_t *left_c, size_t left_c_len,
+    uint32_t *left_d, size_t left_d_len,
+    uint32_t *right_a, size_t right_a_len,
+    uint32_t *right_b, size_t right_b_len,
+    uint32_t *right_c, size_t right_c_len,
+    uint32_t *right_d, size_t right_d_len,
     uint8_t *plan, size_t plan_len,
     size_t *answer, size_t answer_len);
 

@@ -5,7 +5,11 @@
  * record in turn, below each kind of clause. The deepest record is one that is
  * accepted or one that is refused: the check walks down only to the latter.
  *
- *     stack         prints the most that either call took, and on which sheet
+ * The call with two sheets is made with such a sheet on both sides, and with one
+ * on the right behind an empty left one: where a left one is refused, the right
+ * one is not walked.
+ *
+ *     stack         prints the most that each call took, and on which sheet
  */
 #include "dresserhawk.h"
 
@@ -93,25 +97,38 @@ enum {
     ENDS = sizeof deepest / sizeof *deepest
 };
 
-static uint32_t work[4][DRESSERHAWK_WORK_WORDS];
+static uint32_t work[8][DRESSERHAWK_WORK_WORDS];
 static uint8_t plan[1 << 22];
 static unsigned char stack[STACK];
 static ucontext_t caller, callee;
 
 static char sheet[DRESSERHAWK_SHEET_BYTES];
-static bool lowering;
+static enum { SIZING, LOWERING, BOTH_SIDES, RIGHT_SIDE } measured;
 static size_t answer[DRESSERHAWK_VALUES];
+
+#define WORK(at) work[at], words, work[at + 1], words, work[at + 2], words, work[at + 3], words
+#define PLAN plan, sizeof plan, answer, DRESSERHAWK_VALUES
 
 static void call(void)
 {
+    static const uint8_t empty[] = "stmt\t0\t0\n";
     const uint8_t *bytes = (const uint8_t *)sheet;
     size_t length = strlen(sheet), words = DRESSERHAWK_WORK_WORDS;
-    if (lowering)
-        dresserhawk_lower(bytes, length, work[0], words, work[1], words, work[2], words, work[3],
-                          words, plan, sizeof plan, answer, DRESSERHAWK_VALUES);
-    else
-        dresserhawk_size(bytes, length, work[0], words, work[1], words, work[2], words, work[3],
-                         words, answer, DRESSERHAWK_VALUES);
+    switch (measured) {
+    case SIZING:
+        dresserhawk_size(bytes, length, WORK(0), answer, DRESSERHAWK_VALUES);
+        break;
+    case LOWERING:
+        dresserhawk_lower(bytes, length, WORK(0), PLAN);
+        break;
+    case BOTH_SIDES:
+        dresserhawk_lower_pair(bytes, length, bytes, length, true, WORK(0), WORK(4), PLAN);
+        break;
+    case RIGHT_SIDE:
+        dresserhawk_lower_pair(empty, sizeof empty - 1, bytes, length, true, WORK(0), WORK(4),
+                               PLAN);
+        break;
+    }
 }
 
 /* Bytes of stack that a call takes. */
@@ -124,7 +141,12 @@ static size_t taken(void)
     callee.uc_link = &caller;
     makecontext(&callee, call, 0);
     swapcontext(&caller, &callee);
+    /* By blocks first: byte by byte alone takes longer than the calls do. */
+    static unsigned char block[1 << 12];
+    memset(block, PAINT, sizeof block);
     size_t lowest = 0;
+    while (lowest < sizeof stack && memcmp(stack + lowest, block, sizeof block) == 0)
+        lowest += sizeof block;
     while (lowest < sizeof stack && stack[lowest] == PAINT)
         lowest++;
     return sizeof stack - lowest;
@@ -170,13 +192,16 @@ static size_t nth(int number, const struct shape *chosen[3])
     return last->number;
 }
 
-/* Prints the most stack that the call at hand takes. */
-static int measure(const char *name)
+enum { SHEETS = 2 * ENDS * HEADS * INNER * INNER };
+
+/* Prints the most stack that a call takes, measured in this way or in two. */
+static int measure(const char *name, int first, int last)
 {
     size_t most = 0;
     const struct shape *chosen[3], *worst[3] = { heads, inner, inner };
-    for (int number = 0; number < 2 * ENDS * HEADS * INNER * INNER; number++) {
-        size_t expected = nth(number, chosen);
+    for (int number = 0; number < SHEETS * (last - first + 1); number++) {
+        measured = first + number / SHEETS;
+        size_t expected = nth(number % SHEETS, chosen);
         size_t bytes = taken();
         if (answer[DRESSERHAWK_NUMBER] != expected) {
             printf("answered with %zu:\n%s", answer[DRESSERHAWK_NUMBER], sheet);
@@ -193,8 +218,6 @@ static int measure(const char *name)
 
 int main(void)
 {
-    if (measure("sizing") != 0)
-        return 1;
-    lowering = true;
-    return measure("lowering");
+    return measure("sizing", SIZING, SIZING) || measure("lowering", LOWERING, LOWERING)
+        || measure("pair", BOTH_SIDES, RIGHT_SIDE);
 }

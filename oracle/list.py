@@ -340,4 +340,5 @@ def main():
     print(f'{out.cases} cases, {len(out.listed)} bytes of the list, {len(out.printed)} bytes printed')
 
 
-main()
+if __name__ == '__main__':
+    main()

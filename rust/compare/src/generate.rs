@@ -8,6 +8,7 @@ use crate::rng::Rng;
 const DEEPEST: usize = 64;
 
 /// What a sheet is made of, chosen once for the sheet.
+#[derive(Clone)]
 struct Taste {
     /// Longest name, and whether numbers may be long too: a sheet of many
     /// records has no bytes to spare.
@@ -53,6 +54,16 @@ impl Taste {
 /// depth left no room.
 pub fn sheet(rng: &mut Rng, records: usize) -> Vec<u8> {
     let taste = Taste::new(rng, records);
+    made(rng, taste, records)
+}
+
+/// Two sheets of the same taste, so that their ids and names are often the same.
+pub fn two_sheets(rng: &mut Rng, records: [usize; 2]) -> [Vec<u8>; 2] {
+    let taste = Taste::new(rng, records[0].max(records[1]));
+    records.map(|records| made(rng, taste.clone(), records))
+}
+
+fn made(rng: &mut Rng, taste: Taste, records: usize) -> Vec<u8> {
     let mut maker = Maker { rng, taste, out: Vec::new() };
     maker.statement(records.max(1));
     maker.out

@@ -44,7 +44,7 @@ pub fn bytes(size: usize) -> Vec<u8> {
 }
 
 /// So many lines: one long list.
-fn lines(count: usize) -> Vec<u8> {
+pub fn lines(count: usize) -> Vec<u8> {
     let mut sheet = one_where();
     line!(&mut sheet, "list", count - 3);
     for _ in 0..count - 3 {
@@ -76,7 +76,7 @@ fn deep_pattern(levels: usize) -> Vec<u8> {
 }
 
 /// A return of a list of patterns without parts: two operators each, and two more.
-fn operators(count: usize, distinct: bool) -> Vec<u8> {
+pub fn operators(count: usize, distinct: bool) -> Vec<u8> {
     let mut sheet = one_return(distinct);
     line!(&mut sheet, "list", count);
     for _ in 0..count {
@@ -87,7 +87,7 @@ fn operators(count: usize, distinct: bool) -> Vec<u8> {
 
 /// A return of a list of patterns of two unnamed nodes and a rel: six numbers
 /// and four operators each.
-fn numbers(count: usize) -> Vec<u8> {
+pub fn numbers(count: usize) -> Vec<u8> {
     let mut sheet = one_return(false);
     line!(&mut sheet, "list", count);
     for _ in 0..count {

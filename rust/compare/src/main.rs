@@ -14,6 +14,7 @@ mod hold;
 mod limits;
 mod lines;
 mod original;
+mod pairs;
 mod reading;
 mod rng;
 mod run;
@@ -23,16 +24,22 @@ mod tally;
 #[cfg(test)]
 mod trial;
 
+use hold::pair::PairCase;
 use std::collections::HashMap;
 use std::path::{Path, PathBuf};
 use std::time::Duration;
 
 const USE: &str = "use:
   compare run [--sheets N] [--seed S] [--threads T] [--folder DIR] [--in-place-of-ours NAME]
+  compare run --pairs N [--seed S] [--threads T] [--folder DIR] [--in-place-of-ours NAME]
   compare one FILE                     all sides on one sheet
-  compare answer DIR                   NAME.answer, the Rust's, beside each NAME.sheet
+  compare one-pair LEFT RIGHT [--all 1]
+                                       all sides on one pair
+  compare answer DIR                   NAME.answer, the Rust's, beside each NAME.sheet and NAME.pair
   compare sample SHEETS ANSWERS [--count N] [--seed S]
                                        the fixed list and the Rust's answers to it
+  compare sample-pairs PAIRS ANSWERS [--count N] [--seed S]
+                                       the same for pairs
   compare speed [--seconds S]          times, for each row in so long at least
   compare speed --count SIDE --load LOAD [--rounds K]
                                        the calls of a row alone, for callgrind. SIDE is sizing,
@@ -72,24 +79,46 @@ fn calls(options: &Options) -> Result<calls::Calls, String> {
     }
 }
 
-fn run_sheets(options: &Options) -> Result<bool, String> {
+/// A run over sheets, or over pairs if their number is given.
+fn run_all(options: &Options) -> Result<bool, String> {
     let seed = options.number("seed", 1)?;
-    let folder = options.0.get("folder").cloned().unwrap_or(format!("target/compare/{seed}"));
+    let pairs = options.0.contains_key("pairs");
+    if pairs && options.0.contains_key("sheets") {
+        return Err("a run goes over sheets or over pairs".to_string());
+    }
+    let folder = format!("target/compare/{}{seed}", if pairs { "pairs-" } else { "" });
     let plan = run::Plan {
         calls: calls(options)?,
         seed,
-        sheets: options.number("sheets", 1_000_000)?,
+        count: options.number(if pairs { "pairs" } else { "sheets" }, 1_000_000)?,
         threads: options.number("threads", 1)? as usize,
-        folder: PathBuf::from(folder),
+        folder: PathBuf::from(options.0.get("folder").unwrap_or(&folder)),
     };
-    run::run(&plan).map_err(|error| error.to_string())
+    let run = if pairs { run::run::<PairCase> } else { run::run::<hold::Case> };
+    run(&plan).map_err(|error| error.to_string())
+}
+
+fn read(file: &str) -> Result<Vec<u8>, String> {
+    std::fs::read(file).map_err(|error| format!("{file}: {error}"))
 }
 
 fn one(file: &str, options: &Options) -> Result<bool, String> {
-    let sheet = std::fs::read(file).map_err(|error| format!("{file}: {error}"))?;
-    let case = hold::Case { sheet, work: [16_384; 4], rooms: [1, -2] };
+    let case = hold::Case { sheet: read(file)?, work: [16_384; 4], rooms: [1, -2] };
     let (verdict, result) = hold::hold(&case, &calls(options)?, &mut hold::Bench::new());
     println!("reading: {:?}, {:?}", verdict.answer, verdict.why);
+    told(result)
+}
+
+fn one_pair(left: &str, right: &str, options: &Options) -> Result<bool, String> {
+    let all = options.number("all", 0)? == 1;
+    let case = PairCase::plain(&read(left)?, &read(right)?, all);
+    let (verdict, result) = hold::pair::hold_pair(&case, &calls(options)?, &mut hold::Bench::new());
+    println!("reading: {:?}, {:?}", verdict.answer, verdict.why);
+    told(result)
+}
+
+/// Says what came of a comparison.
+fn told(result: Result<hold::Asked, hold::Difference>) -> Result<bool, String> {
     match result {
         Ok(asked) => println!("no difference; the Rust was asked: {asked:?}"),
         Err(difference) => {
@@ -117,16 +146,28 @@ fn speed(options: &Options) -> Result<bool, String> {
 
 fn act(words: &[&str]) -> Result<bool, String> {
     match words {
-        ["run", rest @ ..] => run_sheets(&Options::new(rest)?),
+        ["run", rest @ ..] => run_all(&Options::new(rest)?),
         ["one", file, rest @ ..] => one(file, &Options::new(rest)?),
+        ["one-pair", left, right, rest @ ..] => one_pair(left, right, &Options::new(rest)?),
         ["answer", folder] => {
-            println!("{} sheets answered", answers::folder(Path::new(folder))?);
+            let (sheets, pairs) = answers::folder(Path::new(folder))?;
+            println!("{sheets} sheets and {pairs} pairs answered");
             Ok(true)
         }
         ["sample", sheets, said, rest @ ..] => {
             let options = Options::new(rest)?;
             let count = options.number("count", 1_000)? as usize;
             answers::sample(options.number("seed", 1)?, count, Path::new(sheets), Path::new(said))
+        }
+        ["sample-pairs", pairs, said, rest @ ..] => {
+            let options = Options::new(rest)?;
+            let count = options.number("count", 150)? as usize;
+            answers::sample_pairs(
+                options.number("seed", 1)?,
+                count,
+                Path::new(pairs),
+                Path::new(said),
+            )
         }
         ["speed", rest @ ..] => speed(&Options::new(rest)?),
         _ => Err(USE.to_string()),

@@ -1,13 +1,16 @@
-//! A run over many sheets: chosen by seed and number, shared out to threads,
-//! resumable, each difference kept in a folder.
+//! A run over many sheets, or pairs of them: chosen by seed and number, shared
+//! out to threads, resumable, each difference kept in a folder.
 
 use crate::calls::Calls;
 use crate::damage;
 use crate::generate;
+use crate::hold::pair::{PairCase, hold_pair};
 use crate::hold::{Asked, Bench, Case, Difference, MOST_WORDS, hold};
 use crate::limits;
+use crate::pairs;
 use crate::rng::Rng;
 use crate::shrink;
+use crate::tally::pair::PairCounts;
 use crate::tally::{Counts, Tally};
 use std::fs;
 use std::io::Write;
@@ -19,16 +22,132 @@ use std::time::{Duration, Instant};
 pub struct Plan {
     pub calls: Calls,
     pub seed: u64,
-    pub sheets: u64,
+    /// How many sheets or pairs.
+    pub count: u64,
     pub threads: usize,
     /// Where state, summary and differences go.
     pub folder: PathBuf,
 }
 
-/// Sheets that are taken, counted and noted down together.
+/// Sheets or pairs that are taken, counted and noted down together.
 const BATCH: u64 = 1_000;
 /// So many differences are kept; then a run stops with its batch.
 const ENOUGH: u64 = 20;
+
+/// What a run goes over.
+pub trait Subject: Clone {
+    /// What one of them is called.
+    const NAME: &'static str;
+    /// What a batch of them has reached.
+    type Counts;
+
+    /// The one with this number.
+    fn of(seed: u64, number: u64) -> Self;
+    fn no_counts() -> Self::Counts;
+    fn named(counts: &Self::Counts) -> Tally;
+    /// Compares all sides, and counts what was reached if that is wanted.
+    fn hold(
+        &self,
+        calls: &Calls,
+        bench: &mut Bench,
+        counts: Option<&mut Self::Counts>,
+    ) -> Result<(), Difference>;
+    /// A smaller one on which `differs` holds.
+    fn small(&self, differs: impl FnMut(&Self) -> bool) -> Self;
+    /// The sheets, with the endings of the files that they are kept in.
+    fn sheets(&self) -> Vec<(&'static str, &[u8])>;
+    /// How they are handed over.
+    fn handed(&self) -> String;
+}
+
+impl Subject for Case {
+    const NAME: &'static str = "sheet";
+    type Counts = Counts;
+
+    fn of(seed: u64, number: u64) -> Self {
+        case(seed, number)
+    }
+
+    fn no_counts() -> Counts {
+        Counts::new()
+    }
+
+    fn named(counts: &Counts) -> Tally {
+        counts.named()
+    }
+
+    fn hold(
+        &self,
+        calls: &Calls,
+        bench: &mut Bench,
+        counts: Option<&mut Counts>,
+    ) -> Result<(), Difference> {
+        let (verdict, result) = hold(self, calls, bench);
+        if let Some(counts) = counts {
+            counts.count(self, &verdict, *result.as_ref().unwrap_or(&Asked::Nothing));
+        }
+        result.map(|_| ())
+    }
+
+    fn small(&self, mut differs: impl FnMut(&Self) -> bool) -> Self {
+        let with = |sheet: &[u8]| Case { sheet: sheet.to_vec(), ..self.clone() };
+        with(&shrink::shrink(&self.sheet, |sheet| differs(&with(sheet))))
+    }
+
+    fn sheets(&self) -> Vec<(&'static str, &[u8])> {
+        vec![("sheet", &self.sheet)]
+    }
+
+    fn handed(&self) -> String {
+        format!("work slices of {:?} words", self.work)
+    }
+}
+
+impl Subject for PairCase {
+    const NAME: &'static str = "pair";
+    type Counts = PairCounts;
+
+    fn of(seed: u64, number: u64) -> Self {
+        pairs::case(seed, number)
+    }
+
+    fn no_counts() -> PairCounts {
+        PairCounts::new()
+    }
+
+    fn named(counts: &PairCounts) -> Tally {
+        counts.named()
+    }
+
+    fn hold(
+        &self,
+        calls: &Calls,
+        bench: &mut Bench,
+        counts: Option<&mut PairCounts>,
+    ) -> Result<(), Difference> {
+        let (verdict, result) = hold_pair(self, calls, bench);
+        if let Some(counts) = counts {
+            counts.count(self, &verdict, *result.as_ref().unwrap_or(&Asked::Nothing));
+        }
+        result.map(|_| ())
+    }
+
+    fn small(&self, differs: impl FnMut(&Self) -> bool) -> Self {
+        shrink::shrink_pair(self, differs)
+    }
+
+    fn sheets(&self) -> Vec<(&'static str, &[u8])> {
+        vec![("left.sheet", &self.sheets[0]), ("right.sheet", &self.sheets[1])]
+    }
+
+    fn handed(&self) -> String {
+        let PairCase { all, work, exchanged, single, .. } = self;
+        format!(
+            "all {}, work slices of {work:?} words, exchanged: {exchanged}, a single call before: {single:?}",
+            *all as u8
+        )
+    }
+}
 
 /// The sheet with this number, and how it is handed over.
 pub fn case(seed: u64, number: u64) -> Case {
@@ -54,7 +173,7 @@ pub fn case(seed: u64, number: u64) -> Case {
 }
 
 /// How many records: mostly few, and every number up to the limit and beyond.
-fn size(rng: &mut Rng) -> usize {
+pub fn size(rng: &mut Rng) -> usize {
     match rng.below(100) {
         0..=59 => rng.from(1, 40),
         60..=74 => rng.from(1, 150),
@@ -74,13 +193,13 @@ struct State {
     differences: u64,
 }
 
-pub fn run(plan: &Plan) -> std::io::Result<bool> {
+pub fn run<S: Subject>(plan: &Plan) -> std::io::Result<bool> {
     fs::create_dir_all(plan.folder.join("differences"))?;
     let state = Mutex::new(load(plan)?);
-    let batches = plan.sheets.div_ceil(BATCH);
+    let batches = plan.count.div_ceil(BATCH);
     let first = state.lock().unwrap().next;
     if first > 0 {
-        println!("resumed at sheet {}", first * BATCH);
+        println!("resumed at {} {}", S::NAME, first * BATCH);
     }
     let (taken, started) = (AtomicU64::new(first), Instant::now());
     std::thread::scope(|scope| {
@@ -93,75 +212,76 @@ pub fn run(plan: &Plan) -> std::io::Result<bool> {
                     if batch >= batches || enough {
                         break;
                     }
-                    let tally = one_batch(plan, batch, &mut bench, &state);
+                    let tally = one_batch::<S>(plan, batch, &mut bench, &state);
                     let mut state = state.lock().unwrap();
                     settle(&mut state, batch, tally);
                     save(plan, &state).expect("the state can be written");
-                    progress(&state, first, started.elapsed());
+                    progress(S::NAME, &state, first, started.elapsed());
                 }
             });
         }
     });
     println!();
     let state = state.into_inner().unwrap();
-    summary(plan, &state, first, started.elapsed())
+    summary(S::NAME, plan, &state, first, started.elapsed())
 }
 
-fn one_batch(plan: &Plan, batch: u64, bench: &mut Bench, state: &Mutex<State>) -> Tally {
-    let mut counts = Counts::new();
-    for number in batch * BATCH..((batch + 1) * BATCH).min(plan.sheets) {
-        let case = case(plan.seed, number);
-        let (verdict, result) = hold(&case, &plan.calls, bench);
-        match result {
-            Ok(asked) => counts.count(&case, &verdict, asked),
-            Err(difference) => {
-                counts.count(&case, &verdict, Asked::Nothing);
-                let found = {
-                    let mut state = state.lock().unwrap();
-                    state.differences += 1;
-                    state.differences
-                };
-                if found <= ENOUGH {
-                    keep(plan, number, &case, &difference, bench)
-                        .expect("a difference can be kept");
-                }
+fn one_batch<S: Subject>(
+    plan: &Plan,
+    batch: u64,
+    bench: &mut Bench,
+    state: &Mutex<State>,
+) -> Tally {
+    let mut counts = S::no_counts();
+    for number in batch * BATCH..((batch + 1) * BATCH).min(plan.count) {
+        let case = S::of(plan.seed, number);
+        if let Err(difference) = case.hold(&plan.calls, bench, Some(&mut counts)) {
+            let found = {
+                let mut state = state.lock().unwrap();
+                state.differences += 1;
+                state.differences
+            };
+            if found <= ENOUGH {
+                keep(plan, number, &case, &difference, bench).expect("a difference can be kept");
             }
         }
     }
-    counts.named()
+    S::named(&counts)
 }
 
 /// Shrinks a difference and writes all of it down.
-fn keep(
+fn keep<S: Subject>(
     plan: &Plan,
     number: u64,
-    case: &Case,
+    case: &S,
     first: &Difference,
     bench: &mut Bench,
 ) -> std::io::Result<()> {
     let folder = plan.folder.join("differences").join(format!("{number:09}"));
     fs::create_dir_all(&folder)?;
-    fs::write(folder.join("found.sheet"), &case.sheet)?;
-    let with = |sheet: &[u8]| Case { sheet: sheet.to_vec(), ..case.clone() };
+    for (ending, sheet) in case.sheets() {
+        fs::write(folder.join(format!("found.{ending}")), sheet)?;
+    }
     // Another difference may be smaller, but it is not the one that was found.
-    let small = shrink::shrink(&case.sheet, |sheet| {
-        let case = with(sheet);
-        hold(&case, &plan.calls, bench).1.is_err_and(|found| found.what == first.what)
+    let small = case.small(|case| {
+        case.hold(&plan.calls, bench, None).is_err_and(|found| found.what == first.what)
     });
-    fs::write(folder.join("small.sheet"), &small)?;
-    let small_case = with(&small);
-    let last = hold(&small_case, &plan.calls, bench).1.err();
+    for (ending, sheet) in small.sheets() {
+        fs::write(folder.join(format!("small.{ending}")), sheet)?;
+    }
+    let last = small.hold(&plan.calls, bench, None).err();
     let last = last.as_ref().unwrap_or(first);
     for (side, said) in &last.said {
         fs::write(folder.join(format!("small.{side}")), said)?;
     }
-    let note = format!(
-        "{}\nseed {} sheet {number}, work slices of {:?} words\n",
-        last.what, plan.seed, case.work
-    );
+    let note =
+        format!("{}\nseed {} {} {number}, {}\n", last.what, plan.seed, S::NAME, small.handed());
     fs::write(folder.join("note"), &note)?;
-    println!("\ndifference at sheet {number}: {}", last.what);
-    println!("{}", small.escape_ascii().to_string().replace("\\t", "\t").replace("\\n", "\n"));
+    println!("\ndifference at {} {number}: {}", S::NAME, last.what);
+    for (ending, sheet) in small.sheets() {
+        println!("-- {ending}");
+        println!("{}", sheet.escape_ascii().to_string().replace("\\t", "\t").replace("\\n", "\n"));
+    }
     Ok(())
 }
 
@@ -175,12 +295,12 @@ fn settle(state: &mut State, batch: u64, tally: Tally) {
     }
 }
 
-fn progress(state: &State, first: u64, elapsed: Duration) {
+fn progress(name: &str, state: &State, first: u64, elapsed: Duration) {
     let done = state.next * BATCH;
     let rate = (state.next - first) as f64 * BATCH as f64 / elapsed.as_secs_f64();
     let (records, missing) = (state.tally.get("all records"), state.tally.missing().len());
     print!(
-        "\r{done} sheets, {records} records, {rate:.0} sheets/s, {} differences, {missing} not reached   ",
+        "\r{done} {name}s, {records} records, {rate:.0} {name}s/s, {} differences, {missing} not reached   ",
         state.differences
     );
     std::io::stdout().flush().expect("standard output is open");
@@ -225,13 +345,20 @@ fn save(plan: &Plan, state: &State) -> std::io::Result<()> {
     fs::rename(new, state_file(&plan.folder))
 }
 
-fn summary(plan: &Plan, state: &State, first: u64, elapsed: Duration) -> std::io::Result<bool> {
+fn summary(
+    name: &str,
+    plan: &Plan,
+    state: &State,
+    first: u64,
+    elapsed: Duration,
+) -> std::io::Result<bool> {
     let missing = state.tally.missing();
     let (sizes, others): (Vec<&str>, Vec<&str>) =
         missing.into_iter().partition(|name| name.starts_with("size "));
-    let mut text = format!("seed {}, {} sheets\n", plan.seed, state.tally.get("all sheets"));
+    let all = state.tally.get(&format!("all {name}s"));
+    let mut text = format!("seed {}, {all} {name}s\n", plan.seed);
     text += &format!(
-        "this time {} sheets in {:.1} s\n",
+        "this time {} {name}s in {:.1} s\n",
         (state.next - first) * BATCH,
         elapsed.as_secs_f64()
     );

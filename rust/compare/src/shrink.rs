@@ -1,9 +1,14 @@
-//! Makes a sheet on which two sides differ small, keeping the difference.
+//! Makes a sheet, or a pair of them, on which two sides differ small, keeping the
+//! difference.
 
+use crate::hold::pair::PairCase;
 use crate::reading::sheet::{self, Form, Record};
+use std::time::{Duration, Instant};
 
 /// How many smaller sheets are tried at most.
 const TRIES: usize = 20_000;
+/// No further step is made after so long: a sheet of two thousand records has a million steps.
+const LONGEST: Duration = Duration::from_secs(20);
 
 type Lines = Vec<Vec<Vec<u8>>>;
 
@@ -11,15 +16,49 @@ type Lines = Vec<Vec<Vec<u8>>>;
 /// smaller.
 pub fn shrink(start: &[u8], mut differs: impl FnMut(&[u8]) -> bool) -> Vec<u8> {
     let mut best = start.to_vec();
-    let mut tries = 0;
+    let (mut tries, begun) = (0, Instant::now());
     loop {
         let smaller = candidates(&best).into_iter().find(|candidate| {
             tries += 1;
             tries < TRIES && rank(candidate) < rank(&best) && differs(candidate)
         });
         match smaller {
-            Some(candidate) => best = candidate,
+            Some(candidate) if begun.elapsed() < LONGEST => best = candidate,
+            Some(candidate) => return candidate,
             None => return best,
+        }
+    }
+}
+
+/// A pair on which `differs` still holds: handed over plainly if that shows it
+/// too, and each sheet made small in turn until neither gets smaller.
+pub fn shrink_pair(start: &PairCase, mut differs: impl FnMut(&PairCase) -> bool) -> PairCase {
+    let mut best = start.clone();
+    let plain = PairCase::plain(&best.sheets[0], &best.sheets[1], best.all);
+    if differs(&plain) {
+        best = plain;
+    }
+    // A side often matters little, and may be long.
+    for side in 0..2 {
+        let mut case = best.clone();
+        case.sheets[side] = b"stmt\t0\t0\n".to_vec();
+        if case.sheets[side].len() < best.sheets[side].len() && differs(&case) {
+            best = case;
+        }
+    }
+    let begun = Instant::now();
+    loop {
+        let before: usize = best.sheets.iter().map(Vec::len).sum();
+        for side in 0..2 {
+            let mut case = best.clone();
+            best.sheets[side] = shrink(&best.sheets[side], |sheet| {
+                case.sheets[side] = sheet.to_vec();
+                differs(&case)
+            });
+        }
+        let after: usize = best.sheets.iter().map(Vec::len).sum();
+        if after == before || begun.elapsed() > LONGEST {
+            return best;
         }
     }
 }

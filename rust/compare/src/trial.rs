@@ -2,31 +2,36 @@
 //! proved code it finds nothing; with a fault put in it finds that fault.
 
 use crate::calls::{PROVED, stand_in};
-use crate::hold::{Bench, hold};
+use crate::hold::pair::{PairCase, hold_pair};
+use crate::hold::{Bench, Case, hold};
 use crate::original::{self, Said};
 use crate::reading;
-use crate::run::case;
-use crate::shrink::shrink;
+use crate::run::{Subject, case};
 use dresserhawk::Refusal;
 
-/// The first sheet of a run that shows a difference, made small.
-fn found(name: &str, sheets: u64) -> Option<(String, &'static str)> {
+/// The first sheet or pair of a run that shows a difference, made small.
+fn found<S: Subject>(name: &str, count: u64) -> Option<(S, &'static str)> {
     let calls = stand_in(name).expect("a stand-in");
     let mut bench = Bench::new();
-    (0..sheets).find_map(|number| {
-        let case = case(3, number);
-        let what = hold(&case, &calls, &mut bench).1.err()?.what;
-        let small = shrink(&case.sheet, |sheet| {
-            let case = crate::hold::Case { sheet: sheet.to_vec(), ..case.clone() };
-            hold(&case, &calls, &mut bench).1.is_err_and(|found| found.what == what)
-        });
-        Some((String::from_utf8(small).expect("plain names").replace('\t', " "), what))
+    (0..count).find_map(|number| {
+        let case = S::of(3, number);
+        let what = case.hold(&calls, &mut bench, None).err()?.what;
+        let same =
+            |case: &S| case.hold(&calls, &mut bench, None).is_err_and(|found| found.what == what);
+        Some((case.small(same), what))
     })
+}
+
+/// The sheets with blanks for tabs, one behind the other.
+fn lines(small: &impl Subject) -> String {
+    let sheets: Vec<u8> = small.sheets().iter().flat_map(|(_, sheet)| sheet.to_vec()).collect();
+    String::from_utf8(sheets).expect("plain names").replace('\t', " ")
 }
 
 #[test]
 fn nothing_is_found_where_nothing_is_wrong() {
-    assert_eq!(found("right", 2_000), None);
+    assert!(found::<Case>("right", 2_000).is_none());
+    assert!(found::<PairCase>("right", 2_000).is_none());
 }
 
 #[test]
@@ -37,10 +42,43 @@ fn each_fault_is_found_and_made_small() {
         ("writes-when-refused", "a byte of the plan slice is touched"),
         ("wrong-byte", "plan: ours and reading"),
     ] {
-        let (small, what) = found(name, 2_000).expect("the fault is found");
+        let (small, what) = found::<Case>(name, 2_000).expect("the fault is found");
         assert_eq!(what, due, "{name}");
+        let small = lines(&small);
         assert!(small.lines().count() <= 8, "{name}:\n{small}");
     }
+}
+
+#[test]
+fn each_fault_of_a_pair_is_found_and_made_small() {
+    let (answer, plan) = ("lowering: ours and reading", "plan: ours and reading");
+    for (name, due, most) in [
+        ("sides-exchanged", answer, 2),
+        ("variables-kept", answer, 4),
+        ("numbers-restarted", plan, 4),
+        ("no-side-in-7", answer, 4),
+        ("left-first", answer, 3),
+        ("right-source-first", plan, 2),
+        ("four-slices", answer, 2),
+        ("pair-writes-when-refused", "a byte of the plan slice is touched", 4),
+    ] {
+        let (small, what) = found::<PairCase>(name, 2_000).expect("the fault is found");
+        let small = lines(&small);
+        assert_eq!(what, due, "{name}:\n{small}");
+        assert!(small.lines().count() <= most, "{name}:\n{small}");
+    }
+}
+
+/// Test 9 made on each side alone: the pairs that show it are long, and are not made small here.
+#[test]
+fn a_limit_tested_side_by_side_is_found() {
+    let calls = stand_in("full-by-side").expect("a stand-in");
+    let mut bench = Bench::new();
+    let what = (0..2_000).find_map(|number| {
+        let case = PairCase::of(3, number);
+        hold_pair(&case, &calls, &mut bench).1.err().map(|difference| difference.what)
+    });
+    assert_eq!(what, Some("lowering: ours and reading"));
 }
 
 #[test]
@@ -50,6 +88,48 @@ fn the_proved_calls_agree() {
         let case = case(4, number);
         let difference = hold(&case, &PROVED, &mut bench).1.err();
         assert_eq!(difference.map(|found| found.what), None, "sheet {number}");
+    }
+    for number in 0..2_000 {
+        let case = PairCase::of(4, number);
+        let difference = hold_pair(&case, &PROVED, &mut bench).1.err();
+        assert_eq!(difference.map(|found| found.what), None, "pair {number}");
+    }
+}
+
+/// The one difference from the Rust: its map keeps the left's entries. Here is the smallest pair
+/// that shows it, as docs/DIFFERENCES.md has it, and one with the same id on both sides.
+#[test]
+fn the_rust_keeps_the_left_variables() {
+    let left = "stmt 1 0|where 0 0|var 0";
+    for (right, ours, kept) in [
+        ("stmt 0 0", "plan 4 0|source 1 0|filter 0|var 0|source 1 0|union 1 2 0", "plan 4 1|v 0 0"),
+        (
+            left,
+            "plan 5 1|source 1 0|filter 0|var 0|source 2 0|filter 2|var 1|union 1 3 0|v 1 0",
+            "plan 5 2|v 0 0|v 1 0",
+        ),
+    ] {
+        let [left, right] = [left, right].map(reading::sheet::by_hand::sheet);
+        let case = PairCase::plain(&left, &right, false);
+        let [l, r] =
+            case.judge().records.expect("well-formed").map(|all| original::statement(&all));
+        let original::SaidOfPair::Plan(plan, lefts) = original::ask_pair(&l, &r, false) else {
+            panic!("a plan is due");
+        };
+        let text = |plan: Vec<u8>| {
+            let text = String::from_utf8(plan).expect("UTF-8").replace('\t', " ");
+            text.trim_end().replace('\n', "|")
+        };
+        let (mut whole, mut without) = (Vec::new(), Vec::new());
+        original::print::plan(&plan, &mut whole);
+        original::print::plan_without(&plan, lefts, &mut without);
+        assert_eq!(text(without), ours);
+        let first_and_variables: Vec<String> = text(whole)
+            .split('|')
+            .filter(|line| line.starts_with("plan ") || line.starts_with("v "))
+            .map(str::to_string)
+            .collect();
+        assert_eq!(first_and_variables.join("|"), kept);
     }
 }
 

@@ -86,6 +86,49 @@ impl fmt::Display for Refusal {
 
 impl std::error::Error for Refusal {}
 
+/// One of the two sheets of a pair, by the number that an answer has for it.
+#[derive(Debug, Clone, Copy, PartialEq, Eq)]
+pub enum Side {
+    Left = 1,
+    Right = 2,
+}
+
+impl fmt::Display for Side {
+    fn fmt(&self, f: &mut fmt::Formatter<'_>) -> fmt::Result {
+        f.write_str(match self {
+            Side::Left => "left",
+            Side::Right => "right",
+        })
+    }
+}
+
+/// Why a pair of sheets is refused, and which of the two. Line and span are
+/// those of that sheet.
+#[derive(Debug, Clone, Copy, PartialEq, Eq)]
+pub struct PairRefusal {
+    /// None for refusals 1, 9 and 10, which are of the call and its one plan.
+    pub side: Option<Side>,
+    pub refusal: Refusal,
+}
+
+impl fmt::Display for PairRefusal {
+    fn fmt(&self, f: &mut fmt::Formatter<'_>) -> fmt::Result {
+        match self.side {
+            Some(side) => write!(f, "{side} sheet: {}", self.refusal),
+            None => self.refusal.fmt(f),
+        }
+    }
+}
+
+impl std::error::Error for PairRefusal {}
+
+/// The refusal without its side.
+impl From<PairRefusal> for Refusal {
+    fn from(refused: PairRefusal) -> Refusal {
+        refused.refusal
+    }
+}
+
 /// Six words as the calls write them: the length, or the refusal.
 pub(crate) fn told(words: [usize; 6]) -> Result<usize, Refusal> {
     // Only the length can need more than 32 bits.
@@ -106,6 +149,21 @@ pub(crate) fn told(words: [usize; 6]) -> Result<usize, Refusal> {
         10 => Refusal::NoRoom,
         _ => unreachable!("the contract has numbers 0 to 10"),
     })
+}
+
+/// Six words as the call with two sheets writes them.
+pub(crate) fn told_pair(words: [usize; 6]) -> Result<usize, PairRefusal> {
+    let [number, line, start, end, kind, length] = words;
+    // Refusal 7 has the side in the tens and the form in the ones; where another
+    // has a side, it is the whole kind.
+    let (side, form) = if number == 7 { (kind / 10, kind % 10) } else { (kind, 0) };
+    let side = match side {
+        0 => None,
+        1 => Some(Side::Left),
+        2 => Some(Side::Right),
+        _ => unreachable!("the contract has sides 1 and 2"),
+    };
+    told([number, line, start, end, form, length]).map_err(|refusal| PairRefusal { side, refusal })
 }
 
 fn undesugared(kind: usize) -> Undesugared {

@@ -11,6 +11,8 @@
 //! assert_eq!(planner.plan(b""), Err(dresserhawk::Refusal::BadLine { line: 1 }));
 //! ```
 //!
+//! [`Planner::plan_pair`] makes one plan of two sheets.
+//!
 //! [`sheet`] builds statement sheets; [`explain`] says what was due in a refused
 //! one. Neither is proved, and no call rests on them.
 
@@ -21,7 +23,7 @@ mod planner;
 pub mod raw;
 pub mod sheet;
 
-pub use answer::{Refusal, Span, Undesugared};
+pub use answer::{PairRefusal, Refusal, Side, Span, Undesugared};
 pub use planner::Planner;
 
 /// The example of the README.

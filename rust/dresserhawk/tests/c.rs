@@ -1,4 +1,4 @@
-//! The calls from C: the header, the example and the rules of docs/C.md, built
+//! The calls from C: the header, the examples and the rules of docs/C.md, built
 //! with c/Makefile; and that every declaration says what is exported.
 
 use std::path::PathBuf;
@@ -58,6 +58,81 @@ fn the_example_and_the_rules_are_built_and_run() {
 }
 
 #[test]
+fn the_example_of_a_pair_is_built_and_run() {
+    if !at_hand("make") {
+        return;
+    }
+    let out = PathBuf::from(env!("CARGO_TARGET_TMPDIR")).join("c-two");
+    let _ = std::fs::remove_dir_all(&out);
+    let made = Command::new("make")
+        .args(["-s", "-C", C, "check"])
+        .arg(format!("OUT={}", out.display()))
+        .arg(concat!("ARCHIVE=", env!("DRESSERHAWK_LINKED")))
+        .output()
+        .expect("make runs");
+    let said = String::from_utf8_lossy(&made.stdout);
+    assert!(made.status.success(), "{said}{}", String::from_utf8_lossy(&made.stderr));
+    // docs/C.md asks for 64 KiB of stack.
+    let line = said.lines().find_map(|line| line.strip_prefix("pair ")).expect("a figure");
+    let bytes: usize = line.split(' ').next().unwrap_or_default().parse().expect("a number");
+    assert!((1_000..=1 << 16).contains(&bytes), "pair {bytes}");
+    let (good, bad, none) = ("searches/titles.sheet", "crates/plan/stdout", "no/such.sheet");
+    for (inputs, output, due) in [
+        (&[good, good][..], "/dev/null", 0),
+        (&[bad, good], "/dev/null", 1),
+        (&[good, bad], "/dev/null", 1),
+        (&[none, good], "/dev/null", 2),
+        (&[good, none], "/dev/null", 2),
+        (&[good], "/dev/null", 2),
+        (&[good, good], "/dev/full", 2),
+    ] {
+        let to = std::fs::File::options().write(true).open(output).expect("it opens");
+        let ended = Command::new(out.join("pair"))
+            .args(inputs.iter().map(|input| format!("{C}/../{input}")))
+            .stdout(to)
+            .stderr(Stdio::null())
+            .status()
+            .expect("the example runs");
+        assert_eq!(ended.code(), Some(due), "{inputs:?} to {output}");
+    }
+    // What `make check` has kept of the pair is what this crate's call says.
+    let [left, right] = ["overdue", "reserved"]
+        .map(|name| std::fs::read(format!("{C}/../searches/{name}.sheet")).expect("a search"));
+    let plan = std::fs::read(out.join("pair.plan")).expect("kept");
+    assert_eq!(Ok(&plan[..]), dresserhawk::Planner::new().plan_pair(&left, &right, false));
+}
+
+#[test]
+fn the_example_of_a_pair_tells_the_side() {
+    if !at_hand("make") {
+        return;
+    }
+    let out = PathBuf::from(env!("CARGO_TARGET_TMPDIR")).join("c-pair");
+    let _ = std::fs::remove_dir_all(&out);
+    let program = out.join("pair");
+    let made = Command::new("make")
+        .args(["-s", "-C", C])
+        .arg(format!("OUT={}", out.display()))
+        .arg(concat!("ARCHIVE=", env!("DRESSERHAWK_LINKED")))
+        .arg(&program)
+        .status();
+    assert!(made.expect("make runs").success());
+    let (good, refused) = ("titles.sheet", "refused/7-undesugared.sheet");
+    for (files, due) in [
+        ([refused, good], "refused, left: number 7, line 8, span 15 to 32, kind 12\n"),
+        ([good, refused], "refused, right: number 7, line 8, span 15 to 32, kind 22\n"),
+        (
+            ["refused/5-write.sheet", refused],
+            "refused, left: number 5, line 6, span 0 to 0, kind 1\n",
+        ),
+    ] {
+        let files = files.map(|name| format!("{C}/../searches/{name}"));
+        let ended = Command::new(&program).args(files).output().expect("the example runs");
+        assert_eq!(String::from_utf8_lossy(&ended.stderr), due);
+    }
+}
+
+#[test]
 fn the_header_is_cplusplus_too() {
     if !at_hand("c++") {
         return;
@@ -105,6 +180,7 @@ fn the_declarations_are_those_of_the_exported_functions() {
     for Exported { name, slices } in &exported {
         let in_c = slices.iter().map(|(slice, kind)| {
             let kind = match *kind {
+                "bool" => return format!("bool {slice}"),
                 "&[u8]" => "const uint8_t",
                 "&mut [u8]" => "uint8_t",
                 "&mut [u32]" => "uint32_t",
@@ -116,6 +192,9 @@ fn the_declarations_are_those_of_the_exported_functions() {
         let due = format!("bool {name}({});", in_c.collect::<Vec<_>>().join(", "));
         assert!(plain(HEADER).contains(&due), "c/dresserhawk.h: not\n{due}");
         let in_rust = slices.iter().map(|(slice, kind)| {
+            if *kind == "bool" {
+                return format!("{slice}: bool");
+            }
             let kind = kind.replace("&mut [", "*mut ").replace("&[", "*const ").replace(']', "");
             format!("{slice}: {kind}, {slice}_len: usize")
         });
@@ -155,5 +234,13 @@ fn the_numbers_in_the_header_are_those_of_the_crate() {
         ("NO_ROOM", NoRoom),
     ] {
         assert_eq!(constant(&format!("DRESSERHAWK_{name} =")), refusal.number() as usize, "{name}");
+    }
+}
+
+#[test]
+fn the_sides_in_the_header_are_those_of_the_crate() {
+    for (name, side) in [("LEFT", dresserhawk::Side::Left), ("RIGHT", dresserhawk::Side::Right)] {
+        let due = format!("DRESSERHAWK_{name} = {}", side as usize);
+        assert!(plain(HEADER).contains(&due), "c/dresserhawk.h: not {due}");
     }
 }

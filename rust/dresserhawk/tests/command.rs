@@ -68,7 +68,9 @@ fn help_and_version_are_asked_for() {
     for word in ["plan [FILE..]", "size [FILE..]", "--version", "Exit status"] {
         assert!(out.contains(word), "{out}");
     }
+    assert!(out.contains("pair [--all] LEFT RIGHT"), "{out}");
     assert_eq!(run(&["plan", "--help"], b"").0, 0);
+    assert_eq!(run(&["pair", "--all", "-h"], b"").0, 0);
     let due =
         format!("dresserhawk {}, proved with {}\n", env!("CARGO_PKG_VERSION"), dresserhawk::KIT);
     assert_eq!(run(&["--version"], b""), (0, due, String::new()));
@@ -93,6 +95,7 @@ fn output_that_cannot_be_written_ends_with_2() {
     for words in [
         &["plan", "searches/titles.sheet"][..],
         &["size", "searches/titles.sheet"],
+        &["pair", "searches/titles.sheet", "searches/titles.sheet"],
         &["--help"],
         &["--version"],
     ] {
@@ -128,6 +131,102 @@ fn a_closed_pipe_or_output_ends_with_2() {
             .expect("sh runs");
         assert_eq!(status.code(), Some(2), "{closed}");
     }
+}
+
+/// The plan of two empty sheets, with this flag.
+fn empty_pair(all: u8) -> String {
+    format!("plan\t3\t0\nsource\t0\t0\nsource\t0\t0\nunion\t0\t1\t{all}\n")
+}
+
+#[test]
+fn two_files_have_one_plan() {
+    let empty = &*file("empty.sheet", b"stmt\t0\t0\n");
+    let input = b"stmt\t0\t0\n";
+    let accepted = |all| (0, empty_pair(all), String::new());
+    assert_eq!(run(&["pair", empty, empty], b""), accepted(0));
+    assert_eq!(run(&["pair", "-", empty], input), accepted(0));
+    assert_eq!(run(&["pair", empty, "-"], input), accepted(0));
+    assert_eq!(run(&["pair", "--", empty, empty], b""), accepted(0));
+    for words in [["--all", empty, empty], [empty, "--all", empty], [empty, empty, "--all"]] {
+        assert_eq!(run(&[&["pair"], &words[..]].concat(), b""), accepted(1), "{words:?}");
+    }
+    // The first file is the left one.
+    let (status, plan, _) = run(&["pair", "searches/titles.sheet", empty], b"");
+    assert_eq!((status, plan.ends_with("union\t1\t2\t0\n")), (0, true), "{plan}");
+    let (status, plan, _) = run(&["pair", empty, "searches/titles.sheet"], b"");
+    assert_eq!((status, plan.ends_with("union\t2\t1\t0\nv\t0\t7\n")), (0, true), "{plan}");
+}
+
+#[test]
+fn a_refused_pair_ends_with_1_and_tells_which_file() {
+    let good = "searches/titles.sheet";
+    let unresolved = "searches/refused/6-unresolved.sheet";
+    let spaces = "searches/refused/3-spaces.sheet";
+    let cases: &[([&str; 2], &[&str])] = &[
+        (
+            [unresolved, good],
+            &[
+                "searches/refused/6-unresolved.sheet:9: error: the name `b` was not resolved",
+                "(refusal 6, left sheet)",
+                "9 | unres\tb",
+                "due here: a variable",
+                "hint: ",
+            ],
+        ),
+        ([good, unresolved], &["6-unresolved.sheet:9: error: ", "(refusal 6, right sheet)"]),
+        // The earlier test, with its own file.
+        (
+            [unresolved, spaces],
+            &[
+                "searches/refused/3-spaces.sheet:1: error: ",
+                "(refusal 3, right sheet)",
+                "hint: the line has spaces where tabs are due",
+            ],
+        ),
+        // The same file twice.
+        ([unresolved, unresolved], &["6-unresolved.sheet:9: error: ", "(refusal 6, left sheet)"]),
+        (
+            [good, "/dev/zero"],
+            &["/dev/zero: error: the sheet has over 32,768 bytes (refusal 2, right sheet)"],
+        ),
+    ];
+    for (files, said) in cases {
+        let (status, out, error) = run(&["pair", files[0], files[1]], b"");
+        assert_eq!((status, &*out), (1, ""), "{files:?}");
+        for words in *said {
+            assert!(error.contains(words), "{files:?}: not `{words}` in\n{error}");
+        }
+    }
+    // What is of neither is told of both.
+    let large = format!("stmt\t1023\t0\n{}", "where\t0\t1\nnull\n".repeat(1_023));
+    let large = file("large.sheet", large.as_bytes());
+    let (status, out, error) = run(&["pair", &large, &large], b"");
+    assert_eq!((status, &*out), (1, ""));
+    let due = "the plan has over 2,048 operators or variables (refusal 9)";
+    assert_eq!(error, format!("{large} and {large}: error: {due}\n"));
+}
+
+#[test]
+fn a_pair_of_files_that_are_not_two_ends_with_2() {
+    let good = "searches/titles.sheet";
+    for (words, due) in [
+        (&["pair"][..], "`pair` takes two files, LEFT and RIGHT, and not 0"),
+        (&["pair", good], "and not 1"),
+        (&["pair", good, good, good], "and not 3"),
+        (&["pair", "-", "-"], "standard input can be LEFT or RIGHT, and not both"),
+        (&["pair", "--both", good, good], "no option `--both`"),
+        (&["plan", "--all", good], "no option `--all`"),
+        (&["pair", "--", "--all", good], "--all: "),
+        (&["pair", "/nowhere/at.all", good], "/nowhere/at.all: "),
+        (&["pair", good, "/nowhere/at.all"], "/nowhere/at.all: "),
+    ] {
+        let (status, out, error) = run(words, SHEET.as_bytes());
+        assert_eq!((status, &*out), (2, ""), "{words:?}");
+        assert!(error.starts_with("dresserhawk: ") && error.contains(due), "{words:?}: {error}");
+    }
+    // Each that cannot be read is told.
+    let (_, _, error) = run(&["pair", "/nowhere/one", "/nowhere/two"], b"");
+    assert!(error.contains("/nowhere/one: ") && error.contains("/nowhere/two: "), "{error}");
 }
 
 #[test]

@@ -1,5 +1,6 @@
 //! The Rust itself: its statement tree made from records, its own
-//! `lower_statement`, and its plan printed as document 01 has it.
+//! `lower_statement` and `lower_union_pair`, and its plan printed as document 01
+//! has it.
 
 pub mod print;
 pub mod reader;
@@ -7,8 +8,8 @@ pub mod tree;
 
 use crate::reading::sheet::Record;
 use cyrs_hir::{HirId, Statement, UnionArm};
-use cyrs_plan::lower::{PlanStatement, lower_statement};
-use cyrs_plan::{PlanLowerError, ReadOp};
+use cyrs_plan::lower::{PlanStatement, lower_statement, lower_union_pair};
+use cyrs_plan::{PlanLowerError, ReadOp, UnionKind};
 
 /// What the Rust says of a sheet that is well-formed and read-only.
 pub enum Said {
@@ -49,15 +50,73 @@ fn refusal(error: &PlanLowerError) -> [usize; 4] {
 /// source-all binds the next number without taking it: one more empty arm ends
 /// in a source-all and a union, so the last operator but one tells the counter.
 pub fn numbers_issued(mut statement: Statement) -> usize {
-    statement.unions.push(UnionArm {
-        id: HirId::DUMMY,
-        all: false,
-        clauses: Vec::new(),
-        span: tree::range((0, 0)),
-    });
+    statement.unions.push(empty_arm());
     let plan = lower_statement(&statement).expect("an empty arm adds no fault");
-    match &plan.ops[plan.ops.len() - 2] {
+    bound(&plan.ops[plan.ops.len() - 2])
+}
+
+fn empty_arm() -> UnionArm {
+    UnionArm { id: HirId::DUMMY, all: false, clauses: Vec::new(), span: tree::range((0, 0)) }
+}
+
+/// What a source-all binds.
+fn bound(op: &ReadOp) -> usize {
+    match op {
         ReadOp::Source { label: None, bind } => bind.0 as usize,
         other => panic!("not a source-all: {other:?}"),
+    }
+}
+
+/// What the Rust says of a pair.
+pub enum SaidOfPair {
+    /// Number, start, end and kind, with the side in it.
+    Refused([usize; 4]),
+    /// Its plan, and how many of its map's entries are the left's.
+    Plan(Box<PlanStatement>, usize),
+    /// A plan whose map does not begin with the left's own.
+    OtherMap,
+}
+
+fn kind(all: bool) -> UnionKind {
+    if all { UnionKind::All } else { UnionKind::Distinct }
+}
+
+/// The Rust's answer to a pair. Its refusal does not tell the side, but which side it is can be
+/// seen: the left is looked at first, so it is the left if the Rust refuses the left alone.
+///
+/// Its map has a new number as key with each entry, so no entry is ever replaced, and they stand in
+/// the order in which they came: first all of the left, which are those of the left lowered
+/// alone, since the left is lowered from an empty state in both cases.
+pub fn ask_pair(left: &Statement, right: &Statement, all: bool) -> SaidOfPair {
+    let alone = lower_statement(left);
+    match lower_union_pair(left, right, kind(all)) {
+        Ok(plan) => {
+            let alone = alone.expect("the Rust refuses no left whose pair it lowers").var_map;
+            let count = alone.len();
+            if plan.var_map.iter().take(count).eq(alone.iter()) {
+                SaidOfPair::Plan(Box::new(plan), count)
+            } else {
+                SaidOfPair::OtherMap
+            }
+        }
+        Err(error) => {
+            let side = if alone.is_err() { 1 } else { 2 };
+            let [number, start, end, kind] = refusal(&error);
+            let kind = if number == 7 { 10 * side + kind } else { side };
+            SaidOfPair::Refused([number, start, end, kind])
+        }
+    }
+}
+
+/// How many variable numbers the Rust issues for both sides, by one more empty arm of the right,
+/// as in [`numbers_issued`]. Behind that arm's union stands the pair's own, and a source-all
+/// between the two if the left gave no operator.
+pub fn numbers_of_pair(left: &Statement, mut right: Statement, all: bool) -> usize {
+    right.unions.push(empty_arm());
+    let plan = lower_union_pair(left, &right, kind(all)).expect("an empty arm adds no fault");
+    let before = &plan.ops[..plan.ops.len() - 1];
+    match before {
+        [.., ReadOp::Source { .. }, ReadOp::Union { .. }] => bound(&before[before.len() - 2]),
+        _ => bound(&before[before.len() - 1]),
     }
 }

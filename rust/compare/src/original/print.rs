@@ -12,11 +12,17 @@ use smol_str::SmolStr;
 
 /// Appends the plan sheet.
 pub fn plan(plan: &PlanStatement, out: &mut Vec<u8>) {
-    line!(out, "plan", plan.ops.len(), plan.var_map.len());
+    plan_without(plan, 0, out);
+}
+
+/// The same with the first entries of its map left out: of a pair's plan, those of the left.
+pub fn plan_without(plan: &PlanStatement, first: usize, out: &mut Vec<u8>) {
+    line!(out, "plan", plan.ops.len(), plan.var_map.len() - first);
     for op in &plan.ops {
         operator(op, out);
     }
-    let mut mapped: Vec<_> = plan.var_map.iter().map(|(var, id)| (var.0, id.0)).collect();
+    let mut mapped: Vec<_> =
+        plan.var_map.iter().skip(first).map(|(var, id)| (var.0, id.0)).collect();
     mapped.sort_unstable();
     for (number, id) in mapped {
         line!(out, "v", number, id);

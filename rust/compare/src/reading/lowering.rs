@@ -21,25 +21,57 @@ pub struct Lowered {
 
 /// Lowers records that the check has passed.
 pub fn lower(records: &[Record]) -> Lowered {
-    let mut state = State {
-        records,
-        ops: Vec::new(),
-        next: 0,
-        numbered: HashMap::new(),
-        mapped: Vec::new(),
-        met: Branches::default(),
-    };
+    let mut state = State::new(records);
     state.statement();
-    let mut plan = Vec::new();
-    line!(&mut plan, "plan", state.ops.len(), state.mapped.len());
-    for op in &state.ops {
-        state.met.operator(op);
-        plan.extend_from_slice(op);
+    state.lowered()
+}
+
+/// What the lowering of a pair makes.
+pub struct LoweredPair {
+    /// The plan, with its counts over both sides.
+    pub whole: Lowered,
+    /// The branches and operators of each side alone.
+    pub met: [Branches; 2],
+    /// How many variable numbers each side issued.
+    pub numbers: [u32; 2],
+    /// Which sides gave no operator.
+    pub missing: [bool; 2],
+    /// Whether some id is a variable of both sides.
+    pub same_id: bool,
+}
+
+/// Lowers both sides, which the check has passed, into one plan. `between` is what happens to the
+/// variables once the left is lowered: [`Variables::forget`], and something else in a stand-in
+/// with a fault.
+pub fn lower_pair(
+    left: &[Record],
+    right: &[Record],
+    all: bool,
+    between: fn(&mut Variables),
+) -> LoweredPair {
+    let mut state = State::new(left);
+    let left_root = state.statement();
+    let left_met = state.met_so_far(0);
+    let left_ids = state.variables.numbered.clone();
+    let left_numbers = state.variables.next;
+    between(&mut state.variables);
+    let right_first = state.variables.next;
+    let first = state.ops.len();
+    state.records = right;
+    let right_root = state.statement();
+    let right_met = state.met_so_far(first);
+    let same_id = state.variables.mapped.iter().any(|(_, id)| left_ids.contains_key(id));
+    let left_input = state.input(left_root);
+    let right_input = state.input(right_root);
+    state.union(left_input, right_input, all);
+    let right_numbers = state.variables.next - right_first;
+    LoweredPair {
+        whole: state.lowered(),
+        met: [left_met, right_met],
+        numbers: [left_numbers, right_numbers],
+        missing: [left_root.is_none(), right_root.is_none()],
+        same_id,
     }
-    for (number, id) in &state.mapped {
-        line!(&mut plan, "v", *number, *id);
-    }
-    Lowered { plan, numbers: state.next, met: state.met, operators: state.ops.len() }
 }
 
 /// An operator's number.
@@ -58,33 +90,78 @@ const AGGREGATES: [&str; 10] = [
     "percentiledisc",
 ];
 
-struct State<'s> {
-    records: &'s [Record<'s>],
-    ops: Vec<Vec<u8>>,
+/// The variables and their numbers.
+#[derive(Default)]
+pub struct Variables {
     /// The next variable number.
     next: u32,
     numbered: HashMap<u32, u32>,
     /// Number and id of the variables that have one, by number.
     mapped: Vec<(u32, u32)>,
+}
+
+impl Variables {
+    /// No variable has a number any more; the numbers go on.
+    pub fn forget(&mut self) {
+        self.numbered.clear();
+        self.mapped.clear();
+    }
+}
+
+struct State<'s> {
+    records: &'s [Record<'s>],
+    ops: Vec<Vec<u8>>,
+    variables: Variables,
     met: Branches,
 }
 
-impl State<'_> {
+impl<'s> State<'s> {
+    fn new(records: &'s [Record<'s>]) -> Self {
+        State {
+            records,
+            ops: Vec::new(),
+            variables: Variables::default(),
+            met: Branches::default(),
+        }
+    }
+
+    /// The plan sheet, and all that was met.
+    fn lowered(mut self) -> Lowered {
+        let mut plan = Vec::new();
+        line!(&mut plan, "plan", self.ops.len(), self.variables.mapped.len());
+        for op in &self.ops {
+            self.met.operator(op);
+            plan.extend_from_slice(op);
+        }
+        for (number, id) in &self.variables.mapped {
+            line!(&mut plan, "v", *number, *id);
+        }
+        let numbers = self.variables.next;
+        Lowered { plan, numbers, met: self.met, operators: self.ops.len() }
+    }
+
+    /// The branches taken since the last time, and the operators from `first` on.
+    fn met_so_far(&mut self, first: usize) -> Branches {
+        let mut met = std::mem::take(&mut self.met);
+        self.ops[first..].iter().for_each(|op| met.operator(op));
+        met
+    }
+
     // ── numbers and operators ──
 
     fn fresh(&mut self) -> u32 {
-        self.next += 1;
-        self.next - 1
+        self.variables.next += 1;
+        self.variables.next - 1
     }
 
     fn number(&mut self, id: u32) -> u32 {
-        if let Some(&number) = self.numbered.get(&id) {
+        if let Some(&number) = self.variables.numbered.get(&id) {
             self.met.meet(Branch::VariableAgain);
             return number;
         }
         let number = self.fresh();
-        self.numbered.insert(id, number);
-        self.mapped.push((number, id));
+        self.variables.numbered.insert(id, number);
+        self.variables.mapped.push((number, id));
         number
     }
 
@@ -114,13 +191,20 @@ impl State<'_> {
     fn input(&mut self, previous: Option<Op>) -> Op {
         previous.unwrap_or_else(|| {
             self.met.meet(Branch::SourceAll);
-            self.bare_source(self.next)
+            self.bare_source(self.variables.next)
         })
+    }
+
+    fn union(&mut self, left: Op, right: Op, all: bool) -> Op {
+        let mut lines = Vec::new();
+        line!(&mut lines, "union", left, right, all);
+        self.push(lines)
     }
 
     // ── statement and clauses ──
 
-    fn statement(&mut self) {
+    /// The whole statement: the operator it leaves.
+    fn statement(&mut self) -> Option<Op> {
         let Form::Stmt { clauses, arms } = self.records[0].form else {
             unreachable!("a sheet begins with its statement")
         };
@@ -134,11 +218,10 @@ impl State<'_> {
             self.met.meet_if(right.is_none(), Branch::UnionRightMissing);
             let left_input = self.input(left);
             let right_input = self.input(right);
-            let mut lines = Vec::new();
-            line!(&mut lines, "union", left_input, right_input, all);
-            left = Some(self.push(lines));
+            left = Some(self.union(left_input, right_input, all));
             at = end;
         }
+        left
     }
 
     /// So many clauses from `at` on: the operator they leave, and where they end.

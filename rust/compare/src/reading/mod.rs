@@ -1,5 +1,5 @@
 //! A second reading of document 01, in Rust: it answers both calls for all
-//! arguments.
+//! arguments, and in `pair` request F-1's call with two sheets.
 //!
 //! What the Rust has no word on, refusals 1 to 5 and the lines of 6 to 8
 //! (`sheet`, `check`, `refusals`), was written by somebody who had been given
@@ -10,11 +10,14 @@
 //! check. Where the text leaves something open there the Rust settled it: the
 //! props of a special shortest part's rel are lowered right after its number; the
 //! keys of `agg` are expressions without names; those of `order` are `key`
-//! records.
+//! records. The order of a pair's tests was written from the request and its
+//! settled readings; its author had seen theorems about the definition and the
+//! Rattle code of the call with one sheet, and not that of the pair.
 
 pub mod branch;
 pub mod check;
 pub mod lowering;
+pub mod pair;
 pub mod refusals;
 pub mod sheet;
 #[cfg(test)]
@@ -50,15 +53,25 @@ pub fn judge<'s>(sheet: &'s [u8], work: [usize; 4]) -> Verdict<'s> {
         }
     };
     let lowered = lowering::lower(&records);
-    let full = lowered.operators > PLAN_SIZE || lowered.numbers as usize > PLAN_SIZE;
-    let answer = if full { at_line(9, 0) } else { [0, 0, 0, 0, 0, lowered.plan.len()] };
+    let answer = test_plan(&lowered);
     Verdict { records, lowered: Some(lowered), answer, why: None }
 }
 
+/// Test 9.
+fn test_plan(lowered: &Lowered) -> Answer {
+    let full = lowered.operators > PLAN_SIZE || lowered.numbers as usize > PLAN_SIZE;
+    if full { at_line(9, 0) } else { [0, 0, 0, 0, 0, lowered.plan.len()] }
+}
+
+/// Test 10: what is left of an answer with a plan slice of this length.
+fn test_room(answer: Answer, room: usize) -> Answer {
+    if answer[0] == 0 && answer[5] > room { at_line(10, 0) } else { answer }
+}
+
 impl Verdict<'_> {
-    /// Test 10: the lowering call's answer with a plan slice of this length.
+    /// The lowering call's answer with a plan slice of this length.
     pub fn with_room(&self, room: usize) -> Answer {
-        if self.answer[0] == 0 && self.answer[5] > room { at_line(10, 0) } else { self.answer }
+        test_room(self.answer, room)
     }
 
     /// Whether the sizing call may give this answer.

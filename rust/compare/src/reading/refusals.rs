@@ -4,8 +4,8 @@ use super::Answer;
 use super::check::first_fault;
 use super::sheet::{Form, Record, Why, read};
 
-const LEAST_WORDS: usize = 16_384;
-const MOST_BYTES: usize = 32_768;
+pub const LEAST_WORDS: usize = 16_384;
+pub const MOST_BYTES: usize = 32_768;
 
 /// A refusal: for 3 and 4 with the test at a line that gave it, for 5 to 8 with the records.
 pub struct Refused<'s> {
@@ -38,7 +38,7 @@ pub fn at_line(number: usize, line: usize) -> Answer {
     [number, line, 0, 0, 0, 0]
 }
 
-fn first_write(records: &[Record]) -> Option<Answer> {
+pub fn first_write(records: &[Record]) -> Option<Answer> {
     let at = records.iter().position(|record| matches!(record.form, Form::Write { .. }))?;
     Some(at_line(5, at + 1))
 }

@@ -8,7 +8,7 @@ mod standard;
 
 use dresserhawk::{KIT, Planner, Refusal};
 use progress::Progress;
-use std::ffi::OsString;
+use std::ffi::{OsStr, OsString};
 use std::io::Write;
 use std::process::ExitCode;
 
@@ -46,6 +46,12 @@ const SUBCOMMANDS: &[Subcommand] = &[
         arguments: "[FILE..]",
         about: "check each statement sheet and print an upper bound of its plan's number of operators",
         run: size,
+    },
+    Subcommand {
+        name: "pair",
+        arguments: "[--all] LEFT RIGHT",
+        about: "print one plan sheet for two statement sheets, joined as by UNION, or with --all by UNION ALL",
+        run: pair,
     },
 ];
 
@@ -113,25 +119,37 @@ fn help() -> String {
             .to_string();
     text.extend(SUBCOMMANDS.iter().map(usage));
     text += "dresserhawk --help | --version\n\n\
-        A FILE that is `-`, or none, is standard input; `--` ends the options. What is asked for goes\n\
-        to standard output in the order of the files, what is wrong to standard error.\n\
+        A FILE that is `-`, or none, is standard input; so is LEFT or RIGHT, not both, that is `-`.\n\
+        `--` ends the options. What is asked for goes to standard output in the order of the files,\n\
+        what is wrong to standard error.\n\
         Exit status: 0 all accepted; 1 some sheet refused; 2 wrong usage, or input or output failed.\n";
     text
 }
 
-/// Files are what follows a subcommand, if there are no options among them.
-fn files(words: &[OsString]) -> Result<Vec<OsString>, Stop> {
-    let mut files = Vec::new();
+/// What follows a subcommand: files, and the options among them, of those that it knows.
+fn parted(
+    words: &[OsString],
+    known: &[&'static str],
+) -> Result<(Vec<OsString>, Vec<&'static str>), Stop> {
+    let (mut files, mut options) = (Vec::new(), Vec::new());
     let mut words = words.iter();
     while let Some(word) = words.next() {
         if word == "--" {
             files.extend(words.by_ref().cloned());
+        } else if let Some(option) = known.iter().find(|&option| word == option) {
+            options.push(*option);
         } else if word != "-" && word.as_encoded_bytes().starts_with(b"-") {
             return Err(Stop::Usage(format!("no option `{}`", word.to_string_lossy())));
         } else {
             files.push(word.clone());
         }
     }
+    Ok((files, options))
+}
+
+/// The files of a subcommand that has no options; standard input if there is none.
+fn files(words: &[OsString]) -> Result<Vec<OsString>, Stop> {
+    let (mut files, _) = parted(words, &[])?;
     if files.is_empty() {
         files.push("-".into());
     }
@@ -151,6 +169,48 @@ fn size(words: &[OsString]) -> Result<Ended, Stop> {
     })
 }
 
+fn pair(words: &[OsString]) -> Result<Ended, Stop> {
+    let (files, options) = parted(words, &["--all"])?;
+    let [left, right] = &files[..] else {
+        let count = files.len();
+        return Err(Stop::Usage(format!(
+            "`pair` takes two files, LEFT and RIGHT, and not {count}"
+        )));
+    };
+    if left == "-" && right == "-" {
+        let what = "standard input can be LEFT or RIGHT, and not both";
+        return Err(Stop::Usage(what.to_string()));
+    }
+    // Both are read before either is looked at, so that each that cannot be read is told.
+    let (Some(left), Some(right)) = (named_sheet(left), named_sheet(right)) else {
+        return Ok(Ended::Failed);
+    };
+    match Planner::new().plan_pair(&left.1, &right.1, options.contains(&"--all")) {
+        Ok(plan) => print(plan).map(|()| Ended::Accepted),
+        Err(refused) => {
+            say(&report::pair_refusal(&left, &right, refused));
+            Ok(Ended::Refused)
+        }
+    }
+}
+
+/// A file's name and sheet. That it cannot be read is told.
+fn named_sheet(file: &OsStr) -> Option<(String, Vec<u8>)> {
+    let name = input::name(file);
+    match input::read(file) {
+        Ok(sheet) => Some((name, sheet)),
+        Err(error) => {
+            say(&unread(&name, &error));
+            None
+        }
+    }
+}
+
+/// What is said about a file that cannot be read.
+fn unread(name: &str, error: &std::io::Error) -> String {
+    format!("dresserhawk: {name}: {error}\n")
+}
+
 /// Asks about each file's sheet and its name, and prints the answers. A refused
 /// sheet or a file that cannot be read is told, and the next one follows.
 fn each_sheet(
@@ -167,7 +227,7 @@ fn each_sheet(
             Ok(sheet) => sheet,
             Err(error) => {
                 progress.clear();
-                say(&format!("dresserhawk: {name}: {error}\n"));
+                say(&unread(&name, &error));
                 ended = Ended::Failed;
                 continue;
             }

@@ -4,7 +4,7 @@
 use super::hint;
 use dresserhawk::explain::{self, Due, Fault, Matter};
 use dresserhawk::grammar::{Form, MOST_LINES, Record, Sort};
-use dresserhawk::{Refusal, Span};
+use dresserhawk::{PairRefusal, Refusal, Side, Span};
 use std::fmt::Write;
 use std::ops::Range;
 
@@ -14,11 +14,34 @@ const COLUMNS: usize = 20;
 
 /// What is said about a refused sheet.
 pub fn refusal(name: &str, sheet: &[u8], refusal: Refusal) -> String {
-    let number = refusal.number();
+    said(name, sheet, refusal, &format!("refusal {}", refusal.number()))
+}
+
+/// A sheet behind the name of its file.
+type Named = (String, Vec<u8>);
+
+/// What is said about two refused sheets. Of the one that is refused it is what
+/// is said of one alone, and which it is, since both may be the same file. Where
+/// it is neither, it is the plan of both, and there is no line to show.
+pub fn pair_refusal(left: &Named, right: &Named, refused: PairRefusal) -> String {
+    let PairRefusal { side, refusal } = refused;
+    let number = format!("refusal {}", refusal.number());
+    let of = |(name, sheet): &Named, side: Side| {
+        said(name, sheet, refusal, &format!("{number}, {side} sheet"))
+    };
+    match side {
+        Some(Side::Left) => of(left, Side::Left),
+        Some(Side::Right) => of(right, Side::Right),
+        None => said(&format!("{} and {}", left.0, right.0), &[], refusal, &number),
+    }
+}
+
+/// `number` says which refusal it is.
+fn said(name: &str, sheet: &[u8], refusal: Refusal, number: &str) -> String {
     let told = tell(sheet, refusal);
     let mut text = match told.line {
-        Some(line) => format!("{name}:{line}: error: {} (refusal {number})\n", told.what),
-        None => format!("{name}: error: {} (refusal {number})\n", told.what),
+        Some(line) => format!("{name}:{line}: error: {} ({number})\n", told.what),
+        None => format!("{name}: error: {} ({number})\n", told.what),
     };
     if let Some(line) = told.line {
         text += &quote(sheet, line, told.marked);

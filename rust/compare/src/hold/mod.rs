@@ -1,4 +1,7 @@
-//! One sheet, all sides: the proved calls, the second reading, the Rust.
+//! One sheet, all sides: the proved calls, the second reading, the Rust; and in
+//! `pair` the same for a pair of sheets.
+
+pub mod pair;
 
 use crate::calls::Calls;
 use crate::original::{self, Said};
@@ -33,9 +36,10 @@ pub enum Asked {
 }
 
 /// The memory lent to the calls. It is never cleared, so that each sheet meets
-/// what an earlier one left.
+/// what an earlier one left. A call with one sheet gets four work slices of the
+/// eight, a call with two all of them.
 pub struct Bench {
-    work: [Vec<u32>; 4],
+    work: [[Vec<u32>; 4]; 2],
     plan: Vec<u8>,
     printed: Vec<u8>,
 }
@@ -49,14 +53,15 @@ const UNTOUCHED: usize = 0x5a5a_5a5a_5a5a_5a5a;
 
 impl Bench {
     pub fn new() -> Self {
-        let work = std::array::from_fn(|_| vec![0xdead_beef; MOST_WORDS]);
-        Bench { work, plan: Vec::new(), printed: Vec::new() }
+        let four = || std::array::from_fn(|_| vec![0xdead_beef; MOST_WORDS]);
+        Bench { work: [four(), four()], plan: Vec::new(), printed: Vec::new() }
     }
+}
 
-    fn work(&mut self, lengths: [usize; 4]) -> [&mut [u32]; 4] {
-        let mut lengths = lengths.into_iter();
-        self.work.each_mut().map(|words| &mut words[..lengths.next().expect("four lengths")])
-    }
+/// Four work slices of these lengths.
+fn lent(work: &mut [Vec<u32>; 4], lengths: [usize; 4]) -> [&mut [u32]; 4] {
+    let mut lengths = lengths.into_iter();
+    work.each_mut().map(|words| &mut words[..lengths.next().expect("four lengths")])
 }
 
 /// Compares all sides. What the second reading makes of the sheet comes back
@@ -69,7 +74,7 @@ pub fn hold<'c>(
     let verdict = reading::judge(&case.sheet, case.work);
     let result = with_rust(&case.sheet, &verdict, &mut bench.printed)
         .and_then(|asked| with_size(case, &verdict, calls, bench).map(|()| asked))
-        .and_then(|asked| with_lower(case, &verdict, calls, bench).map(|()| asked));
+        .and_then(|asked| with_lower(case, 0, &verdict, calls, bench).map(|()| asked));
     (verdict, result)
 }
 
@@ -153,7 +158,8 @@ fn with_size(
     bench: &mut Bench,
 ) -> Result<(), Difference> {
     let mut answer = [UNTOUCHED; 8];
-    let written = (calls.size)(&case.sheet, bench.work(case.work), &mut answer);
+    let work = lent(&mut bench.work[0], case.work);
+    let written = (calls.size)(&case.sheet, work, &mut answer);
     let [given @ .., UNTOUCHED, UNTOUCHED] = answer else {
         return differ("the sizing call writes behind its answer", vec![("ours", words(&answer))]);
     };
@@ -178,39 +184,49 @@ fn sized(verdict: &Verdict) -> Vec<u8> {
 }
 
 /// The lowering call against the second reading: the plan slice exactly full,
-/// one short, and two other lengths.
+/// one short, and two other lengths. The work slices are the first four of the
+/// bench, or the others.
 fn with_lower(
     case: &Case,
+    slices: usize,
     verdict: &Verdict,
     calls: &Calls,
     bench: &mut Bench,
 ) -> Result<(), Difference> {
     let Some(lower) = calls.lower else { return Ok(()) };
-    let full = verdict.answer[5];
-    let rooms = [0, -1, case.rooms[0], case.rooms[1]];
-    for room in rooms.map(|more| full.saturating_add_signed(more)) {
-        let due = verdict.with_room(room);
-        bench.plan.clear();
-        bench.plan.extend((0..room + 2 * MARGIN).map(filler));
-        let mut plan = std::mem::take(&mut bench.plan);
-        let mut answer = [UNTOUCHED; 8];
-        let slice = &mut plan[MARGIN..MARGIN + room];
-        let written = lower(&case.sheet, bench.work(case.work), slice, &mut answer);
-        bench.plan = plan;
-        if !written || answer[..6] != due || answer[6..] != [UNTOUCHED; 2] {
-            let ours = told(room, &answer);
-            return differ(
-                "lowering: ours and reading",
-                vec![("ours", ours), ("reading", words(&due))],
-            );
-        }
-        slices(verdict, &due, room, bench)?;
+    let plan: &[u8] = verdict.lowered.as_ref().map_or(&[], |lowered| &lowered.plan);
+    let Bench { work, plan: page, .. } = bench;
+    for room in rooms(&verdict.answer, case.rooms) {
+        let work = lent(&mut work[slices], case.work);
+        let call = |page: &mut [u8], answer: &mut [usize]| lower(&case.sheet, work, page, answer);
+        in_room(room, &verdict.with_room(room), plan, page, call)?;
     }
     Ok(())
 }
 
-fn told(room: usize, answer: &[usize]) -> Vec<u8> {
-    format!("{answer:?} with a plan slice of {room} bytes\n").into_bytes()
+/// The lengths of the plan slices that are tried.
+fn rooms(answer: &Answer, others: [isize; 2]) -> [usize; 4] {
+    [0, -1, others[0], others[1]].map(|more| answer[5].saturating_add_signed(more))
+}
+
+/// One call with a plan slice of this length: its answer, and what stands in the
+/// slice and around it afterwards, which is `plan` if the call is accepted.
+fn in_room(
+    room: usize,
+    due: &Answer,
+    plan: &[u8],
+    page: &mut Vec<u8>,
+    call: impl FnOnce(&mut [u8], &mut [usize]) -> bool,
+) -> Result<(), Difference> {
+    page.clear();
+    page.extend((0..room + 2 * MARGIN).map(filler));
+    let mut answer = [UNTOUCHED; 8];
+    let written = call(&mut page[MARGIN..MARGIN + room], &mut answer);
+    if !written || answer[..6] != *due || answer[6..] != [UNTOUCHED; 2] {
+        let ours = format!("{answer:?} with a plan slice of {room} bytes\n").into_bytes();
+        return differ("lowering: ours and reading", vec![("ours", ours), ("reading", words(due))]);
+    }
+    touched(room, if due[0] == 0 { plan } else { &[] }, page)
 }
 
 /// What the plan slice and its margins hold before a call.
@@ -219,16 +235,14 @@ fn filler(place: usize) -> u8 {
 }
 
 /// What stands in the plan slice and around it after a call.
-fn slices(verdict: &Verdict, due: &Answer, room: usize, bench: &Bench) -> Result<(), Difference> {
-    let lowered = verdict.lowered.as_ref().filter(|_| due[0] == 0);
-    let plan: &[u8] = lowered.map_or(&[], |lowered| &lowered.plan);
-    let written = &bench.plan[MARGIN..MARGIN + plan.len()];
+fn touched(room: usize, plan: &[u8], page: &[u8]) -> Result<(), Difference> {
+    let written = &page[MARGIN..MARGIN + plan.len()];
     if written != plan {
         let said = vec![("ours", written.to_vec()), ("reading", plan.to_vec())];
         return differ("plan: ours and reading", said);
     }
-    let mut others = (0..MARGIN).chain(MARGIN + plan.len()..bench.plan.len());
-    match others.find(|&place| bench.plan[place] != filler(place)) {
+    let mut others = (0..MARGIN).chain(MARGIN + plan.len()..page.len());
+    match others.find(|&place| page[place] != filler(place)) {
         Some(place) => {
             let place = place as isize - MARGIN as isize;
             let ours = format!("byte {place} of {room}, with a plan of {}\n", plan.len());

@@ -1,9 +1,11 @@
-//! What a run has reached, by name.
+//! What a run has reached, by name; and in `pair` what a run over pairs has.
+
+pub mod pair;
 
 use crate::hold::{Asked, Case};
 use crate::reading::Verdict;
-use crate::reading::branch::{OPERATORS, WHAT};
-use crate::reading::sheet::{Form, Length};
+use crate::reading::branch::{Branches, OPERATORS, WHAT};
+use crate::reading::sheet::{Form, Length, Record};
 use std::collections::BTreeMap;
 
 /// Counts by name. A name with 0 is one that should be reached and is not yet.
@@ -71,17 +73,25 @@ impl Counts {
         if let Some(why) = verdict.why {
             *self.why.entry(format!("{why:?}")).or_default() += 1;
         }
-        for record in &verdict.records {
-            self.record(&record.form);
-        }
+        self.records(&verdict.records);
         if let Some(lowered) = &verdict.lowered {
             self.sizes[verdict.records.len()] += 1;
-            for (sum, new) in self.branches.iter_mut().zip(lowered.met.taken) {
-                *sum += new;
-            }
-            for (sum, new) in self.operators.iter_mut().zip(lowered.met.pushed) {
-                *sum += new;
-            }
+            self.met(&lowered.met);
+        }
+    }
+
+    fn records(&mut self, records: &[Record]) {
+        for record in records {
+            self.record(&record.form);
+        }
+    }
+
+    fn met(&mut self, met: &Branches) {
+        for (sum, new) in self.branches.iter_mut().zip(met.taken) {
+            *sum += new;
+        }
+        for (sum, new) in self.operators.iter_mut().zip(met.pushed) {
+            *sum += new;
         }
     }
 
@@ -103,15 +113,12 @@ impl Counts {
         }
     }
 
-    /// The counts by name.
-    pub fn named(&self) -> Tally {
+    /// What records, operators and branches were reached, and which tests at a line.
+    fn of_sheets(&self) -> BTreeMap<String, u64> {
         let mut tally = BTreeMap::new();
         let mut put = |name: String, count: u64| {
             tally.insert(name, count);
         };
-        for (what, count) in ["sheets", "records", "bytes"].iter().zip(self.whole) {
-            put(format!("all {what}"), count);
-        }
         for (word, count) in RECORDS.iter().zip(self.records) {
             put(format!("record {word}"), count);
         }
@@ -126,11 +133,23 @@ impl Counts {
         for (word, count) in OPERATORS.iter().zip(self.operators) {
             put(format!("operator {word}"), count);
         }
-        for number in 0..10 {
-            put(format!("answer {number:02}"), self.answers[number]);
-        }
         for why in ["Missing", "NothingDue", "NoLineFeed", "Line2049", "Depth65", "Form"] {
             put(format!("line {why}"), self.why.get(why).copied().unwrap_or(0));
+        }
+        tally
+    }
+
+    /// The counts by name.
+    pub fn named(&self) -> Tally {
+        let mut tally = self.of_sheets();
+        let mut put = |name: String, count: u64| {
+            tally.insert(name, count);
+        };
+        for (what, count) in ["sheets", "records", "bytes"].iter().zip(self.whole) {
+            put(format!("all {what}"), count);
+        }
+        for number in 0..10 {
+            put(format!("answer {number:02}"), self.answers[number]);
         }
         for (size, count) in self.sizes.iter().enumerate().skip(1) {
             put(format!("size {size:04}"), *count);
@@ -162,8 +181,11 @@ impl Tally {
     /// The counts in lines, the sizes as one.
     pub fn lines(&self) -> String {
         let mut text = String::new();
-        let sizes = self.0.iter().filter(|entry| entry.0.starts_with("size ") && *entry.1 > 0);
-        text += &format!("{:>14}  sizes accepted, of 2,048\n", sizes.count());
+        let sizes = self.0.iter().filter(|entry| entry.0.starts_with("size "));
+        if sizes.clone().next().is_some() {
+            let accepted = sizes.filter(|entry| *entry.1 > 0).count();
+            text += &format!("{accepted:>14}  sizes accepted, of 2,048\n");
+        }
         for (name, count) in self.0.iter().filter(|entry| !entry.0.starts_with("size ")) {
             text += &format!("{count:>14}  {name}\n");
         }
