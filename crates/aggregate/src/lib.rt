@@ -7,7 +7,7 @@ ghost use Rattle.model.specs.Text.{same};
 ghost use Rattle.model.specs.Field.{Form};
 ghost use Rattle.model.specs.Kind.{expr};
 ghost use Rattle.model.specs.Tree.{Tree};
-ghost use Rattle.model.specs.Lower.{lowercase as lowercaseOf, among, aggregates, is_aggregate_func};
+ghost use Rattle.model.specs.Lower.{lowercase as lowercase_of, among, aggregates, is_aggregate_func};
 ghost use Rattle.words.specs.Words.{Roomy, field_of};
 ghost use Rattle.words.specs.Held.{PlaceAt, Held};
 ghost use Rattle.lower.specs.Render.{is_aggregate};
@@ -28,7 +28,7 @@ const LETTERS: usize = 63;
 const STARTS: [usize; 11] = [0, 5, 8, 11, 14, 17, 24, 29, 35, 49, LETTERS];
 
 fn lowercase(b: u8) -> u8
-    ensures { result ≡ lowercaseOf b }
+    ensures { result ≡ lowercase_of b }
 {
     if b < b'A' {
         return b;
@@ -40,7 +40,7 @@ fn lowercase(b: u8) -> u8
 }
 
 fn same_name(s: &[u8], name: &[u8]) -> bool
-    ensures { result ≡ same (map (λ b. lowercaseOf b) s.now) name.now }
+    ensures { result ≡ same (map (λ b. lowercase_of b) s.now) name.now }
 {
     if s.len() != name.len() {
         return false;
@@ -58,7 +58,7 @@ fn same_name(s: &[u8], name: &[u8]) -> bool
 // The name that stands in a text from one place up to another.
 fn same_part(s: &[u8], names: &[u8], from: usize, to: usize) -> bool
     requires { (from ≤ to) × (to ≤ length names.now) }
-    ensures { result ≡ same (map (λ b. lowercaseOf b) s.now) (slice from to names.now) }
+    ensures { result ≡ same (map (λ b. lowercase_of b) s.now) (slice from to names.now) }
 {
     same_name(s, &names[from..to])
 }
@@ -66,7 +66,7 @@ fn same_part(s: &[u8], names: &[u8], from: usize, to: usize) -> bool
 // Name k of the ten.
 fn is_aggregate_at(s: &[u8], k: usize) -> bool
     requires { k < names }
-    ensures { result ≡ same (map (λ b. lowercaseOf b) s.now) (aggregate k) }
+    ensures { result ≡ same (map (λ b. lowercase_of b) s.now) (aggregate k) }
 {
     let from = STARTS[k];
     let to = STARTS[k + 1];
@@ -79,7 +79,7 @@ fn is_aggregate_at(s: &[u8], k: usize) -> bool
 }
 
 fn is_aggregate_name(s: &[u8]) -> bool
-    ensures { result ≡ among (map (λ b. lowercaseOf b) s.now) aggregates }
+    ensures { result ≡ among (map (λ b. lowercase_of b) s.now) aggregates }
 {
     let mut k = 0;
     while k < NAMES {

@@ -101,7 +101,7 @@ module _ (R : ℕ → ℕ → Type 0) where
     lower_shortest_path_part~ : {m n : Option ℕ} → Option~ R m n → (all : Bool) {a b : NodeStep} {r s : RelStep} {x y : NodeStep} → NodeStep~ a b → RelStep~ r s → NodeStep~ x y → Does~ R (lower_shortest_path_part m all a r x) (lower_shortest_path_part n all b s y)
     unfolding lower_shortest_path_part
     lower_shortest_path_part~ n all (node_step~ a p) r (node_step~ b q) =
-        then~ R (endpoint_var~ R one a) λ bindFrom.
+        then~ R (endpoint_var~ R one a) λ bind_from.
         then~ R (push~ R _) λ k.
         then~ R (filter_by_props~ k p) λ input.
         then~ R (lower_rel_element~ r) λ spec.

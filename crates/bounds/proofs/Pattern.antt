@@ -106,7 +106,7 @@ unfolding lower_shortest_path_part source
 lower_shortest_path_part✓ {a} {b} o all x y z = record {
   from = λ n.
       within
-      (bind✓ (endpoint_var✓ a.bind) λ bindFrom n₁ le₁ _.
+      (bind✓ (endpoint_var✓ a.bind) λ bind_from n₁ le₁ _.
       bind✓ (push✓ ([]ᵃ ∷ᵃ raise (omega arith) x.labels)) λ k n₂ le₂ lt₂.
       bind✓ (filter_by_props✓ lt₂ x.props) λ input n₃ le₃ lt₃.
       bind✓ (lower_rel_element✓ y) λ spec n₄ le₄ low.

@@ -181,7 +181,7 @@ chain_ends o es = then (sure (λ ops. no_last) (start_ends es _)) λ c. then (ro
 
 pub shortest_ends : (o : Option ℕ) (all : Bool) (a : NodeStep) (r : RelStep) (b : NodeStep) → Leads Always (λ n ops. Newest (Ending.ShortestPath all) n ops) (lower_shortest_path_part o all a r b)
 unfolding lower_shortest_path_part
-shortest_ends o all a r b = then any λ bindFrom. then any λ k. then any λ input. then any λ spec. then any λ bind_to. then any λ path. pushes ReadOp.ShortestPath _ _
+shortest_ends o all a r b = then any λ bind_from. then any λ k. then any λ input. then any λ spec. then any λ bind_to. then any λ path. pushes ReadOp.ShortestPath _ _
 
 pub shaped_ends : {i : ℕ} (o : Option ℕ) (all : Bool) (es : Trees pattern_element i) → Leads Always (λ n ops. Newest (cond (node_rel_node (element_kinds es)) (Ending.ShortestPath all) (named_end o (chain_end es))) n ops) (lower_shaped o all (to_list i (fold_of Lowered made es)) (shape_of (to_list i (fold_of Lowered made es))))
 unfolding node_rel_node element_kinds lower_shaped shape_of fold to_list made element_step

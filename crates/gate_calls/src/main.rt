@@ -1,4 +1,4 @@
-// The exported calls on the list of cases from standard input: a label, a digit that says which slice is short, a plan slice's length or the word `size`, and a sheet, each ended by a bar. For each case a line: the label, the call, what it returned, and the words of the answer slice, which is full of sevens before the call and has two words more than an answer; of a lowering then the plan slice, which is full of `#` before the call.
+// The calls of `library` on the list of cases from standard input: a label, a digit that says which slice is short, a plan slice's length or the word `size`, and a sheet, each ended by a bar. For each case a line: the label, the call, what it returned, and the words of the answer slice, which is full of sevens before the call and has two words more than an answer; of a lowering then the plan slice, which is full of `#` before the call.
 #![tactic(auto)]
 
 ghost use Rattle.std.specs.Prelude.{◌≤◌, ◌<◌, length, IfOk};

@@ -217,13 +217,13 @@ lower_chain named_as steps = do
 -- the special shortest part; the far node's labels and props are not looked at
 unfoldable pub lower_shortest_path_part : Option ℕ → Bool → NodeStep → RelStep → NodeStep → Lowering ℕ
 lower_shortest_path_part named_as all a r b = do
-  bindFrom ← endpoint_var a.bind
-  k ← push (source bindFrom a.labels)
+  bind_from ← endpoint_var a.bind
+  k ← push (source bind_from a.labels)
   input ← filter_by_props k a.props
   spec ← lower_rel_element r
   bind_to ← endpoint_var b.bind
   path ← endpoint_var named_as
-  push (op ReadOp.ShortestPath (input, (bindFrom, (bind_to, (path, (all, tt))))) ∷ spec.1)
+  push (op ReadOp.ShortestPath (input, (bind_from, (bind_to, (path, (all, tt))))) ∷ spec.1)
 
 pub data Shape : Type 0 where
   node_rel_node : NodeStep → RelStep → NodeStep → Shape

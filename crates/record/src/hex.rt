@@ -2,7 +2,7 @@
 ghost use Rattle.std.specs.Prelude.{◌≡◌, [], ◌∷◌};
 ghost use Rattle.model.specs.Field.{read, Form};
 ghost use Rattle.record.specs.Answer.{decimal_of};
-ghost use Rattle.record.specs.Hex.{digit as digitOf};
+ghost use Rattle.record.specs.Hex.{digit as digit_of};
 
 use crate::Decimal;
 
@@ -27,7 +27,7 @@ const LETTER_BASE: u64 = 87;
 
 // The value of a digit, or the base for any other byte.
 fn digit(b: u8) -> u64
-    ensures { result ≡ digitOf b }
+    ensures { result ≡ digit_of b }
 {
     let d = b as u64;
     if LETTER_F < d {

@@ -5,7 +5,7 @@ use Rattle.model.specs.Kind.{Sort}
 use Rattle.model.specs.Record.{rec, Group, children, beside}
 use Rattle.model.specs.Tree.{records_of}
 use Rattle.model.specs.Sheet.{Place, then_read, read_line, read_many, read_tree, at_end}
-use Rattle.words.proofs.GroupLaws.{sorts_of}
+use Rattle.words.specs.GroupLaws.{sorts_of}
 use Rattle.sheet.specs.Due.{Due, due, due_of, mapped, read_due, is_zero, room_below, step, none_due}
 use Rattle.sheet.specs.Progress.{read_rest}
 use Rattle.laws.specs.SpelledLaws.{then_read_same}

@@ -12,6 +12,7 @@ use Rattle.model.specs.Record.{Group, one, forms, kinds, sames, children}
 use Rattle.words.specs.Words.{part, cell, first_kind, kind_of, field_of, fields_of, record_words, first_records}
 use Rattle.words.specs.Held.{Flags, total}
 use Rattle.words.specs.Table.{group_count, source_count, group_numbers, sorts, sort_of, group_sort, group_source, groups_from, groups_of}
+use Rattle.words.specs.GroupLaws.{sorts_of, GroupRow}
 use Rattle.words.specs.TableLaws.{and_left, and_right, passes_to, passes_at, Rows, done, ◌▸◌, kind_row}
 
 -- ── entries of the table ──
@@ -61,12 +62,7 @@ part_cell a b i c h = go (ltb i first_records)
 
 -- ── what the groups ask for ──
 
--- the sorts of the records that some groups ask for, one by one
-unfoldable pub sorts_of : List Group → List Sort
-sorts_of [] = []
-sorts_of (g ∷ gs) = replicate g.1 g.0 ++ sorts_of gs
-
--- they are as many as the groups count
+-- the sorts that groups ask for are as many as the groups count
 sorts_total : (gs : List Group) → length (sorts_of gs) ≡ total gs
 unfolding sorts_of
 sorts_total [] = refl
@@ -76,10 +72,6 @@ one_flag : (x : ℕ) → x ≤ 1 → one (eqb x 1) ≡ x
 one_flag zero h = refl
 one_flag (suc zero) h = refl
 one_flag (suc (suc x)) h = absurd (omega arith)
-
--- row n has the groups of a kind
-abbrev pub GroupRow : (s : Sort) → ℕ → Kind s → Type 0
-GroupRow s n k = (sheet : Bytes) (ws : List ℕ) → Flags (forms s k) ws 0 → sorts_of (groups_of n ws) ≡ sorts_of (children s k (fields_of (forms s k) sheet ws 0))
 
 twice : (n : ℕ) → n * 2 ≡ n + n
 twice n = omega arith

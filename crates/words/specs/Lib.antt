@@ -7,5 +7,6 @@ pub mod Kinds
 pub mod Table
 pub mod TableLaws
 pub mod LastLaws
+pub mod GroupLaws
 pub mod Fits
 pub mod Count
