@@ -240,7 +240,12 @@ fn the_numbers_in_the_header_are_those_of_the_crate() {
 #[test]
 fn the_sides_in_the_header_are_those_of_the_crate() {
     for (name, side) in [("LEFT", dresserhawk::Side::Left), ("RIGHT", dresserhawk::Side::Right)] {
+        let header = plain(HEADER);
         let due = format!("DRESSERHAWK_{name} = {}", side as usize);
-        assert!(plain(HEADER).contains(&due), "c/dresserhawk.h: not {due}");
+        let behind = header.split_once(&due).map(|(_, rest)| rest.chars().next());
+        assert!(
+            matches!(behind, Some(Some(c)) if !c.is_ascii_digit()),
+            "c/dresserhawk.h: not {due}"
+        );
     }
 }
