@@ -17,7 +17,7 @@ again (suc n) t = again n t ++ t
 
 -- where a byte stands next, or where the text ends; behind a text it stands everywhere
 unfoldable pub place : ℕ → ℕ → Bytes → ℕ
-place b at t = at + position_or_len (λ x. x == b) (drop at t)
+place b at t = cond (ltb (length t) at) at (at + position_or_len (λ x. x == b) (drop at t))
 
 abbrev pub star : ℕ
 star = 42
