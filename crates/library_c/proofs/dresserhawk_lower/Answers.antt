@@ -1,0 +1,5 @@
+-- What the call of `library` ensures, of the same arguments.
+use Rattle.library_c.proofs.dresserhawk_lower.Goals as goal
+
+pub returns : goal.returns
+returns c = c.dresserhawk_lower.ensures
