@@ -1,8 +1,7 @@
 -- Demand 3: of two sheets alike, the lowering call refuses both alike, or gives plans alike. Assumes nothing: the premises are the theorem's own.
-use Rattle.std.specs.Prelude.{◌≡◌, refl, ℕ, ◌≤◌, Bool, true, false, cond, ◌||◌, List, [], ◌∷◌, ◌++◌, take, drop}
+use Rattle.std.specs.Prelude.{◌≡◌, refl, ℕ, ◌≤◌, Bool, true, false, cond, ◌||◌, List, [], ◌∷◌, ◌++◌, take, drop, None}
 use Rattle.std.proofs.Common.{sym, ◌∙◌, arith, le-ltb}
 use Rattle.std.proofs.Math.Path.{ap}
-use Rattle.std.proofs.Math.Option.{none}
 use Rattle.std.proofs.Math.Dec.{ltb}
 use Rattle.std.proofs.Math.ListN.{length, length-append}
 use Rattle.std.proofs.Math.Seq.{take-append_seam}
@@ -28,7 +27,7 @@ use Rattle.alike.specs.Reading.{Read, alike_read}
 -- ── one call ──
 
 -- what the tests 1 to 5 leave
-checked_is : (work : List ℕ) (sheet : Bytes) (t : Tree statement) (p : Place) → short work ≡ false → length sheet ≤ max_bytes → read_sheet max_depth sheet ≡ got t p → first_write t ≡ none → checked max_depth work sheet ≡ test_check t (precheck_statement t)
+checked_is : (work : List ℕ) (sheet : Bytes) (t : Tree statement) (p : Place) → short work ≡ false → length sheet ≤ max_bytes → read_sheet max_depth sheet ≡ got t p → first_write t ≡ None → checked max_depth work sheet ≡ test_check t (precheck_statement t)
 unfolding checked then test_work test_bytes test_reading test_write
 checked_is work sheet t p w l r f = rw (w, le-ltb max_bytes (length sheet) l, r, f)
 

@@ -1,9 +1,8 @@
 -- Statements alike lower alike, if no unaliased item is a bare variable: items, order, skip and limit, clauses, arms. Assumes nothing but the parameters: R, which joins the ids, and that R is one to one.
-use Rattle.std.specs.Prelude.{◌≡◌, Bool, eqb}
+use Rattle.std.specs.Prelude.{◌≡◌, Bool, eqb, Option, None, Some}
 use Prim.Native.Nat.{ℕ, zero, suc}
 use Rattle.std.proofs.Math.Bool.{true, false}
 use mathlib.Core.List.{[], ◌∷◌, ◌++◌}
-use Rattle.std.proofs.Math.Option.{Option, none, some}
 use Rattle.model.specs.Text.{Bytes}
 use Rattle.model.specs.Field.{Fields}
 use Rattle.model.specs.Kind.{Clause, Same, Expr, ReadOp, in_plan, order_key, statement, union_arm, clause, projection, order_item, pattern_part, yield_item, expr}
@@ -50,8 +49,8 @@ module _ (R : ℕ → ℕ → Type 0) (one_to_one : (a b x y : ℕ) → R a b �
 
   name~ : (a b : Option Bytes) → Equal a b → {e d : Tree expr} → NamedItem a e → Tree~ R expr e d → Equal (alias_or a (synthesise_alias e)) (alias_or b (synthesise_alias d))
   unfolding NamedItem alias_or
-  name~ (some a) b equal w e = equal
-  name~ none b equal w e = synthesise_alias~ w e
+  name~ (Some a) b equal w e = equal
+  name~ None b equal w e = synthesise_alias~ w e
 
   -- an item before others that lower alike
   projection_step~ : (line : ℕ) (f g : Fields (forms projection tt)) → Fields~ R (forms projection tt) f g → {x y : Forest ((expr, 1) ∷ [])} → Forest~ R ((expr, 1) ∷ []) ((expr, 1) ∷ []) x y → {n m : ℕ} (ps : Trees projection n) (qs : Trees projection m) →
@@ -189,10 +188,10 @@ module _ (R : ℕ → ℕ → Type 0) (one_to_one : (a b x y : ℕ) → R a b �
   push_union~ left right a b equal = push~ R _
 
   arm_step~ : (line : ℕ) (f g : Fields (forms union_arm tt)) → Fields~ R (forms union_arm tt) f g → {x : Forest (children union_arm tt f)} {y : Forest (children union_arm tt g)} → Forest~ R (children union_arm tt f) (children union_arm tt g) x y → (root : Option ℕ) {n m : ℕ} (xs : Trees union_arm n) (ys : Trees union_arm m) →
-      NamedArms (node union_arm line tt f x ∷ᵗ xs) → (NamedArms xs → (k : ℕ) → Does~ R (lower_arms xs (some k)) (lower_arms ys (some k))) → Does~ R (lower_arms (node union_arm line tt f x ∷ᵗ xs) root) (lower_arms (node union_arm line tt g y ∷ᵗ ys) root)
+      NamedArms (node union_arm line tt f x ∷ᵗ xs) → (NamedArms xs → (k : ℕ) → Does~ R (lower_arms xs (Some k)) (lower_arms ys (Some k))) → Does~ R (lower_arms (node union_arm line tt f x ∷ᵗ xs) root) (lower_arms (node union_arm line tt g y ∷ᵗ ys) root)
   unfolding NamedArms lower_arms
   arm_step~ line (a, _) (b, _) (v, _) (cs ▸~ end~) root xs ys (w, ws) rest =
-      then~ R (lower_clauses~ w cs none) λ below.
+      then~ R (lower_clauses~ w cs None) λ below.
       then~ R (or_source_all~ R root) λ left.
       then~ R (or_source_all~ R below) λ right.
       then~ R (push_union~ left right a b v) λ both.
@@ -200,11 +199,11 @@ module _ (R : ℕ → ℕ → Type 0) (one_to_one : (a b x y : ℕ) → R a b �
 
   lower_arms~ : {n m : ℕ} {xs : Trees union_arm n} {ys : Trees union_arm m} → NamedArms xs → Trees~ R union_arm n m xs ys → (root : Option ℕ) → Does~ R (lower_arms xs root) (lower_arms ys root)
   lower_arms~ w []ᵗ~ root = unfold lower_arms in ret~ R root
-  lower_arms~ w (node~ v kids ∷ᵗ~ arms) root = arm_step~ _ _ _ v kids root _ _ w (λ ws k. lower_arms~ ws arms (some k))
+  lower_arms~ w (node~ v kids ∷ᵗ~ arms) root = arm_step~ _ _ _ v kids root _ _ w (λ ws k. lower_arms~ ws arms (Some k))
 
   statement_step~ : (line : ℕ) (f g : Fields (forms statement tt)) {x : Forest (children statement tt f)} {y : Forest (children statement tt g)} → Forest~ R (children statement tt f) (children statement tt g) x y → Named (node statement line tt f x) → Does~ R (lower (node statement line tt f x)) (lower (node statement line tt g y))
   unfolding Named lower
-  statement_step~ line (_, (_, _)) (_, (_, _)) (cs ▸~ arms ▸~ end~) (w, ws) = then~ R (lower_clauses~ w cs none) λ head. lower_arms~ ws arms head
+  statement_step~ line (_, (_, _)) (_, (_, _)) (cs ▸~ arms ▸~ end~) (w, ws) = then~ R (lower_clauses~ w cs None) λ head. lower_arms~ ws arms head
 
   pub lower~ : {t u : Tree statement} → Named t → Tree~ R statement t u → Does~ R (lower t) (lower u)
   lower~ w (node~ v kids) = statement_step~ _ _ _ kids w

@@ -1,8 +1,7 @@
 -- Demand 3 for pairs: of two pairs of sheets alike on each side, the call with two sheets refuses both alike, or gives plans alike, with maps paired by the right's renumbering. Each side is renumbered in its own way. Assumes nothing: the premises are the theorems' own.
-use Rattle.std.specs.Prelude.{◌≡◌, refl, ℕ, suc, ◌≤◌, Bool, cond, ◌||◌, List, [], ◌∷◌, eqb, length}
+use Rattle.std.specs.Prelude.{◌≡◌, refl, ℕ, suc, ◌≤◌, Bool, cond, ◌||◌, List, [], ◌∷◌, eqb, length, Option, None, Some}
 use Rattle.std.proofs.Common.{arith, le-ltb}
 use Rattle.std.proofs.Math.Bool.{true, false}
-use Rattle.std.proofs.Math.Option.{Option, none, some}
 use Rattle.std.proofs.Math.Dec.{ltb}
 use Rattle.model.specs.Text.{Bytes}
 use Rattle.model.specs.Kind.{ReadOp, statement}
@@ -81,8 +80,8 @@ module _ (R : ℕ → ℕ → Type 0) where
   write_test~ side t u h = go (first_write t) (first_write u) (first_write~ R h.alike)
     where
       go : (o p : Option ℕ) → Equal o p → Test~ (Side~ R) (on_side side (test_write t o)) (on_side side (test_write u p))
-      go none p equal = passed~ h
-      go (some line) p equal = refused~ write~
+      go None p equal = passed~ h
+      go (Some line) p equal = refused~ write~
 
   check_test~ : (side : ℕ) (t u : Tree statement) → Side~ R t u → Test~ (Side~ R) (on_side side (test_check t (precheck_statement t))) (on_side side (test_check u (precheck_statement u)))
   unfolding on_side test_check

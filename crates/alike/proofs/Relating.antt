@@ -1,8 +1,8 @@
 -- Records that are the same when blank, with ids joined place by place, are alike field by field; and ids that are equal exactly where equal are joined one to one. Assumes nothing but the parameter R, which joins the ids.
-use Rattle.std.specs.Prelude.{◌≡◌, refl, ◌↔◌, ℕ, suc, ◌<◌, Bool, true, false, eqb, get_or}
+use Rattle.std.specs.Prelude.{◌≡◌, refl, ◌↔◌, ℕ, suc, ◌<◌, Bool, true, false, eqb, get_or, None, Some}
 use Rattle.std.proofs.Common.{sym, ◌∙◌, ap, subst, arith, eqb-true}
 use mathlib.Core.List.{List, [], ◌∷◌, ◌++◌, map, append_assoc, nil≢cons, cons≢nil}
-use Rattle.std.proofs.Math.Option.{none, some, none-ne-some, some-ne-none}
+use Rattle.std.proofs.lemmas.Option.{none-some}
 use Rattle.std.proofs.Math.ListN as ListN
 use Rattle.std.proofs.lemmas.Bool.{eqb-false}
 use Rattle.model.specs.Field.{Form, num, flag, var, var_or_absent, num_or_absent, number, number_or_absent, int, float, text, alias, span, length, Val, Fields}
@@ -24,10 +24,10 @@ module _ (R : ℕ → ℕ → Type 0) where
   val~ (num l) v w s t e h = (equally e, h)
   val~ flag v w s t e h = (equally e, h)
   val~ var v w s t e h = head~ v w s t h
-  val~ var_or_absent none none s t e h = (none~, h)
-  val~ var_or_absent none (some w) s t e h = absurd (none-ne-some _ e)
-  val~ var_or_absent (some v) none s t e h = absurd (some-ne-none _ e)
-  val~ var_or_absent (some v) (some w) s t e h = let x = head~ v w s t h in (some~ x.0, x.1)
+  val~ var_or_absent None None s t e h = (none~, h)
+  val~ var_or_absent None (Some w) s t e h = absurd (none-some _ e)
+  val~ var_or_absent (Some v) None s t e h = absurd (none-some _ (sym e))
+  val~ var_or_absent (Some v) (Some w) s t e h = let x = head~ v w s t h in (some~ x.0, x.1)
   val~ (num_or_absent l) v w s t e h = (equally e, h)
   val~ (number n) v w s t e h = (equally e, h)
   val~ (number_or_absent n) v w s t e h = (equally e, h)

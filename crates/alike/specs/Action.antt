@@ -1,7 +1,6 @@
 -- Steps of the lowering that do alike on states alike: the same operators, the same next number, and variables joined place by place. Assumes nothing but the parameters: R, which joins the ids, and that R is one to one.
-use Rattle.std.specs.Prelude.{◌≡◌, ℕ, Bool, cond, eqb}
+use Rattle.std.specs.Prelude.{◌≡◌, ℕ, Bool, cond, eqb, Option, None, Some}
 use mathlib.Core.List.{List, [], ◌++◌}
-use Rattle.std.proofs.Math.Option.{Option, none, some}
 use Rattle.model.specs.Lower.{Recs, LowerCtx, Lowering, ◌>>=◌, ret, push, copy, lookup, issue, numbered, map_var, fresh, upcoming, endpoint_var, in_order, source, push_source_all, or_source_all}
 use Rattle.alike.specs.Relation.{Equal, equal, Option~, none~, some~, List~, []~, ◌∷~◌}
 
@@ -89,8 +88,8 @@ module _ (R : ℕ → ℕ → Type 0) where
 
   pub or_source_all~ : (o : Option ℕ) → Does~ (or_source_all o) (or_source_all o)
   unfolding or_source_all
-  or_source_all~ none = push_source_all~
-  or_source_all~ (some k) = ret~ k
+  or_source_all~ None = push_source_all~
+  or_source_all~ (Some k) = ret~ k
 
   pub in_order~ : {ms ns : List (Lowering Recs)} → List~ (λ m n. Does~ m n) ms ns → Does~ (in_order ms) (in_order ns)
   unfolding in_order
@@ -100,7 +99,7 @@ module _ (R : ℕ → ℕ → Type 0) where
   -- ── the steps that look up an id: the one place where R is one to one ──
 
   module _ (one : (a b x y : ℕ) → R a b → R x y → eqb a x ≡ eqb b y) where
-    found~ : (a b : Bool) → a ≡ b → (n : ℕ) (o p : Option ℕ) → Equal o p → Equal (cond a (some n) o) (cond b (some n) p)
+    found~ : (a b : Bool) → a ≡ b → (n : ℕ) (o p : Option ℕ) → Equal o p → Equal (cond a (Some n) o) (cond b (Some n) p)
     found~ a b e n o p equal = rw e equal
 
     lookup~ : {vs ws : List (ℕ × ℕ)} → List~ Var~ vs ws → (a b : ℕ) → R a b → Equal (lookup vs a) (lookup ws b)
@@ -110,8 +109,8 @@ module _ (R : ℕ → ℕ → Type 0) where
 
     numbered~ : (a b : ℕ) → R a b → (o p : Option ℕ) → Equal o p → Does~ (issue (λ s. numbered a o s)) (issue (λ s. numbered b p s))
     unfolding issue numbered
-    numbered~ a b r none p equal = by_parts~ _ _ λ ops vs ws number v. ran~ equal (ctx~ (var~ r ∷~ v))
-    numbered~ a b r (some n) p equal = by_parts~ _ _ λ ops vs ws number v. ran~ equal (ctx~ v)
+    numbered~ a b r None p equal = by_parts~ _ _ λ ops vs ws number v. ran~ equal (ctx~ (var~ r ∷~ v))
+    numbered~ a b r (Some n) p equal = by_parts~ _ _ λ ops vs ws number v. ran~ equal (ctx~ v)
 
     pub map_var~ : (a b : ℕ) → R a b → Does~ (map_var a) (map_var b)
     unfolding map_var issue

@@ -1,6 +1,5 @@
 -- Statements alike are checked alike: the same number, line and kind, and the same first `write`. Assumes nothing but the parameter R, which joins the ids.
-use Rattle.std.specs.Prelude.{ℕ, List, [], ◌∷◌}
-use Rattle.std.proofs.Math.Option.{Option}
+use Rattle.std.specs.Prelude.{ℕ, List, [], ◌∷◌, Option}
 use Rattle.model.specs.Text.{Bytes}
 use Rattle.model.specs.Field.{Span, Fields}
 use Rattle.model.specs.Kind.{Sort, Kind, Clause, PatternElement, Expr, statement, union_arm, clause, projection, order_item, pattern_part, pattern_element, name, yield_item, entry, expr, in_plan}

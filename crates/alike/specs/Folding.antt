@@ -1,7 +1,6 @@
 -- Trees alike fold alike: the same step for an expression, a part or a map's key, steps alike for an element, the same record for a name. Assumes nothing but the parameters: R, which joins the ids, and that R is one to one.
-use Rattle.std.specs.Prelude.{◌≡◌, ℕ, zero, suc, Bool, List, [], ◌∷◌, eqb}
+use Rattle.std.specs.Prelude.{◌≡◌, ℕ, zero, suc, Bool, List, [], ◌∷◌, eqb, Option, None}
 use Rattle.std.proofs.Math.Bool.{true, false}
-use Rattle.std.proofs.Math.Option.{Option, none}
 use Rattle.model.specs.Field.{Fields, RelLength}
 use Rattle.model.specs.Kind.{Sort, Kind, PatternElement, Same, Expr, PlanExpr}
 use Rattle.model.specs.Kind.{statement, union_arm, clause, projection, order_item, pattern_part, pattern_element, name, yield_item, entry, expr, in_plan}
@@ -91,7 +90,7 @@ module _ (R : ℕ → ℕ → Type 0) where
     expr_step~ Expr.Var (a, _) (b, _) (v, _) endʳ~ = then~ R (map_var~ R one_to_one a b v) λ n. ret~ R _
     expr_step~ Expr.Map (n, _) (m, _) (equal, _) (es ▸ʳ~ endʳ~) = over~ _ n _ _ (to_list~ es)
     expr_step~ Expr.Call (func, (n, (distinct, _))) (func', (m, (distinct', _))) (equal, (equal, (equal, _))) (es ▸ʳ~ endʳ~) = over~ _ n _ _ (to_list~ es)
-    expr_step~ Expr.PatternPredicate (n, _) (m, _) (equal, _) (ps ▸ʳ~ endʳ~) = then~ R (lower_match_pattern~ R (to_list~ ps) none false) λ k. then~ R (copy~ R k) λ inner. ret~ R _
+    expr_step~ Expr.PatternPredicate (n, _) (m, _) (equal, _) (ps ▸ʳ~ endʳ~) = then~ R (lower_match_pattern~ R (to_list~ ps) None false) λ k. then~ R (copy~ R k) λ inner. ret~ R _
     expr_step~ Expr.ListPredicate (kind, (a, (pred, _))) (kind', (b, (pred', _))) (equal, (v, (equal, _))) (es ▸ʳ~ endʳ~) = then~ R (map_var~ R one_to_one a b v) λ n. over~ _ (suc (one pred)) _ _ (to_list~ es)
     expr_step~ Expr.Unresolved f g v endʳ~ = ret~ R _
     expr_step~ Expr.Undesugared f g v endʳ~ = ret~ R _

@@ -1,7 +1,6 @@
 -- Pairs of sheets, by computation: one that meets the premises of demand 3, and some that show that a premise cannot be dropped. Assumes nothing: each is proved.
-use Rattle.std.specs.Prelude.{◌≡◌, refl, ◌↔◌, ℕ, zero, suc, ◌<◌, ◌≤◌, false, List, [], ◌∷◌, ◌++◌, map, length, get_or, drop}
+use Rattle.std.specs.Prelude.{◌≡◌, refl, ◌↔◌, ℕ, zero, suc, ◌<◌, ◌≤◌, false, List, [], ◌∷◌, ◌++◌, map, length, get_or, drop, None}
 use Rattle.std.proofs.Common.{arith, lit≤, lt-ltb}
-use Rattle.std.proofs.Math.Option.{none}
 use Rattle.model.specs.Text.{Bytes, bytes}
 use Rattle.model.specs.Kind.{statement}
 use Rattle.model.specs.Record.{Rec}
@@ -70,7 +69,7 @@ same_first : map (λ r. blank r) (records tree_first) ≡ map (λ r. blank r) re
 unfolding compute first second tree_of tree_first records_second blank blank_fields blank_val
 same_first = refl
 
-only_read : first_write tree_first ≡ none
+only_read : first_write tree_first ≡ None
 unfolding compute first tree_of tree_first
 only_read = refl
 

@@ -1,10 +1,9 @@
 -- Patterns alike lower alike: elements, chains, special shortest parts and parts. Assumes nothing but the parameters: R, which joins the ids, and that R is one to one.
-use Rattle.std.specs.Prelude.{◌≡◌, Bool, eqb}
+use Rattle.std.specs.Prelude.{◌≡◌, Bool, eqb, Option, None, Some}
 use Rattle.std.proofs.Math.Path.{refl}
 use Prim.Native.Nat.{ℕ, zero, suc}
 use Rattle.std.proofs.Math.Bool.{true, false}
 use mathlib.Core.List.{List, []}
-use Rattle.std.proofs.Math.Option.{Option, none, some}
 use Rattle.model.specs.Field.{RelLength}
 use Rattle.model.specs.Lower.{Recs, Lowering, ◌>>=◌, source, filter, or_source_all, Props, has, lower_props, NodeStep, RelStep, Step, of_node, of_rel}
 use Rattle.model.specs.Lower.{lower_rel_element, node_recs, filter_by_props, Chain, start_node, expand_to, reach, lower_element, lower_elements, root_of, bind_path, lower_chain, lower_shortest_path_part, Shape, node_rel_node, other, shape_of, lower_shaped, lower_pattern_part, further_part, lower_further, lower_parts, optional_join, lower_match_pattern}
@@ -66,8 +65,8 @@ module _ (R : ℕ → ℕ → Type 0) where
     reach~ : {c d : Chain} {n m : NodeStep} → Chain~ c d → NodeStep~ n m → (bind : ℕ) {p q : Option RelStep} → Option~ RelStep~ p q → (l : Option (ℕ × ℕ)) → Action~ R (λ a b. Chain~ a b) (reach c n bind p l) (reach d m bind q l)
     unfolding reach
     reach~ c n bind none~ l = start_node~ c n bind
-    reach~ c n bind (some~ r) none = start_node~ c n bind
-    reach~ c n bind (some~ r) (some l) = expand_to~ c n r l.0 l.1 bind
+    reach~ c n bind (some~ r) None = start_node~ c n bind
+    reach~ c n bind (some~ r) (Some l) = expand_to~ c n r l.0 l.1 bind
 
     reach_from~ : {c d : Chain} {n m : NodeStep} → Chain~ c d → NodeStep~ n m → (bind : ℕ) → Action~ R (λ a b. Chain~ a b) (reach c n bind c.pending c.last) (reach d m bind d.pending d.last)
     reach_from~ (chain~ w) n bind = reach~ (chain~ w) n bind w _
@@ -143,8 +142,8 @@ module _ (R : ℕ → ℕ → Type 0) where
   optional_join~ : (optional : Bool) (current : Option ℕ) (root : ℕ) → Does~ R (optional_join optional current root) (optional_join optional current root)
   unfolding optional_join
   optional_join~ false current root = ret~ R root
-  optional_join~ true none root = ret~ R root
-  optional_join~ true (some outer) root = then~ R (copy~ R root) λ inner. push~ R _
+  optional_join~ true None root = ret~ R root
+  optional_join~ true (Some outer) root = then~ R (copy~ R root) λ inner. push~ R _
 
   pub lower_match_pattern~ : {ps qs : List (Lowering ℕ)} → List~ (λ m n. Does~ R m n) ps qs → (current : Option ℕ) (optional : Bool) → Does~ R (lower_match_pattern ps current optional) (lower_match_pattern qs current optional)
   unfolding lower_match_pattern

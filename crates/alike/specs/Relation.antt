@@ -1,6 +1,5 @@
 -- Trees alike: the same sorts, lines, kinds and children, and the same fields but for spans, which are free, and ids, which a relation R joins. Assumes nothing: these are definitions.
-use Rattle.std.specs.Prelude.{ℕ, zero, suc, List, [], ◌∷◌}
-use Rattle.std.proofs.Math.Option.{Option, none, some}
+use Rattle.std.specs.Prelude.{ℕ, zero, suc, List, [], ◌∷◌, Option, None, Some}
 use Rattle.model.specs.Field.{Form, num, flag, var, var_or_absent, num_or_absent, number, number_or_absent, int, float, text, alias, span, length, Val, Fields}
 use Rattle.model.specs.Kind.{Sort, Kind}
 use Rattle.model.specs.Record.{Group, forms, children}
@@ -12,8 +11,8 @@ pub data Equal {A : Type 0} : A → A → Type 0 where
 
 -- none and none, or two values that are joined
 pub data Option~ {A : Type 0} (W : A → A → Type 0) : Option A → Option A → Type 0 where
-  none~ : Option~ W none none
-  some~ : {a b : A} → W a b → Option~ W (some a) (some b)
+  none~ : Option~ W None None
+  some~ : {a b : A} → W a b → Option~ W (Some a) (Some b)
 
 -- equally many, joined place by place
 pub data List~ {A : Type 0} (W : A → A → Type 0) : List A → List A → Type 0 where

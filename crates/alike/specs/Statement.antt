@@ -1,6 +1,5 @@
 -- What is said of two sheets alike, in the words of document 01's section 'Two sheets alike'. Assumes nothing: these are definitions.
-use Rattle.std.specs.Prelude.{◌≡◌, ◌↔◌, ℕ, ◌<◌, ◌≤◌, Bool, false, List, [], ◌∷◌, ◌++◌, map, get_or, take}
-use Rattle.std.proofs.Math.Option.{Option, none, some}
+use Rattle.std.specs.Prelude.{◌≡◌, ◌↔◌, ℕ, ◌<◌, ◌≤◌, Bool, false, List, [], ◌∷◌, ◌++◌, map, get_or, take, Option, None, Some}
 use Rattle.std.proofs.Math.ListN as ListN
 use Rattle.model.specs.Text.{Bytes}
 use Rattle.model.specs.Field.{Form, num, flag, var, var_or_absent, num_or_absent, number, number_or_absent, int, float, text, alias, span, length, Val, Fields}
@@ -22,8 +21,8 @@ unfoldable pub blank_val : (f : Form) → Val f → Val f
 blank_val (num l) n = n
 blank_val flag b = b
 blank_val var n = 0
-blank_val var_or_absent none = none
-blank_val var_or_absent (some n) = some 0
+blank_val var_or_absent None = None
+blank_val var_or_absent (Some n) = Some 0
 blank_val (num_or_absent l) o = o
 blank_val (number n) k = k
 blank_val (number_or_absent n) o = o
@@ -46,8 +45,8 @@ unfoldable pub ids_val : (f : Form) → Val f → List ℕ
 ids_val (num l) n = []
 ids_val flag b = []
 ids_val var n = n ∷ []
-ids_val var_or_absent none = []
-ids_val var_or_absent (some n) = n ∷ []
+ids_val var_or_absent None = []
+ids_val var_or_absent (Some n) = n ∷ []
 ids_val (num_or_absent l) o = []
 ids_val (number n) k = []
 ids_val (number_or_absent n) o = []
@@ -87,8 +86,8 @@ NotVar (node expr line Expr.Undesugared f kids) = Unit {0}
 
 -- an item: `item =alias`, or `item -` over another expression than `var`
 unfoldable pub NamedItem : Option Bytes → Tree expr → Type 0
-NamedItem (some a) e = Unit {0}
-NamedItem none e = NotVar e
+NamedItem (Some a) e = Unit {0}
+NamedItem None e = NotVar e
 
 unfoldable pub NamedItems : {n : ℕ} → Trees projection n → Type 0
 NamedItems []ᵗ = Unit {0}
@@ -121,7 +120,7 @@ pub record TwoSheets (S T : Bytes) (t : Tree statement) (rt : List Rec) : Type 0
   pub short_s : ListN.length S ≤ max_bytes
   pub behind : Place
   pub reads : read_sheet max_depth S ≡ got t behind
-  pub read_only : first_write t ≡ none
+  pub read_only : first_write t ≡ None
   pub named : Named t
   -- the lines of T: records, with numbers of their 32 or 64 bits and spans from start to end
   pub spelled : T ≡ spell_recs rt

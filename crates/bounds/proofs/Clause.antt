@@ -1,7 +1,6 @@
 -- Clauses, arms and the statement: at most four operators and two numbers a record. Assumes nothing: these are lemmas with their proofs.
-use Rattle.std.specs.Prelude.{ℕ, zero, suc, ◌+◌, ◌*◌, ◌<◌, ◌≤◌, Bool, true, false}
+use Rattle.std.specs.Prelude.{ℕ, zero, suc, ◌+◌, ◌*◌, ◌<◌, ◌≤◌, Bool, true, false, Option}
 use Rattle.std.proofs.Common.{le_trans, lt_of_lt_of_le, arith}
-use Rattle.std.proofs.Math.Option.{Option}
 use Rattle.model.specs.Text.{Bytes}
 use Rattle.model.specs.Kind.{Clause, Expr}
 use Rattle.model.specs.Kind.{statement, union_arm, clause, projection, order_item, yield_item, expr}

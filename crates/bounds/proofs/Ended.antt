@@ -1,6 +1,7 @@
 -- The lowering's result is the number of the last operator, and that is the one that `ends_on` names. Assumes nothing: these are theorems with their proofs.
-use Rattle.std.specs.Prelude.{ℕ, suc, Bool, true, false, cond, not, ◌&&◌, List, ◌≡◌, refl, length}
-use Rattle.std.proofs.Math.Option.{Option, none, some, some-ne-none}
+use Rattle.std.proofs.Common.{sym}
+use Rattle.std.specs.Prelude.{ℕ, suc, Bool, true, false, cond, not, ◌&&◌, List, ◌≡◌, refl, length, Option, None, Some}
+use Rattle.std.proofs.lemmas.Option.{none-some}
 use Rattle.std.proofs.Common.{subst}
 use Rattle.model.specs.Field.{Fields}
 use Rattle.model.specs.Kind.{Clause, ReadOp, statement, union_arm, clause, order_item, expr}
@@ -44,11 +45,11 @@ optional_ends false root h = gives root
 optional_ends true root first = gives root
 optional_ends true root behind = then any λ inner. pushes ReadOp.OptionalJoin _ _
 
-pub leaves : {k : Ending} (n : ℕ) → Leads (λ ops. Newest k n ops) (λ o ops. Leaves (some k) o ops) (ret (some n))
+pub leaves : {k : Ending} (n : ℕ) → Leads (λ ops. Newest k n ops) (λ o ops. Leaves (Some k) o ops) (ret (Some n))
 unfolding ret
 leaves n = record { run = λ x h. record { ended = on h; next = behind } }
 
-pub clause_ends : {f : Bool} {o : Option ℕ} (c : Tree clause) → is_write c ≡ none → First f o → Leads Always (λ p ops. Leaves (clause_end f c) p ops) (lower_clause c o)
+pub clause_ends : {f : Bool} {o : Option ℕ} (c : Tree clause) → is_write c ≡ None → First f o → Leads Always (λ p ops. Leaves (clause_end f c) p ops) (lower_clause c o)
 unfolding is_write clause_end lower_clause lower_match_pattern filter
 clause_ends (node clause line Clause.Match (optional, _) (parts ▸ end)) w h = then (then (parts_ends parts) λ root. optional_ends optional root h) λ k. leaves k
 clause_ends (node clause line Clause.Where f (e ∷ᵗ []ᵗ ▸ end)) w h = then any λ predicate. then any λ input. then (pushes ReadOp.Filter _ _) λ k. leaves k
@@ -56,18 +57,18 @@ clause_ends (node clause line Clause.With (_, (_, (_, (s, (l, _))))) (items ▸ 
 clause_ends (node clause line Clause.Return (_, (distinct, (_, (s, (l, _))))) (items ▸ keys ▸ skip ▸ limit ▸ end)) w h = then any λ input. then any λ first. then any λ a. then any λ rs. then (pushes ReadOp.Project _ _) λ b. then (distinct_ends distinct b) λ d. then (trailers_ends s l keys skip limit d) λ root. leaves root
 clause_ends (node clause line Clause.Unwind f (e ∷ᵗ []ᵗ ▸ end)) w h = then any λ input. then any λ rs. then any λ bind. then (pushes ReadOp.Unwind _ _) λ k. leaves k
 clause_ends (node clause line Clause.Call f (es ▸ ys ▸ end)) w h = then any λ rs. then any λ ss. then (pushes ReadOp.ProcedureCall _ _) λ k. leaves k
-clause_ends (node clause line Clause.Write f kids) w h = absurd (some-ne-none line w)
+clause_ends (node clause line Clause.Write f kids) w h = absurd (none-some line (sym w))
 
 -- ── the statement ──
 
-pub or_else_none : {A : Type 0} (o p : Option A) → or_else o p ≡ none → (o ≡ none) × (p ≡ none)
+pub or_else_none : {A : Type 0} (o p : Option A) → or_else o p ≡ None → (o ≡ None) × (p ≡ None)
 unfolding or_else
-or_else_none none p e = (refl, e)
-or_else_none (some a) p e = absurd (some-ne-none a e)
+or_else_none None p e = (refl, e)
+or_else_none (Some a) p e = absurd (none-some a (sym e))
 
-pub clauses_ends : {i : ℕ} {f : Bool} {o : Option ℕ} (c : Tree clause) (cs : Trees clause i) → write_in (c ∷ᵗ cs) ≡ none → First f o → Leads Always (λ p ops. Ended (clauses_end f (c ∷ᵗ cs)) p ops) (lower_clauses (c ∷ᵗ cs) o)
+pub clauses_ends : {i : ℕ} {f : Bool} {o : Option ℕ} (c : Tree clause) (cs : Trees clause i) → write_in (c ∷ᵗ cs) ≡ None → First f o → Leads Always (λ p ops. Ended (clauses_end f (c ∷ᵗ cs)) p ops) (lower_clauses (c ∷ᵗ cs) o)
 unfolding write_in clauses_end lower_clauses ret
-clauses_ends c []ᵗ w h = then (clause_ends c (or_else_none (is_write c) none w).0 h) λ left. record { run = λ x q. q.ended }
+clauses_ends c []ᵗ w h = then (clause_ends c (or_else_none (is_write c) None w).0 h) λ left. record { run = λ x q. q.ended }
 clauses_ends c (d ∷ᵗ cs) w h =
     let q = or_else_none (is_write c) (write_in (d ∷ᵗ cs)) w in
     then (clause_ends c q.0 h) λ left. given λ ops l. clauses_ends d cs q.1 l.next
@@ -75,16 +76,16 @@ clauses_ends c (d ∷ᵗ cs) w h =
 pub arms_ends : {i : ℕ} (a : Tree union_arm) (arms : Trees union_arm i) (e : Option Ending) (o : Option ℕ) → Leads Always (λ p ops. Ended (arms_end (a ∷ᵗ arms) e) p ops) (lower_arms (a ∷ᵗ arms) o)
 unfolding arms_end lower_arms ret
 arms_ends (node union_arm line k f (cs ▸ end)) []ᵗ e o = then any λ below. then any λ left. then any λ right. then (pushes ReadOp.Union _ _) λ both. record { run = λ x h. on h }
-arms_ends (node union_arm line k f (cs ▸ end)) (b ∷ᵗ arms) e o = then any λ below. then any λ left. then any λ right. then any λ both. arms_ends b arms e (some both)
+arms_ends (node union_arm line k f (cs ▸ end)) (b ∷ᵗ arms) e o = then any λ below. then any λ left. then any λ right. then any λ both. arms_ends b arms e (Some both)
 
-pub lower_ends : {i j : ℕ} (cs : Trees clause i) (arms : Trees union_arm j) → write_in cs ≡ none → Ended (arms_end arms (clauses_end true cs)) ((lower_clauses cs none >>= λ head. lower_arms arms head) empty).0 ((lower_clauses cs none >>= λ head. lower_arms arms head) empty).1.ops
+pub lower_ends : {i j : ℕ} (cs : Trees clause i) (arms : Trees union_arm j) → write_in cs ≡ None → Ended (arms_end arms (clauses_end true cs)) ((lower_clauses cs None >>= λ head. lower_arms arms head) empty).0 ((lower_clauses cs None >>= λ head. lower_arms arms head) empty).1.ops
 unfolding arms_end clauses_end lower_clauses lower_arms ◌>>=◌ ret empty
 lower_ends []ᵗ []ᵗ w = nowhere
 lower_ends (c ∷ᵗ cs) []ᵗ w = (clauses_ends c cs w first).run empty tt
-lower_ends cs (a ∷ᵗ arms) w = (arms_ends a arms _ (lower_clauses cs none empty).0).run (lower_clauses cs none empty).1 tt
+lower_ends cs (a ∷ᵗ arms) w = (arms_ends a arms _ (lower_clauses cs None empty).0).run (lower_clauses cs None empty).1 tt
 
 -- Without a `write`: either there is no operator and the lowering ends on none; or it ends on the last operator, whose number is the result, and whose first record is the one that `ends_on` names.
-pub ends : (t : Tree statement) → first_write t ≡ none → Ended (ends_on t) (lower t empty).0 (lower_statement t).ops
+pub ends : (t : Tree statement) → first_write t ≡ None → Ended (ends_on t) (lower t empty).0 (lower_statement t).ops
 unfolding first_write ends_on lower lower_statement
 ends (node statement line k f (cs ▸ arms ▸ end)) w = lower_ends cs arms (or_else_none (write_in cs) _ w).0
 
@@ -92,8 +93,8 @@ ends (node statement line k f (cs ▸ arms ▸ end)) w = lower_ends cs arms (or_
 pub newest_last : {e : Ending} {n : ℕ} {ops : List Recs} → Newest e n ops → suc n ≡ length ops
 newest_last newest = refl
 
-pub ended_last : {e : Option Ending} {n : ℕ} {ops : List Recs} → Ended e (some n) ops → suc n ≡ length ops
+pub ended_last : {e : Option Ending} {n : ℕ} {ops : List Recs} → Ended e (Some n) ops → suc n ≡ length ops
 ended_last (on h) = newest_last h
 
-pub last_operator : (t : Tree statement) (n : ℕ) → first_write t ≡ none → (lower t empty).0 ≡ some n → suc n ≡ length (lower_statement t).ops
+pub last_operator : (t : Tree statement) (n : ℕ) → first_write t ≡ None → (lower t empty).0 ≡ Some n → suc n ≡ length (lower_statement t).ops
 last_operator t n w e = ended_last (subst (λ o. Ended (ends_on t) o (lower_statement t).ops) e (ends t w))

@@ -1,7 +1,6 @@
 -- Patterns, out of what was made of their elements: a chain, a special shortest part, the parts of a match. Assumes nothing: these are lemmas with their proofs.
-use Rattle.std.specs.Prelude.{ℕ, zero, suc, ◌+◌, ◌*◌, ◌<◌, ◌≤◌, Bool, true, false, List, [], ◌∷◌, eqb}
+use Rattle.std.specs.Prelude.{ℕ, zero, suc, ◌+◌, ◌*◌, ◌<◌, ◌≤◌, Bool, true, false, List, [], ◌∷◌, eqb, Option, None, Some}
 use Rattle.std.proofs.Common.{le_refl, arith}
-use Rattle.std.proofs.Math.Option.{Option, none, some}
 use Rattle.model.specs.Lower.{Lowering, source, filter}
 use Rattle.model.specs.Lower.{Props, lower_props, NodeStep, RelStep, Step, lower_rel_element, node_recs, filter_by_props, Chain, start_node, expand_to, reach, lower_element, lower_elements, root_of, path_elements, bind_path, lower_chain, lower_shortest_path_part, shape_of, lower_shaped, lower_pattern_part, further_part, lower_further, lower_parts, optional_join, lower_match_pattern}
 use Rattle.bounds.specs.Earlier.{[]ᵃ, ◌∷ᵃ◌, all_append, Low, raise}
@@ -58,9 +57,9 @@ expand_to✓ c k origin b ok rel lt =
 
 pub reach✓ : {n w p : ℕ} {s : NodeStep} (c : Chain) (b : ℕ) (o : Option RelStep) (l : Option (ℕ × ℕ)) (ok : NodeOf w s) → PendingOf p o → Before n (root_of l) → Bounded n (λ d m. ChainOf m 0 d) (2 * (p + w)) (p + ok.below) (reach c s b o l)
 unfolding reach root_of
-reach✓ c b none l ok rel last = within (start_node✓ c b ok) (omega arith) (omega arith)
-reach✓ c b (some r) none ok rel last = within (start_node✓ c b ok) (omega arith) (omega arith)
-reach✓ c b (some r) (some l) ok (waits rel) (operator lt) = expand_to✓ c l.0 l.1 b ok rel lt
+reach✓ c b None l ok rel last = within (start_node✓ c b ok) (omega arith) (omega arith)
+reach✓ c b (Some r) None ok rel last = within (start_node✓ c b ok) (omega arith) (omega arith)
+reach✓ c b (Some r) (Some l) ok (waits rel) (operator lt) = expand_to✓ c l.0 l.1 b ok rel lt
 
 pub lower_elements✓ : {n p w : ℕ} {c : Chain} {l : List Step} → ChainOf n p c → Each (λ u s. StepOf u s) w l → Bounded n (λ d m. Before m (root_of d.last)) (2 * (p + w)) (p + w) (lower_elements c l)
 unfolding lower_elements lower_element
@@ -85,8 +84,8 @@ path_elements_low (k ∷ l) = []ᵃ ∷ᵃ path_elements_low l
 
 pub bind_path✓ : {n root : ℕ} (o : Option ℕ) (path : List ℕ) → root < n → Bounded n Old 1 1 (bind_path o root path)
 unfolding bind_path
-bind_path✓ none path lt = within (ret✓ _ lt) (omega arith) (omega arith)
-bind_path✓ (some id) path lt = bind✓ (map_var✓ id) λ b n' le _. push✓ ((omega arith ∷ᵃ []ᵃ) ∷ᵃ path_elements_low path)
+bind_path✓ None path lt = within (ret✓ _ lt) (omega arith) (omega arith)
+bind_path✓ (Some id) path lt = bind✓ (map_var✓ id) λ b n' le _. push✓ ((omega arith ∷ᵃ []ᵃ) ∷ᵃ path_elements_low path)
 
 pub lower_chain✓ : {w : ℕ} {l : List Step} (o : Option ℕ) → Each (λ u s. StepOf u s) w l → Cheap Old (suc w) (lower_chain o l)
 unfolding lower_chain root_of

@@ -1,7 +1,6 @@
 -- What holds of every step of the lowering: inputs stay earlier, the mapped numbers stay in order, and only so many operators and numbers are added. Assumes nothing: these are definitions, and lemmas with their proofs.
-use Rattle.std.specs.Prelude.{ℕ, ◌+◌, ◌<◌, ◌≤◌, List, [], ◌∷◌, ◌≡◌, refl, length}
+use Rattle.std.specs.Prelude.{ℕ, ◌+◌, ◌<◌, ◌≤◌, List, [], ◌∷◌, ◌≡◌, refl, length, Option, None, Some}
 use Rattle.std.proofs.Common.{le_refl, lt_of_lt_of_le, arith, subst}
-use Rattle.std.proofs.Math.Option.{Option, none, some}
 use Rattle.model.specs.Lower.{Recs, LowerCtx, Lowering, ◌>>=◌, ret, push, copy, lookup, issue, numbered, map_var, fresh, upcoming, endpoint_var, source, push_source_all, or_source_all}
 use Rattle.bounds.specs.Earlier.{[]ᵃ, ◌∷ᵃ◌, Low, Earlier, ◌∷ᵉ◌, copy_low}
 
@@ -83,8 +82,8 @@ copy✓ k = record { run = λ c e ordered. record { ordered = ordered; spent = s
 
 pub numbered✓ : {n : ℕ} (id : ℕ) (o : Option ℕ) → Bounded n Any 0 1 (issue (λ s. numbered id o s))
 unfolding issue numbered
-numbered✓ id none = record { run = λ c e ordered. record { ordered = record { earlier = ordered.earlier; falling = le_refl _ ∷ᶠ ordered.falling }; spent = record { kept = omega arith; added = omega arith; issued = omega arith }; post = tt } }
-numbered✓ id (some k) = record { run = λ c e ordered. record { ordered = ordered; spent = record { kept = omega arith; added = omega arith; issued = omega arith }; post = tt } }
+numbered✓ id None = record { run = λ c e ordered. record { ordered = record { earlier = ordered.earlier; falling = le_refl _ ∷ᶠ ordered.falling }; spent = record { kept = omega arith; added = omega arith; issued = omega arith }; post = tt } }
+numbered✓ id (Some k) = record { run = λ c e ordered. record { ordered = ordered; spent = record { kept = omega arith; added = omega arith; issued = omega arith }; post = tt } }
 
 pub map_var✓ : {n : ℕ} (id : ℕ) → Bounded n Any 0 1 (map_var id)
 unfolding map_var issue
@@ -100,8 +99,8 @@ upcoming✓ = record { run = λ c e ordered. record { ordered = ordered; spent =
 
 pub endpoint_var✓ : {n : ℕ} (o : Option ℕ) → Bounded n Any 0 1 (endpoint_var o)
 unfolding endpoint_var
-endpoint_var✓ none = fresh✓
-endpoint_var✓ (some id) = map_var✓ id
+endpoint_var✓ None = fresh✓
+endpoint_var✓ (Some id) = map_var✓ id
 
 pub push_source_all✓ : {n : ℕ} → Bounded n Old 1 0 push_source_all
 unfolding push_source_all source
@@ -109,8 +108,8 @@ push_source_all✓ = bind✓ upcoming✓ λ bind n' le _. push✓ ([]ᵃ ∷ᵃ 
 
 -- an operator before, if there is one
 pub data Before (n : ℕ) : Option ℕ → Type 0 where
-  nothing : Before n none
-  operator : {k : ℕ} → k < n → Before n (some k)
+  nothing : Before n None
+  operator : {k : ℕ} → k < n → Before n (Some k)
 
 pub before_raise : {m n : ℕ} {o : Option ℕ} → m ≤ n → Before m o → Before n o
 before_raise le nothing = nothing

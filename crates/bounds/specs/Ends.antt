@@ -1,6 +1,5 @@
 -- The operator that the lowering ends on, from the tree alone and in the words of document 01; the lowering is not mentioned here. Assumes nothing: these are definitions.
-use Rattle.std.specs.Prelude.{ℕ, zero, suc, Bool, true, false, cond, not, ◌&&◌, List, [], ◌∷◌, eqb}
-use Rattle.std.proofs.Math.Option.{Option, none, some}
+use Rattle.std.specs.Prelude.{ℕ, zero, suc, Bool, true, false, cond, not, ◌&&◌, List, [], ◌∷◌, eqb, Option, None, Some}
 use Rattle.model.specs.Text.{Bytes}
 use Rattle.model.specs.Field.{Fields}
 use Rattle.model.specs.Kind.{Clause, PatternElement, ReadOp, statement, union_arm, clause, pattern_part, pattern_element}
@@ -76,8 +75,8 @@ special (suc m) es = node_rel_node (element_kinds es)
 
 -- a named part ends in `path`
 unfoldable pub named_end : Option ℕ → Ending → Ending
-named_end none root = root
-named_end (some id) root = Ending.BindPath
+named_end None root = root
+named_end (Some id) root = Ending.BindPath
 
 unfoldable pub part_end : Tree pattern_part → Ending
 part_end (node pattern_part line k (named_as, (shortest, _)) (es ▸ end)) = cond (special shortest es) (Ending.ShortestPath (eqb shortest all_shortest)) (named_end named_as (chain_end es))
@@ -100,17 +99,17 @@ latest root keys skip limit = cond limit Ending.Limit (cond skip Ending.Skip (co
 
 -- what a clause leaves as previous operator; `first` says that none precedes it. A `write` is refused before.
 unfoldable pub clause_end : (first : Bool) → Tree clause → Option Ending
-clause_end first (node clause line Clause.Match (optional, _) (parts ▸ end)) = some (cond (optional && not first) Ending.OptionalJoin (match_end parts))
-clause_end first (node clause line Clause.Where f kids) = some Ending.Filter
-clause_end first (node clause line Clause.With (items, (filter, (keys, (skip, (limit, _))))) kids) = some (latest (Ending.With items filter) keys skip limit)
-clause_end first (node clause line Clause.Return (items, (distinct, (keys, (skip, (limit, _))))) kids) = some (latest (cond distinct Ending.Distinct (Ending.Project items)) keys skip limit)
-clause_end first (node clause line Clause.Unwind f kids) = some Ending.Unwind
-clause_end first (node clause line Clause.Call (name, (args, (yields, (optional, _)))) kids) = some (Ending.ProcedureCall name args yields optional)
-clause_end first (node clause line Clause.Write f kids) = none
+clause_end first (node clause line Clause.Match (optional, _) (parts ▸ end)) = Some (cond (optional && not first) Ending.OptionalJoin (match_end parts))
+clause_end first (node clause line Clause.Where f kids) = Some Ending.Filter
+clause_end first (node clause line Clause.With (items, (filter, (keys, (skip, (limit, _))))) kids) = Some (latest (Ending.With items filter) keys skip limit)
+clause_end first (node clause line Clause.Return (items, (distinct, (keys, (skip, (limit, _))))) kids) = Some (latest (cond distinct Ending.Distinct (Ending.Project items)) keys skip limit)
+clause_end first (node clause line Clause.Unwind f kids) = Some Ending.Unwind
+clause_end first (node clause line Clause.Call (name, (args, (yields, (optional, _)))) kids) = Some (Ending.ProcedureCall name args yields optional)
+clause_end first (node clause line Clause.Write f kids) = None
 
 -- the last clause; with none, no operator
 unfoldable pub clauses_end : {n : ℕ} (first : Bool) → Trees clause n → Option Ending
-clauses_end first []ᵗ = none
+clauses_end first []ᵗ = None
 clauses_end first (c ∷ᵗ []ᵗ) = clause_end first c
 clauses_end first (c ∷ᵗ d ∷ᵗ cs) = clauses_end false (d ∷ᵗ cs)
 
@@ -119,7 +118,7 @@ clauses_end first (c ∷ᵗ d ∷ᵗ cs) = clauses_end false (d ∷ᵗ cs)
 -- the last arm's `union`; without arms, what the head's last clause leaves
 unfoldable pub arms_end : {n : ℕ} → Trees union_arm n → Option Ending → Option Ending
 arms_end []ᵗ head = head
-arms_end (node union_arm line k (all, _) kids ∷ᵗ []ᵗ) head = some (Ending.Union all)
+arms_end (node union_arm line k (all, _) kids ∷ᵗ []ᵗ) head = Some (Ending.Union all)
 arms_end (a ∷ᵗ b ∷ᵗ arms) head = arms_end (b ∷ᵗ arms) head
 
 unfoldable pub ends_on : Tree statement → Option Ending

@@ -1,6 +1,5 @@
 -- Patterns, out of what was made of their elements: a chain, a special shortest part, the parts of a match. Assumes nothing: these are definitions; the lemmas are in proofs/Pattern.
-use Rattle.std.specs.Prelude.{ℕ, suc, ◌+◌, ◌*◌, ◌≤◌, List, [], ◌∷◌}
-use Rattle.std.proofs.Math.Option.{Option, none, some}
+use Rattle.std.specs.Prelude.{ℕ, suc, ◌+◌, ◌*◌, ◌≤◌, List, [], ◌∷◌, Option, None, Some}
 use Rattle.model.specs.Lower.{Recs, Lowering}
 use Rattle.model.specs.Lower.{Props, NodeStep, RelStep, Step, of_node, of_rel, Chain, root_of}
 use Rattle.bounds.specs.Earlier.{Low}
@@ -18,8 +17,8 @@ pub data Each {A : Type 0} (P : ℕ → A → Type 0) : ℕ → List A → Type 
 -- ── elements ──
 
 pub data PropsOf (w : ℕ) : Props → Type 0 where
-  without : PropsOf w none
-  with : {m : Lowering Recs} → Cheap Lows w m → PropsOf w (some m)
+  without : PropsOf w None
+  with : {m : Lowering Recs} → Cheap Lows w m → PropsOf w (Some m)
 
 pub record NodeOf (w : ℕ) (s : NodeStep) : Type 0 where
   pub below : ℕ
@@ -40,8 +39,8 @@ pub data StepOf (w : ℕ) : Step → Type 0 where
 -- ── chains ──
 
 pub data PendingOf (w : ℕ) : Option RelStep → Type 0 where
-  no_rel : PendingOf w none
-  waits : {r : RelStep} → RelOf w r → PendingOf w (some r)
+  no_rel : PendingOf w None
+  waits : {r : RelStep} → RelOf w r → PendingOf w (Some r)
 
 -- a chain whose last operator is below n, with a rel of w records waiting
 pub record ChainOf (n w : ℕ) (c : Chain) : Type 0 where

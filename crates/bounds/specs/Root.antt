@@ -1,6 +1,5 @@
 -- A match's root is the last operator, and the one that `match_end` names. Assumes nothing: these are definitions, and lemmas with their proofs.
-use Rattle.std.specs.Prelude.{ℕ, zero, suc, Bool, true, false, cond, List, ◌∷◌, ◌≡◌, refl, eqb, length}
-use Rattle.std.proofs.Math.Option.{Option, none, some}
+use Rattle.std.specs.Prelude.{ℕ, zero, suc, Bool, true, false, cond, List, ◌∷◌, ◌≡◌, refl, eqb, length, Option, None, Some}
 use Rattle.std.proofs.Common.{ap, subst}
 use Rattle.std.proofs.Math.Dec.{eqb-suc-suc}
 use Rattle.model.specs.Field.{Fields}
@@ -48,8 +47,8 @@ pushes k f rs = record { run = λ x h. newest }
 -- ── chains ──
 
 pub data HasProps : Bool → Props → Type 0 where
-  without : HasProps false none
-  with : {m : Lowering Recs} → HasProps true (some m)
+  without : HasProps false None
+  with : {m : Lowering Recs} → HasProps true (Some m)
 
 pub props_of_has : (b : Bool) (m : Many (Lowering Recs) (one b)) → HasProps b (props_of b m)
 unfolding props_of
@@ -72,14 +71,14 @@ filter_by_props_ends i k without = gives k
 filter_by_props_ends i k with = then any λ rs. pushes ReadOp.Filter _ _
 
 pub data Last : ℕ → Option (ℕ × ℕ) → Type 0 where
-  last : {n b : ℕ} → Last n (some (n, b))
+  last : {n b : ℕ} → Last n (Some (n, b))
 
 pub data NoLast : Option (ℕ × ℕ) → Type 0 where
-  no_last : NoLast none
+  no_last : NoLast None
 
 pub data Waits : Bool → Option RelStep → Type 0 where
-  no_rel : Waits false none
-  waits : {r : RelStep} → Waits true (some r)
+  no_rel : Waits false None
+  waits : {r : RelStep} → Waits true (Some r)
 
 -- a chain whose last operator is the last of all
 pub record ChainAt (k : Ending) (w : Bool) (c : Chain) (ops : List Recs) : Type 0 where
@@ -113,8 +112,8 @@ unfolding lower_element reach
 element_start {i} {p} c s h q = then any λ b. reaches b c.pending q
   where
     reaches : (b : ℕ) (o : Option RelStep) {l : Option (ℕ × ℕ)} → NoLast l → Leads Always (λ d ops. ChainAt (started i p) false d ops) (reach c s b o l)
-    reaches b none no_last = start_node_ends c s b h
-    reaches b (some r) no_last = start_node_ends c s b h
+    reaches b None no_last = start_node_ends c s b h
+    reaches b (Some r) no_last = start_node_ends c s b h
 
 pub element_behind : {i : ℕ} {p w : Bool} {n : ℕ} (c : Chain) (s : NodeStep) → NodeIs i p s → Waits w c.pending → Last n c.last → Leads Always (λ d ops. ChainAt (cond w Ending.Expand (started i p)) false d ops) (lower_element c (of_node s))
 unfolding lower_element reach
@@ -130,8 +129,8 @@ element_rel r = record { run = λ x h. record { number = h.number; is_last = h.i
 
 -- a chain's last operator, or none, for which a source of everything comes
 pub data Rooted : Ending → Option (ℕ × ℕ) → List Recs → Type 0 where
-  unrooted : {ops : List Recs} → Rooted (Ending.Source 0) none ops
-  rooted : {k : Ending} {n b : ℕ} {ops : List Recs} → Newest k n ops → Rooted k (some (n, b)) ops
+  unrooted : {ops : List Recs} → Rooted (Ending.Source 0) None ops
+  rooted : {k : Ending} {n b : ℕ} {ops : List Recs} → Newest k n ops → Rooted k (Some (n, b)) ops
 
 pub rooted_last : {k : Ending} {n : ℕ} {l : Option (ℕ × ℕ)} {ops : List Recs} → Last n l → Newest k n ops → Rooted k l ops
 rooted_last last h = rooted h
@@ -170,8 +169,8 @@ root_ends l = record { run = λ x h. rooted_ends x h }
 
 pub bind_path_ends : {k : Ending} (o : Option ℕ) (root : ℕ) (path : List ℕ) → Leads (λ ops. Newest k root ops) (λ n ops. Newest (named_end o k) n ops) (bind_path o root path)
 unfolding bind_path named_end
-bind_path_ends none root path = gives root
-bind_path_ends (some id) root path = then any λ b. pushes ReadOp.BindPath _ _
+bind_path_ends None root path = gives root
+bind_path_ends (Some id) root path = then any λ b. pushes ReadOp.BindPath _ _
 
 pub chain_ends : {i : ℕ} (o : Option ℕ) (es : Trees pattern_element i) → Leads Always (λ n ops. Newest (named_end o (chain_end es)) n ops) (lower_chain o (to_list i (fold_of Lowered made es)))
 unfolding lower_chain

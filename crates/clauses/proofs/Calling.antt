@@ -4,7 +4,7 @@ use Prim.Native.Nat.{ℕ, suc, ◌+◌, ◌-◌, ◌≤◌}
 use native.Mathlib.Nat.{le_refl}
 use native.Mathlib.Omega.{arith}
 use mathlib.Core.List.{List, ◌∷◌, ◌++◌}
-use mathlib.Core.Option.{Option, some}
+use Rattle.std.specs.Prelude.{Option, Some}
 use lib.ListN.{length}
 use Rattle.model.specs.Text.{Bytes}
 use Rattle.model.specs.Field.{Fields}
@@ -70,7 +70,7 @@ module _ (f : Fields (forms clause Clause.Call)) (args : Trees expr f.1.0) (yiel
   abbrev called : Recs
   called = op ReadOp.ProcedureCall (o, (f.0, (f.1.0, (f.1.1.0, (f.1.1.1.0, tt))))) ∷ ((lower_c (plain_c args) s).0 ++ (lower_yields yields argued).0)
 
-  call_def : ◌≡◌ {A = Option ℕ × State} ((lower_exprs args >>= λ rs. lower_yields yields >>= λ ss. push (op ReadOp.ProcedureCall (o, (f.0, (f.1.0, (f.1.1.0, (f.1.1.1.0, tt))))) ∷ (rs ++ ss)) >>= λ k. ret (some k)) s) (some (length yielded.ops), (push called yielded).1)
+  call_def : ◌≡◌ {A = Option ℕ × State} ((lower_exprs args >>= λ rs. lower_yields yields >>= λ ss. push (op ReadOp.ProcedureCall (o, (f.0, (f.1.0, (f.1.1.0, (f.1.1.1.0, tt))))) ∷ (rs ++ ss)) >>= λ k. ret (Some k)) s) (Some (length yielded.ops), (push called yielded).1)
   unfolding ◌>>=◌ push ret
   call_def = rw (exprs_lower args s)
 
@@ -119,7 +119,7 @@ module _ {a b : List ℕ} {at : At} {current : Before} {n n' j e : ℕ} {c : Low
     (g : ClauseAsked call_kind a b at current m) (en : n ≡ cell a b at.i call_args_at) (en' : n' ≡ cell a b at.i call_yields_at)
     (x : LowersExprs a b n 0 (at.left - 1) 0 (at.i + 1) j m m₁) (y : LowersYields a b n' j e m₁ m₂)
     (pc : Pushed m₂.ctx c m₂.ops os (procedure_call_op (at_place 0 at.i (at.left - 1)) current)) (lo : length os ≡ length m₂.ops) where
-  call_run : (sheet : Bytes) {first : ℕ} (t : Tree clause) → Held sheet a b t at.left at.i → (W : Written) (s : State) → Rep (side sheet a b first) W s m → BothBlank W (suc at.i) (suc e) → Leaves (side sheet a b first) W (λ s. lower_clause t (before_of current) s) (some m₂.ctx.ops) (suc at.i) (suc e) s m (mem c os m₂.rest)
+  call_run : (sheet : Bytes) {first : ℕ} (t : Tree clause) → Held sheet a b t at.left at.i → (W : Written) (s : State) → Rep (side sheet a b first) W s m → BothBlank W (suc at.i) (suc e) → Leaves (side sheet a b first) W (λ s. lower_clause t (before_of current) s) (Some m₂.ctx.ops) (suc at.i) (suc e) s m (mem c os m₂.rest)
   call_run sheet {first} t hd W s r bl =
       let v = a_call g.words t hd g.kind in
       let o : Option ℕ = before_of current in
@@ -136,9 +136,9 @@ module _ {a b : List ℕ} {at : At} {current : Before} {n n' j e : ℕ} {c : Low
       (below_of_more (shift N 0) first m₁.ctx.ops m₂.ctx.ops q.to.grow v.args (plain_below (shift N 0) first m₁.ctx.ops v.args (p.below N A (back q.to f))))
       (plain_render (shift N 0) A v.args ∙ p.shown N A (back q.to f)) (q.shown N A f) current) in
       let u : Sub ((0 + suc j, 0 + suc e) ∷ (0 + suc (at.i + 1), 0 + suc j) ∷ W) (both_passes (suc at.i) (suc e) W) = sub_within (omega arith) (omega arith) (sub_first (omega arith) (omega arith)) in
-      leaves t o m₂.ctx.ops s (push recs s₂).1 (v.lower o s ∙ call_def v.fields v.args v.yields o s ∙ ap (λ (z : ℕ). (some z, (push recs s₂).1)) (sym q.to.rep.count)) (to_then p.to (to_then q.to w)) u
+      leaves t o m₂.ctx.ops s (push recs s₂).1 (v.lower o s ∙ call_def v.fields v.args v.yields o s ∙ ap (λ (z : ℕ). (Some z, (push recs s₂).1)) (sym q.to.rep.count)) (to_then p.to (to_then q.to w)) u
 
-  pub call_law : (sheet : Bytes) → LowersClause sheet a b at.left at.i e (before_of current) (some m₂.ctx.ops) m (mem c os m₂.rest)
+  pub call_law : (sheet : Bytes) → LowersClause sheet a b at.left at.i e (before_of current) (Some m₂.ctx.ops) m (mem c os m₂.rest)
   call_law sheet =
       let v = x.moved in
       let w = y.moved in

@@ -4,7 +4,7 @@ use Prim.Native.Nat.{ℕ, suc, ◌+◌, ◌<◌}
 use native.Mathlib.Nat.{le_refl}
 use native.Mathlib.Omega.{arith}
 use mathlib.Core.List.{List, [], ◌∷◌}
-use mathlib.Core.Option.{Option, some}
+use Rattle.std.specs.Prelude.{Option, Some}
 use Rattle.model.specs.Text.{Bytes}
 use Rattle.model.specs.Kind.{clause}
 use Rattle.model.specs.Tree.{Tree}
@@ -36,7 +36,7 @@ pub a_call_left : {sheet : Bytes} {a b : List ℕ} {at : At} {current : Before} 
 a_call_left {sheet} {at = at} g e o = call_kind_law sheet at.left at.i g.words g.held.tree g.held.is (rw e at o) g.reads
 
 -- an operator that is left, as the code has it
-pub left_one : {sheet : Bytes} {a b : List ℕ} {d i e k : ℕ} {o : Option ℕ} {m m' : Mem} → LowersClause sheet a b d i e o (some k) m m' → LowersClause sheet a b d i e o (before_of (before.Op k)) m m'
+pub left_one : {sheet : Bytes} {a b : List ℕ} {d i e k : ℕ} {o : Option ℕ} {m m' : Mem} → LowersClause sheet a b d i e o (Some k) m m' → LowersClause sheet a b d i e o (before_of (before.Op k)) m m'
 unfolding before_of
 left_one p = p
 

@@ -3,7 +3,7 @@ use mathlib.Core.Path.{◌≡◌, refl, sym, ap, ◌∙◌}
 use Prim.Native.Nat.{ℕ, suc, ◌+◌, ◌-◌}
 use native.Mathlib.Omega.{arith}
 use mathlib.Core.List.{List}
-use mathlib.Core.Option.{Option, some}
+use Rattle.std.specs.Prelude.{Option, Some}
 use lib.ListN.{length}
 use Rattle.model.specs.Text.{Bytes}
 use Rattle.model.specs.Kind.{clause, expr}
@@ -34,7 +34,7 @@ pub some_predicate : {a b : List ℕ} {at : At} {current : Before} {m : Mem} →
 some_predicate g = let v = a_where g.words g.tree.tree g.tree.held g.kind in record { sheet = g.tree.sheet; tree = v.tree; held = v.held }
 
 -- the definition, step by step
-where_def : (tree : Tree expr) (o : Option ℕ) (s : State) → ◌≡◌ {A = Option ℕ × State} ((lower_expr tree >>= λ rs. or_source_all o >>= λ input. push (filter input rs) >>= λ k. ret (some k)) s) (some (length (or_source_all o (lower_expr tree s).1).1.ops), (push (filter (or_source_all o (lower_expr tree s).1).0 (lower_expr tree s).0) (or_source_all o (lower_expr tree s).1).1).1)
+where_def : (tree : Tree expr) (o : Option ℕ) (s : State) → ◌≡◌ {A = Option ℕ × State} ((lower_expr tree >>= λ rs. or_source_all o >>= λ input. push (filter input rs) >>= λ k. ret (Some k)) s) (Some (length (or_source_all o (lower_expr tree s).1).1.ops), (push (filter (or_source_all o (lower_expr tree s).1).0 (lower_expr tree s).0) (or_source_all o (lower_expr tree s).1).1).1)
 unfolding ◌>>=◌ push ret
 where_def tree o s = refl
 
@@ -43,7 +43,7 @@ module _ {a b : List ℕ} {at : At} {current : Before} {k e : ℕ} {c : LowerCtx
     (x : LowersExpr a b (at.left - 1) 0 (at.i + 1) e m m₁)
     (sr : OrSource m₁.ctx.ops (or_source_all (before_of current)) k m₁ m₂)
     (pf : Pushed m₂.ctx c m₂.ops os (filter_op (at_place 0 (at.i + 1) (at.left - 1)) k)) (lo : length os ≡ length m₂.ops) where
-  where_run : (sheet : Bytes) {first : ℕ} (t : Tree clause) → Held sheet a b t at.left at.i → (W : Written) (s : State) → Rep (side sheet a b first) W s m → BothBlank W (suc at.i) (suc e) → Leaves (side sheet a b first) W (λ s. lower_clause t (before_of current) s) (some m₂.ctx.ops) (suc at.i) (suc e) s m (mem c os m₂.rest)
+  where_run : (sheet : Bytes) {first : ℕ} (t : Tree clause) → Held sheet a b t at.left at.i → (W : Written) (s : State) → Rep (side sheet a b first) W s m → BothBlank W (suc at.i) (suc e) → Leaves (side sheet a b first) W (λ s. lower_clause t (before_of current) s) (Some m₂.ctx.ops) (suc at.i) (suc e) s m (mem c os m₂.rest)
   where_run sheet {first} t hd W s r bl =
       let v = a_where g.words t hd g.kind in
       let sh = g.depth in
@@ -61,9 +61,9 @@ module _ {a b : List ℕ} {at : At} {current : Before} {k e : ℕ} {c : LowerCtx
           is = filter_is k _ _ _ z.root (y.shown N A (back z.to f));
         });
       }) in
-      leaves t (before_of current) m₂.ctx.ops s (push recs s₂).1 (v.lower (before_of current) s ∙ where_def v.tree (before_of current) s ∙ ap (λ (q : ℕ). (some q, (push recs s₂).1)) (sym z.to.rep.count)) (to_then y.to (to_then z.to w)) (sub_first (omega arith) (omega arith))
+      leaves t (before_of current) m₂.ctx.ops s (push recs s₂).1 (v.lower (before_of current) s ∙ where_def v.tree (before_of current) s ∙ ap (λ (q : ℕ). (Some q, (push recs s₂).1)) (sym z.to.rep.count)) (to_then y.to (to_then z.to w)) (sub_first (omega arith) (omega arith))
 
-  pub where_law : (sheet : Bytes) → LowersClause sheet a b at.left at.i e (before_of current) (some m₂.ctx.ops) m (mem c os m₂.rest)
+  pub where_law : (sheet : Bytes) → LowersClause sheet a b at.left at.i e (before_of current) (Some m₂.ctx.ops) m (mem c os m₂.rest)
   where_law sheet =
       let v = x.moved in
       record {

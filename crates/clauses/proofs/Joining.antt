@@ -3,7 +3,7 @@ use mathlib.Core.Path.{◌≡◌, refl, sym, ap, ◌∙◌}
 use Prim.Native.Nat.{ℕ, suc, ◌+◌, ◌-◌, ◌≤◌, ◌<◌}
 use native.Mathlib.Omega.{arith}
 use mathlib.Core.List.{List, [], ◌∷◌}
-use mathlib.Core.Option.{Option, none, some}
+use Rattle.std.specs.Prelude.{Option, None, Some}
 use lib.Dec.{eqb}
 use lib.ListN.{length}
 use Rattle.model.specs.Text.{Bytes}
@@ -55,33 +55,33 @@ module _ {n : ℕ} (cs : Trees clause n) (o below : Option ℕ) (all : ℕ) (s s
   abbrev united : Recs
   united = op ReadOp.Union ((or_source_all o s₁).0, ((or_source_all below lefted).0, (eqb all 1, tt))) ∷ []
 
-  arm_def : lower_clauses cs none s ≡ (below, s₁) → ◌≡◌ {A = Option ℕ × State} ((lower_clauses cs none >>= λ below. or_source_all o >>= λ left. or_source_all below >>= λ right. push (op ReadOp.Union (left, (right, (eqb all 1, tt))) ∷ []) >>= λ both. ret (some both)) s) (some (length righted.ops), (push united righted).1)
+  arm_def : lower_clauses cs None s ≡ (below, s₁) → ◌≡◌ {A = Option ℕ × State} ((lower_clauses cs None >>= λ below. or_source_all o >>= λ left. or_source_all below >>= λ right. push (op ReadOp.Union (left, (right, (eqb all 1, tt))) ∷ []) >>= λ both. ret (Some both)) s) (Some (length righted.ops), (push united righted).1)
   unfolding ◌>>=◌ push ret
   arm_def e = rw e
 
 -- clauses that leave an operator
-left_by : {n : ℕ} (cs : Trees clause n) (below : Option ℕ) (s : State) → (in_turn clause_turn cs none s).0 ≡ below → lower_clauses cs none s ≡ (below, (in_turn clause_turn cs none s).1)
-left_by cs below s e = clauses_turns cs none s ∙ ap (λ (x : Option ℕ). (x, (in_turn clause_turn cs none s).1)) e
+left_by : {n : ℕ} (cs : Trees clause n) (below : Option ℕ) (s : State) → (in_turn clause_turn cs None s).0 ≡ below → lower_clauses cs None s ≡ (below, (in_turn clause_turn cs None s).1)
+left_by cs below s e = clauses_turns cs None s ∙ ap (λ (x : Option ℕ). (x, (in_turn clause_turn cs None s).1)) e
 
 module _ {sheet : Bytes} {a b : List ℕ} {n e k k' all : ℕ} {below : Option ℕ} {c : LowerCtx} {os : List ℕ} {m m₁ m₂ m₃ : Mem}
     (d i : ℕ) (o : Option ℕ) (room : Roomy a b) (en : n ≡ cell a b i arm_clauses_at) (ea : all ≡ cell a b i arm_all_at)
-    (cl : LowersClauses sheet a b n (d - 1) (i + 1) e none below m m₁)
+    (cl : LowersClauses sheet a b n (d - 1) (i + 1) e None below m m₁)
     (ql : OrSource m₁.ctx.ops (or_source_all o) k m₁ m₂)
     (qr : OrSource m₂.ctx.ops (or_source_all below) k' m₂ m₃)
     (pu : Pushed m₃.ctx c m₃.ops os (union_op i k k' all)) (lo : length os ≡ length m₃.ops) where
-  arm_run : {first : ℕ} (t : Tree union_arm) → Held sheet a b t d i → (W : Written) (s : State) → Rep (side sheet a b first) W s m → BothBlank W (suc i) (suc e) → Leaves (side sheet a b first) W (λ s. lower_arm t o s) (some m₃.ctx.ops) (suc i) (suc e) s m (mem c os m₃.rest)
+  arm_run : {first : ℕ} (t : Tree union_arm) → Held sheet a b t d i → (W : Written) (s : State) → Rep (side sheet a b first) W s m → BothBlank W (suc i) (suc e) → Leaves (side sheet a b first) W (λ s. lower_arm t o s) (Some m₃.ctx.ops) (suc i) (suc e) s m (mem c os m₃.rest)
   arm_run t hd W s r bl =
       let v = an_arm room t hd in
-      let cl' : LowersClauses sheet a b v.n (d - 1) (i + 1) e none below m m₁ = rw (en ∙ sym v.many) at cl in
+      let cl' : LowersClauses sheet a b v.n (d - 1) (i + 1) e None below m m₁ = rw (en ∙ sym v.many) at cl in
       let x = cl'.run v.clauses v.held W s r (both_next i e bl) in
-      let s₁ : State = (in_turn clause_turn v.clauses none s).1 in
+      let s₁ : State = (in_turn clause_turn v.clauses None s).1 in
       let y = ql.run _ _ s₁ x.to.rep.from x.to.rep in
       let z = qr.run _ _ _ y.to.rep.from y.to.rep in
       let recs : Recs = united v.clauses o below (cell a b i arm_all_at) s s₁ in
       let s₃ : State = righted v.clauses o below (cell a b i arm_all_at) s s₁ in
       let pu' : Pushed m₃.ctx c m₃.ops os (union_op i k k' (cell a b i arm_all_at)) = rw ea at pu in
       let w = push_to m₃ c os (union_op i k k' (cell a b i arm_all_at)) recs z.to.rep pu' (λ N A f. record { bounded = union_bounded i k k' (cell a b i arm_all_at) (tree_low sheet a b t d i hd) v.low; shows = shows_union refl (union_is k _ k' _ (cell a b i arm_all_at) y.root z.root) }) in
-      let D = v.lower o s ∙ arm_def v.clauses o below (cell a b i arm_all_at) s s₁ (left_by v.clauses below s x.gives) ∙ ap (λ (q : ℕ). (some q, (push recs s₃).1)) (sym z.to.rep.count) in
+      let D = v.lower o s ∙ arm_def v.clauses o below (cell a b i arm_all_at) s s₁ (left_by v.clauses below s x.gives) ∙ ap (λ (q : ℕ). (Some q, (push recs s₃).1)) (sym z.to.rep.count) in
       record { to = rw D (to_wider (sub_before i e) (to_then x.to (to_then y.to (to_then z.to w)))); gives = ap (λ (q : Option ℕ × State). q.0) D }
 
   pub arm_law : LowersArm sheet a b d i e o (before_of (before.Op m₃.ctx.ops)) m (mem c os m₃.rest)
@@ -103,7 +103,7 @@ module _ {sheet : Bytes} {a b : List ℕ} {n e k k' all : ℕ} {below : Option �
         stands = omega (arith, pu.count);
         next = λ t hd. (
             let w = an_arm room t hd in
-            let y : LowersClauses sheet a b w.n (d - 1) (i + 1) e none below m m₁ = rw (en ∙ sym w.many) at cl in
+            let y : LowersClauses sheet a b w.n (d - 1) (i + 1) e None below m m₁ = rw (en ∙ sym w.many) at cl in
             let z = y.next w.clauses w.held in
             let f = w.sized in
             omega arith);

@@ -6,7 +6,7 @@ use native.Mathlib.Omega.{arith}
 use mathlib.Core.Bool.{Bool, true, false}
 use mathlib.Core.List.{List, ◌∷◌}
 use mathlib.Core.Logic.{◌⊎◌, inl, inr}
-use mathlib.Core.Option.{Option, none, some}
+use Rattle.std.specs.Prelude.{Option, None, Some}
 use lib.Dec.{eqb}
 use lib.ListN.{length}
 use Rattle.model.specs.Text.{Bytes}
@@ -36,7 +36,7 @@ use Rattle.projections.specs.Passes.{sub_first}
 use Rattle.clauses.proofs.Opened.{a_match}
 
 -- the definition ends on operator k in state s'
-pub leaves : {S : Side} {W W' : Written} {lo hi : ℕ} {m m' : Mem} (t : Tree clause) (current : Option ℕ) (k : ℕ) (s s' : State) → lower_clause t current s ≡ (some k, s') → To S W W' s s' m m' → Sub W' (both_passes lo hi W) → Leaves S W (λ s. lower_clause t current s) (some k) lo hi s m m'
+pub leaves : {S : Side} {W W' : Written} {lo hi : ℕ} {m m' : Mem} (t : Tree clause) (current : Option ℕ) (k : ℕ) (s s' : State) → lower_clause t current s ≡ (Some k, s') → To S W W' s s' m m' → Sub W' (both_passes lo hi W) → Leaves S W (λ s. lower_clause t current s) (Some k) lo hi s m m'
 leaves t current k s s' e p u = record { to = rw e (to_wider u p); gives = ap (λ (x : Option ℕ × State). x.0) e }
 
 -- the record behind a clause, by another name
@@ -49,7 +49,7 @@ ends_at q p = rw q p
 abbrev pub join_l : (optional : ℕ) → Before → (root : ℕ) → Lowering ℕ
 join_l optional current root = λ s. optional_join (eqb optional 1) (before_of current) root s
 
-join_none : (t : Bool) (k : ℕ) (s : State) → optional_join t none k s ≡ (k, s)
+join_none : (t : Bool) (k : ℕ) (s : State) → optional_join t None k s ≡ (k, s)
 unfolding optional_join ret
 join_none true k s = refl
 join_none false k s = refl
@@ -120,7 +120,7 @@ module _ {a b : List ℕ} {at : At} {current : Before} {m : Mem} (g : ClauseAske
         let p' : LowersParts a b v.n (at.left - 1) 0 at.i e k m m₁ = rw (en ∙ sym v.many) at p in
         p'.run sheet v.parts v.held W s r (blank_within (omega arith) (omega arith) bl.first)
 
-    match_run : (sheet : Bytes) {first : ℕ} (t : Tree clause) → Held sheet a b t at.left at.i → (W : Written) (s : State) → Rep (side sheet a b first) W s m → BothBlank W (suc at.i) (suc e) → Leaves (side sheet a b first) W (λ s. lower_clause t (before_of current) s) (some k') (suc at.i) (suc e) s m m₂
+    match_run : (sheet : Bytes) {first : ℕ} (t : Tree clause) → Held sheet a b t at.left at.i → (W : Written) (s : State) → Rep (side sheet a b first) W s m → BothBlank W (suc at.i) (suc e) → Leaves (side sheet a b first) W (λ s. lower_clause t (before_of current) s) (Some k') (suc at.i) (suc e) s m m₂
     match_run sheet t hd W s r bl =
         let v = a_match g.words t hd g.kind in
         let x = parts_run sheet t hd W s r bl in
@@ -128,13 +128,13 @@ module _ {a b : List ℕ} {at : At} {current : Before} {m : Mem} (g : ClauseAske
         let y = j.run _ _ s₁ (le_trans r.from p.since) x.to.rep in
         let D =
         v.lower (before_of current) s
-        ∙ ap (λ (z : ℕ). (some (join_l (cell a b at.i match_optional_at) current z s₁).0, (join_l (cell a b at.i match_optional_at) current z s₁).1)) (sym x.root)
-        ∙ ap (λ (z : ℕ). (some (join_l z current k s₁).0, (join_l z current k s₁).1)) (sym eq)
-        ∙ ap (λ (z : ℕ). (some z, (join_l q current k s₁).1)) (sym y.root)
+        ∙ ap (λ (z : ℕ). (Some (join_l (cell a b at.i match_optional_at) current z s₁).0, (join_l (cell a b at.i match_optional_at) current z s₁).1)) (sym x.root)
+        ∙ ap (λ (z : ℕ). (Some (join_l z current k s₁).0, (join_l z current k s₁).1)) (sym eq)
+        ∙ ap (λ (z : ℕ). (Some z, (join_l q current k s₁).1)) (sym y.root)
         in
         leaves t (before_of current) k' s (join_l q current k s₁).1 D (to_then x.to y.to) (sub_first (omega arith) (omega arith))
 
-    pub match_law : (sheet : Bytes) → LowersClause sheet a b at.left at.i e (before_of current) (some k') m m₂
+    pub match_law : (sheet : Bytes) → LowersClause sheet a b at.left at.i e (before_of current) (Some k') m m₂
     match_law sheet =
         let v = p.moved in
         let some = g.tree in

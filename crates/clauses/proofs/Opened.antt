@@ -3,7 +3,7 @@ use mathlib.Core.Path.{◌≡◌, refl, ap}
 use Prim.Native.Nat.{ℕ, suc, ◌+◌, ◌-◌, ◌≤◌}
 use native.Mathlib.Omega.{arith}
 use mathlib.Core.List.{List, [], ◌∷◌, ◌++◌}
-use mathlib.Core.Option.{Option, none, some}
+use Rattle.std.specs.Prelude.{Option, None, Some}
 use lib.Dec.{eqb}
 use Rattle.model.specs.Text.{Bytes}
 use Rattle.model.specs.Field.{Fields}
@@ -41,20 +41,20 @@ pub record IsMatch (sheet : Bytes) (a b : List ℕ) (d i : ℕ) (t : Tree clause
   pub low : cell a b i match_optional_at ≤ 1
   pub held : HeldOf sheet a b parts (d - 1) (i + 1)
   pub sized : size t ≡ suc (size_of parts)
-  pub lower : (o : Option ℕ) (s : State) → lower_clause t o s ≡ (some (optional_join (eqb (cell a b i match_optional_at) 1) o (parts_l parts s).0 (parts_l parts s).1).0, (optional_join (eqb (cell a b i match_optional_at) 1) o (parts_l parts s).0 (parts_l parts s).1).1)
+  pub lower : (o : Option ℕ) (s : State) → lower_clause t o s ≡ (Some (optional_join (eqb (cell a b i match_optional_at) 1) o (parts_l parts s).0 (parts_l parts s).1).0, (optional_join (eqb (cell a b i match_optional_at) 1) o (parts_l parts s).0 (parts_l parts s).1).1)
 
 -- a `where`: its expression alone
 pub record IsWhere (sheet : Bytes) (a b : List ℕ) (d i : ℕ) (t : Tree clause) : Type 0 where
   pub tree : Tree expr
   pub held : Held sheet a b tree (d - 1) (i + 1)
   pub sized : size t ≡ suc (size tree)
-  pub lower : (o : Option ℕ) (s : State) → lower_clause t o s ≡ (lower_expr tree >>= λ rs. or_source_all o >>= λ input. push (filter input rs) >>= λ k. ret (some k)) s
+  pub lower : (o : Option ℕ) (s : State) → lower_clause t o s ≡ (lower_expr tree >>= λ rs. or_source_all o >>= λ input. push (filter input rs) >>= λ k. ret (Some k)) s
 
 pub record IsUnwind (sheet : Bytes) (a b : List ℕ) (d i : ℕ) (t : Tree clause) : Type 0 where
   pub tree : Tree expr
   pub held : Held sheet a b tree (d - 1) (i + 1)
   pub sized : size t ≡ suc (size tree)
-  pub lower : (o : Option ℕ) (s : State) → lower_clause t o s ≡ (or_source_all o >>= λ input. lower_expr tree >>= λ rs. map_var (cell a b i unwind_var_at) >>= λ bind. push (op ReadOp.Unwind (input, (bind, tt)) ∷ rs) >>= λ k. ret (some k)) s
+  pub lower : (o : Option ℕ) (s : State) → lower_clause t o s ≡ (or_source_all o >>= λ input. lower_expr tree >>= λ rs. map_var (cell a b i unwind_var_at) >>= λ bind. push (op ReadOp.Unwind (input, (bind, tt)) ∷ rs) >>= λ k. ret (Some k)) s
 
 pub record IsCall (sheet : Bytes) (a b : List ℕ) (d i : ℕ) (t : Tree clause) : Type 0 where
   pub fields : Fields (forms clause Clause.Call)
@@ -66,7 +66,7 @@ pub record IsCall (sheet : Bytes) (a b : List ℕ) (d i : ℕ) (t : Tree clause)
   pub held_args : HeldOf sheet a b args (d - 1) (i + 1)
   pub held_yields : HeldOf sheet a b yields (d - 1) (i + 1 + size_of args)
   pub sized : size t ≡ suc (size_of args + size_of yields)
-  pub lower : (o : Option ℕ) (s : State) → lower_clause t o s ≡ (lower_exprs args >>= λ rs. lower_yields yields >>= λ ss. push (op ReadOp.ProcedureCall (o, (fields.0, (fields.1.0, (fields.1.1.0, (fields.1.1.1.0, tt))))) ∷ (rs ++ ss)) >>= λ k. ret (some k)) s
+  pub lower : (o : Option ℕ) (s : State) → lower_clause t o s ≡ (lower_exprs args >>= λ rs. lower_yields yields >>= λ ss. push (op ReadOp.ProcedureCall (o, (fields.0, (fields.1.0, (fields.1.1.0, (fields.1.1.1.0, tt))))) ∷ (rs ++ ss)) >>= λ k. ret (Some k)) s
 
 module _ {sheet : Bytes} {a b : List ℕ} {d i : ℕ} (room : Roomy a b) where
   match_of : (line : ℕ) (f : Fields (forms clause Clause.Match)) (kids : Forest (children clause Clause.Match f)) → Held sheet a b (node clause line Clause.Match f kids) d i → IsMatch sheet a b d i (node clause line Clause.Match f kids)
@@ -154,7 +154,7 @@ pub record IsArm (sheet : Bytes) (a b : List ℕ) (d i : ℕ) (t : Tree union_ar
   pub low : cell a b i arm_all_at ≤ 1
   pub held : HeldOf sheet a b clauses (d - 1) (i + 1)
   pub sized : size t ≡ suc (size_of clauses)
-  pub lower : (o : Option ℕ) (s : State) → lower_arm t o s ≡ (lower_clauses clauses none >>= λ below. or_source_all o >>= λ left. or_source_all below >>= λ right. push (op ReadOp.Union (left, (right, (eqb (cell a b i arm_all_at) 1, tt))) ∷ []) >>= λ both. ret (some both)) s
+  pub lower : (o : Option ℕ) (s : State) → lower_arm t o s ≡ (lower_clauses clauses None >>= λ below. or_source_all o >>= λ left. or_source_all below >>= λ right. push (op ReadOp.Union (left, (right, (eqb (cell a b i arm_all_at) 1, tt))) ∷ []) >>= λ both. ret (Some both)) s
 
 pub record IsStatement (sheet : Bytes) (a b : List ℕ) (d : ℕ) (t : Tree statement) : Type 0 where
   pub n : ℕ
@@ -167,7 +167,7 @@ pub record IsStatement (sheet : Bytes) (a b : List ℕ) (d : ℕ) (t : Tree stat
   pub held_arms : HeldOf sheet a b arms (d - 1) (1 + size_of clauses)
   pub sized : size t ≡ 1 + size_of clauses + size_of arms
   pub deep : 1 ≤ d
-  pub lower : (s : State) → Lower.lower t s ≡ lower_arms arms (lower_clauses clauses none s).0 (lower_clauses clauses none s).1
+  pub lower : (s : State) → Lower.lower t s ≡ lower_arms arms (lower_clauses clauses None s).0 (lower_clauses clauses None s).1
 
 module _ {sheet : Bytes} {a b : List ℕ} (room : Roomy a b) where
   pub an_arm : {d i : ℕ} (t : Tree union_arm) → Held sheet a b t d i → IsArm sheet a b d i t

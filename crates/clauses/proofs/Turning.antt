@@ -4,7 +4,7 @@ use Prim.Native.Nat.{ℕ, zero, suc, ◌+◌, ◌-◌, ◌≤◌}
 use native.Mathlib.Nat.{le_refl}
 use native.Mathlib.Omega.{arith}
 use mathlib.Core.List.{List}
-use mathlib.Core.Option.{Option, none}
+use Rattle.std.specs.Prelude.{Option, None}
 use Rattle.model.specs.Text.{Bytes}
 use Rattle.model.specs.Kind.{Sort, clause, union_arm}
 use Rattle.model.specs.Tree.{Tree, Trees, node, []ᵗ, ◌∷ᵗ◌, end, ◌▸◌}
@@ -112,7 +112,7 @@ module _ {S : Sort} {turn : Turn S} {sheet : Bytes} {a b : List ℕ} {d : ℕ} {
   done {k} {i} {o} {m} h p = p.finish i o m (rw h (nil_law S turn sheet a b d i o m p.ready.here p.stands))
 
 -- before the first round, from nothing
-pub from_nothing : {S : Sort} {turn : Turn S} {sheet : Bytes} {a b : List ℕ} {d n i : ℕ} {m : Mem} → HeldMany sheet a b S n d i → Ready i m → Remaining S turn sheet a b d (λ e o m'. LowersTurns S turn sheet a b n d i e none o m m') n i (before_of before.Nothing) m
+pub from_nothing : {S : Sort} {turn : Turn S} {sheet : Bytes} {a b : List ℕ} {d n i : ℕ} {m : Mem} → HeldMany sheet a b S n d i → Ready i m → Remaining S turn sheet a b d (λ e o m'. LowersTurns S turn sheet a b n d i e None o m m') n i (before_of before.Nothing) m
 unfolding before_of
 from_nothing x g = record { some = x; ready = g; stands = tt; finish = λ e o m' q. q }
 

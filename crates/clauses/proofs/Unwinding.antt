@@ -4,7 +4,7 @@ use Prim.Native.Nat.{ℕ, suc, ◌+◌, ◌-◌}
 use native.Mathlib.Nat.{le_refl}
 use native.Mathlib.Omega.{arith}
 use mathlib.Core.List.{List, ◌∷◌}
-use mathlib.Core.Option.{Option, some}
+use Rattle.std.specs.Prelude.{Option, Some}
 use lib.ListN.{length}
 use Rattle.model.specs.Text.{Bytes}
 use Rattle.model.specs.Kind.{ReadOp, clause, expr}
@@ -53,7 +53,7 @@ module _ (id : ℕ) (tree : Tree expr) (o : Option ℕ) (s : State) where
   abbrev unwound : Recs
   unwound = op ReadOp.Unwind ((or_source_all o s).0, ((map_var id listed).0, tt)) ∷ (lower_expr tree sourced).0
 
-  unwind_def : ◌≡◌ {A = Option ℕ × State} ((or_source_all o >>= λ input. lower_expr tree >>= λ rs. map_var id >>= λ bind. push (op ReadOp.Unwind (input, (bind, tt)) ∷ rs) >>= λ k. ret (some k)) s) (some (length bound.ops), (push unwound bound).1)
+  unwind_def : ◌≡◌ {A = Option ℕ × State} ((or_source_all o >>= λ input. lower_expr tree >>= λ rs. map_var id >>= λ bind. push (op ReadOp.Unwind (input, (bind, tt)) ∷ rs) >>= λ k. ret (Some k)) s) (Some (length bound.ops), (push unwound bound).1)
   unfolding ◌>>=◌ push ret
   unwind_def = refl
 
@@ -63,7 +63,7 @@ module _ {a b : List ℕ} {at : At} {current : Before} {k e : ℕ} {c : LowerCtx
     (x : LowersExpr a b (at.left - 1) 0 (at.i + 1) e m₁ m₂)
     (nm : Numbers (map_var (cell a b at.i unwind_var_at)) (at.i + 1) m₂.ctx m₂.rest rest₃ r₃) (lr : length rest₃ ≡ length m₂.rest)
     (pu : Pushed r₃.ctx c m₂.ops os (unwind_op (at_place 0 (at.i + 1) (at.left - 1)) k r₃.number)) (lo : length os ≡ length m₂.ops) where
-  unwind_run : (sheet : Bytes) {first : ℕ} (t : Tree clause) → Held sheet a b t at.left at.i → (W : Written) (s : State) → Rep (side sheet a b first) W s m → BothBlank W (suc at.i) (suc e) → Leaves (side sheet a b first) W (λ s. lower_clause t (before_of current) s) (some r₃.ctx.ops) (suc at.i) (suc e) s m (mem c os rest₃)
+  unwind_run : (sheet : Bytes) {first : ℕ} (t : Tree clause) → Held sheet a b t at.left at.i → (W : Written) (s : State) → Rep (side sheet a b first) W s m → BothBlank W (suc at.i) (suc e) → Leaves (side sheet a b first) W (λ s. lower_clause t (before_of current) s) (Some r₃.ctx.ops) (suc at.i) (suc e) s m (mem c os rest₃)
   unwind_run sheet {first} t hd W s r bl =
       let v = an_unwind asked.words t hd asked.kind in
       let sh = asked.depth in
@@ -88,9 +88,9 @@ module _ {a b : List ℕ} {at : At} {current : Before} {k e : ℕ} {c : LowerCtx
         });
       }) in
       let u : Sub ((suc at.i, suc at.i + 1) ∷ W₂) (both_passes (suc at.i) (suc e) W) = sub_within (le_refl _) (omega arith) (sub_first (omega arith) (omega arith)) in
-      leaves t o r₃.ctx.ops s (push recs s₃).1 (v.lower o s ∙ unwind_def id v.tree o s ∙ ap (λ (q : ℕ). (some q, (push recs s₃).1)) (sym g.to.rep.count)) (to_then z.to (to_then y.to (to_then g.to w))) u
+      leaves t o r₃.ctx.ops s (push recs s₃).1 (v.lower o s ∙ unwind_def id v.tree o s ∙ ap (λ (q : ℕ). (Some q, (push recs s₃).1)) (sym g.to.rep.count)) (to_then z.to (to_then y.to (to_then g.to w))) u
 
-  pub unwind_law : (sheet : Bytes) → LowersClause sheet a b at.left at.i e (before_of current) (some r₃.ctx.ops) m (mem c os rest₃)
+  pub unwind_law : (sheet : Bytes) → LowersClause sheet a b at.left at.i e (before_of current) (Some r₃.ctx.ops) m (mem c os rest₃)
   unwind_law sheet =
       let v = x.moved in
       let n = nm.issued in

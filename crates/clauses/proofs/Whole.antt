@@ -4,7 +4,7 @@ use Prim.Native.Nat.{ℕ, suc, ◌-◌, ◌≤◌}
 use native.Mathlib.Nat.{le_refl}
 use native.Mathlib.Omega.{arith}
 use mathlib.Core.List.{List, []}
-use mathlib.Core.Option.{Option, none}
+use Rattle.std.specs.Prelude.{Option, None}
 use lib.ListN.{length, drop}
 use Rattle.model.specs.Call.{work_words, max_depth}
 use Rattle.model.specs.Text.{Bytes}
@@ -33,8 +33,8 @@ use Rattle.clauses.proofs.Turning.{clauses_turns, arms_turns}
 
 -- ── from any state on ──
 
-whole_def : {n n' : ℕ} (cs : Trees clause n) (arms : Trees union_arm n') (o : Option ℕ) (s : State) → (in_turn clause_turn cs none s).0 ≡ o → lower_arms arms (lower_clauses cs none s).0 (lower_clauses cs none s).1 ≡ in_turn arm_turn arms o (in_turn clause_turn cs none s).1
-whole_def cs arms o s e = rw (clauses_turns cs none s, e, arms_turns arms o (in_turn clause_turn cs none s).1)
+whole_def : {n n' : ℕ} (cs : Trees clause n) (arms : Trees union_arm n') (o : Option ℕ) (s : State) → (in_turn clause_turn cs None s).0 ≡ o → lower_arms arms (lower_clauses cs None s).0 (lower_clauses cs None s).1 ≡ in_turn arm_turn arms o (in_turn clause_turn cs None s).1
+whole_def cs arms o s e = rw (clauses_turns cs None s, e, arms_turns arms o (in_turn clause_turn cs None s).1)
 
 module _ {sheet : Bytes} {a b : List ℕ} {d : ℕ} {m : Mem} (g : StatementAsked sheet a b d m) where
   pub some_clauses : {n : ℕ} → n ≡ cell a b 0 stmt_clauses_at → HeldMany sheet a b clause n (d - 1) 1
@@ -43,8 +43,8 @@ module _ {sheet : Bytes} {a b : List ℕ} {d : ℕ} {m : Mem} (g : StatementAske
   pub deep : 1 ≤ d
   deep = (a_statement g.words g.held.tree g.held.is).deep
 
-  module _ {n j : ℕ} {o : Option ℕ} {m₁ : Mem} (en : n ≡ cell a b 0 stmt_clauses_at) (cl : LowersClauses sheet a b n (d - 1) 1 j none o m m₁) where
-    clauses_as : (t : Tree statement) (v : IsStatement sheet a b d t) → LowersClauses sheet a b v.n (d - 1) 1 j none o m m₁
+  module _ {n j : ℕ} {o : Option ℕ} {m₁ : Mem} (en : n ≡ cell a b 0 stmt_clauses_at) (cl : LowersClauses sheet a b n (d - 1) 1 j None o m m₁) where
+    clauses_as : (t : Tree statement) (v : IsStatement sheet a b d t) → LowersClauses sheet a b v.n (d - 1) 1 j None o m m₁
     clauses_as t v = rw (en ∙ sym v.many) at cl
 
     pub some_arms : {n' : ℕ} → n' ≡ cell a b 0 stmt_arms_at → HeldMany sheet a b union_arm n' (d - 1) j

@@ -1,6 +1,5 @@
 -- What the lowering of yields, of clauses and of union arms promises. Assumes nothing: these are definitions.
-use Rattle.std.specs.Prelude.{◌≡◌, ℕ, suc, ◌+◌, List, [], ◌∷◌}
-use Rattle.std.proofs.Math.Option.{Option, none, some}
+use Rattle.std.specs.Prelude.{◌≡◌, ℕ, suc, ◌+◌, List, [], ◌∷◌, Option, None, Some}
 use Rattle.model.specs.Text.{Bytes}
 use Rattle.model.specs.Kind.{ReadOp, clause, union_arm, yield_item}
 use Rattle.model.specs.Tree.{Tree, Trees, node, end, ◌▸◌}
@@ -41,11 +40,11 @@ LowersClauses = LowersTurns clause clause_turn
 -- one round of `lower_arms`
 unfoldable pub lower_arm : Tree union_arm → Option ℕ → Lowering (Option ℕ)
 lower_arm (node union_arm line k (all, _) (cs ▸ end)) root = do
-  below ← lower_clauses cs none
+  below ← lower_clauses cs None
   left ← or_source_all root
   right ← or_source_all below
   both ← push (op ReadOp.Union (left, (right, (all, tt))) ∷ [])
-  ret (some both)
+  ret (Some both)
 
 abbrev pub arm_turn : Turn union_arm
 arm_turn t o = λ s. lower_arm t o s

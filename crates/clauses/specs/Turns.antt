@@ -1,6 +1,5 @@
 -- Trees lowered in turn, each behind the operator that the one before it left: clauses, and union arms. Assumes nothing: these are definitions.
-use Rattle.std.specs.Prelude.{◌≡◌, ℕ, suc, ◌+◌, List}
-use Rattle.std.proofs.Math.Option.{Option}
+use Rattle.std.specs.Prelude.{◌≡◌, ℕ, suc, ◌+◌, List, Option}
 use Rattle.model.specs.Text.{Bytes}
 use Rattle.model.specs.Kind.{Sort}
 use Rattle.model.specs.Tree.{Tree, Trees, []ᵗ, ◌∷ᵗ◌}

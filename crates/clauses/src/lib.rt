@@ -1,8 +1,7 @@
 // The lowering of a whole statement: its clauses one after another, then its union arms, over the tables of crate context.
 #![tactic(auto)]
 
-ghost use Rattle.std.proofs.Math.Option.{none};
-ghost use Rattle.std.specs.Prelude.{◌-◌};
+ghost use Rattle.std.specs.Prelude.{◌-◌, None};
 ghost use Rattle.model.specs.Kind.{union_arm, clause};
 ghost use Rattle.context.specs.Ops.{before_of};
 ghost use Rattle.lower.specs.Rep.{mem};
@@ -71,7 +70,7 @@ fn lower_clauses(
     n: usize,
 ) -> Current
     requires { TurnsAsked clause sheet.now a.now b.now n at.left at.i Before.Nothing (mem ctx ops.old rest.old) }
-    ensures { LowersClauses sheet.now a.now b.now n at.left at.i result.next none (before_of result.op) (mem ctx ops.old rest.old) (mem result.ctx ops.new rest.new) }
+    ensures { LowersClauses sheet.now a.now b.now n at.left at.i result.next None (before_of result.op) (mem ctx ops.old rest.old) (mem result.ctx ops.new rest.new) }
 {
     let mut cur = Current {
         next: at.i,

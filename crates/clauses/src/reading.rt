@@ -1,6 +1,5 @@
 // The clauses that read, each behind the operator before it. Notes stand at the records' own lines.
-ghost use Rattle.std.specs.Prelude.{ℕ, ◌≡◌, List, eqb};
-ghost use Rattle.std.proofs.Math.Option.{some};
+ghost use Rattle.std.specs.Prelude.{ℕ, ◌≡◌, List, eqb, Some};
 ghost use Rattle.model.specs.Text.{Bytes};
 ghost use Rattle.model.specs.Lower.{optional_join};
 ghost use Rattle.words.specs.Places.{match_kind, where_kind, unwind_kind, call_kind};
@@ -76,7 +75,7 @@ pub fn lower_match(
     at: At,
 ) -> Root
     requires { ClauseAsked match_kind a.now b.now at current (mem ctx ops.old rest.old) }
-    ensures { (sheet : Bytes) → LowersClause sheet a.now b.now at.left at.i result.next (before_of current) (some result.op) (mem ctx ops.old rest.old) (mem result.ctx ops.new rest.new) }
+    ensures { (sheet : Bytes) → LowersClause sheet a.now b.now at.left at.i result.next (before_of current) (Some result.op) (mem ctx ops.old rest.old) (mem result.ctx ops.new rest.new) }
 {
     let i = at.i;
     let optional = words::word(a, b, i, field::MATCH_OPTIONAL);
@@ -102,7 +101,7 @@ pub fn lower_where(
     at: At,
 ) -> Root
     requires { ClauseAsked where_kind a.now b.now at current (mem ctx ops.old rest.old) }
-    ensures { (sheet : Bytes) → LowersClause sheet a.now b.now at.left at.i result.next (before_of current) (some result.op) (mem ctx ops.old rest.old) (mem result.ctx ops.new rest.new) }
+    ensures { (sheet : Bytes) → LowersClause sheet a.now b.now at.left at.i result.next (before_of current) (Some result.op) (mem ctx ops.old rest.old) (mem result.ctx ops.new rest.new) }
 {
     let first = at.i + 1;
     let less = at.left - 1;
@@ -135,7 +134,7 @@ pub fn lower_unwind(
     at: At,
 ) -> Root
     requires { ClauseAsked unwind_kind a.now b.now at current (mem ctx ops.old rest.old) }
-    ensures { (sheet : Bytes) → LowersClause sheet a.now b.now at.left at.i result.next (before_of current) (some result.op) (mem ctx ops.old rest.old) (mem result.ctx ops.new rest.new) }
+    ensures { (sheet : Bytes) → LowersClause sheet a.now b.now at.left at.i result.next (before_of current) (Some result.op) (mem ctx ops.old rest.old) (mem result.ctx ops.new rest.new) }
 {
     let id = words::word(a, b, at.i, field::UNWIND_VAR);
     let first = at.i + 1;
@@ -171,7 +170,7 @@ pub fn lower_call(
     at: At,
 ) -> Root
     requires { ClauseAsked call_kind a.now b.now at current (mem ctx ops.old rest.old) }
-    ensures { (sheet : Bytes) → LowersClause sheet a.now b.now at.left at.i result.next (before_of current) (some result.op) (mem ctx ops.old rest.old) (mem result.ctx ops.new rest.new) }
+    ensures { (sheet : Bytes) → LowersClause sheet a.now b.now at.left at.i result.next (before_of current) (Some result.op) (mem ctx ops.old rest.old) (mem result.ctx ops.new rest.new) }
 {
     let i = at.i;
     let args = words::records::count(a, b, i, field::CALL_ARGS);
@@ -213,7 +212,7 @@ pub fn lower_reading_clause(
     at: At,
 ) -> Root
     requires { ReadingAsked sheet.now a.now b.now at current (mem ctx ops.old rest.old) }
-    ensures { LowersClause sheet.now a.now b.now at.left at.i result.next (before_of current) (some result.op) (mem ctx ops.old rest.old) (mem result.ctx ops.new rest.new) }
+    ensures { LowersClause sheet.now a.now b.now at.left at.i result.next (before_of current) (Some result.op) (mem ctx ops.old rest.old) (mem result.ctx ops.new rest.new) }
 {
     let kind = words::word(a, b, at.i, field::KIND);
     match kind {

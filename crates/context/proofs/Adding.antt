@@ -1,7 +1,7 @@
 -- A variable that has no number yet gets its words and its place in the index. Assumes nothing.
 use mathlib.Core.Path.{◌≡◌, refl, ◌∙◌}
 use mathlib.Core.List.{List}
-use mathlib.Core.Option.{none}
+use Rattle.std.specs.Prelude.{None}
 use Prim.Native.Nat.{ℕ, ◌+◌, ◌*◌, ◌≤◌, ◌<◌}
 use native.Mathlib.Numerals.{add-one}
 use native.Mathlib.Omega.{arith}
@@ -35,7 +35,7 @@ module _ (c : LowerCtx) (vs vs₁ : List ℕ) (id : ℕ) (h : c.mapped < max_var
   pub new_var : found_of (lookup (vars_of n vs) id) ≡ Nothing → Issued (map_var id) c vs vs' (record { number = c.numbers; ctx = record { ops = c.ops; numbers = c.numbers + 1; mapped = c.mapped + 1 } })
   unfolding map_var issue numbered vars_of
   new_var f =
-      let e : lookup (vars_of n vs) id ≡ none = found_none _ f in
+      let e : lookup (vars_of n vs) id ≡ None = found_none _ f in
       let z : vars_of n vs' ≡ vars_of n vs = vars_same n vs vs' below in
       record {
         is = λ ops. rw (e, add-one n, add-one c.numbers, id_here, number_here, z);

@@ -1,7 +1,7 @@
 -- What the small steps of the lowering's state do to the words. Assumes nothing.
 use mathlib.Core.Path.{◌≡◌, refl, sym, ap, subst, ◌∙◌}
 use mathlib.Core.List.{List, [], ◌∷◌, ◌++◌, append-nil}
-use mathlib.Core.Option.{Option, none, some}
+use Rattle.std.specs.Prelude.{Option, None, Some}
 use Prim.Native.Nat.{ℕ, zero, suc, ◌+◌, ◌*◌, ◌-◌, ◌≤◌, ◌<◌}
 use native.Mathlib.Numerals.{add-one, sub-one}
 use native.Mathlib.Omega.{arith}
@@ -64,15 +64,15 @@ pub at_something : {n : ℕ} → At n ≡ Nothing → ⊥
 unfolding Told
 at_something e = subst Told e tt
 
-pub found_none : (o : Option ℕ) → found_of o ≡ Nothing → o ≡ none
+pub found_none : (o : Option ℕ) → found_of o ≡ Nothing → o ≡ None
 unfolding found_of Told
-found_none none e = refl
-found_none (some n) e = absurd (subst Told e tt)
+found_none None e = refl
+found_none (Some n) e = absurd (subst Told e tt)
 
-found_some : (o : Option ℕ) (n : ℕ) → found_of o ≡ At n → o ≡ some n
+found_some : (o : Option ℕ) (n : ℕ) → found_of o ≡ At n → o ≡ Some n
 unfolding found_of Told told
-found_some none n e = absurd (subst Told (sym e) tt)
-found_some (some k) n e = ap some (ap told e)
+found_some None n e = absurd (subst Told (sym e) tt)
+found_some (Some k) n e = ap Some (ap told e)
 
 pub old_var : (c : LowerCtx) (vs : List ℕ) (id n : ℕ) {r : Found} → r ≡ found_of (lookup (vars_of c.mapped vs) id) → r ≡ At n → Issued (map_var id) c vs vs (record { number = n; ctx = c })
 unfolding map_var issue numbered

@@ -1,6 +1,5 @@
 -- The stored operators, one for each kind, and what stands before one. Assumes nothing: these are definitions.
-use Rattle.std.specs.Prelude.{◌≡◌, ℕ, zero, suc, ◌≤◌, ◌<◌}
-use Rattle.std.proofs.Math.Option.{Option, none, some}
+use Rattle.std.specs.Prelude.{◌≡◌, ℕ, zero, suc, ◌≤◌, ◌<◌, Option, None, Some}
 use Rattle.words.specs.Words.{two32}
 use Rattle.context.specs.declared.At.{At}
 use Rattle.context.specs.declared.Before.{Before}
@@ -11,13 +10,13 @@ use Rattle.context.specs.declared.op.Op.{Op}
 
 -- the operator that stands before, as the definition has it
 unfoldable pub before_of : Before → Option ℕ
-before_of before.Nothing = none
-before_of (before.Op k) = some k
+before_of before.Nothing = None
+before_of (before.Op k) = Some k
 
 -- a variable that may be absent, as the definition has it
 abbrev pub bind_of : Bind → Option ℕ
-bind_of bind.Unnamed = none
-bind_of (bind.Var id) = some id
+bind_of bind.Unnamed = None
+bind_of (bind.Var id) = Some id
 
 -- the operator that stands before, if there is one, is below n
 pub record Under (b : Before) (n : ℕ) : Type 0 where

@@ -1,6 +1,5 @@
 -- How the work slices hold the state of the lowering: eight words an operator in one slice, of which the last seven are used; in the other the notes, and from word vars_at on the named variables, two words each, then the index of the first of them, a word of links for each. Assumes nothing: these are definitions.
-use Rattle.std.specs.Prelude.{◌≡◌, ℕ, zero, suc, ◌+◌, ◌*◌, ◌-◌, ◌/◌, ◌%◌, ◌≤◌, ◌<◌, List, [], ◌∷◌, cond, eqb, length, get_or, drop, set}
-use Rattle.std.proofs.Math.Option.{Option, none, some}
+use Rattle.std.specs.Prelude.{◌≡◌, ℕ, zero, suc, ◌+◌, ◌*◌, ◌-◌, ◌/◌, ◌%◌, ◌≤◌, ◌<◌, List, [], ◌∷◌, cond, eqb, length, get_or, drop, set, Option, None, Some}
 use Rattle.model.specs.Call.{work_words}
 use Rattle.model.specs.Lower.{Recs, Lowering}
 use Rattle.model.specs.Lower
@@ -153,8 +152,8 @@ pub record Entered (k id : ℕ) (vs vs' : List ℕ) : Type 0 where
   pub index : (vs'' : List ℕ) → ((j : ℕ) → j < k → id_of vs'' j ≡ id_of vs j) → id_of vs'' k ≡ id → ((q : ℕ) → links_at ≤ q → get_or vs'' q 0 ≡ get_or vs' q 0) → Indexed (k + 1) vs''
 
 unfoldable pub found_of : Option ℕ → Found
-found_of none = Nothing
-found_of (some n) = At n
+found_of None = Nothing
+found_of (Some n) = At n
 
 -- a state of the definition, by its operators, the counts and the variables' words
 abbrev pub state_of : List Recs → LowerCtx → List ℕ → Lower.LowerCtx

@@ -1,7 +1,6 @@
 -- Demand 1: each lowering call, whatever its arguments are, ends in one of two ways: accepted, with the plan written and no byte changed behind it; or with a number of the table of refusals, its place, zeros in the other fields, and the plan slice untouched. The theorem is `demand1`, at the end. Assumes nothing: this is a theorem with its proof.
-use Rattle.std.specs.Prelude.{◌≡◌, refl, ℕ, ◌≤◌, Bool, true, false, cond, ◌||◌, List, [], ◌++◌, ltb, length, drop}
+use Rattle.std.specs.Prelude.{◌≡◌, refl, ℕ, ◌≤◌, Bool, true, false, cond, ◌||◌, List, [], ◌++◌, ltb, length, drop, Option, None}
 use Rattle.std.proofs.Common.{sym, subst, ltb-false}
-use Rattle.std.proofs.Math.Option.{Option, none}
 use Rattle.model.specs.Text.{Bytes}
 use Rattle.model.specs.Field.{Span}
 use Rattle.model.specs.Kind.{statement}
@@ -46,7 +45,7 @@ reading_tested sheet e (read {a = t} {p = p} l) = goes_on (record { place = p; r
 reading_tested sheet e (three l) = stops (bad_line l)
 reading_tested sheet e (four l) = stops (big_tree l)
 
-write_tested : (t : Tree statement) {o : Option ℕ} → first_write t ≡ o → AtLeast 1 o → Tested (λ u. (first_write t ≡ none) × (t ≡ u)) (test_write t o)
+write_tested : (t : Tree statement) {o : Option ℕ} → first_write t ≡ o → AtLeast 1 o → Tested (λ u. (first_write t ≡ None) × (t ≡ u)) (test_write t o)
 unfolding test_write
 write_tested t e nowhere = goes_on (e, refl)
 write_tested t e (at_line l) = stops (write_clause l)
@@ -64,12 +63,12 @@ check_tested t e (met line s x m l) = stops (fault_row line s x l)
 check_all : (t : Tree statement) → numbered t 1 ≡ t → Tested (λ u. (precheck_statement t ≡ fine) × (t ≡ u)) (test_check t (precheck_statement t))
 check_all t e = check_tested t refl (subst (λ v. Walked 1 (lines [] t) v) (sym (first_fault_law t e no_span)) (walked no_span 1 (lines [] t)))
 
-tree_tested : (t : Tree statement) → numbered t 1 ≡ t → Tested (λ u. (first_write t ≡ none) × ((precheck_statement t ≡ fine) × (t ≡ u))) (then (test_write t (first_write t)) λ u. test_check u (precheck_statement u))
+tree_tested : (t : Tree statement) → numbered t 1 ≡ t → Tested (λ u. (first_write t ≡ None) × ((precheck_statement t ≡ fine) × (t ≡ u))) (then (test_write t (first_write t)) λ u. test_check u (precheck_statement u))
 tree_tested t e =
     then_tested (write_tested t refl (subst (λ u. AtLeast 1 (first_write u)) e (write_least t 1))) λ u p.
-    subst (λ x. Tested (λ y. (first_write t ≡ none) × ((precheck_statement t ≡ fine) × (t ≡ y))) (test_check x (precheck_statement x))) p.1 (with_read p.0 (check_all t e))
+    subst (λ x. Tested (λ y. (first_write t ≡ None) × ((precheck_statement t ≡ fine) × (t ≡ y))) (test_check x (precheck_statement x))) p.1 (with_read p.0 (check_all t e))
   where
-    with_read : {m : Test (Tree statement)} → first_write t ≡ none → Tested (λ u. (precheck_statement t ≡ fine) × (t ≡ u)) m → Tested (λ u. (first_write t ≡ none) × ((precheck_statement t ≡ fine) × (t ≡ u))) m
+    with_read : {m : Test (Tree statement)} → first_write t ≡ None → Tested (λ u. (precheck_statement t ≡ fine) × (t ≡ u)) m → Tested (λ u. (first_write t ≡ None) × ((precheck_statement t ≡ fine) × (t ≡ u))) m
     with_read r (stops x) = stops x
     with_read r (goes_on q) = goes_on (r, q)
 
@@ -83,9 +82,9 @@ planned_tested work sheet =
     over_limits t k (ltb max_plan (length (lower_statement t).ops) || ltb max_plan (lower_statement t).scope.next_var)
   where
     Known : Tree statement → Type 0
-    Known t = WellFormed sheet t × ((first_write t ≡ none) × (precheck_statement t ≡ fine))
+    Known t = WellFormed sheet t × ((first_write t ≡ None) × (precheck_statement t ≡ fine))
 
-    known : {t : Tree statement} {m : Test (Tree statement)} → length sheet ≤ max_bytes → Got sheet t → Tested (λ u. (first_write t ≡ none) × ((precheck_statement t ≡ fine) × (t ≡ u))) m → Tested Known m
+    known : {t : Tree statement} {m : Test (Tree statement)} → length sheet ≤ max_bytes → Got sheet t → Tested (λ u. (first_write t ≡ None) × ((precheck_statement t ≡ fine) × (t ≡ u))) m → Tested Known m
     known l g (stops r) = stops r
     known l g (goes_on q) = goes_on (subst Known q.1.1 (record { bytes = l; behind = g.place; reads = g.reads }, (q.0, q.1.0)))
 

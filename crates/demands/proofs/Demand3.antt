@@ -1,9 +1,8 @@
 -- Demand 3: sheets alike but for spans and a one-to-one renumbering of variables are refused alike or give the same plan with paired maps; and in a plan that was written every input, in copies too, is an earlier operator, and the last operator is the one that the lowering ends on.
 -- Both sentences are said of one pair of calls. The theorem is `demand3`. Assumes nothing: this is a theorem with its proof.
-use Rattle.std.specs.Prelude.{◌≡◌, refl, ℕ, zero, suc, ◌≤◌, true, false, ◌||◌, List, [], ◌∷◌, ◌++◌, ltb, length, drop}
+use Rattle.std.specs.Prelude.{◌≡◌, refl, ℕ, zero, suc, ◌≤◌, true, false, ◌||◌, List, [], ◌∷◌, ◌++◌, ltb, length, drop, Option, None, Some}
 use Rattle.std.proofs.Common.{sym, ◌∙◌, ap, ap₂, subst, arith, true≢false, length-append, le-ltb, ltb-false}
 use Rattle.std.proofs.Math.Bool.{Bool, cond}
-use Rattle.std.proofs.Math.Option.{Option, none, some}
 use Rattle.std.proofs.Math.Seq.{take-append_seam}
 use Rattle.model.specs.Text.{Bytes}
 use Rattle.model.specs.Kind.{statement, in_plan, plan, mapped}
@@ -50,7 +49,7 @@ inputs_by_number : (t : Tree statement) → Earlier 0 (operators t)
 unfolding by_number
 inputs_by_number t = earlier_from (earlier t) 0 (length (lower_statement t).ops)
 
-pub newest_last : {e : Ending} {n : ℕ} {ops : List Recs} → Newest e n ops → LastIs (some e) (some n) (by_number ops)
+pub newest_last : {e : Ending} {n : ℕ} {ops : List Recs} → Newest e n ops → LastIs (Some e) (Some n) (by_number ops)
 newest_last (newest {k = k} {f = f} {rs = rs} {ops = ops}) = rw (by_number_newest (op k f ∷ rs) ops, ← by_number_length ops) (last (by_number ops) k f rs)
 
 ended_last : {e : Option Ending} {r : Option ℕ} {ops : List Recs} → Ended e r ops → LastIs e r (by_number ops)
@@ -71,7 +70,7 @@ plan_bytes t =
     plan_by_number (lower_statement t)
     ∙ ap₂ (λ n m. spell_recs (rec (in_plan plan) tt (n, (m, tt)) ∷ (operator_lines (operators t) ++ variables t))) (sym (by_number_length (lower_statement t).ops)) (sym (mapped_length (lower_statement t).scope.vars))
 
-wrote : (t : Tree statement) (slice : Bytes) → first_write t ≡ none → length (plan_sheet (lower_statement t)) ≤ length slice → Wrote t (written (plan_sheet (lower_statement t)) slice)
+wrote : (t : Tree statement) (slice : Bytes) → first_write t ≡ None → length (plan_sheet (lower_statement t)) ≤ length slice → Wrote t (written (plan_sheet (lower_statement t)) slice)
 unfolding written
 wrote t slice r l = rw (le-ltb (length slice) (length (plan_sheet (lower_statement t))) l) (record {
   accepted = refl;
@@ -113,7 +112,7 @@ module _ (s t : List ℕ) where
 
 module _ (t u : Tree statement) (slice slice' : Bytes) where
   -- test 9 refuses both or neither, and there is room
-  full_or_not : first_write t ≡ none → first_write u ≡ none → Lowered~ t u → FindsRoom (test_plan (lower_statement t)) slice → FindsRoom (test_plan (lower_statement u)) slice' → Demand3 t u (outcome slice (test_plan (lower_statement t))) (outcome slice' (test_plan (lower_statement u)))
+  full_or_not : first_write t ≡ None → first_write u ≡ None → Lowered~ t u → FindsRoom (test_plan (lower_statement t)) slice → FindsRoom (test_plan (lower_statement u)) slice' → Demand3 t u (outcome slice (test_plan (lower_statement t))) (outcome slice' (test_plan (lower_statement u)))
   unfolding test_plan outcome
   full_or_not r r' c l l' = go (over (lower_statement t)) (over (lower_statement u)) same l l'
     where
@@ -132,7 +131,7 @@ module _ (t u : Tree statement) (slice slice' : Bytes) where
       go false true e x y = absurd (true≢false (sym e))
       go false false e x y = written_alike (record { wrote_s = wrote t slice r (x (lower_statement t) refl); wrote_t = wrote u slice' r' (y (lower_statement u) refl); same_count = vars_many _ _ c; same_operators = ap by_number (same_ops _ c); paired = vars_paired _ _ c })
 
-  verdicts_alike : {v w : Verdict} → Verdict~ v w → first_write t ≡ none → first_write u ≡ none → Lowered~ t u → FindsRoom (after_check t v) slice → FindsRoom (after_check u w) slice' →
+  verdicts_alike : {v w : Verdict} → Verdict~ v w → first_write t ≡ None → first_write u ≡ None → Lowered~ t u → FindsRoom (after_check t v) slice → FindsRoom (after_check u w) slice' →
       Demand3 t u (outcome slice (after_check t v)) (outcome slice' (after_check u w))
   unfolding then test_check outcome
   verdicts_alike fine~ r r' c l l' = full_or_not r r' c l l'
@@ -154,11 +153,11 @@ refused_write t u slice slice' line = refused_alike_law (record { refused = λ e
 -- both have the `write` on the same line, or neither has one
 writes_alike : (S T : Bytes) (t u : Tree statement) (work work' : List ℕ) (slice slice' : Bytes) → WellFormed S t → WellFormed T u → SheetsAlike t u → LongEnough work S slice → LongEnough work' T slice' → (o : Option ℕ) → first_write t ≡ o → first_write u ≡ o → Demand3 t u (lower_call work S slice) (lower_call work' T slice')
 unfolding lower_call planned then test_write
-writes_alike S T t u work work' slice slice' h h' a l l' (some line) r r' =
+writes_alike S T t u work work' slice slice' h h' a l l' (Some line) r r' =
     let e : checked max_depth work S ≡ refuse (Refusal.WriteClause line) = checked_from work l.words h ∙ rw r in
     let e' : checked max_depth work' T ≡ refuse (Refusal.WriteClause line) = checked_from work' l'.words h' ∙ rw r' in
     rw (e, e') (refused_write t u slice slice' line)
-writes_alike S T t u work work' slice slice' h h' a l l' none r r' =
+writes_alike S T t u work work' slice slice' h h' a l l' None r r' =
     let R : ℕ → ℕ → Type 0 = λ a b. Standing t u a b in
     let trees = trees_alike S T t u h h' a in
     let e = checked_is work l.words h r in

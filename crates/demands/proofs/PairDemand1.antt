@@ -1,7 +1,6 @@
 -- Demand 1 for the call with two sheets: each test stops with a row of the table, or goes on with something that is known. The theorem is `demand1_pair`, at the end. Assumes nothing: this is a theorem with its proof.
-use Rattle.std.specs.Prelude.{[], ◌≡◌, refl, ℕ, ◌≤◌, Bool, true, false, cond, ◌||◌, List, ◌++◌, ltb, length, drop}
+use Rattle.std.specs.Prelude.{[], ◌≡◌, refl, ℕ, ◌≤◌, Bool, true, false, cond, ◌||◌, List, ◌++◌, ltb, length, drop, Option, None}
 use Rattle.std.proofs.Common.{sym, subst}
-use Rattle.std.proofs.Math.Option.{Option, none}
 use Rattle.std.proofs.Common.{ltb-false}
 use Rattle.model.specs.Text.{Bytes}
 use Rattle.model.specs.Field.{Span}
@@ -61,7 +60,7 @@ module _ {side : ℕ} (i : IsSide side) where
   reading_tested sheet e (three l) = stops (bad_line i l)
   reading_tested sheet e (four l) = stops (big_tree i l)
 
-  write_tested : (t : Tree statement) {o : Option ℕ} → first_write t ≡ o → AtLeast 1 o → SideTested (λ u. (first_write t ≡ none) × (t ≡ u)) (on_side side (test_write t o))
+  write_tested : (t : Tree statement) {o : Option ℕ} → first_write t ≡ o → AtLeast 1 o → SideTested (λ u. (first_write t ≡ None) × (t ≡ u)) (on_side side (test_write t o))
   unfolding test_write on_side
   write_tested t e nowhere = goes_on (e, refl)
   write_tested t e (at_line l) = stops (write_clause i l)
@@ -80,13 +79,13 @@ module _ {side : ℕ} (i : IsSide side) where
   reads : (sheet : Bytes) → SideTested (Got sheet) (on_side side (test_reading (read_sheet max_depth sheet)))
   reads sheet = reading_tested sheet refl (sheet_numbered max_depth sheet)
 
-  no_write : (sheet : Bytes) (t : Tree statement) → Got sheet t → SideTested (λ u. Got sheet u × (first_write u ≡ none)) (on_side side (test_write t (first_write t)))
-  no_write sheet t g = known (λ u p. subst (λ v. Got sheet v × (first_write v ≡ none)) p.1 (g, p.0)) (write_tested t refl (subst (λ u. AtLeast 1 (first_write u)) (numbers g) (write_least t 1)))
+  no_write : (sheet : Bytes) (t : Tree statement) → Got sheet t → SideTested (λ u. Got sheet u × (first_write u ≡ None)) (on_side side (test_write t (first_write t)))
+  no_write sheet t g = known (λ u p. subst (λ v. Got sheet v × (first_write v ≡ None)) p.1 (g, p.0)) (write_tested t refl (subst (λ u. AtLeast 1 (first_write u)) (numbers g) (write_least t 1)))
 
-  no_fault : (sheet : Bytes) (t : Tree statement) → Got sheet t × (first_write t ≡ none) → SideTested (λ u. (Got sheet u × (first_write u ≡ none)) × (precheck_statement u ≡ fine)) (on_side side (test_check t (precheck_statement t)))
-  no_fault sheet t (g, r) = known (λ u p. subst (λ v. (Got sheet v × (first_write v ≡ none)) × (precheck_statement v ≡ fine)) p.1 ((g, r), p.0)) (check_tested t refl (small_verdict t (sheet_sound max_depth sheet t g.place g.reads).0.fit) (subst (λ v. Walked 1 (lines [] t) v) (sym (first_fault_law t (numbers g) no_span)) (walked no_span 1 (lines [] t))))
+  no_fault : (sheet : Bytes) (t : Tree statement) → Got sheet t × (first_write t ≡ None) → SideTested (λ u. (Got sheet u × (first_write u ≡ None)) × (precheck_statement u ≡ fine)) (on_side side (test_check t (precheck_statement t)))
+  no_fault sheet t (g, r) = known (λ u p. subst (λ v. (Got sheet v × (first_write v ≡ None)) × (precheck_statement v ≡ fine)) p.1 ((g, r), p.0)) (check_tested t refl (small_verdict t (sheet_sound max_depth sheet t g.place g.reads).0.fit) (subst (λ v. Walked 1 (lines [] t) v) (sym (first_fault_law t (numbers g) no_span)) (walked no_span 1 (lines [] t))))
 
-taken : {sheet : Bytes} {t : Tree statement} → length sheet ≤ max_bytes → (Got sheet t × (first_write t ≡ none)) × (precheck_statement t ≡ fine) → Taken sheet t
+taken : {sheet : Bytes} {t : Tree statement} → length sheet ≤ max_bytes → (Got sheet t × (first_write t ≡ None)) × (precheck_statement t ≡ fine) → Taken sheet t
 taken l ((g, r), f) = record { well_formed = record { bytes = l; behind = g.place; reads = g.reads }; read_only = r; checked = f }
 
 pub checked_sides_tested : (work : List ℕ) (l r : Bytes) → SideTested (λ ts. Taken l ts.0 × Taken r ts.1.0) (checked_sides max_depth work left_side 2 (l, (r, tt)))

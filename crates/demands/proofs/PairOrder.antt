@@ -1,7 +1,6 @@
 -- The order of a pair's refusals, said of each sheet tested by itself: the earlier test wins, whichever side it is on; at the same test the left. The theorem is `earlier_test_wins`, at the end. Assumes nothing: this is a theorem with its proof.
-use Rattle.std.specs.Prelude.{[], ◌≡◌, refl, ℕ, suc, ◌≤◌, Bool, true, false, cond, List, ltb, length}
+use Rattle.std.specs.Prelude.{[], ◌≡◌, refl, ℕ, suc, ◌≤◌, Bool, true, false, cond, List, ltb, length, Option, None, Some}
 use Rattle.std.proofs.Common.{sym, subst, arith, le-ltb, lt-ltb}
-use Rattle.std.proofs.Math.Option.{Option, none, some}
 use Rattle.model.specs.Text.{Bytes}
 use Rattle.model.specs.Kind.{statement}
 use Rattle.model.specs.Tree.{Tree, Many}
@@ -99,8 +98,8 @@ reading_at sheet = reading_of sheet refl (sheet_numbered max_depth sheet)
 
 write_of_law : (t : Tree statement) (o : Option ℕ) → At 5 (λ u. t ≡ u) (test_write t o)
 unfolding test_write
-write_of_law t none = passes refl
-write_of_law t (some line) = refuses refl
+write_of_law t None = passes refl
+write_of_law t (Some line) = refuses refl
 
 check_of_law : (t : Tree statement) {ls : List Line} {v : Verdict} → Walked 1 ls v → At 6 (λ u. Unit {0}) (test_check t v)
 unfolding test_check

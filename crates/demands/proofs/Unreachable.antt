@@ -1,11 +1,11 @@
 -- The places of the lowering that a checked tree never comes to: the Rust's `debug_assert!`, `panic!` and `unreachable!` places, and the defaults that the definitions have where the Rust has them. docs/DEMANDS.md lists the places beside the theorems. Whatever stands there, the lowering of a checked tree is the same. Assumes nothing: these are theorems with their proofs.
-use Rattle.std.specs.Prelude.{◌≡◌, Bool}
+use Rattle.std.specs.Prelude.{◌≡◌, Bool, Option, None, Some}
 use Rattle.std.proofs.Math.Path.{refl, ap, ap₂, fun_ext}
 use Rattle.std.proofs.Common.{◌∙◌, arith}
 use Prim.Native.Nat.{ℕ, zero, suc, ◌<◌}
 use Rattle.std.proofs.Math.Bool.{true, false, cond}
 use mathlib.Core.List.{List, [], ◌∷◌}
-use Rattle.std.proofs.Math.Option.{Option, none, some, some-ne-none}
+use Rattle.std.proofs.lemmas.Option.{none-some}
 use Rattle.std.proofs.Math.Dec.{eqb}
 use Rattle.std.proofs.Math.ListN.{length}
 use borrow.Author.Tests.{eqb-false}
@@ -55,14 +55,14 @@ module _ (d : Defaults) where
       go true e older = refl
       go false e older = older (omega (arith, eqb-false k (length ops) e))
 
-  exists_or : {n : ℕ} (ps : Trees pattern_part n) → (lower_match_pattern (lower_pattern ps) none false >>= λ k. copy_or d k >>= λ inner. ret (plan_expr_rec PlanExpr.Exists tt ∷ inner)) ≡ (lower_match_pattern (lower_pattern ps) none false >>= λ k. copy k >>= λ inner. ret (plan_expr_rec PlanExpr.Exists tt ∷ inner))
+  exists_or : {n : ℕ} (ps : Trees pattern_part n) → (lower_match_pattern (lower_pattern ps) None false >>= λ k. copy_or d k >>= λ inner. ret (plan_expr_rec PlanExpr.Exists tt ∷ inner)) ≡ (lower_match_pattern (lower_pattern ps) None false >>= λ k. copy k >>= λ inner. ret (plan_expr_rec PlanExpr.Exists tt ∷ inner))
   unfolding lower_match_pattern optional_join ◌>>=◌ ret copy_or copy
   exists_or ps = fun_ext λ c. ap (λ inner. (plan_expr_rec PlanExpr.Exists tt ∷ inner, (lower_parts (lower_pattern ps) c).1)) (at_or_law _ _ (root_in ps c))
 
   -- ── chains ──
 
   data Led : Option (ℕ × ℕ) → Type 0 where
-    led : {l : ℕ × ℕ} → Led (some l)
+    led : {l : ℕ × ℕ} → Led (Some l)
 
   start_led : (c : Chain) (n : NodeStep) (bind : ℕ) (x : LowerCtx) → Led (start_node c n bind x).0.last
   unfolding start_node ◌>>=◌ ret
@@ -70,13 +70,13 @@ module _ (d : Defaults) where
 
   reach_or_law : (c : Chain) (n : NodeStep) (bind : ℕ) (p : Option RelStep) {l : Option (ℕ × ℕ)} → Led l → reach_or d c n bind p l ≡ reach c n bind p l
   unfolding reach_or reach
-  reach_or_law c n bind none led = refl
-  reach_or_law c n bind (some r) led = refl
+  reach_or_law c n bind None led = refl
+  reach_or_law c n bind (Some r) led = refl
 
   reach_led : (c : Chain) (n : NodeStep) (bind : ℕ) (p : Option RelStep) {l : Option (ℕ × ℕ)} → Led l → (x : LowerCtx) → Led (reach c n bind p l x).0.last
   unfolding reach expand_to ◌>>=◌ ret
-  reach_led c n bind none led x = start_led c n bind x
-  reach_led c n bind (some r) led x = led
+  reach_led c n bind None led x = start_led c n bind x
+  reach_led c n bind (Some r) led x = led
 
   element_or : (c : Chain) (s : Step) → Led c.last → lower_element_or d c s ≡ lower_element c s
   unfolding lower_element_or lower_element ◌>>=◌
@@ -105,7 +105,7 @@ module _ (d : Defaults) where
   root_or_law led = refl
 
   abbrev start : Chain
-  start = record { last = none; pending = none; path = [] }
+  start = record { last = None; pending = None; path = [] }
 
   first_led : (n : NodeStep) (x : LowerCtx) → Led (lower_element start (of_node n) x).0.last
   unfolding lower_element reach ◌>>=◌
@@ -206,13 +206,13 @@ any_default e x w d = let p = checked_within e w in fold_or d x p.around p.passe
 
 module _ (d : Defaults) where
   -- an optional match copies an operator that there is, whatever its parts are
-  match_or : {n : ℕ} (parts : Trees pattern_part n) (current : Option ℕ) (optional : Bool) → (lower_parts (lower_pattern parts) >>= λ root. optional_join_or d optional current root >>= λ k. ret (some k)) ≡ (lower_match_pattern (lower_pattern parts) current optional >>= λ k. ret (some k))
+  match_or : {n : ℕ} (parts : Trees pattern_part n) (current : Option ℕ) (optional : Bool) → (lower_parts (lower_pattern parts) >>= λ root. optional_join_or d optional current root >>= λ k. ret (Some k)) ≡ (lower_match_pattern (lower_pattern parts) current optional >>= λ k. ret (Some k))
   unfolding lower_match_pattern optional_join_or optional_join ◌>>=◌ copy_or copy
   match_or parts current false = refl
-  match_or parts none true = refl
-  match_or parts (some outer) true = fun_ext λ c. ap (λ inner. (push (op ReadOp.OptionalJoin (outer, tt) ∷ inner) >>= λ k. ret (some k)) (lower_parts (lower_pattern parts) c).1) (at_or_law d _ _ (root_in parts c))
+  match_or parts None true = refl
+  match_or parts (Some outer) true = fun_ext λ c. ap (λ inner. (push (op ReadOp.OptionalJoin (outer, tt) ∷ inner) >>= λ k. ret (Some k)) (lower_parts (lower_pattern parts) c).1) (at_or_law d _ _ (root_in parts c))
 
-  clause_or : (c : Tree clause) → is_write c ≡ none → (current : Option ℕ) → lower_clause_or d c current ≡ lower_clause c current
+  clause_or : (c : Tree clause) → is_write c ≡ None → (current : Option ℕ) → lower_clause_or d c current ≡ lower_clause c current
   unfolding lower_clause_or lower_clause is_write
   clause_or (node clause line Clause.Match (optional, _) (parts ▸ end)) r current = match_or parts current optional
   clause_or (node clause line Clause.Where f kids) r current = refl
@@ -220,28 +220,28 @@ module _ (d : Defaults) where
   clause_or (node clause line Clause.Return f kids) r current = refl
   clause_or (node clause line Clause.Unwind f kids) r current = refl
   clause_or (node clause line Clause.Call f kids) r current = refl
-  clause_or (node clause line Clause.Write f kids) r current = absurd (some-ne-none line r)
+  clause_or (node clause line Clause.Write f kids) r current = absurd (none-some line (sym r))
 
-  clauses_or : {n : ℕ} (cs : Trees clause n) → write_in cs ≡ none → (current : Option ℕ) → lower_clauses_or d cs current ≡ lower_clauses cs current
+  clauses_or : {n : ℕ} (cs : Trees clause n) → write_in cs ≡ None → (current : Option ℕ) → lower_clauses_or d cs current ≡ lower_clauses cs current
   unfolding lower_clauses_or lower_clauses write_in
   clauses_or []ᵗ r current = refl
   clauses_or (c ∷ᵗ cs) r current =
       let p = or_else_none (is_write c) (write_in cs) r in
       ap₂ (λ m k. m >>= k) (clause_or c p.0 current) (fun_ext λ left. clauses_or cs p.1 left)
 
-  arms_or : {n : ℕ} (arms : Trees union_arm n) → write_in_arms arms ≡ none → (root : Option ℕ) → lower_arms_or d arms root ≡ lower_arms arms root
+  arms_or : {n : ℕ} (arms : Trees union_arm n) → write_in_arms arms ≡ None → (root : Option ℕ) → lower_arms_or d arms root ≡ lower_arms arms root
   unfolding lower_arms_or lower_arms write_in_arms
   arms_or []ᵗ r root = refl
   arms_or (node union_arm line k (all, _) (cs ▸ end) ∷ᵗ arms) r root =
       let p = or_else_none (write_in cs) (write_in_arms arms) r in
-      ap₂ (λ m h. m >>= λ below. or_source_all root >>= λ left. or_source_all below >>= λ right. push (op ReadOp.Union (left, (right, (all, tt))) ∷ []) >>= λ both. h (some both)) (clauses_or cs p.0 none) (fun_ext λ o. arms_or arms p.1 o)
+      ap₂ (λ m h. m >>= λ below. or_source_all root >>= λ left. or_source_all below >>= λ right. push (op ReadOp.Union (left, (right, (all, tt))) ∷ []) >>= λ both. h (Some both)) (clauses_or cs p.0 None) (fun_ext λ o. arms_or arms p.1 o)
 
 -- Of a read-only tree: the statement is lowered the same, whatever a `write` leaves, and whatever stands for an operator that there is not.
 pub any_write : (t : Tree statement) → ReadOnly t → (d : Defaults) → lower_or d t ≡ lower t
 unfolding lower_or lower first_write
 any_write (node statement line k f (cs ▸ arms ▸ end)) r d =
     let p = or_else_none (write_in cs) (write_in_arms arms) r in
-    ap₂ (λ m h. m >>= λ head. h head) (clauses_or d cs p.0 none) (fun_ext λ o. arms_or d arms p.1 o)
+    ap₂ (λ m h. m >>= λ head. h head) (clauses_or d cs p.0 None) (fun_ext λ o. arms_or d arms p.1 o)
 
 -- ── the Rust's counters of 32 bits do not overflow ──
 

@@ -1,9 +1,9 @@
 -- The check's verdict is the first faulty line of the sheet, with its span; and what such a verdict has. Assumes nothing: these are laws with their proofs.
 use Rattle.std.proofs.Math.Path.{◌≡◌, refl}
 use Rattle.std.proofs.Common.{sym, ◌∙◌, ap, ap₂, arith, length-append}
-use Rattle.std.specs.Prelude.{ℕ, zero, suc, ◌+◌, ◌≤◌, Bool, true, false, cond, length}
+use Rattle.std.specs.Prelude.{ℕ, zero, suc, ◌+◌, ◌≤◌, Bool, true, false, cond, length, Option, None, Some}
 use mathlib.Core.List.{List, [], ◌∷◌, ◌++◌, map, append-nil, append_assoc}
-use Rattle.std.proofs.Math.Option.{Option, none, some, some-ne-none}
+use Rattle.std.proofs.lemmas.Option.{none-some}
 use Rattle.model.specs.Text.{Bytes}
 use Rattle.model.specs.Field.{Fields, Span}
 use Rattle.model.specs.Kind.{Sort, Kind, Clause, PatternElement, Expr, statement, union_arm, clause, projection, order_item, pattern_part, pattern_element, name, yield_item, entry, expr, in_plan}
@@ -183,8 +183,8 @@ first_fault_law t e outside =
 
 -- ── what is found, if something is ──
 
-some_none : {A : Type 0} {a : A} → some a ≡ none → ⊥
-some_none e = some-ne-none _ e
+some_none : {A : Type 0} {a : A} → Some a ≡ None → ⊥
+some_none e = none-some _ (sym e)
 
 unfoldable some_line : List Line → Type 0
 some_line [] = ⊥
@@ -199,11 +199,11 @@ nothing_met : Meets [] → ⊥
 unfolding some_line
 nothing_met m = meets_some m
 
-not_met : {l : Line} {ls : List Line} → fault_at l ls ≡ none → (Meets ls → ⊥) → Meets (l ∷ ls) → ⊥
+not_met : {l : Line} {ls : List Line} → fault_at l ls ≡ None → (Meets ls → ⊥) → Meets (l ∷ ls) → ⊥
 not_met e f (here q) = some_none (sym q ∙ e)
 not_met e f (later m) = f m
 
-walked_on : {n : ℕ} {l : Line} {ls : List Line} {v : Verdict} → fault_at l ls ≡ none → Walked (suc n) ls v → Walked n (l ∷ ls) v
+walked_on : {n : ℕ} {l : Line} {ls : List Line} {v : Verdict} → fault_at l ls ≡ None → Walked (suc n) ls v → Walked n (l ∷ ls) v
 walked_on e (met_none f) = met_none (not_met e f)
 walked_on {n} e (met line s x m le) =
     let earlier : n ≤ line = omega arith in
@@ -211,8 +211,8 @@ walked_on {n} e (met line s x m le) =
 
 walked_at : (outside : Span) (n : ℕ) (l : Line) (ls : List Line) (o : Option Fault) → fault_at l ls ≡ o → Walked (suc n) ls (first_fault outside (suc n) ls) → Walked n (l ∷ ls) (report_or n (span_at outside l.above) o (first_fault outside (suc n) ls))
 unfolding report_or
-walked_at outside n l ls none e h = walked_on e h
-walked_at outside n l ls (some x) e h = met n _ x (here e) (omega arith)
+walked_at outside n l ls None e h = walked_on e h
+walked_at outside n l ls (Some x) e h = met n _ x (here e) (omega arith)
 
 pub walked : (outside : Span) (n : ℕ) (ls : List Line) → Walked n ls (first_fault outside n ls)
 unfolding first_fault
@@ -221,16 +221,16 @@ walked outside n (l ∷ ls) = walked_at outside n l ls (fault_at l ls) refl (wal
 
 -- ── the name that is carried ──
 
-part_nameless : (n : ℕ) (behind : List Line) (x : Bytes) → part_fault n behind ≡ some (Fault.UnresolvedName x) → ⊥
+part_nameless : (n : ℕ) (behind : List Line) (x : Bytes) → part_fault n behind ≡ Some (Fault.UnresolvedName x) → ⊥
 unfolding part_fault
 part_nameless zero behind x e = let z : ◌≡◌ {A = ℕ} 0 1 = cc in omega arith
 part_nameless (suc n) behind x e = go (rel_next behind) e
   where
-    go : (b : Bool) → cond b (some Fault.EmptyPatternPart) none ≡ some (Fault.UnresolvedName x) → ⊥
+    go : (b : Bool) → cond b (Some Fault.EmptyPatternPart) None ≡ Some (Fault.UnresolvedName x) → ⊥
     go true q = let z : ◌≡◌ {A = ℕ} 0 1 = cc in omega arith
     go false q = some_none (sym q)
 
-expr_named : (k : Expr) (f : Fields (expr_forms k)) (x : Bytes) → expr_fault k f ≡ some (Fault.UnresolvedName x) → rec expr k f ≡ rec expr Expr.Unresolved (x, tt)
+expr_named : (k : Expr) (f : Fields (expr_forms k)) (x : Bytes) → expr_fault k f ≡ Some (Fault.UnresolvedName x) → rec expr k f ≡ rec expr Expr.Unresolved (x, tt)
 unfolding expr_fault
 expr_named (Expr.Over h) f x e = absurd (some_none (sym e))
 expr_named Expr.Var f x e = absurd (some_none (sym e))
@@ -241,7 +241,7 @@ expr_named Expr.ListPredicate f x e = absurd (some_none (sym e))
 expr_named Expr.Unresolved (y, _) x e = let z : y ≡ x = cc in rw z
 expr_named Expr.Undesugared f x e = let z : ◌≡◌ {A = ℕ} 0 1 = cc in absurd (omega arith)
 
-of_named : (s : Sort) (k : Kind s) (f : Fields (forms s k)) (behind : List Line) (x : Bytes) → fault_of s k f behind ≡ some (Fault.UnresolvedName x) → rec s k f ≡ rec expr Expr.Unresolved (x, tt)
+of_named : (s : Sort) (k : Kind s) (f : Fields (forms s k)) (behind : List Line) (x : Bytes) → fault_of s k f behind ≡ Some (Fault.UnresolvedName x) → rec s k f ≡ rec expr Expr.Unresolved (x, tt)
 unfolding fault_of
 of_named statement k f behind x e = absurd (some_none (sym e))
 of_named union_arm k f behind x e = absurd (some_none (sym e))
@@ -259,13 +259,13 @@ of_named (in_plan p) k f behind x e = absurd (some_none (sym e))
 module _ (outside : Span) (line : ℕ) (s : Span) (x : Bytes) where
   named_at : (n : ℕ) (l : Line) (ls : List Line) (o : Option Fault) → fault_at l ls ≡ o → report_or n (span_at outside l.above) o (first_fault outside (suc n) ls) ≡ named_fault outside line s x → (first_fault outside (suc n) ls ≡ named_fault outside line s x → Named outside line s x (suc n) ls) → Named outside line s x n (l ∷ ls)
   unfolding report_or fault_at
-  named_at n l ls none e q h = later_line (h q)
-  named_at n l ls (some (Fault.UnresolvedName y)) e q h =
+  named_at n l ls None e q h = later_line (h q)
+  named_at n l ls (Some (Fault.UnresolvedName y)) e q h =
       let p : n ≡ line = cc in
       let z : y ≡ x = cc in
       rw p (this_line (of_named l.this.sort l.this.kind l.this.fields ls x (e ∙ rw z)))
-  named_at n l ls (some (Fault.UndesugaredExpr kind)) e q h = let z : ◌≡◌ {A = ℕ} 0 1 = cc in absurd (omega arith)
-  named_at n l ls (some Fault.EmptyPatternPart) e q h = let z : ◌≡◌ {A = ℕ} 0 1 = cc in absurd (omega arith)
+  named_at n l ls (Some (Fault.UndesugaredExpr kind)) e q h = let z : ◌≡◌ {A = ℕ} 0 1 = cc in absurd (omega arith)
+  named_at n l ls (Some Fault.EmptyPatternPart) e q h = let z : ◌≡◌ {A = ℕ} 0 1 = cc in absurd (omega arith)
 
   -- the name of a first fault is the one in the record of its line: so whoever has the line has the name
   pub carried_name : (n : ℕ) (ls : List Line) → first_fault outside n ls ≡ named_fault outside line s x → Named outside line s x n ls

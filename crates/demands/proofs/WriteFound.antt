@@ -1,7 +1,6 @@
 -- A sheet that the tests 3 to 5 refuse for a write was read, as a tree whose first write is there: a reading refuses with a line that is no record, or one too many, and with nothing else. Assumes nothing: these are laws with their proofs.
-use Rattle.std.specs.Prelude.{◌≡◌, refl, ℕ}
+use Rattle.std.specs.Prelude.{◌≡◌, refl, ℕ, Option, None, Some}
 use Rattle.std.proofs.Common.{arith}
-use Rattle.std.proofs.Math.Option.{Option, none, some}
 use Rattle.model.specs.Text.{Bytes}
 use Rattle.model.specs.Kind.{statement}
 use Rattle.model.specs.Tree.{Tree}
@@ -14,12 +13,12 @@ use Rattle.demands.specs.Reader.{Numbered, read, three, four, sheet_numbered}
 pub record WriteFound (r : Reading (Tree statement)) (line : ℕ) : Type 0 where
   pub tree : Tree statement
   pub reads : test_reading r ≡ pass tree
-  pub first : first_write tree ≡ some line
+  pub first : first_write tree ≡ Some line
 
-written : (t : Tree statement) (o : Option ℕ) (line : ℕ) → test_write t o ≡ refuse (Refusal.WriteClause line) → o ≡ some line
+written : (t : Tree statement) (o : Option ℕ) (line : ℕ) → test_write t o ≡ refuse (Refusal.WriteClause line) → o ≡ Some line
 unfolding test_write
-written t none line e = let z : ◌≡◌ {A = ℕ} 0 1 = cc in absurd (omega arith)
-written t (some k) line e = let z : k ≡ line = cc in rw z
+written t None line e = let z : ◌≡◌ {A = ℕ} 0 1 = cc in absurd (omega arith)
+written t (Some k) line e = let z : k ≡ line = cc in rw z
 
 found : {r : Reading (Tree statement)} (line : ℕ) → Numbered r → then (test_reading r) (λ t. test_write t (first_write t)) ≡ refuse (Refusal.WriteClause line) → WriteFound r line
 unfolding then test_reading

@@ -1,8 +1,7 @@
 -- Demand 3: sheets alike but for spans and a one-to-one renumbering of variables are refused alike or give the same plan with paired maps; and in a plan that was written every input, in copies too, is an earlier operator, and the last operator is the one that the lowering ends on.
 -- Both sentences are said of one pair of calls. The theorem is `demand3`, in proofs/Demand3. Assumes nothing: these are definitions, and examples.
-use Rattle.std.specs.Prelude.{◌≡◌, ◌↔◌, ℕ, suc, ◌<◌, List, [], ◌∷◌, ◌++◌, map, length, get_or, take}
+use Rattle.std.specs.Prelude.{◌≡◌, ◌↔◌, ℕ, suc, ◌<◌, List, [], ◌∷◌, ◌++◌, map, length, get_or, take, Option, None, Some}
 use Rattle.std.proofs.Common.{arith}
-use Rattle.std.proofs.Math.Option.{Option, none, some}
 use Rattle.model.specs.Text.{Bytes}
 use Rattle.model.specs.Field.{Fields}
 use Rattle.model.specs.Kind.{ReadOp, statement, in_plan, plan}
@@ -70,8 +69,8 @@ copy_too e =
 
 -- The last operator is the one that the lowering ends on: its first line is the one that document 01 names, and its number is the lowering's result. A lowering that ends on none leaves no operator.
 pub data LastIs : Option Ending → (result : Option ℕ) → List Recs → Type 0 where
-  none_at_all : LastIs none none []
-  last : (front : List Recs) (k : ReadOp) (f : Fields (op_forms k)) (lines : Recs) → LastIs (some (ending_of k f)) (some (length front)) (front ++ ((op k f ∷ lines) ∷ []))
+  none_at_all : LastIs None None []
+  last : (front : List Recs) (k : ReadOp) (f : Fields (op_forms k)) (lines : Recs) → LastIs (Some (ending_of k f)) (Some (length front)) (front ++ ((op k f ∷ lines) ∷ []))
 
 -- a call with a sheet whose tree is t wrote its plan
 pub record Wrote (t : Tree statement) (o : Outcome) : Type 0 where

@@ -1,7 +1,6 @@
 -- Demand 3 for the call with two sheets: pairs that are alike on each side but for spans and a one-to-one renumbering of that side's variables are refused alike or give the same plan with paired maps; and in a plan that was written every input, in copies too, is an earlier operator, and the last operator is the pair's `union`.
 -- The two renumberings need not agree. The theorem is `demand3_pair`, in proofs/PairDemand3. Assumes nothing: these are definitions.
-use Rattle.std.specs.Prelude.{◌≡◌, Bool, List, ◌∷◌, ◌++◌, length, take}
-use Rattle.std.proofs.Math.Option.{some}
+use Rattle.std.specs.Prelude.{◌≡◌, Bool, List, ◌∷◌, ◌++◌, length, take, Some}
 use Rattle.model.specs.Text.{Bytes}
 use Rattle.model.specs.Kind.{statement, in_plan, plan}
 use Rattle.model.specs.Record.{Rec, rec, spell_recs}
@@ -31,7 +30,7 @@ pub record WrotePair (left right : Tree statement) (all : Bool) (o : Outcome) : 
   pub bytes : take o.answer.length o.slice ≡ spell_recs (rec (in_plan plan) tt (length (operators left right all), (length (variables left right all), tt)) ∷ (operator_lines (operators left right all) ++ variables left right all))
   pub inputs_earlier : Earlier 0 (operators left right all)
   -- the last operator is a `union` with the pair's flag, and its number is the lowering's result
-  pub ends_on_union : LastIs (some (Ending.Union all)) (some (lower_union_pair left right all empty).0) (operators left right all)
+  pub ends_on_union : LastIs (Some (Ending.Union all)) (Some (lower_union_pair left right all empty).0) (operators left right all)
 
 -- ── the demand ──
 

@@ -1,7 +1,6 @@
 -- With what the reader and the test for writes refuse: 3 and 4 at a line, 5 at a line, each line counted from 1. Assumes nothing: these are definitions, and laws with their proofs.
-use Rattle.std.specs.Prelude.{ℕ, zero, suc, ◌+◌, ◌≤◌, Bool, true, false, cond, ◌||◌, List, [], ◌∷◌, ltb, length}
+use Rattle.std.specs.Prelude.{ℕ, zero, suc, ◌+◌, ◌≤◌, Bool, true, false, cond, ◌||◌, List, [], ◌∷◌, ltb, length, Option, None, Some}
 use Rattle.std.proofs.Common.{arith}
-use Rattle.std.proofs.Math.Option.{Option, none, some}
 use Rattle.model.specs.Text.{Bytes}
 use Rattle.model.specs.Kind.{Sort, Clause, statement, union_arm, clause}
 use Rattle.model.specs.Record.{Group, RecOf, read_rec, children, beside}
@@ -25,8 +24,8 @@ then_read_numbered (four l) f = four l
 
 formed_numbered : {A : Type 0} (line : ℕ) (p : Place) (o : Option A) → 1 ≤ line → 1 ≤ p.line → Numbered (formed line p o)
 unfolding formed
-formed_numbered line p none l q = three l
-formed_numbered line p (some a) l q = read q
+formed_numbered line p None l q = three l
+formed_numbered line p (Some a) l q = read q
 
 line_numbered : (s : Sort) (deep : Bool) (line : ℕ) (text : Bytes) (more : List Bytes) → 1 ≤ line → Numbered (line_at s deep line text more)
 unfolding line_at
@@ -73,8 +72,8 @@ sheet_numbered d sheet = then_read_numbered (tree_numbered d statement _ (omega 
 -- ── the line of a `write` ──
 
 pub data AtLeast (n : ℕ) : Option ℕ → Type 0 where
-  nowhere : AtLeast n none
-  at_line : {line : ℕ} → n ≤ line → AtLeast n (some line)
+  nowhere : AtLeast n None
+  at_line : {line : ℕ} → n ≤ line → AtLeast n (Some line)
 
 or_least : {m n : ℕ} {o p : Option ℕ} → n ≤ m → AtLeast n o → AtLeast m p → AtLeast n (or_else o p)
 unfolding or_else

@@ -1,7 +1,6 @@
 -- What the demands call a sheet: the words of document 01's section on refusals. Assumes nothing: these are definitions, and laws with their proofs.
-use Rattle.std.specs.Prelude.{◌≡◌, ℕ, ◌≤◌, false, List, length}
+use Rattle.std.specs.Prelude.{◌≡◌, ℕ, ◌≤◌, false, List, length, None}
 use Rattle.std.proofs.Common.{◌∙◌, le-ltb}
-use Rattle.std.proofs.Math.Option.{none}
 use Rattle.model.specs.Text.{Bytes}
 use Rattle.model.specs.Kind.{statement}
 use Rattle.model.specs.Tree.{Tree}
@@ -18,7 +17,7 @@ pub record WellFormed (sheet : Bytes) (t : Tree statement) : Type 0 where
 
 -- read-only: it passes the test 5
 abbrev pub ReadOnly : Tree statement → Type 0
-ReadOnly t = first_write t ≡ none
+ReadOnly t = first_write t ≡ None
 
 -- each work slice has at least 16,384 words
 abbrev pub LongWork : List ℕ → Type 0

@@ -1,9 +1,8 @@
 -- The places of the lowering that a checked tree never comes to: the Rust's `debug_assert!`, `panic!` and `unreachable!` places, and the defaults that the definitions have where the Rust has them. docs/DEMANDS.md lists the places beside the theorems. Whatever stands there, the lowering of a checked tree is the same. Assumes nothing: these are definitions; the theorems are in proofs/Unreachable.
-use Rattle.std.specs.Prelude.{Bool}
+use Rattle.std.specs.Prelude.{Bool, Option, None, Some}
 use Prim.Native.Nat.{ℕ, zero, suc, ◌*◌, ◌≤◌}
 use Rattle.std.proofs.Math.Bool.{true, false, cond}
 use mathlib.Core.List.{List, [], ◌∷◌}
-use Rattle.std.proofs.Math.Option.{Option, none, some}
 use Rattle.std.proofs.Math.Dec.{eqb}
 use Rattle.std.proofs.Math.ListN.{length}
 use Rattle.model.specs.Text.{Bytes}
@@ -42,9 +41,9 @@ module _ (d : Defaults) where
   copy_or k = λ c. (at_or c.ops k, c)
 
   unfoldable pub reach_or : Chain → NodeStep → ℕ → Option RelStep → Option (ℕ × ℕ) → Lowering Chain
-  reach_or c n bind none l = start_node c n bind
-  reach_or c n bind (some r) none = d.rel_first c n
-  reach_or c n bind (some r) (some l) = expand_to c n r l.0 l.1 bind
+  reach_or c n bind None l = start_node c n bind
+  reach_or c n bind (Some r) None = d.rel_first c n
+  reach_or c n bind (Some r) (Some l) = expand_to c n r l.0 l.1 bind
 
   unfoldable pub lower_element_or : Chain → Step → Lowering Chain
   lower_element_or c (of_rel r) = lower_element c (of_rel r)
@@ -59,12 +58,12 @@ module _ (d : Defaults) where
     lower_elements_or e ss
 
   unfoldable pub root_or : Option (ℕ × ℕ) → Lowering ℕ
-  root_or none = d.no_node
-  root_or (some l) = ret l.0
+  root_or None = d.no_node
+  root_or (Some l) = ret l.0
 
   unfoldable pub lower_chain_or : Option ℕ → List Step → Lowering ℕ
   lower_chain_or named_as steps = do
-    c ← lower_elements_or (record { last = none; pending = none; path = [] }) steps
+    c ← lower_elements_or (record { last = None; pending = None; path = [] }) steps
     root ← root_or c.last
     bind_path named_as root c.path
 
@@ -78,8 +77,8 @@ module _ (d : Defaults) where
 
   unfoldable pub optional_join_or : Bool → Option ℕ → ℕ → Lowering ℕ
   optional_join_or false current root = optional_join false current root
-  optional_join_or true none root = optional_join true none root
-  optional_join_or true (some outer) root = do
+  optional_join_or true None root = optional_join true None root
+  optional_join_or true (Some outer) root = do
     inner ← copy_or root
     push (op ReadOp.OptionalJoin (outer, tt) ∷ inner)
 
@@ -89,7 +88,7 @@ module _ (d : Defaults) where
   expr_step_or Expr.Map f r = expr_step Expr.Map f r
   expr_step_or Expr.Call f r = expr_step Expr.Call f r
   expr_step_or Expr.PatternPredicate (n, _) (parts, _) = do
-    k ← lower_match_pattern (to_list n parts) none false
+    k ← lower_match_pattern (to_list n parts) None false
     inner ← copy_or k
     ret (plan_expr_rec PlanExpr.Exists tt ∷ inner)
   expr_step_or Expr.ListPredicate f r = expr_step Expr.ListPredicate f r
@@ -118,7 +117,7 @@ module _ (d : Defaults) where
   lower_clause_or (node clause line Clause.Match (optional, _) (parts ▸ end)) current = do
     root ← lower_parts (lower_pattern parts)
     k ← optional_join_or d optional current root
-    ret (some k)
+    ret (Some k)
   lower_clause_or (node clause line Clause.Where f kids) current = lower_clause (node clause line Clause.Where f kids) current
   lower_clause_or (node clause line Clause.With f kids) current = lower_clause (node clause line Clause.With f kids) current
   lower_clause_or (node clause line Clause.Return f kids) current = lower_clause (node clause line Clause.Return f kids) current
@@ -135,15 +134,15 @@ module _ (d : Defaults) where
   unfoldable pub lower_arms_or : {n : ℕ} → Trees union_arm n → Option ℕ → Lowering (Option ℕ)
   lower_arms_or []ᵗ root = ret root
   lower_arms_or (node union_arm line k (all, _) (cs ▸ end) ∷ᵗ arms) root = do
-    below ← lower_clauses_or cs none
+    below ← lower_clauses_or cs None
     left ← or_source_all root
     right ← or_source_all below
     both ← push (op ReadOp.Union (left, (right, (all, tt))) ∷ [])
-    lower_arms_or arms (some both)
+    lower_arms_or arms (Some both)
 
   unfoldable pub lower_or : Tree statement → Lowering (Option ℕ)
   lower_or (node statement line k f (cs ▸ arms ▸ end)) = do
-    head ← lower_clauses_or cs none
+    head ← lower_clauses_or cs None
     lower_arms_or arms head
 
 -- ── the Rust's counters of 32 bits do not overflow ──

@@ -1,7 +1,6 @@
 -- What holds of every record of a sheet that was read and checked: none is `unres` or `undes`, every part begins with a node, and every number is in its field's range. Assumes nothing: these are definitions, and theorems with their proofs.
-use Rattle.std.specs.Prelude.{◌≡◌, refl, ℕ, suc, ◌≤◌, Bool, true, List, [], ◌∷◌}
+use Rattle.std.specs.Prelude.{◌≡◌, refl, ℕ, suc, ◌≤◌, Bool, true, List, [], ◌∷◌, Option}
 use Rattle.std.proofs.Common.{subst, leb-true}
-use Rattle.std.proofs.Math.Option.{Option}
 use Rattle.model.specs.Text.{Bytes}
 use Rattle.model.specs.Field.{Form, num, Val, Fields, Span, RelLength, fits}
 use Rattle.model.specs.Kind.{Sort, Kind, PatternElement, Same, Expr, statement, pattern_part, pattern_element, expr}

@@ -1,7 +1,6 @@
 -- What a text of a list of cases stands for. Assumes nothing: these are definitions.
-use Rattle.std.specs.Prelude.{◌==◌, cond, [], ◌∷◌, ◌++◌, ℕ, zero, suc, ◌+◌, ◌-◌, ltb, length, take, drop}
+use Rattle.std.specs.Prelude.{◌==◌, cond, [], ◌∷◌, ◌++◌, ℕ, zero, suc, ◌+◌, ◌-◌, ltb, length, take, drop, Option, None, Some}
 use Rattle.std.specs.List.{position_or_len}
-use Rattle.std.proofs.Math.Option.{Option, none, some}
 use Rattle.model.specs.Text.{Bytes}
 use Rattle.model.specs.Field.{Form, read}
 use Rattle.model.specs.Call.{max_bytes}
@@ -28,8 +27,8 @@ between from to t = take (to - from) (drop from t)
 
 -- a head, a part so many times, a tail, where the number is one; otherwise the text as it is
 unfoldable pub repeated : (text head part tail : Bytes) → Option ℕ → Bytes
-repeated text head part tail none = text
-repeated text head part tail (some n) = (head ++ again n part) ++ tail
+repeated text head part tail None = text
+repeated text head part tail (Some n) = (head ++ again n part) ++ tail
 
 -- the sheet of a text whose stars stand at these three places
 unfoldable pub parted : (head number part : ℕ) → Bytes → Bytes

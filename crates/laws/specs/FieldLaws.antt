@@ -1,7 +1,7 @@
 -- Laws of fields: reading is the inverse of spelling, for every form and for a record's fields; a spelled field holds no separator. Assumes nothing: each law is proved.
-use Rattle.std.specs.Prelude.{◌≡◌, refl, Bool, true, false, ◌&&◌, List, [], ◌∷◌, ◌++◌, ℕ, ◌<◌, ◌≤◌, leb, take, drop}
+use Rattle.std.specs.Prelude.{◌≡◌, refl, Bool, true, false, ◌&&◌, List, [], ◌∷◌, ◌++◌, ℕ, ◌<◌, ◌≤◌, leb, take, drop, Option, None, Some}
 use Rattle.std.proofs.Common.{◌∙◌, ap, ap₂, subst, arith, take-append-drop, take_at, drop_at, leb-true}
-use Rattle.std.proofs.Math.Option.{Option, none, some, some-injective, none-ne-some}
+use Rattle.std.proofs.lemmas.Option.{none-some, same_Some}
 use Rattle.std.proofs.Math.ListN as ListN
 use Rattle.model.specs.Text.{Bytes, minus, dash, equals, digit0, digit1, bytes_from, bytes, same, same_by, decimal}
 use Rattle.model.specs.Field.{Form, num, flag, var, var_or_absent, num_or_absent, number, number_or_absent, int, float, text, alias, span, length, u32, u64, float_digits, Val, Span, RelLength, Single, Variable, width, spell_flag, spell_option, spell_alias, spell_length, spell, fits_option, fits_length, fits, option_value, alias_value, length_value, piece, meaning, read, Fields, spell_fields, both, read_fields}
@@ -51,13 +51,13 @@ no_dash (b ∷ s) (p each∷ ps) = rw p
 
 option_value_law : (l : ℕ) → l ≤ u64 → (o : Option ℕ) → fits_option l o ≡ true → option_value (spell_option o) ≡ o
 unfolding option_value spell_option fits_option same same_by
-option_value_law l h none e = refl
-option_value_law l h (some n) e = rw (no_dash (decimal n) (decimal_free minus (omega arith) n), decimal_value n (omega (arith, leb-true n l e)))
+option_value_law l h None e = refl
+option_value_law l h (Some n) e = rw (no_dash (decimal n) (decimal_free minus (omega arith) n), decimal_value n (omega (arith, leb-true n l e)))
 
 alias_value_law : (a : Option Bytes) → alias_value (spell_alias a) ≡ a
 unfolding alias_value spell_alias same same_by
-alias_value_law none = refl
-alias_value_law (some t) = rw (unescape_escape t)
+alias_value_law None = refl
+alias_value_law (Some t) = rw (unescape_escape t)
 
 span_bounds : (s : Span) → (leb s.start s.end && leb s.end u32) ≡ true → (s.start ≤ s.end) × (s.end ≤ u32)
 span_bounds s h = (leb-true _ _ (and_left _ _ h), leb-true _ _ (and_right (leb s.start s.end) _ h))
@@ -82,30 +82,30 @@ meaning_spell length b Single h = refl
 meaning_spell length b (Variable min max) h = rw (option_value_law u64 (omega arith) min (and_left (fits_option u64 min) (fits_option u64 max) h), option_value_law u64 (omega arith) max (and_right (fits_option u64 min) (fits_option u64 max) h))
 
 -- what a value spells reads as it
-pub spell_read : (f : Form) → limited f ≡ true → (v : Val f) → fits f v ≡ true → read f (spell f v) ≡ some v
+pub spell_read : (f : Form) → limited f ≡ true → (v : Val f) → fits f v ≡ true → read f (spell f v) ≡ Some v
 unfolding read
 spell_read f b v h = rw (meaning_spell f b v h, h, pieces_refl (spell f v))
 
 -- what reads as a value is its spelling, and in range
-pub read_spell : (f : Form) (ps : List Bytes) (v : Val f) → read f ps ≡ some v → (spell f v ≡ ps) × (fits f v ≡ true)
+pub read_spell : (f : Form) (ps : List Bytes) (v : Val f) → read f ps ≡ Some v → (spell f v ≡ ps) × (fits f v ≡ true)
 unfolding read
 read_spell f ps v e = go (fits f (meaning f ps)) refl (same_by (λ s t. same s t) (spell f (meaning f ps)) ps) refl
   where
     go : (a : Bool) → fits f (meaning f ps) ≡ a → (b : Bool) → same_by (λ s t. same s t) (spell f (meaning f ps)) ps ≡ b → (spell f v ≡ ps) × (fits f v ≡ true)
-    go true p true q = subst (λ w. (spell f w ≡ ps) × (fits f w ≡ true)) (some-injective _ _ (rw (p, q) at e)) (pieces_sound _ ps q, p)
-    go true p false q = absurd (none-ne-some _ (rw (p, q) at e))
-    go false p b q = absurd (none-ne-some _ (rw p at e))
+    go true p true q = subst (λ w. (spell f w ≡ ps) × (fits f w ≡ true)) (same_Some _ _ (rw (p, q) at e)) (pieces_sound _ ps q, p)
+    go true p false q = absurd (none-some _ (rw (p, q) at e))
+    go false p b q = absurd (none-some _ (rw p at e))
 
 -- a spelled field holds no separator
 option_free : (sep : ℕ) → sep < minus → (o : Option ℕ) → Free sep (spell_option o)
 unfolding spell_option every
-option_free sep h none = above_free minus sep h dash refl
-option_free sep h (some n) = decimal_free sep (omega arith) n
+option_free sep h None = above_free minus sep h dash refl
+option_free sep h (Some n) = decimal_free sep (omega arith) n
 
 alias_free : {sep : ℕ} → Separator sep → (a : Option Bytes) → Free sep (spell_alias a)
 unfolding spell_alias every
-alias_free {sep} q none = above_free minus sep (separator_low q) dash refl
-alias_free {sep} q (some t) = each_append (above_free minus sep (separator_low q) (equals ∷ []) refl) (escape_free q t)
+alias_free {sep} q None = above_free minus sep (separator_low q) dash refl
+alias_free {sep} q (Some t) = each_append (above_free minus sep (separator_low q) (equals ∷ []) refl) (escape_free q t)
 
 flag_free : (sep : ℕ) → sep < minus → (b : Bool) → Free sep (spell_flag b)
 unfolding spell_flag every
@@ -114,7 +114,7 @@ flag_free sep h true = above_free minus sep h (digit1 ∷ []) refl
 
 length_free : (sep : ℕ) → sep < minus → (l : RelLength) → Each (Free sep) (spell_length l)
 unfolding spell_length spell_option bytes_from bytes every
-length_free sep h Single = above_free minus sep h (bytes "one") refl each∷ option_free sep h none each∷ option_free sep h none each∷ each[]
+length_free sep h Single = above_free minus sep h (bytes "one") refl each∷ option_free sep h None each∷ option_free sep h None each∷ each[]
 length_free sep h (Variable min max) = above_free minus sep h (bytes "var") refl each∷ option_free sep h min each∷ option_free sep h max each∷ each[]
 
 pub spell_free : {sep : ℕ} → Separator sep → (f : Form) (v : Val f) → Each (Free sep) (spell f v)
@@ -144,25 +144,25 @@ fits_all [] _ = true
 fits_all (f ∷ fs) (v, vs) = fits f v && fits_all fs vs
 
 -- what fields spell reads as them
-pub spell_fields_read : (fs : List Form) → all_limited fs ≡ true → (v : Fields fs) → fits_all fs v ≡ true → read_fields fs (spell_fields fs v) ≡ some v
+pub spell_fields_read : (fs : List Form) → all_limited fs ≡ true → (v : Fields fs) → fits_all fs v ≡ true → read_fields fs (spell_fields fs v) ≡ Some v
 unfolding all_limited fits_all spell_fields read_fields both
 spell_fields_read [] b v h = refl
 spell_fields_read (f ∷ fs) b (v, vs) h = rw (take_at (spell f v) (spell_fields fs vs) (width f) (spell_width f v), drop_at (spell f v) (spell_fields fs vs) (width f) (spell_width f v), spell_read f (and_left _ _ b) v (and_left _ _ h), spell_fields_read fs (and_right (limited f) _ b) vs (and_right (fits f v) _ h))
 
 -- two readings that both succeed
-both_some : {A B : Type 0} (a : Option A) (b : Option B) (x : A × B) → both a b ≡ some x → (a ≡ some x.0) × (b ≡ some x.1)
+both_some : {A B : Type 0} (a : Option A) (b : Option B) (x : A × B) → both a b ≡ Some x → (a ≡ Some x.0) × (b ≡ Some x.1)
 unfolding both
-both_some none b x e = absurd (none-ne-some _ e)
-both_some (some a) none x e = absurd (none-ne-some _ e)
-both_some {A} {B} (some a) (some b) x e =
-    let p : (a, b) ≡ x = some-injective _ _ e in
-    (ap (λ y. some y.0) p, ap (λ y. some y.1) p)
+both_some None b x e = absurd (none-some _ e)
+both_some (Some a) None x e = absurd (none-some _ e)
+both_some {A} {B} (Some a) (Some b) x e =
+    let p : (a, b) ≡ x = same_Some _ _ e in
+    (ap (λ y. Some y.0) p, ap (λ y. Some y.1) p)
 
 -- what reads as fields is their spelling, and in range
-pub read_fields_spell : (fs : List Form) (ps : List Bytes) (v : Fields fs) → read_fields fs ps ≡ some v → (spell_fields fs v ≡ ps) × (fits_all fs v ≡ true)
+pub read_fields_spell : (fs : List Form) (ps : List Bytes) (v : Fields fs) → read_fields fs ps ≡ Some v → (spell_fields fs v ≡ ps) × (fits_all fs v ≡ true)
 unfolding fits_all spell_fields read_fields
 read_fields_spell [] [] v e = (refl, refl)
-read_fields_spell [] (p ∷ ps) v e = absurd (none-ne-some _ e)
+read_fields_spell [] (p ∷ ps) v e = absurd (none-some _ e)
 read_fields_spell (f ∷ fs) ps v e =
     let h = both_some (read f (take (width f) ps)) (read_fields fs (drop (width f) ps)) v e in
     let one = read_spell f (take (width f) ps) v.0 h.0 in

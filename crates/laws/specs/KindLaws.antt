@@ -1,7 +1,7 @@
 -- Laws of the record table: a keyword names one kind of a sort, keywords hold no separator, and no number of the table has more than 64 bits. Assumes nothing: each law is proved.
-use Rattle.std.specs.Prelude.{◌≡◌, refl, Bool, true, false, ◌&&◌, List, [], ◌∷◌, ℕ, leb}
+use Rattle.std.specs.Prelude.{◌≡◌, refl, Bool, true, false, ◌&&◌, List, [], ◌∷◌, ℕ, leb, Some}
 use Rattle.std.proofs.Common.{◌∙◌, ap}
-use Rattle.std.proofs.Math.Option.{some, some-injective, none-ne-some}
+use Rattle.std.proofs.lemmas.Option.{none-some, same_Some}
 use Rattle.model.specs.Text.{Bytes, minus, bytes_from, bytes, same_by, same}
 use Rattle.model.specs.Kind.{Sort, PlanSort, Kind, PlanKind, Clause, PatternElement, Same, Expr, ReadOp, PlanExpr}
 use Rattle.model.specs.Kind.{statement, union_arm, clause, projection, order_item, pattern_part, pattern_element, name, yield_item, entry, expr, in_plan}
@@ -13,7 +13,7 @@ use Rattle.laws.specs.FieldLaws.{limited, all_limited}
 -- ── a keyword and its kind ──
 
 -- an expression of both sheets is named by its keyword in either
-same_named : (h : Same) → (kind_named expr (same_keyword h) (kinds expr) ≡ some (Expr.Over h)) × (kind_named (in_plan plan_expr) (same_keyword h) (plan_kinds plan_expr) ≡ some (PlanExpr.Over h))
+same_named : (h : Same) → (kind_named expr (same_keyword h) (kinds expr) ≡ Some (Expr.Over h)) × (kind_named (in_plan plan_expr) (same_keyword h) (plan_kinds plan_expr) ≡ Some (PlanExpr.Over h))
 unfolding bytes_from bytes same_by same same_keyword expr_keyword plan_expr_keyword plan_keyword keyword sames plan_kinds kinds kind_named
 same_named Same.Null = (refl, refl)
 same_named Same.Bool = (refl, refl)
@@ -31,7 +31,7 @@ same_named Same.Case = (refl, refl)
 same_named Same.IsNull = (refl, refl)
 same_named Same.InList = (refl, refl)
 
-plan_named : (p : PlanSort) (k : PlanKind p) → kind_named (in_plan p) (plan_keyword p k) (plan_kinds p) ≡ some k
+plan_named : (p : PlanSort) (k : PlanKind p) → kind_named (in_plan p) (plan_keyword p k) (plan_kinds p) ≡ Some k
 unfolding bytes_from bytes same_by same same_keyword op_keyword plan_expr_keyword plan_keyword keyword sames plan_kinds kind_named
 plan_named plan k = refl
 plan_named read_op ReadOp.Source = refl
@@ -66,7 +66,7 @@ plan_named plan_expr PlanExpr.Exists = refl
 plan_named plan_expr PlanExpr.ListPredicate = refl
 
 -- a keyword names its own kind, and so no two kinds of a sort share one
-pub kind_named_law : (s : Sort) (k : Kind s) → kind_named s (keyword s k) (kinds s) ≡ some k
+pub kind_named_law : (s : Sort) (k : Kind s) → kind_named s (keyword s k) (kinds s) ≡ Some k
 unfolding bytes_from bytes same_by same same_keyword expr_keyword clause_keyword element_keyword keyword sames kinds kind_named
 kind_named_law statement k = refl
 kind_named_law union_arm k = refl
@@ -96,24 +96,24 @@ kind_named_law expr Expr.Undesugared = refl
 kind_named_law (in_plan p) k = plan_named p k
 
 -- a kind that is found has the keyword
-pub named_keyword : (s : Sort) (w : Bytes) (ks : List (Kind s)) (k : Kind s) → kind_named s w ks ≡ some k → w ≡ keyword s k
+pub named_keyword : (s : Sort) (w : Bytes) (ks : List (Kind s)) (k : Kind s) → kind_named s w ks ≡ Some k → w ≡ keyword s k
 unfolding kind_named
-named_keyword s w [] k e = absurd (none-ne-some _ e)
+named_keyword s w [] k e = absurd (none-some _ e)
 named_keyword s w (j ∷ ks) k e = go (same w (keyword s j)) refl (named_keyword s w ks k)
   where
-    go : (b : Bool) → same w (keyword s j) ≡ b → (kind_named s w ks ≡ some k → w ≡ keyword s k) → w ≡ keyword s k
-    go true p ih = same_sound w (keyword s j) p ∙ ap (λ i. keyword s i) (some-injective j k (rw p at e))
+    go : (b : Bool) → same w (keyword s j) ≡ b → (kind_named s w ks ≡ Some k → w ≡ keyword s k) → w ≡ keyword s k
+    go true p ih = same_sound w (keyword s j) p ∙ ap (λ i. keyword s i) (same_Some j k (rw p at e))
     go false p ih = ih (rw p at e)
 
 -- ── what all kinds of a sort pass ──
 
-named_passes : (s : Sort) (test : Kind s → Bool) (w : Bytes) (ks : List (Kind s)) (k : Kind s) → every test ks ≡ true → kind_named s w ks ≡ some k → test k ≡ true
+named_passes : (s : Sort) (test : Kind s → Bool) (w : Bytes) (ks : List (Kind s)) (k : Kind s) → every test ks ≡ true → kind_named s w ks ≡ Some k → test k ≡ true
 unfolding kind_named every
-named_passes s test w [] k h e = absurd (none-ne-some _ e)
+named_passes s test w [] k h e = absurd (none-some _ e)
 named_passes s test w (j ∷ ks) k h e = go (same w (keyword s j)) refl (named_passes s test w ks k)
   where
-    go : (b : Bool) → same w (keyword s j) ≡ b → (every test ks ≡ true → kind_named s w ks ≡ some k → test k ≡ true) → test k ≡ true
-    go true p ih = rw (some-injective j k (rw p at e)) at (and_left (test j) (every test ks) h)
+    go : (b : Bool) → same w (keyword s j) ≡ b → (every test ks ≡ true → kind_named s w ks ≡ Some k → test k ≡ true) → test k ≡ true
+    go true p ih = rw (same_Some j k (rw p at e)) at (and_left (test j) (every test ks) h)
     go false p ih = ih (and_right (test j) (every test ks) h) (rw p at e)
 
 -- so a law of kinds is proved by running through each sort's list

@@ -1,10 +1,9 @@
 -- What reading yields: between the place before a tree that is read and the place behind it stand the lines of its records, their fields fit, and its line numbers and depth are right. Assumes nothing: each law is proved.
-use Rattle.std.specs.Prelude.{◌≡◌, Bool, true, cond, ◌||◌, ltb, length}
+use Rattle.std.specs.Prelude.{◌≡◌, Bool, true, cond, ◌||◌, ltb, length, Option, None, Some}
 use Rattle.std.proofs.Math.Path.{refl, subst}
 use Rattle.std.proofs.Common.{sym, ◌∙◌, ap, ap₂, subst₂, le_trans, arith, length-append, ltb-false}
 use Rattle.std.proofs.Math.Bool.{false}
 use mathlib.Core.List.{List, [], ◌∷◌, ◌++◌}
-use Rattle.std.proofs.Math.Option.{Option, none, some}
 use Prim.Native.Nat.{ℕ, zero, suc, ◌+◌, ◌≤◌}
 use Rattle.model.specs.Text.{Bytes, Pieces}
 use Rattle.model.specs.Kind.{Sort}
@@ -81,8 +80,8 @@ took_one r line text m ms h (e, f) = record { lines = ap (λ l. record { first =
 
 formed_took : (s : Sort) (line : ℕ) (text m : Bytes) (ms : List Bytes) → line ≤ max_lines → (o : Option (RecOf s)) → read_rec s text ≡ o → Yields (λ x q. Took (rec_of s x ∷ []) (record { line = line; text = text; more = m ∷ ms }) q) (formed line (record { line = suc line; text = m; more = ms }) o)
 unfolding formed
-formed_took s line text m ms h none e = refuses
-formed_took s line text m ms h (some x) e = yields (took_one (rec_of s x) line text m ms h (read_line_law s text x e))
+formed_took s line text m ms h None e = refuses
+formed_took s line text m ms h (Some x) e = yields (took_one (rec_of s x) line text m ms h (read_line_law s text x e))
 
 line_took : (s : Sort) (deep : Bool) (line : ℕ) (text : Bytes) (more : List Bytes) → Yields (λ x q. Took (rec_of s x ∷ []) (record { line = line; text = text; more = more }) q) (line_at s deep line text more)
 unfolding line_at

@@ -1,7 +1,7 @@
 -- Laws of lines: a line is read as a record exactly if it spells the record and the fields fit; and the lines of a sheet of records. Assumes nothing: each law is proved.
-use Rattle.std.specs.Prelude.{◌≡◌, refl, Bool, true, List, [], ◌∷◌, ◌++◌, ℕ}
+use Rattle.std.specs.Prelude.{◌≡◌, refl, Bool, true, List, [], ◌∷◌, ◌++◌, ℕ, Option, None, Some}
 use Rattle.std.proofs.Common.{sym, ◌∙◌, ap, ap₂, subst, append-nil, append_assoc}
-use Rattle.std.proofs.Math.Option.{Option, none, some, some-injective, none-ne-some}
+use Rattle.std.proofs.lemmas.Option.{none-some, same_Some}
 use Rattle.model.specs.Text.{Bytes, Pieces, split, behind, join, tab, line_feed}
 use Rattle.model.specs.Field.{Fields, spell_fields, read_fields}
 use Rattle.model.specs.Kind.{Sort, Kind}
@@ -41,21 +41,21 @@ line_free r = join_free line_feed tab refl (line_pieces r) (pieces_parted betwee
 -- ── a line is read as the record that it spells, and as no other ──
 
 -- a record that fits is read from its line
-pub line_read : (s : Sort) (x : RecOf s) → Fits (rec_of s x) → read_rec s (line_text (rec_of s x)) ≡ some x
+pub line_read : (s : Sort) (x : RecOf s) → Fits (rec_of s x) → read_rec s (line_text (rec_of s x)) ≡ Some x
 unfolding fits_rec line_pieces line_text read_rec read_as with_fields
 line_read s x h = rw (split_join tab (line_pieces (rec_of s x)) (pieces_parted between_fields (rec_of s x)), kind_named_law s x.0, spell_fields_read (forms s x.0) (forms_limited s x.0) x.1 h)
 
-read_as_some : (s : Sort) (ps : List Bytes) (o : Option (Kind s)) (x : RecOf s) → read_as s ps o ≡ some x → (o ≡ some x.0) × (read_fields (forms s x.0) ps ≡ some x.1)
+read_as_some : (s : Sort) (ps : List Bytes) (o : Option (Kind s)) (x : RecOf s) → read_as s ps o ≡ Some x → (o ≡ Some x.0) × (read_fields (forms s x.0) ps ≡ Some x.1)
 unfolding read_as with_fields
-read_as_some s ps none x e = absurd (none-ne-some _ e)
-read_as_some s ps (some k) x e = go (read_fields (forms s k) ps) refl
+read_as_some s ps None x e = absurd (none-some _ e)
+read_as_some s ps (Some k) x e = go (read_fields (forms s k) ps) refl
   where
-    go : (f : Option (Fields (forms s k))) → read_fields (forms s k) ps ≡ f → (some k ≡ some x.0) × (read_fields (forms s x.0) ps ≡ some x.1)
-    go none p = absurd (none-ne-some _ (rw p at e))
-    go (some f) p = subst (λ y. (some k ≡ some y.0) × (read_fields (forms s y.0) ps ≡ some y.1)) (some-injective (k, f) x (rw p at e)) (refl, p)
+    go : (f : Option (Fields (forms s k))) → read_fields (forms s k) ps ≡ f → (Some k ≡ Some x.0) × (read_fields (forms s x.0) ps ≡ Some x.1)
+    go None p = absurd (none-some _ (rw p at e))
+    go (Some f) p = subst (λ y. (Some k ≡ Some y.0) × (read_fields (forms s y.0) ps ≡ Some y.1)) (same_Some (k, f) x (rw p at e)) (refl, p)
 
 -- what reads as a record is its line, and the record fits
-pub read_line_law : (s : Sort) (l : Bytes) (x : RecOf s) → read_rec s l ≡ some x → (l ≡ line_text (rec_of s x)) × Fits (rec_of s x)
+pub read_line_law : (s : Sort) (l : Bytes) (x : RecOf s) → read_rec s l ≡ Some x → (l ≡ line_text (rec_of s x)) × Fits (rec_of s x)
 unfolding fits_rec line_pieces line_text read_rec
 read_line_law s l x e =
     let p = split tab l in

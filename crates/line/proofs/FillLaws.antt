@@ -3,7 +3,7 @@ use mathlib.Core.Path.{◌≡◌, refl, sym, ap, ◌∙◌}
 use Prim.Native.Nat.{ℕ, zero, suc, ◌+◌, ◌<◌, ◌≤◌}
 use mathlib.Core.Bool.{Bool, true, false}
 use mathlib.Core.List.{List, [], ◌∷◌}
-use mathlib.Core.Option.{none, some}
+use Rattle.std.specs.Prelude.{None, Some}
 use native.Mathlib.Numerals.{add-one}
 use native.Mathlib.Omega.{arith}
 use lib.ListN.{length, take, drop, get_or, set, length-set}
@@ -70,18 +70,18 @@ module _ (ws : List ℕ) (g x y : ℕ) (h : second_at g < length ws) where
 module _ (sheet : Bytes) where
   -- the forms that are left, from field g on, and their pieces
   pub record Going (fs : List Form) (ps : List Bytes) (rest : List Form) (qs : List Bytes) (ws : List ℕ) (g : ℕ) : Type 0 where
-    pub some_so : (vs : List ℕ) → Agree (first_at g) vs ws → read_fields rest qs ≡ some (fields_of rest sheet vs g) → Flags rest vs g → Texts rest sheet vs g → (read_fields fs ps ≡ some (fields_of fs sheet vs 0)) × Flags fs vs 0 × Texts fs sheet vs 0
-    pub none_so : read_fields rest qs ≡ none → read_fields fs ps ≡ none
+    pub some_so : (vs : List ℕ) → Agree (first_at g) vs ws → read_fields rest qs ≡ Some (fields_of rest sheet vs g) → Flags rest vs g → Texts rest sheet vs g → (read_fields fs ps ≡ Some (fields_of fs sheet vs 0)) × Flags fs vs 0 × Texts fs sheet vs 0
+    pub none_so : read_fields rest qs ≡ None → read_fields fs ps ≡ None
 
   go_first : (fs : List Form) (ps : List Bytes) (ws : List ℕ) → Going fs ps fs ps ws 0
   go_first fs ps ws = record { some_so = λ vs a e f t. (e, f, t); none_so = λ e. e }
 
   module _ (fs : List Form) (ps : List Bytes) (f : Form) (rest : List Form) (qs : List Bytes) (ws : List ℕ) (g : ℕ) (s : Going fs ps (f ∷ rest) qs ws g) where
-    go_none : read f (take (width f) qs) ≡ none → read_fields fs ps ≡ none
+    go_none : read f (take (width f) qs) ≡ None → read_fields fs ps ≡ None
     unfolding read_fields both
     go_none e = s.none_so (rw e)
 
-    go_more : (x y : ℕ) → second_at g < length ws → read f (take (width f) qs) ≡ some (field_of f sheet x y) → Flag f x → Text f sheet x y → Going fs ps rest (drop (width f) qs) (put ws g x y) (suc g)
+    go_more : (x y : ℕ) → second_at g < length ws → read f (take (width f) qs) ≡ Some (field_of f sheet x y) → Flag f x → Text f sheet x y → Going fs ps rest (drop (width f) qs) (put ws g x y) (suc g)
     unfolding read_fields both fields_of
     go_more x y h e l d =
         record {

@@ -3,7 +3,7 @@ use mathlib.Core.Path.{◌≡◌, refl, sym, ap, ◌∙◌}
 use Prim.Native.Nat.{ℕ, ◌+◌, ◌-◌, ◌<◌, ◌≤◌}
 use mathlib.Core.Bool.{Bool, true, false}
 use mathlib.Core.List.{[], ◌∷◌}
-use mathlib.Core.Option.{some}
+use Rattle.std.specs.Prelude.{Some}
 use native.Mathlib.Omega.{arith}
 use borrow.Author.Tests.{ltb-true, ltb-false}
 use lib.Dec.{ltb}
@@ -131,7 +131,7 @@ module _ (sheet : Bytes) (p : ℕ) (w : FieldRead) (k : WordsAt (num u32) sheet 
     pub ends : Ends sheet p r
     ends = (rw q at k).ends
 
-    start : read (num u32) (slice p r sheet ∷ []) ≡ some x
+    start : read (num u32) (slice p r sheet ∷ []) ≡ Some x
     unfolding field_of
     start = ((rw q at k).is r ends).is
 
@@ -151,7 +151,7 @@ module _ (sheet : Bytes) (p : ℕ) (w : FieldRead) (k : WordsAt (num u32) sheet 
         ends₂ : Ends sheet (r + 1) t
         ends₂ = (rw s at m).ends
 
-        finish : read (num u32) (slice (r + 1) t sheet ∷ []) ≡ some y
+        finish : read (num u32) (slice (r + 1) t sheet ∷ []) ≡ Some y
         unfolding field_of
         finish = ((rw s at m).is t ends₂).is
 

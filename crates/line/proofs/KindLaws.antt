@@ -2,7 +2,7 @@
 use mathlib.Core.Path.{◌≡◌, refl, sym, ◌∙◌}
 use Prim.Native.Nat.{ℕ, zero, suc, ◌+◌, ◌-◌, ◌<◌, ◌≤◌}
 use mathlib.Core.Bool.{Bool, true, false, cond}
-use mathlib.Core.Option.{some}
+use Rattle.std.specs.Prelude.{Some}
 use native.Mathlib.Omega.{arith}
 use native.Mathlib.Nat.{add-zero}
 use borrow.Author.Tests.{eq-eqb, ne_eqb, eqb-true, eqb-false, le-ltb}
@@ -44,14 +44,14 @@ module _ (n : ℕ) (w : Bytes) (x end k : ℕ) where
         let sum : first_kind (sort_of n) + (k - first_kind (sort_of n)) ≡ k = omega (arith, l.low) in
         rw sum at (at h).row
 
-    number : (h : k < end) → kind_of (sort_of n) k ≡ some (at h).kind
+    number : (h : k < end) → kind_of (sort_of n) k ≡ Some (at h).kind
     unfolding kind_of
     number h = rw (le-ltb k (first_kind (sort_of n)) l.low) (at h).is
 
     test : (h : k < end) → eqb x (get_or keys k 0) ≡ same w (keyword (sort_of n) (at h).kind)
     test h = rw (here h).key (l.tells.tells (keyword (sort_of n) (at h).kind) (here h).plain)
 
-    step : (h : k < end) → cond (same w (keyword (sort_of n) (at h).kind)) (some (at h).kind) (kind_named (sort_of n) w (drop (suc (k - first_kind (sort_of n))) (kinds (sort_of n)))) ≡ kind_named (sort_of n) w (kinds (sort_of n))
+    step : (h : k < end) → cond (same w (keyword (sort_of n) (at h).kind)) (Some (at h).kind) (kind_named (sort_of n) w (drop (suc (k - first_kind (sort_of n))) (kinds (sort_of n)))) ≡ kind_named (sort_of n) w (kinds (sort_of n))
     unfolding kind_named
     step h = rw (at h).onward at l.remains
 

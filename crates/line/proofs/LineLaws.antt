@@ -2,7 +2,7 @@
 use mathlib.Core.Path.{◌≡◌, sym, ap, ◌∙◌}
 use Prim.Native.Nat.{ℕ, ◌+◌, ◌%◌, ◌<◌}
 use mathlib.Core.List.{List, ◌∷◌}
-use mathlib.Core.Option.{some}
+use Rattle.std.specs.Prelude.{Some}
 use native.Mathlib.Omega.{arith}
 use borrow.Author.Tests.{ltb-true}
 use lib.ListN.{length, get_or, set, length-set}
@@ -62,7 +62,7 @@ module _ (sheet : Bytes) (p m r : ℕ) (low : m < sort_count) (word : ℕ) (key 
     kind : Kind (sort_of m)
     kind = (rw q at named.known).0
 
-    known : kind_of (sort_of m) n ≡ some kind
+    known : kind_of (sort_of m) n ≡ Some kind
     unfolding kind
     known = (rw q at named.known).1
 
@@ -72,7 +72,7 @@ module _ (sheet : Bytes) (p m r : ℕ) (low : m < sort_count) (word : ℕ) (key 
     pub line_low : n < kind_count
     line_low = ltb-true n kind_count table.low
 
-    fields_is : (e : ℕ) → LineEnd sheet p e → read_rec (sort_of m) (slice p e sheet) ≡ read_as (sort_of m) (pieces_at sheet (r + 1) e) (some kind)
+    fields_is : (e : ℕ) → LineEnd sheet p e → read_rec (sort_of m) (slice p e sheet) ≡ read_as (sort_of m) (pieces_at sheet (r + 1) e) (Some kind)
     fields_is e l = line_is e l ∙ ap (λ x. read_as (sort_of m) (pieces_at sheet (r + 1) e) (kind_found (sort_of m) x)) q ∙ ap (read_as (sort_of m) (pieces_at sheet (r + 1) e)) known
 
     module _ (ws ws₁ : List ℕ) (long : length ws ≡ record_words) (t : FieldsTo) (z : FieldsHere n sheet r (set (set ws line_start_at p) kind_at n) ws₁ t) where

@@ -3,7 +3,7 @@ use mathlib.Core.Path.{◌≡◌, refl, sym, ap, ◌∙◌}
 use Prim.Native.Nat.{ℕ, suc, ◌+◌, ◌<◌, ◌≤◌}
 use mathlib.Core.Bool.{false}
 use mathlib.Core.List.{[], ◌∷◌, tail}
-use mathlib.Core.Option.{Option, none, some}
+use Rattle.std.specs.Prelude.{Option, None, Some}
 use native.Mathlib.Numerals.{add-one}
 use native.Mathlib.Omega.{arith}
 use lib.ListN.{length}
@@ -59,27 +59,27 @@ module _ (sheet : Bytes) (p : ℕ) (a : TextAt) (d : NameAt sheet p a) where
 
 -- ── an alias ──
 
-alias_absent : (o : Option (Option Bytes)) → alias_of o ≡ some false → o ≡ some none
-alias_absent none e = let z : ◌≡◌ {A = ℕ} 0 1 = cc in absurd (omega arith)
-alias_absent (some none) e = refl
-alias_absent (some (some t)) e = let z : ◌≡◌ {A = ℕ} 0 1 = cc in absurd (omega arith)
+alias_absent : (o : Option (Option Bytes)) → alias_of o ≡ Some false → o ≡ Some None
+alias_absent None e = let z : ◌≡◌ {A = ℕ} 0 1 = cc in absurd (omega arith)
+alias_absent (Some None) e = refl
+alias_absent (Some (Some t)) e = let z : ◌≡◌ {A = ℕ} 0 1 = cc in absurd (omega arith)
 
-alias_none : (o : Option (Option Bytes)) → alias_of o ≡ none → o ≡ none
-alias_none none e = refl
-alias_none (some none) e = let z : ◌≡◌ {A = ℕ} 0 1 = cc in absurd (omega arith)
-alias_none (some (some t)) e = let z : ◌≡◌ {A = ℕ} 0 1 = cc in absurd (omega arith)
+alias_none : (o : Option (Option Bytes)) → alias_of o ≡ None → o ≡ None
+alias_none None e = refl
+alias_none (Some None) e = let z : ◌≡◌ {A = ℕ} 0 1 = cc in absurd (omega arith)
+alias_none (Some (Some t)) e = let z : ◌≡◌ {A = ℕ} 0 1 = cc in absurd (omega arith)
 
 -- an alias that is read is a name behind an equals sign
-alias_spelled : (s t : Bytes) → read alias (s ∷ []) ≡ some (some t) → equals ∷ escape t ≡ s
+alias_spelled : (s t : Bytes) → read alias (s ∷ []) ≡ Some (Some t) → equals ∷ escape t ≡ s
 unfolding spell spell_alias
-alias_spelled s t e = cc (read_spell alias (s ∷ []) (some t) e).0
+alias_spelled s t e = cc (read_spell alias (s ∷ []) (Some t) e).0
 
 module _ (sheet : Bytes) (p : ℕ) (a : AliasAt) (d : AliasReadAt sheet p a) where
   module _ (r : ℕ) (z : a ≡ AliasAt.Named r) where
     ends : Ends sheet p r
     ends = (rw z at d).ends
 
-    is : read alias (slice p r sheet ∷ []) ≡ some (some (unescape (tail (slice p r sheet))))
+    is : read alias (slice p r sheet ∷ []) ≡ Some (Some (unescape (tail (slice p r sheet))))
     is = alias_value_law (slice p r sheet) (sym (d.is r ends) ∙ ap alias_in z)
 
     whole : equals ∷ escape (unescape (tail (slice p r sheet))) ≡ slice p r sheet
@@ -94,7 +94,7 @@ module _ (sheet : Bytes) (p : ℕ) (a : AliasAt) (d : AliasReadAt sheet p a) whe
         let behind : tail (slice p r sheet) ≡ slice (suc p) r sheet = ap tail (slice-cons p r sheet 0 alias_low (omega (arith, ends.to))) in
         let spelled : escape (unescape (slice (suc p) r sheet)) ≡ slice (suc p) r sheet = rw behind at (ap tail whole) in
         let here : WordsOf alias sheet (slice p r sheet ∷ []) (Words.Is (p + 1) r) =
-        rw (add-one p) (record { is = is ∙ ap (λ x. some (some (unescape x))) behind; fit = (tt, λ _. name_at_law sheet (suc p) r alias_low (omega (arith, ends.to)) spelled) }) in
+        rw (add-one p) (record { is = is ∙ ap (λ x. Some (Some (unescape x))) behind; fit = (tt, λ _. name_at_law sheet (suc p) r alias_low (omega (arith, ends.to)) spelled) }) in
         record { is = λ q h. rw (ends_alike sheet p q r h ends) here; ends = ends }
 
   pub alias_small : length sheet ≤ max_bytes → (r : ℕ) → a ≡ AliasAt.Named r → r < two32

@@ -2,7 +2,7 @@
 use mathlib.Core.Path.{◌≡◌, sym, ap, ◌∙◌}
 use mathlib.Core.Bool.{true, false}
 use mathlib.Core.List.{[], ◌∷◌}
-use mathlib.Core.Option.{some}
+use Rattle.std.specs.Prelude.{Some}
 use Prim.Native.Nat.{ℕ, ◌+◌, ◌*◌, ◌-◌, ◌/◌, ◌%◌, ◌<◌, ◌≤◌}
 use native.Mathlib.Nat.{div-add-mod'}
 use native.Mathlib.Omega.{arith}
@@ -53,9 +53,9 @@ module _ (z : ℤ) (f : SFits w64 z) where
     pub distance_high : nat_abs (held (negsuc 0 -ℤ held z)) / two32 + two31 < two32
     distance_high = rw (held_distance z f h) (omega (arith, high_low (mag z) f.sfits))
 
-    pub distance_words : (r : Words) → r ≡ Words.Is (nat_abs (held (negsuc 0 -ℤ held z)) % two32) (nat_abs (held (negsuc 0 -ℤ held z)) / two32 + two31) → (sheet : Bytes) → words_value int sheet r ≡ some z
+    pub distance_words : (r : Words) → r ≡ Words.Is (nat_abs (held (negsuc 0 -ℤ held z)) % two32) (nat_abs (held (negsuc 0 -ℤ held z)) / two32 + two31) → (sheet : Bytes) → words_value int sheet r ≡ Some z
     unfolding field_of
-    distance_words r e sheet = rw (e, held_distance z f h) (ap some (negative (mag z) ∙ (down z (below z f h)).1))
+    distance_words r e sheet = rw (e, held_distance z f h) (ap Some (negative (mag z) ∙ (down z (below z f h)).1))
 
   module _ (h : lt_z (held z) (pos 0) ≡ false) where
     magnitude : nat_abs z ≡ mag z
@@ -64,9 +64,9 @@ module _ (z : ℤ) (f : SFits w64 z) where
     pub plain_high : nat_abs (held z) / two32 + 0 < two32
     plain_high = rw (to_z-of_z f, magnitude) (omega (arith, high_low (mag z) f.sfits))
 
-    pub plain_words : (r : Words) → r ≡ Words.Is (nat_abs (held z) % two32) (nat_abs (held z) / two32 + 0) → (sheet : Bytes) → words_value int sheet r ≡ some z
+    pub plain_words : (r : Words) → r ≡ Words.Is (nat_abs (held z) % two32) (nat_abs (held z) / two32 + 0) → (sheet : Bytes) → words_value int sheet r ≡ Some z
     unfolding field_of
-    plain_words r e sheet = rw (e, to_z-of_z f, magnitude) (ap some (positive (mag z) f.sfits ∙ (not_below z (above z f h)).2))
+    plain_words r e sheet = rw (e, to_z-of_z f, magnitude) (ap Some (positive (mag z) f.sfits ∙ (not_below z (above z f h)).2))
 
 -- ── what is read ──
 
@@ -80,13 +80,13 @@ in_range (pos n) h = record { sfits = omega (arith, leb-true n i64 h) }
 in_range (negsuc n) h = record { sfits = omega (arith, leb-true n i64 h) }
 
 module _ (s : Bytes) (d : Signed) (q : d ≡ signed_of (read int (s ∷ []))) where
-  int_read : (z : ℤ) → d ≡ Signed.Is z → read int (s ∷ []) ≡ some z
+  int_read : (z : ℤ) → d ≡ Signed.Is z → read int (s ∷ []) ≡ Some z
   int_read z e = signed_read _ d q ∙ ap int_in e
 
-  pub int_is : (z : ℤ) → d ≡ Signed.Is z → (r : Words) → ((sheet : Bytes) → words_value int sheet r ≡ some (held z)) → (sheet : Bytes) → WordsOf int sheet (s ∷ []) r
+  pub int_is : (z : ℤ) → d ≡ Signed.Is z → (r : Words) → ((sheet : Bytes) → words_value int sheet r ≡ Some (held z)) → (sheet : Bytes) → WordsOf int sheet (s ∷ []) r
   int_is z e r k sheet =
       let same : held z ≡ z = to_z-of_z (in_range z (read_spell int (s ∷ []) z (int_read z e)).1) in
-      record { is = int_read z e ∙ ap some (sym same) ∙ sym (k sheet); fit = int_fits sheet r }
+      record { is = int_read z e ∙ ap Some (sym same) ∙ sym (k sheet); fit = int_fits sheet r }
 
   pub int_not : d ≡ Signed.Not → (sheet : Bytes) → WordsOf int sheet (s ∷ []) Words.Not
   int_not e sheet = record { is = signed_read _ d q ∙ ap int_in e; fit = tt }

@@ -3,7 +3,7 @@ use mathlib.Core.Path.{◌≡◌, refl, ap, ◌∙◌}
 use Prim.Native.Nat.{ℕ, ◌+◌, ◌*◌, ◌/◌, ◌%◌, ◌-◌, ◌<◌, ◌≤◌}
 use mathlib.Core.Bool.{Bool, true, false}
 use mathlib.Core.List.{[], ◌∷◌}
-use mathlib.Core.Option.{Option, none, some}
+use Rattle.std.specs.Prelude.{Option, None, Some}
 use native.Mathlib.Nat.{div-add-mod'}
 use lib.ListN.{take, drop}
 use lib.Seq.{slice}
@@ -31,7 +31,7 @@ use Rattle.line.specs.declared.field.Words.{Words}
 -- ── numbers ──
 
 module _ (limit : ℕ) (s : Bytes) (d : Decimal) (q : d ≡ decimal_of (read (num limit) (s ∷ []))) where
-  number_read : (n : ℕ) → d ≡ Decimal.Is n → read (num limit) (s ∷ []) ≡ some n
+  number_read : (n : ℕ) → d ≡ Decimal.Is n → read (num limit) (s ∷ []) ≡ Some n
   number_read n e = decimal_read _ d q ∙ ap number_in e
 
   pub number_low : limit ≤ u32 → (n : ℕ) → d ≡ Decimal.Is n → n < two32
@@ -48,12 +48,12 @@ module _ (limit : ℕ) (s : Bytes) (d : Decimal) (q : d ≡ decimal_of (read (nu
 -- ── a number or a dash, and a flag ──
 
 module _ (s : Bytes) (d : OptDecimal) (q : d ≡ opt_decimal_of (read (num_or_absent u32) (s ∷ []))) where
-  variable_read : (n : ℕ) → d ≡ OptDecimal.Is n → read (num_or_absent u32) (s ∷ []) ≡ some (some n)
+  variable_read : (n : ℕ) → d ≡ OptDecimal.Is n → read (num_or_absent u32) (s ∷ []) ≡ Some (Some n)
   variable_read n e = opt_read _ d q ∙ ap opt_number_in e
 
   pub variable_low : (n : ℕ) → d ≡ OptDecimal.Is n → n < two32
   unfolding fits fits_option
-  variable_low n e = omega (arith, leb-true n u32 (read_spell (num_or_absent u32) (s ∷ []) (some n) (variable_read n e)).1)
+  variable_low n e = omega (arith, leb-true n u32 (read_spell (num_or_absent u32) (s ∷ []) (Some n) (variable_read n e)).1)
 
   pub variable_is : (n : ℕ) → d ≡ OptDecimal.Is n → (sheet : Bytes) → WordsOf var_or_absent sheet (s ∷ []) (Words.Is 1 n)
   unfolding field_of option_of
@@ -72,12 +72,12 @@ module _ (s : Bytes) (d : OptDecimal) (q : d ≡ opt_decimal_of (read (num_or_ab
 module _ (sheet : Bytes) (s : Bytes) where
   flag_value : (o : Option ℕ) (f : Option Bool) → flag_of f ≡ decimal_of o → (r : Words) → o ≡ words_value (num 1) sheet r → f ≡ words_value flag sheet r
   unfolding field_of
-  flag_value o none e Words.Not h = refl
-  flag_value o none e (Words.Is x y) h = let z = e ∙ ap decimal_of h in let n : ◌≡◌ {A = ℕ} 0 1 = cc in absurd (omega arith)
-  flag_value o (some true) e Words.Not h = let z = e ∙ ap decimal_of h in let n : ◌≡◌ {A = ℕ} 0 1 = cc in absurd (omega arith)
-  flag_value o (some false) e Words.Not h = let z = e ∙ ap decimal_of h in let n : ◌≡◌ {A = ℕ} 0 1 = cc in absurd (omega arith)
-  flag_value o (some true) e (Words.Is x y) h = let z = e ∙ ap decimal_of h in let n : 1 ≡ x = cc in rw (← n)
-  flag_value o (some false) e (Words.Is x y) h = let z = e ∙ ap decimal_of h in let n : 0 ≡ x = cc in rw (← n)
+  flag_value o None e Words.Not h = refl
+  flag_value o None e (Words.Is x y) h = let z = e ∙ ap decimal_of h in let n : ◌≡◌ {A = ℕ} 0 1 = cc in absurd (omega arith)
+  flag_value o (Some true) e Words.Not h = let z = e ∙ ap decimal_of h in let n : ◌≡◌ {A = ℕ} 0 1 = cc in absurd (omega arith)
+  flag_value o (Some false) e Words.Not h = let z = e ∙ ap decimal_of h in let n : ◌≡◌ {A = ℕ} 0 1 = cc in absurd (omega arith)
+  flag_value o (Some true) e (Words.Is x y) h = let z = e ∙ ap decimal_of h in let n : 1 ≡ x = cc in rw (← n)
+  flag_value o (Some false) e (Words.Is x y) h = let z = e ∙ ap decimal_of h in let n : 0 ≡ x = cc in rw (← n)
 
   flag_low : (r : Words) → read (num 1) (s ∷ []) ≡ words_value (num 1) sheet r → WordsFit flag sheet r
   unfolding field_of fits

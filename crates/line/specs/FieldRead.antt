@@ -1,6 +1,5 @@
 -- What reading a field gives: its two words, and where it ends. Assumes nothing: these are definitions.
-use Rattle.std.specs.Prelude.{◌≡◌, ℕ, ◌+◌, ◌≤◌, ◌<◌, List, [], ◌∷◌, take, drop, get_or}
-use Rattle.std.proofs.Math.Option.{Option, none, some}
+use Rattle.std.specs.Prelude.{◌≡◌, ℕ, ◌+◌, ◌≤◌, ◌<◌, List, [], ◌∷◌, take, drop, get_or, Option, None, Some}
 use Rattle.std.proofs.Math.Seq.{slice}
 use Rattle.model.specs.Text.{Bytes, tab}
 use Rattle.model.specs.Field.{Form, Val, read, width}
@@ -13,8 +12,8 @@ use Rattle.line.specs.declared.field.FieldRead.{FieldRead}
 
 -- the value that two words stand for
 abbrev pub words_value : (f : Form) → Bytes → Words → Option (Val f)
-words_value f sheet (Words.Is x y) = some (field_of f sheet x y)
-words_value f sheet Words.Not = none
+words_value f sheet (Words.Is x y) = Some (field_of f sheet x y)
+words_value f sheet Words.Not = None
 
 -- a flag's word is 0 or 1, and a text stands at its place
 abbrev pub WordsFit : Form → Bytes → Words → Type 0
@@ -31,8 +30,8 @@ field_words (FieldRead.Is x y r) = Words.Is x y
 field_words FieldRead.Not = Words.Not
 
 abbrev pub field_end : FieldRead → Option ℕ
-field_end (FieldRead.Is x y r) = some r
-field_end FieldRead.Not = none
+field_end (FieldRead.Is x y r) = Some r
+field_end FieldRead.Not = None
 
 -- words that were read of a piece that ends at r
 abbrev pub placed : Words → ℕ → FieldRead

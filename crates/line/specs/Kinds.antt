@@ -1,6 +1,5 @@
 -- What a keyword names, as the number of a kind. Assumes nothing: these are definitions.
-use Rattle.std.specs.Prelude.{◌≡◌, ℕ, zero, suc, ◌+◌, ◌-◌, true, cond, eqb, get_or}
-use Rattle.std.proofs.Math.Option.{Option, none, some}
+use Rattle.std.specs.Prelude.{◌≡◌, ℕ, zero, suc, ◌+◌, ◌-◌, true, cond, eqb, get_or, Option, None, Some}
 use Rattle.std.proofs.Math.Seq.{slice}
 use Rattle.model.specs.Text.{Bytes, same}
 use Rattle.model.specs.Kind.{Sort, Kind}
@@ -24,11 +23,11 @@ pub record KeywordAt (s : Bytes) (p n r : ℕ) : Type 0 where
 -- the kind that an answer stands for
 abbrev pub kind_found : (s : Sort) → KindFound → Option (Kind s)
 kind_found s (Is n) = kind_of s n
-kind_found s Not = none
+kind_found s Not = None
 
 -- a number that is answered is one of the sort's kinds
 abbrev pub Known : KindFound → (s : Sort) → Type 0
-Known (Is n) s = (k : Kind s) × (kind_of s n ≡ some k)
+Known (Is n) s = (k : Kind s) × (kind_of s n ≡ Some k)
 Known Not s = Unit {0}
 
 -- the answer is the kind that the definition finds

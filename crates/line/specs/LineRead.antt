@@ -1,6 +1,5 @@
 -- What reading a line gives: the words of its record. Assumes nothing: these are definitions.
-use Rattle.std.specs.Prelude.{◌≡◌, ℕ, ◌+◌, ◌%◌, ◌<◌, ◌≤◌, true, List, length, get_or}
-use Rattle.std.proofs.Math.Option.{none, some}
+use Rattle.std.specs.Prelude.{◌≡◌, ℕ, ◌+◌, ◌%◌, ◌<◌, ◌≤◌, true, List, length, get_or, None, Some}
 use Rattle.std.proofs.Math.Seq.{slice}
 use Rattle.model.specs.Text.{Bytes}
 use Rattle.model.specs.Field.{Fields, read_fields}
@@ -53,8 +52,8 @@ Alike ws vs = (c : ℕ) → c < fields_end → get_or vs c 0 ≡ get_or ws c 0
 
 -- The fields of kind n are those that the words hold, whatever stands behind them, and the line ends behind the last; or there are none. The first one's piece begins behind place p.
 abbrev pub FieldsAnswer : FieldsTo → (n : ℕ) (sheet : Bytes) (p e : ℕ) (ws : List ℕ) → Type 0
-FieldsAnswer (FieldsTo.End z) n sheet p e ws = (z ≡ e) × ((vs : List ℕ) → Alike ws vs → (read_fields (forms_at n) (pieces_at sheet (p + 1) e) ≡ some (fields_of (forms_at n) sheet vs 0)) × Flags (forms_at n) vs 0 × Texts (forms_at n) sheet vs 0)
-FieldsAnswer FieldsTo.Not n sheet p e ws = read_fields (forms_at n) (pieces_at sheet (p + 1) e) ≡ none
+FieldsAnswer (FieldsTo.End z) n sheet p e ws = (z ≡ e) × ((vs : List ℕ) → Alike ws vs → (read_fields (forms_at n) (pieces_at sheet (p + 1) e) ≡ Some (fields_of (forms_at n) sheet vs 0)) × Flags (forms_at n) vs 0 × Texts (forms_at n) sheet vs 0)
+FieldsAnswer FieldsTo.Not n sheet p e ws = read_fields (forms_at n) (pieces_at sheet (p + 1) e) ≡ None
 
 -- the words that no field has are as they were: those before the first field's and those behind the last one's
 abbrev pub Kept : List ℕ → List ℕ → Type 0
@@ -72,20 +71,20 @@ pub record FieldsRead (n : ℕ) (sheet : Bytes) (p e : ℕ) (before after : List
 pub record Got (s : Sort) (sheet : Bytes) (p e : ℕ) (ws : List ℕ) (n : ℕ) : Type 0 where
   pub kind : Kind s
   pub fields : Fields (forms s kind)
-  pub read : read_rec s (slice p e sheet) ≡ some (kind, fields)
-  pub held : decode s sheet ws ≡ some (kind, fields)
+  pub read : read_rec s (slice p e sheet) ≡ Some (kind, fields)
+  pub held : decode s sheet ws ≡ Some (kind, fields)
   pub flags : Flags (forms s kind) ws 0
   pub texts : Texts (forms s kind) sheet ws 0
   pub number : get_or ws kind_at 0 ≡ n
   pub start : get_or ws line_start_at 0 ≡ p
   pub end : get_or ws line_end_at 0 ≡ e + 1
   pub kids : get_or ws children_at 0 ≡ total (groups_of n ws) % two32
-  pub named : kind_of s n ≡ some kind
+  pub named : kind_of s n ≡ Some kind
   pub low : n < kind_count
 
 abbrev pub LineAnswer : Line → (s : Sort) (sheet : Bytes) (p e : ℕ) (ws : List ℕ) → Type 0
 LineAnswer (Line.Kind n z) s sheet p e ws = (z ≡ e + 1) × Got s sheet p e ws n
-LineAnswer Line.Not s sheet p e ws = read_rec s (slice p e sheet) ≡ none
+LineAnswer Line.Not s sheet p e ws = read_rec s (slice p e sheet) ≡ None
 
 -- the line from p up to e, read as a record of a sort; the next one begins behind its line feed
 pub record LineRead (s : Sort) (sheet : Bytes) (p e : ℕ) (ws : List ℕ) (r : Line) : Type 0 where

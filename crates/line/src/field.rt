@@ -1,6 +1,5 @@
 // The two words of a field of one piece, which begins at a place of a line.
-ghost use Rattle.std.specs.Prelude.{◌≡◌, [], ◌∷◌, ◌+◌, ◌/◌, ◌%◌, ◌<◌, ◌≤◌};
-ghost use Rattle.std.proofs.Math.Option.{some};
+ghost use Rattle.std.specs.Prelude.{◌≡◌, [], ◌∷◌, ◌+◌, ◌/◌, ◌%◌, ◌<◌, ◌≤◌, Some};
 ghost use Rattle.model.specs.Text.{Bytes};
 ghost use Rattle.model.specs.Field.{Form, u32};
 ghost use Rattle.record.specs.Place.{Fed};
@@ -81,7 +80,7 @@ fn float_words(s: &[u8]) -> Words
 
 // A signed number's words: those of its size, or of one less with the top bit for a negative one.
 fn signed_words(v: i64) -> Words
-    ensures { (sheet : Bytes) → words_value Form.int sheet result ≡ some v }
+    ensures { (sheet : Bytes) → words_value Form.int sheet result ≡ Some v }
 {
     if v < 0 {
         let m = -1 - v;

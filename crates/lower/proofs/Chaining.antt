@@ -4,7 +4,7 @@ use Prim.Native.Nat.{ℕ, zero, suc, ◌+◌, ◌-◌, ◌≤◌, ◌<◌}
 use native.Mathlib.Nat.{le_refl}
 use native.Mathlib.Omega.{arith}
 use mathlib.Core.List.{List, [], ◌∷◌}
-use mathlib.Core.Option.{Option, none, some}
+use Rattle.std.specs.Prelude.{Option, None, Some}
 use lib.ListN.{length}
 use Rattle.model.specs.Text.{Bytes}
 use Rattle.model.specs.Field.{Fields}
@@ -39,8 +39,8 @@ use Rattle.words.specs.Places.{part_named_at, part_var_at, part_shortest_at, par
 -- ── the operator before, or a source of everything ──
 
 number_of : Option ℕ → ℕ → ℕ
-number_of none n = n
-number_of (some k) n = k
+number_of None n = n
+number_of (Some k) n = k
 
 pub source_there : (current : Before) (k : ℕ) (m : Mem) → current ≡ before.Op k → k < m.ctx.ops → OrSource m.ctx.ops (or_source_all (before_of current)) k m m
 unfolding or_source_all ret before_of
@@ -63,7 +63,7 @@ source_new current m c os e p lo = record {
 pub source_as : {o o' : Option ℕ} {n k : ℕ} {m m' : Mem} → o ≡ o' → OrSource n (or_source_all o) k m m' → OrSource n (or_source_all o') k m m'
 source_as e p = rw e at p
 
-under_by : (l : Last) (n k : ℕ) → LastUnder l n → some k ≡ root_of (last_of l) → k < n
+under_by : (l : Last) (n k : ℕ) → LastUnder l n → Some k ≡ root_of (last_of l) → k < n
 unfolding root_of number_of
 under_by last.Nothing n k u e = let z : k ≡ suc k = ap (λ (o : Option ℕ). number_of o (suc k)) e in absurd (omega arith)
 under_by (last.Op j origin) n k u e = let z : k ≡ j = ap (λ (o : Option ℕ). number_of o 0) e in let y = u.op j origin refl in omega arith
@@ -72,7 +72,7 @@ pub root_under : {root : Before} {l : Last} {n : ℕ} → before_of root ≡ roo
 unfolding before_of
 root_under {l = l} {n = n} e u = record { op = λ k h. under_by l n k u (rw h at e) }
 
-since_by : (l : Last) (n k : ℕ) → LastSince l n → some k ≡ root_of (last_of l) → n ≤ k
+since_by : (l : Last) (n k : ℕ) → LastSince l n → Some k ≡ root_of (last_of l) → n ≤ k
 unfolding root_of number_of
 since_by last.Nothing n k u e = let z : k ≡ suc k = ap (λ (o : Option ℕ). number_of o (suc k)) e in absurd (omega arith)
 since_by (last.Op j origin) n k u e = let z : k ≡ j = ap (λ (o : Option ℕ). number_of o 0) e in let y = u.op j origin refl in omega arith
@@ -107,7 +107,7 @@ some_elements room en x = let v = a_part room x.tree x.held in rw (en ∙ sym v.
 -- ── the chain ──
 
 abbrev no_chain : Lower.Chain
-no_chain = record { last = none; pending = none; path = [] }
+no_chain = record { last = None; pending = None; path = [] }
 
 last_number : Last → ℕ → ℕ
 last_number last.Nothing n = n
@@ -121,7 +121,7 @@ pub start_bounded : (i : ℕ) (c : LowerCtx) → i + 1 ≤ max_records → Chain
 start_bounded i c l = record { from = le_refl _; next = l; last = record { op = λ k origin e. absurd (last_apart e) }; kept = omega arith }
 
 pub start_anchored : (a b : List ℕ) (sheet : Bytes) (d i : ℕ) (c : LowerCtx) → Anchored a b d (start_chain i c)
-start_anchored a b sheet d i c = record { sheet = sheet; pending = none; waiting = no_rel_law refl refl }
+start_anchored a b sheet d i c = record { sheet = sheet; pending = None; waiting = no_rel_law refl refl }
 
 -- the last operator of all elements was pushed since
 pub start_since : {a b : List ℕ} {n d base : ℕ} (i : ℕ) {c : LowerCtx} {ch : Chain} {os os' rs rs' : List ℕ} → LowersElements a b n d base (start_chain i c) ch os os' rs rs' → LastSince ch.last c.ops
@@ -137,7 +137,7 @@ chain_def : {n : ℕ} (o : Option ℕ) (ts : Trees pattern_element n) (s : State
 unfolding lower_chain ◌>>=◌
 chain_def o ts s g e = rw e
 
-pub option_some : (x y : ℕ) → ((x ≡ 0) → ⊥) → option_of x y ≡ some y
+pub option_some : (x y : ℕ) → ((x ≡ 0) → ⊥) → option_of x y ≡ Some y
 unfolding option_of
 option_some zero y h = absurd (h refl)
 option_some (suc x) y h = refl
@@ -176,7 +176,7 @@ module _ {a b : List ℕ} {n base : ℕ} {c : LowerCtx} {ch : Chain} {os os₁ r
     unnamed_run sheet t hd W s r bl =
         let v = a_part room t hd in
         let x = rooting sheet t hd W s r bl in
-        let D = v.chain s ∙ ap (λ (o : Option ℕ). lower_chain o (steps_of v.elements) s) (ap (λ (z : ℕ). option_of z (cell a b i part_var_at)) k2) ∙ x.def none in
+        let D = v.chain s ∙ ap (λ (o : Option ℕ). lower_chain o (steps_of v.elements) s) (ap (λ (z : ℕ). option_of z (cell a b i part_var_at)) k2) ∙ x.def None in
         let f = el.bounded.from in
         record { to = rw D (to_wider (sub_within (omega arith) (omega arith) (sub_more (base + suc i, base + suc ch.next) W)) (to_then x.all.to x.src.to)); root = rw D; low = sr.low }
 
@@ -206,7 +206,7 @@ module _ {a b : List ℕ} {n base : ℕ} {c : LowerCtx} {ch : Chain} {os os₁ r
         let W₁ : Written = passed base (start_chain i c) ch W in
         let s₂ : State = (or_source_all (root_of (last_of ch.last)) (after_elements v.elements s).1).1 in
         let path : List ℕ = (after_elements v.elements s).0.path in
-        let D = v.chain s ∙ ap (λ (o : Option ℕ). lower_chain o (steps_of v.elements) s) (option_some (cell a b i part_named_at) id k2) ∙ x.def (some id) in
+        let D = v.chain s ∙ ap (λ (o : Option ℕ). lower_chain o (steps_of v.elements) s) (option_some (cell a b i part_named_at) id k2) ∙ x.def (Some id) in
         let ep' : place ≡ base + suc i = omega arith in
         let g : Given (side sheet a b first) W₁ s₂ (map_var id) (base + suc i) m₂ rest₃ r₃ = number_to (map_var id) (base + suc i) m₂ rest₃ r₃ x.src.to.rep (rw ep' at nm) (blank_before (omega arith) (blank_within (le_refl _) (omega arith) bl)) in
         let recs : Recs = op ReadOp.BindPath (k, ((map_var id s₂).0, (length path, tt))) ∷ path_elements path in

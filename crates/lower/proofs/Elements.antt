@@ -4,7 +4,7 @@ use Prim.Native.Nat.{ℕ, suc, ◌+◌, ◌-◌}
 use native.Mathlib.Omega.{arith}
 use mathlib.Core.Bool.{Bool, true, false}
 use mathlib.Core.List.{List, ◌∷◌, ◌++◌, append-nil}
-use mathlib.Core.Option.{none, some}
+use Rattle.std.specs.Prelude.{None, Some}
 use lib.ListN.{length}
 use lib.Dec.{eqb}
 use Rattle.model.specs.Text.{Bytes}
@@ -166,7 +166,7 @@ other_element room sheet d i (node pattern_element line PatternElement.Rel f kid
 -- the props, if there are any
 pub record OneProp (p : Bool) (ps : Trees expr (one p)) : Type 0 where
   pub tree : Tree expr
-  pub is : props_of p (fold_of Lowered made ps) ≡ some (λ s. lower_expr tree s)
+  pub is : props_of p (fold_of Lowered made ps) ≡ Some (λ s. lower_expr tree s)
   pub held : (sheet : Bytes) (a b : List ℕ) (d i : ℕ) → HeldOf sheet a b ps d i → Held sheet a b tree d i
   pub sized : size_of ps ≡ size tree
 
@@ -175,7 +175,7 @@ unfolding props_of fold lower_expr Held size
 one_prop false ps h = absurd (h refl)
 one_prop true (e ∷ᵗ []ᵗ) h = record { tree = e; is = refl; held = λ sheet a b d i q. q.0; sized = omega arith }
 
-pub no_prop : (p : Bool) (ps : Trees expr (one p)) → one p ≡ 0 → (props_of p (fold_of Lowered made ps) ≡ none) × (size_of ps ≡ 0)
+pub no_prop : (p : Bool) (ps : Trees expr (one p)) → one p ≡ 0 → (props_of p (fold_of Lowered made ps) ≡ None) × (size_of ps ≡ 0)
 unfolding props_of fold size
 no_prop false []ᵗ h = (refl, refl)
 no_prop true ps h = absurd (omega arith)

@@ -6,7 +6,7 @@ use native.Mathlib.Omega.{arith}
 use mathlib.Core.Bool.{Bool}
 use mathlib.Core.List.{List, [], ◌∷◌, ◌++◌}
 use mathlib.Core.Logic.{inl}
-use mathlib.Core.Option.{Option, none, some}
+use Rattle.std.specs.Prelude.{Option, None, Some}
 use lib.ListN.{length}
 use Rattle.model.specs.Text.{Bytes}
 use Rattle.model.specs.Kind.{ReadOp, pattern_element, expr, name, in_plan, rel_spec, node_spec}
@@ -60,7 +60,7 @@ module _ (bn br : Option ℕ) {n n' : ℕ} (labels : Trees name n) (types : Tree
   unfolding lower_rel_element ◌>>=◌ ret
   rel_def = rw (er, props_lower p' props' (endpoint_var br s₁).1, names_count types, props_has p' props')
 
-  expand_def : (c : Lower.Chain) (input origin : ℕ) → c.pending ≡ some r → c.last ≡ some (input, origin) → lower_element c (of_node (node_step bn labels p props)) s ≡ (record { last = some (length s₄.ops, (endpoint_var bn s).0); pending = none; path = c.path ++ ((endpoint_var br s₁).0 ∷ (endpoint_var bn s).0 ∷ []) }, (push (expand_recs input origin) s₄).1)
+  expand_def : (c : Lower.Chain) (input origin : ℕ) → c.pending ≡ Some r → c.last ≡ Some (input, origin) → lower_element c (of_node (node_step bn labels p props)) s ≡ (record { last = Some (length s₄.ops, (endpoint_var bn s).0); pending = None; path = c.path ++ ((endpoint_var br s₁).0 ∷ (endpoint_var bn s).0 ∷ []) }, (push (expand_recs input origin) s₄).1)
   unfolding lower_element reach expand_to node_recs ◌>>=◌ ret push
   expand_def c input origin ep el = rw (ep, el, rel_def, props_lower p props s₃, names_count labels, props_has p props)
 
@@ -128,7 +128,7 @@ module _ {a b : List ℕ} (d base far rel : ℕ) {e₁ e₂ n₁ n₂ input orig
     pub bind_to : ℕ
     pub bind_rel : ℕ
     pub number : r₁.number ≡ bind_to
-    pub is : (lower_element c (of_node n) s).0 ≡ record { last = some (m₄.ctx.ops, bind_to); pending = none; path = c.path ++ (bind_rel ∷ bind_to ∷ []) }
+    pub is : (lower_element c (of_node n) s).0 ≡ record { last = Some (m₄.ctx.ops, bind_to); pending = None; path = c.path ++ (bind_rel ∷ bind_to ∷ []) }
     pub notes : (N : Notes) (A : Ops) → Future ((base + suc rel, base + suc e₂) ∷ W) (lower_element c (of_node n) s).1 (mem c₅ os₅ m₄.rest) N A → (N (base + suc rel) ≡ bind_rel) × (N (base + suc far) ≡ bind_to)
 
   pub rel_end : (sheet : Bytes) (tr : Tree pattern_element) (hr : Held sheet a b tr d rel) → e₁ ≡ rel + size tr
@@ -152,7 +152,7 @@ module _ {a b : List ℕ} (d base far rel : ℕ) {e₁ e₂ n₁ n₂ input orig
       omega arith
 
   pub expand_run : (sheet : Bytes) {first : ℕ} (t tr : Tree pattern_element) (n : NodeStep) (r : RelStep) (hd : Held sheet a b t d far) (hr : Held sheet a b tr d rel) → step_of t ≡ of_node n →
-      step_of tr ≡ of_rel r → far ≡ rel + size tr → (W : Written) (s : State) (c : Lower.Chain) → c.pending ≡ some r → c.last ≡ some (input, origin) → Rep (side sheet a b first) W s (mem c₀ os rest) →
+      step_of tr ≡ of_rel r → far ≡ rel + size tr → (W : Written) (s : State) (c : Lower.Chain) → c.pending ≡ Some r → c.last ≡ Some (input, origin) → Rep (side sheet a b first) W s (mem c₀ os rest) →
       Blank W (base + suc rel) (base + suc e₂) → Expanded (side sheet a b first) W s c n
   unfolding push
   expand_run sheet {first} t tr n r hd hr st sr er W s c ep el q bl =
@@ -168,7 +168,7 @@ module _ {a b : List ℕ} (d base far rel : ℕ) {e₁ e₂ n₁ n₂ input orig
       let er₀ : r ≡ r₀ = Elements.same_rel (sym sr ∙ vr.step) in
       let n₀ : NodeStep = node_step bn vn.el.names vn.el.p vn.el.props in
       let en₀ : n ≡ n₀ = Elements.same_node (sym st ∙ vn.step) in
-      let D = expand_def bn br vn.el.names vr.el.names vn.el.p vr.el.p vn.el.props vr.el.props r₀ refl s c input origin (ep ∙ ap some er₀) el in
+      let D = expand_def bn br vn.el.names vr.el.names vn.el.p vr.el.p vn.el.props vr.el.props r₀ refl s c input origin (ep ∙ ap Some er₀) el in
       let recs : Recs = expand_recs bn br vn.el.names vr.el.names vn.el.p vr.el.p vn.el.props vr.el.props r₀ refl s input origin in
       let ep₁' : p₁ ≡ base + suc far = place_at_law p₁ base far ep₁ in
       let ep₂' : p₂ ≡ base + suc rel = place_at_law p₂ base rel ep₂ in
@@ -212,6 +212,6 @@ module _ {a b : List ℕ} (d base far rel : ℕ) {e₁ e₂ n₁ n₂ input orig
         bind_to = (endpoint_var bn s).0;
         bind_rel = (endpoint_var br (endpoint_var bn s).1).0;
         number = g₁.number;
-        is = ap (λ (z : Lower.Chain × State). z.0) D ∙ ap (λ (z : ℕ). record { last = some (z, (endpoint_var bn s).0); pending = none; path = c.path ++ ((endpoint_var br (endpoint_var bn s).1).0 ∷ (endpoint_var bn s).0 ∷ []) }) (sym y₂.to.rep.count);
+        is = ap (λ (z : Lower.Chain × State). z.0) D ∙ ap (λ (z : ℕ). record { last = Some (z, (endpoint_var bn s).0); pending = None; path = c.path ++ ((endpoint_var br (endpoint_var bn s).1).0 ∷ (endpoint_var bn s).0 ∷ []) }) (sym y₂.to.rep.count);
         notes = λ N A f. noted N A (back y₃ (narrow u (rw D at f)));
       })

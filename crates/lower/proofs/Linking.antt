@@ -6,7 +6,7 @@ use native.Mathlib.Omega.{arith}
 use mathlib.Core.Bool.{Bool, true, false}
 use mathlib.Core.List.{List, [], ◌∷◌, ◌++◌, append_assoc}
 use mathlib.Core.Logic.{inl, inr}
-use mathlib.Core.Option.{Option, none, some}
+use Rattle.std.specs.Prelude.{Option, None, Some}
 use lib.ListN.{length, length-append}
 use Rattle.model.specs.Text.{Bytes}
 use Rattle.model.specs.Kind.{PatternElement, pattern_element}
@@ -52,12 +52,12 @@ step_apart e = subst IsNodeStep e tt
 -- ── what an element adds to the path ──
 
 module _ {a b : List ℕ} (room : Roomy a b) (sheet : Bytes) (d i : ℕ) (N : Notes) (seen : Bool) (w : Option ℕ) {n : ℕ} (ts : Trees pattern_element n) where
-  kept_rel_law : (t : Tree pattern_element) → Held sheet a b t d i → cell a b i kind_at ≡ rel_kind → kept_from N seen w (t ∷ᵗ ts) ≡ kept_from N seen (some (suc i)) ts
+  kept_rel_law : (t : Tree pattern_element) → Held sheet a b t d i → cell a b i kind_at ≡ rel_kind → kept_from N seen w (t ∷ᵗ ts) ≡ kept_from N seen (Some (suc i)) ts
   unfolding Held kept_from element_number
   kept_rel_law (node pattern_element line PatternElement.Node f kids) hd e = let z = element_number_law room hd.1 in absurd (omega arith)
   kept_rel_law (node pattern_element line PatternElement.Rel f kids) hd e = rw hd.0
 
-  kept_node : (t : Tree pattern_element) → Held sheet a b t d i → cell a b i kind_at ≡ node_kind → kept_from N seen w (t ∷ᵗ ts) ≡ kept_rel N seen w ++ (N (suc i) ∷ kept_from N true none ts)
+  kept_node : (t : Tree pattern_element) → Held sheet a b t d i → cell a b i kind_at ≡ node_kind → kept_from N seen w (t ∷ᵗ ts) ≡ kept_rel N seen w ++ (N (suc i) ∷ kept_from N true None ts)
   unfolding Held kept_from element_number
   kept_node (node pattern_element line PatternElement.Node f kids) hd e = rw hd.0
   kept_node (node pattern_element line PatternElement.Rel f kids) hd e = let z = element_number_law room hd.1 in absurd (omega arith)
@@ -68,7 +68,7 @@ abbrev pub rel_chain : Chain → ℕ → Read → Chain
 rel_chain ch stop x = record { next = stop; ctx = ch.ctx; last = ch.last; pending = pending.Rel ch.next x; kept = ch.kept }
 
 module _ {a b : List ℕ} (d base : ℕ) (ch : Chain) (stop : ℕ) (os rs : List ℕ) (room : Roomy a b) (st : ChainInBounds ch) (is_rel_law : cell a b ch.next kind_at ≡ rel_kind) (en : Ends a b ch.next stop) {x : Read} (rd : ReadAt a b ch.next rel_props_at x) where
-  rel_same : (sheet : Bytes) (t : Tree pattern_element) → Held sheet a b t d ch.next → (c : Lower.Chain) → SameChain sheet a b d ch c → (r : RelStep) → step_of t ≡ of_rel r → SameChain sheet a b d (rel_chain ch stop x) (record { last = c.last; pending = some r; path = c.path })
+  rel_same : (sheet : Bytes) (t : Tree pattern_element) → Held sheet a b t d ch.next → (c : Lower.Chain) → SameChain sheet a b d ch c → (r : RelStep) → step_of t ≡ of_rel r → SameChain sheet a b d (rel_chain ch stop x) (record { last = c.last; pending = Some r; path = c.path })
   rel_same sheet t hd c l r e = record { last = l.last; waiting = a_rel ch.next x refl rd t r hd e (en.each sheet pattern_element d t hd) refl; kept = l.kept }
 
   rel_run : (sheet : Bytes) {first : ℕ} (t : Tree pattern_element) → Held sheet a b t d ch.next → (W : Written) (s : State) (c : Lower.Chain) → Rep (side sheet a b first) W s (mem ch.ctx os rs) → SameChain sheet a b d ch c → Chained (side sheet a b first) W d base ch (rel_chain ch stop x) t (step_of t) c s (mem ch.ctx os rs) (mem ch.ctx os rs)
@@ -90,7 +90,7 @@ module _ {a b : List ℕ} (d base : ℕ) (ch : Chain) (stop : ℕ) (os rs : List
       record {
         moved = moved_within (le_refl _) st.from st.next (moved_refl (let q = st.from in let q' = st.next in omega arith));
         bounded = record { from = omega arith; next = omega arith; last = st.last; kept = omega arith };
-        anchored = record { sheet = y.sheet; pending = some _; waiting = a_rel ch.next x refl rd y.tree _ y.held (Elements.a_rel room y.tree y.held is_rel_law).step z refl };
+        anchored = record { sheet = y.sheet; pending = Some _; waiting = a_rel ch.next x refl rd y.tree _ y.held (Elements.a_rel room y.tree y.held is_rel_law).step z refl };
         ahead = omega arith;
         since = λ n l h. h;
         next = λ sheet t hd. en.each sheet pattern_element d t hd;
@@ -137,18 +137,18 @@ pub record RelWaits (sheet : Bytes) (a b : List ℕ) (d : ℕ) (ch : Chain) (rel
   pub held : Held sheet a b tree d rel
   pub is : step_of tree ≡ of_rel step
   pub ends : ch.next ≡ rel + size tree
-  pub there : o ≡ some step
+  pub there : o ≡ Some step
 
 pub rel_waits : {sheet : Bytes} {a b : List ℕ} {d : ℕ} {ch : Chain} {rel : ℕ} {x : Read} {o : Option RelStep} → ch.pending ≡ pending.Rel rel x → Waiting sheet a b d ch o → RelWaits sheet a b d ch rel x o
 rel_waits h (no_rel_law w e) = absurd (pending_apart (sym w ∙ h))
 rel_waits h (a_rel i y w rd t r hd st nx e) = let z = same_rel (sym w ∙ h) in let z' = same_read (sym w ∙ h) in record { read = rw (z, z') at rd; tree = t; step = r; held = rw z at hd; is = st; ends = rw z at nx; there = e }
 
-no_last_law : (c : Lower.Chain) (n : NodeStep) (k : ℕ) (o : Option RelStep) → reach c n k o none ≡ start_node c n k
+no_last_law : (c : Lower.Chain) (n : NodeStep) (k : ℕ) (o : Option RelStep) → reach c n k o None ≡ start_node c n k
 unfolding reach
-no_last_law c n k none = refl
-no_last_law c n k (some r) = refl
+no_last_law c n k None = refl
+no_last_law c n k (Some r) = refl
 
-nothing_waits : {sheet : Bytes} {a b : List ℕ} {d : ℕ} {ch : Chain} {o : Option RelStep} → ch.pending ≡ pending.Nothing → Waiting sheet a b d ch o → o ≡ none
+nothing_waits : {sheet : Bytes} {a b : List ℕ} {d : ℕ} {ch : Chain} {o : Option RelStep} → ch.pending ≡ pending.Nothing → Waiting sheet a b d ch o → o ≡ None
 nothing_waits h (no_rel_law w e) = e
 nothing_waits h (a_rel i y w rd t r hd st nx e) = absurd (pending_apart (sym h ∙ w))
 
@@ -163,10 +163,10 @@ starts_path N ch (inl h) = rw h
 starts_path N ch (inr h) = rw h (none_kept N (pending_line ch.pending))
   where
     none_kept : (N : Notes) (o : Option ℕ) → kept_rel N false o ≡ []
-    none_kept N none = refl
-    none_kept N (some x) = refl
+    none_kept N None = refl
+    none_kept N (Some x) = refl
 
-start_def : (c : Lower.Chain) (n : NodeStep) (k : ℕ) (s : State) → start_node c n k s ≡ (record { last = some ((start_l k n s).0, k); pending = none; path = c.path ++ (k ∷ []) }, (start_l k n s).1)
+start_def : (c : Lower.Chain) (n : NodeStep) (k : ℕ) (s : State) → start_node c n k s ≡ (record { last = Some ((start_l k n s).0, k); pending = None; path = c.path ++ (k ∷ []) }, (start_l k n s).1)
 unfolding start_node ◌>>=◌ ret
 start_def c n k s = refl
 
@@ -181,7 +181,7 @@ unfolding kept_rel
 kept_one N l p k n rel x el ep = rw (el, ep)
 
 abbrev started : Lower.Chain → ℕ → ℕ → Lower.Chain
-started c k x = record { last = some (k, x); pending = none; path = c.path ++ (x ∷ []) }
+started c k x = record { last = Some (k, x); pending = None; path = c.path ++ (x ∷ []) }
 
 start_same : (c : Lower.Chain) (n : NodeStep) (s : State) (x x' k : ℕ) → x ≡ x' → (start_l x' n s).0 ≡ k → ◌≡◌ {A = Lower.Chain × State} (started c (start_l x n s).0 x, (start_l x n s).1) (started c k x', (start_l x' n s).1)
 start_same c n s x x' k ex ek = rw (ex, ek)
@@ -251,7 +251,7 @@ module _ {a b : List ℕ} (d base : ℕ) (ch : Chain) {e k place : ℕ} {os rest
       record {
         moved = start_moved;
         bounded = record { from = le_refl _; next = v.here; last = op_under ls.low; kept = let q = st.kept in omega arith };
-        anchored = record { sheet = x.sheet; pending = none; waiting = no_rel_law refl refl };
+        anchored = record { sheet = x.sheet; pending = None; waiting = no_rel_law refl refl };
         ahead = omega arith;
         since = λ o l h. op_since (omega (arith, n.ops, ls.since));
         next = λ sheet t hd. ls.next sheet t hd;
@@ -319,7 +319,7 @@ module _ {a b : List ℕ} (d base : ℕ) (ch : Chain) {between : Read} {rel inpu
       subst (λ (z : Lower.Step). Chained (side sheet a b first) W d base ch ch'' t z c s (mem ch.ctx os rest) (mem c₅ os₅ m₄.rest)) (sym v.step)
       (record {
         to = rw fr x.to;
-        same = rw x.is (record { last = ap (λ (z : ℕ). some (m₄.ctx.ops, z)) (sym x.number); waiting = no_rel_law refl refl; kept = length-append c.path (x.bind_rel ∷ x.bind_to ∷ []) ∙ ap (λ (z : ℕ). z + 2) l.kept });
+        same = rw x.is (record { last = ap (λ (z : ℕ). Some (m₄.ctx.ops, z)) (sym x.number); waiting = no_rel_law refl refl; kept = length-append c.path (x.bind_rel ∷ x.bind_to ∷ []) ∙ ap (λ (z : ℕ). z + 2) l.kept });
         path = λ N A f ts.
             (let y = x.notes N A (rw fr at f) in
             path_two _ c.path _ _ _ _ _ _ _ (ap (λ (z : Lower.Chain). z.path) x.is) (kept_node room sheet d ch.next (shift N base) (has_last ch.last) (pending_line ch.pending) ts t hd is_node_law) (kept_one (shift N base) ch.last ch.pending input origin rel between h1 w1) y.0 y.1);
@@ -335,7 +335,7 @@ module _ {a b : List ℕ} (d base : ℕ) (ch : Chain) {between : Read} {rel inpu
       record {
         moved = mv;
         bounded = record { from = le_refl _; next = mv.here; last = op_under (omega (arith, pe.count)); kept = let q = st.kept in omega arith };
-        anchored = record { sheet = x.sheet; pending = none; waiting = no_rel_law refl refl };
+        anchored = record { sheet = x.sheet; pending = None; waiting = no_rel_law refl refl };
         ahead = omega arith;
         since = λ o l h. op_since (omega (arith, nm₁.issued.ops, nm₂.issued.ops, x₁.moved.grow, x₂.moved.grow));
         next = λ sheet t hd. far_end d base ch.next rel room is_node_law (waiting_kind w) lb sh la ep₁ nm₁ ep₂ nm₂ en₁ x₁ en₂ x₂ pe sheet t hd;

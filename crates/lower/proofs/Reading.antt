@@ -3,7 +3,7 @@ use mathlib.Core.Path.{◌≡◌}
 use Prim.Native.Nat.{ℕ}
 use mathlib.Core.List.{List}
 use Rattle.model.specs.Lower.{map_var, endpoint_var}
-use mathlib.Core.Option.{Option, some}
+use Rattle.std.specs.Prelude.{Option, Some}
 use Rattle.context.specs.Tables.{Numbers}
 use Rattle.context.specs.declared.LowerCtx.{LowerCtx}
 use Rattle.context.specs.declared.Numbered.{Numbered}
@@ -21,5 +21,5 @@ var_read e n = rw e at n
 pub exprs_read : {a b : List ℕ} {n gap d base j j' e : ℕ} {m m' : Mem} → j ≡ j' → LowersExprs a b n gap d base j e m m' → LowersExprs a b n gap d base j' e m m'
 exprs_read e p = rw e at p
 
-pub some_read : {x y : ℕ} → x ≡ y → some y ≡ some x
+pub some_read : {x y : ℕ} → x ≡ y → Some y ≡ Some x
 some_read e = rw e

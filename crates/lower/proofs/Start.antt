@@ -4,7 +4,7 @@ use Prim.Native.Nat.{ℕ, suc, ◌+◌, ◌-◌, ◌≤◌}
 use native.Mathlib.Nat.{le_refl}
 use native.Mathlib.Omega.{arith}
 use mathlib.Core.List.{List}
-use mathlib.Core.Option.{none, some}
+use Rattle.std.specs.Prelude.{None, Some}
 use lib.ListN.{length}
 use Rattle.model.specs.Text.{Bytes}
 use Rattle.model.specs.Kind.{pattern_element, expr}
@@ -45,7 +45,7 @@ module _ {a b : List ℕ} (d i : ℕ) (room : Roomy a b) (is_node_law : cell a b
 props_of_law : {a b : List ℕ} (d i : ℕ) (room : Roomy a b) (is_node_law : cell a b i kind_at ≡ node_kind) (sheet : Bytes) (t : Tree pattern_element) (n : NodeStep) (hd : Held sheet a b t d i) → step_of t ≡ of_node n → n.props ≡ props_of (a_node room t hd is_node_law).el.p (fold_of Lowered made (a_node room t hd is_node_law).el.props)
 props_of_law d i room is_node_law sheet t n hd st = ap (λ (x : NodeStep). x.props) (same_node (sym st ∙ (a_node room t hd is_node_law).step))
 
-bare_root : (number k : ℕ) (n : NodeStep) (s : State) → n.props ≡ none → k ≡ length s.ops → ((start_l number n s).1 ≡ (push (source number n.labels) s).1) × (k ≡ (start_l number n s).0)
+bare_root : (number k : ℕ) (n : NodeStep) (s : State) → n.props ≡ None → k ≡ length s.ops → ((start_l number n s).1 ≡ (push (source number n.labels) s).1) × (k ≡ (start_l number n s).0)
 unfolding ◌>>=◌ push filter_by_props ret
 bare_root number k n s e ek = rw e (refl, ek)
 
@@ -53,7 +53,7 @@ bare_root number k n s e ek = rw e (refl, ek)
 abbrev sourced : ℕ → NodeStep → State → State
 sourced number n s = (push (source number n.labels) s).1
 
-filter_root : (number : ℕ) (n : NodeStep) (e : Tree expr) (s : State) → n.props ≡ some (λ z. lower_expr e z) → start_l number n s ≡ push (filter (length s.ops) (lower_expr e (sourced number n s)).0) (lower_expr e (sourced number n s)).1
+filter_root : (number : ℕ) (n : NodeStep) (e : Tree expr) (s : State) → n.props ≡ Some (λ z. lower_expr e z) → start_l number n s ≡ push (filter (length s.ops) (lower_expr e (sourced number n s)).0) (lower_expr e (sourced number n s)).1
 unfolding ◌>>=◌ push filter_by_props
 filter_root number n e s h = rw h
 

@@ -1,6 +1,5 @@
 -- What the lowering of a part's elements promises, one after another: the chain so far, as the code has it and as the definition has it. Assumes nothing: these are definitions.
-use Rattle.std.specs.Prelude.{◌≡◌, ℕ, suc, ◌+◌, ◌*◌, ◌-◌, ◌≤◌, ◌<◌, Bool, true, false, List, ◌∷◌, ◌++◌, ◌⊎◌, length}
-use Rattle.std.proofs.Math.Option.{Option, none, some}
+use Rattle.std.specs.Prelude.{◌≡◌, ℕ, suc, ◌+◌, ◌*◌, ◌-◌, ◌≤◌, ◌<◌, Bool, true, false, List, ◌∷◌, ◌++◌, ◌⊎◌, length, Option, None, Some}
 use Rattle.words.specs.Count.{Ends}
 use Rattle.model.specs.Text.{Bytes}
 use Rattle.model.specs.Kind.{pattern_part, pattern_element}
@@ -31,8 +30,8 @@ use Rattle.words.specs.Places.{kind_at, node_kind, rel_kind, element_named_at, e
 
 -- the last operator and its node's number, as the definition has them
 abbrev pub last_of : Last → Option (ℕ × ℕ)
-last_of last.Nothing = none
-last_of (last.Op k n) = some (k, n)
+last_of last.Nothing = None
+last_of (last.Op k n) = Some (k, n)
 
 -- whether a node stands before
 abbrev pub has_last : Last → Bool
@@ -41,8 +40,8 @@ has_last (last.Op k n) = true
 
 -- the line of the rel that waits
 abbrev pub pending_line : Pending → Option ℕ
-pending_line pending.Nothing = none
-pending_line (pending.Rel i x) = some (suc i)
+pending_line pending.Nothing = None
+pending_line (pending.Rel i x) = Some (suc i)
 
 abbrev pub from_of : Pending → ℕ → ℕ
 from_of pending.Nothing next = next
@@ -63,8 +62,8 @@ pub record ReadAt (a b : List ℕ) (i c : ℕ) (x : Read) : Type 0 where
 
 -- the rel that waits, whose records end where the next element stands
 pub data Waiting (sheet : Bytes) (a b : List ℕ) (d : ℕ) (ch : Chain) (o : Option RelStep) : Type 0 where
-  no_rel_law : ch.pending ≡ pending.Nothing → o ≡ none → Waiting sheet a b d ch o
-  a_rel : (rel : ℕ) (x : Read) → ch.pending ≡ pending.Rel rel x → ReadAt a b rel rel_props_at x → (t : Tree pattern_element) (r : RelStep) → Held sheet a b t d rel → step_of t ≡ of_rel r → ch.next ≡ rel + size t → o ≡ some r → Waiting sheet a b d ch o
+  no_rel_law : ch.pending ≡ pending.Nothing → o ≡ None → Waiting sheet a b d ch o
+  a_rel : (rel : ℕ) (x : Read) → ch.pending ≡ pending.Rel rel x → ReadAt a b rel rel_props_at x → (t : Tree pattern_element) (r : RelStep) → Held sheet a b t d rel → step_of t ≡ of_rel r → ch.next ≡ rel + size t → o ≡ Some r → Waiting sheet a b d ch o
 
 -- the chain as the code has it is the one that the definition has
 pub record SameChain (sheet : Bytes) (a b : List ℕ) (d : ℕ) (ch : Chain) (c : Lower.Chain) : Type 0 where

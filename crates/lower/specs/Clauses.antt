@@ -1,6 +1,5 @@
 -- What the lowering of a clause promises: the operator that it leaves, the notes of both passes over its records (those of the second pass over a `return` from second_pass on, those of the first, and of all else, from 0 on), and the room that it takes. Assumes nothing: these are definitions.
-use Rattle.std.specs.Prelude.{◌≡◌, ℕ, suc, ◌+◌, ◌*◌, ◌≤◌, ◌<◌, List, ◌∷◌, length}
-use Rattle.std.proofs.Math.Option.{Option, none, some}
+use Rattle.std.specs.Prelude.{◌≡◌, ℕ, suc, ◌+◌, ◌*◌, ◌≤◌, ◌<◌, List, ◌∷◌, length, Option, None, Some}
 use Rattle.model.specs.Text.{Bytes}
 use Rattle.model.specs.Kind.{clause}
 use Rattle.model.specs.Tree.{Tree}
@@ -35,8 +34,8 @@ pub record BothBlank (W : Written) (lo hi : ℕ) : Type 0 where
 
 -- an operator that is left, if there is one
 abbrev pub Stands : Option ℕ → Mem → Type 0
-Stands none m = Unit {0}
-Stands (some k) m = k < m.ctx.ops
+Stands None m = Unit {0}
+Stands (Some k) m = k < m.ctx.ops
 
 -- the lowering L leaves the operator o
 pub record Leaves (S : Side) (W : Written) (L : Lowering (Option ℕ)) (o : Option ℕ) (lo hi : ℕ) (s : State) (m m' : Mem) : Type 0 where

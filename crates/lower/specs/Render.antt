@@ -1,6 +1,5 @@
 -- What trees come to in the plan, read off the numbers that are noted at their records: a note is kept by the record's line, and a pattern's copy is of the operator noted at it. Assumes nothing: these are definitions.
-use Rattle.std.specs.Prelude.{ℕ, ◌≤◌, ◌<◌, Bool, true, false, cond, List, [], ◌∷◌, ◌++◌}
-use Rattle.std.proofs.Math.Option.{Option, none, some}
+use Rattle.std.specs.Prelude.{ℕ, ◌≤◌, ◌<◌, Bool, true, false, cond, List, [], ◌∷◌, ◌++◌, Option, None, Some}
 use Rattle.model.specs.Text.{Bytes}
 use Rattle.model.specs.Field.{Fields}
 use Rattle.model.specs.Kind.{Sort, Kind, PatternElement, Expr}
@@ -116,14 +115,14 @@ spec_recs N A (node pattern_element line k f kids) = spec_rec k f ∷ render_in 
 
 -- the numbers of a path: every node's, and a rel's where a node stands before it and the next element is a node
 unfoldable pub kept_rel : Notes → Bool → Option ℕ → List ℕ
-kept_rel N seen none = []
-kept_rel N false (some line) = []
-kept_rel N true (some line) = N line ∷ []
+kept_rel N seen None = []
+kept_rel N false (Some line) = []
+kept_rel N true (Some line) = N line ∷ []
 
 unfoldable pub kept_from : Notes → Bool → Option ℕ → {n : ℕ} → Trees pattern_element n → List ℕ
 kept_from N seen waits []ᵗ = []
-kept_from N seen waits (node pattern_element line PatternElement.Node f kids ∷ᵗ ts) = kept_rel N seen waits ++ (N line ∷ kept_from N true none ts)
-kept_from N seen waits (node pattern_element line PatternElement.Rel f kids ∷ᵗ ts) = kept_from N seen (some line) ts
+kept_from N seen waits (node pattern_element line PatternElement.Node f kids ∷ᵗ ts) = kept_rel N seen waits ++ (N line ∷ kept_from N true None ts)
+kept_from N seen waits (node pattern_element line PatternElement.Rel f kids ∷ᵗ ts) = kept_from N seen (Some line) ts
 
 -- ── the items of a `return`, parted into keys and aggregates ──
 

@@ -1,6 +1,5 @@
 -- What the words of a stored operator stand for: its kind tells the records, over trees that the words hold and the notes of one pass. Assumes nothing: these are definitions.
-use Rattle.std.specs.Prelude.{◌≡◌, ℕ, suc, ◌+◌, ◌≤◌, ◌<◌, Bool, false, [], ◌∷◌, ◌++◌, eqb}
-use Rattle.std.proofs.Math.Option.{none}
+use Rattle.std.specs.Prelude.{◌≡◌, ℕ, suc, ◌+◌, ◌≤◌, ◌<◌, Bool, false, [], ◌∷◌, ◌++◌, eqb, None}
 use Rattle.model.specs.Field.{Fields}
 use Rattle.model.specs.Kind.{Clause, ReadOp, clause, projection, order_item, pattern_element, name, yield_item, expr}
 use Rattle.model.specs.Record.{Rec, one, all_shortest, forms}
@@ -61,7 +60,7 @@ module _ (S : Side) (N : Notes) (A : Ops) (k : ℕ) (o : Op) where
     pub elements : Trees pattern_element count
     pub counted : count ≡ cell S.a S.b o.idx part_elements_at
     pub held : HeldOf S.sheet S.a S.b elements o.left (o.idx + 1)
-    pub is : recs ≡ op ReadOp.BindPath (o.input, (o.y, (o.x, tt))) ∷ path_elements (kept_from (shift N o.base) false none elements)
+    pub is : recs ≡ op ReadOp.BindPath (o.input, (o.y, (o.x, tt))) ∷ path_elements (kept_from (shift N o.base) false None elements)
 
   -- a shortest part: its own note is the path's number, those of its first and last element the ends'
   pub record ByShortest (recs : Recs) : Type 0 where

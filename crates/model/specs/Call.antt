@@ -1,6 +1,5 @@
 -- The calls, for all arguments: the tests in the order of the table of refusals, and the answer. Assumes nothing: these are definitions.
-use Rattle.std.specs.Prelude.{ℕ, ◌*◌, ◌≤◌, Bool, false, cond, ◌||◌, List, [], ◌∷◌, ◌++◌, ltb, length, drop}
-use Rattle.std.proofs.Math.Option.{Option, none, some}
+use Rattle.std.specs.Prelude.{ℕ, ◌*◌, ◌≤◌, Bool, false, cond, ◌||◌, List, [], ◌∷◌, ◌++◌, ltb, length, drop, Option, None, Some}
 use Rattle.model.specs.Text.{Bytes}
 use Rattle.model.specs.Kind.{statement}
 use Rattle.model.specs.Tree.{Tree, records}
@@ -54,8 +53,8 @@ test_reading (refused r) = refuse r
 
 -- 5
 unfoldable pub test_write : Tree statement → Option ℕ → Test (Tree statement)
-test_write t none = pass t
-test_write t (some l) = refuse (Refusal.WriteClause l)
+test_write t None = pass t
+test_write t (Some l) = refuse (Refusal.WriteClause l)
 
 -- 6 to 8
 unfoldable pub test_check : Tree statement → Verdict → Test (Tree statement)

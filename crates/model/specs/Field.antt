@@ -1,7 +1,6 @@
 -- The forms of a record's fields: the values of each, its spelling, and its reading. Assumes nothing: these are definitions.
-use Rattle.std.specs.Prelude.{ℕ, zero, suc, Bool, true, false, cond, ◌&&◌, leb, ℤ, pos, negsuc, take, drop}
+use Rattle.std.specs.Prelude.{ℕ, zero, suc, Bool, true, false, cond, ◌&&◌, leb, ℤ, pos, negsuc, take, drop, Option, None, Some}
 use mathlib.Core.List.{List, [], ◌∷◌, ◌++◌, tail}
-use Rattle.std.proofs.Math.Option.{Option, none, some}
 use Rattle.model.specs.Text.{Bytes, dash, equals, digit0, digit1, bytes, same, same_by, decimal, value, signed, signed_value, hex_digits, hex_value, escape, unescape}
 
 abbrev pub u32 : ℕ
@@ -88,12 +87,12 @@ spell_flag false = digit0 ∷ []
 spell_flag true = digit1 ∷ []
 
 unfoldable pub spell_option : Option ℕ → Bytes
-spell_option none = dash
-spell_option (some n) = decimal n
+spell_option None = dash
+spell_option (Some n) = decimal n
 
 unfoldable pub spell_alias : Option Bytes → Bytes
-spell_alias none = dash
-spell_alias (some t) = equals ∷ escape t
+spell_alias None = dash
+spell_alias (Some t) = equals ∷ escape t
 
 unfoldable pub spell_length : RelLength → List Bytes
 spell_length Single = bytes "one" ∷ dash ∷ dash ∷ []
@@ -116,8 +115,8 @@ spell length l = spell_length l
 
 -- the range of a form's values
 unfoldable pub fits_option : ℕ → Option ℕ → Bool
-fits_option l none = true
-fits_option l (some n) = leb n l
+fits_option l None = true
+fits_option l (Some n) = leb n l
 
 unfoldable pub fits_int : ℤ → Bool
 fits_int (pos n) = leb n i64
@@ -144,10 +143,10 @@ fits length l = fits_length l
 
 -- what the pieces could mean at best
 unfoldable pub option_value : Bytes → Option ℕ
-option_value s = cond (same s dash) none (some (value s))
+option_value s = cond (same s dash) None (Some (value s))
 
 unfoldable pub alias_value : Bytes → Option Bytes
-alias_value s = cond (same s dash) none (some (unescape (tail s)))
+alias_value s = cond (same s dash) None (Some (unescape (tail s)))
 
 unfoldable pub length_value : Bytes → Bytes → Bytes → RelLength
 length_value k min max = cond (same k (bytes "one")) Single (Variable (option_value min) (option_value max))
@@ -177,7 +176,7 @@ meaning length ps = length_value (piece 0 ps) (piece 1 ps) (piece 2 ps)
 unfoldable pub read : (f : Form) → List Bytes → Option (Val f)
 read f ps =
     let v = meaning f ps in
-    cond (fits f v && same_by (λ s t. same s t) (spell f v) ps) (some v) none
+    cond (fits f v && same_by (λ s t. same s t) (spell f v) ps) (Some v) None
 
 -- the fields of a record
 abbrev pub Fields : List Form → Type 0
@@ -189,11 +188,11 @@ spell_fields [] _ = []
 spell_fields (f ∷ fs) (v, vs) = spell f v ++ spell_fields fs vs
 
 unfoldable pub both : {A B : Type 0} → Option A → Option B → Option (A × B)
-both none o = none
-both (some a) none = none
-both (some a) (some b) = some (a, b)
+both None o = None
+both (Some a) None = None
+both (Some a) (Some b) = Some (a, b)
 
 unfoldable pub read_fields : (fs : List Form) → List Bytes → Option (Fields fs)
-read_fields [] [] = some tt
-read_fields [] (p ∷ ps) = none
+read_fields [] [] = Some tt
+read_fields [] (p ∷ ps) = None
 read_fields (f ∷ fs) ps = both (read f (take (width f) ps)) (read_fields fs (drop (width f) ps))

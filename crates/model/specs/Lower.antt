@@ -1,6 +1,5 @@
 -- The lowering of a checked statement to operators, function by function as in lower.rs. An operator is the list of its plan records; a copy of it is that list again. Assumes nothing: these are definitions.
-use Rattle.std.specs.Prelude.{ℕ, zero, suc, ◌+◌, Bool, true, false, cond, ◌||◌, List, [], ◌∷◌, ◌++◌, map, eqb, leb, length}
-use Rattle.std.proofs.Math.Option.{Option, none, some}
+use Rattle.std.specs.Prelude.{ℕ, zero, suc, ◌+◌, Bool, true, false, cond, ◌||◌, List, [], ◌∷◌, ◌++◌, map, eqb, leb, length, Option, None, Some}
 use Rattle.model.specs.Text.{Bytes, bytes, same, decimal}
 use Rattle.model.specs.Field.{Fields, RelLength}
 use Rattle.model.specs.Kind.{Sort, Kind, Clause, PatternElement, Same, Expr, ReadOp, PlanExpr}
@@ -49,8 +48,8 @@ unfoldable pub copy : ℕ → Lowering Recs
 copy k = λ c. (at c.ops k, c)
 
 unfoldable pub lookup : List (ℕ × ℕ) → ℕ → Option ℕ
-lookup [] id = none
-lookup (v ∷ vs) id = cond (eqb v.0 id) (some v.1) (lookup vs id)
+lookup [] id = None
+lookup (v ∷ vs) id = cond (eqb v.0 id) (Some v.1) (lookup vs id)
 
 -- a number is issued from the scope alone
 unfoldable pub issue : (Scope → ℕ × Scope) → Lowering ℕ
@@ -58,8 +57,8 @@ issue f = λ c. let r = f c.scope in (r.0, record { ops = c.ops; scope = r.1 })
 
 -- the number of a variable that has one, or the next one, which it then has
 unfoldable pub numbered : ℕ → Option ℕ → Scope → ℕ × Scope
-numbered id (some n) s = (n, s)
-numbered id none s = (s.next_var, record { vars = (id, s.next_var) ∷ s.vars; next_var = suc s.next_var })
+numbered id (Some n) s = (n, s)
+numbered id None s = (s.next_var, record { vars = (id, s.next_var) ∷ s.vars; next_var = suc s.next_var })
 
 unfoldable pub map_var : ℕ → Lowering ℕ
 map_var id = issue (λ s. numbered id (lookup s.vars id) s)
@@ -73,8 +72,8 @@ unfoldable pub upcoming : Lowering ℕ
 upcoming = issue (λ s. (s.next_var, s))
 
 unfoldable pub endpoint_var : Option ℕ → Lowering ℕ
-endpoint_var none = fresh
-endpoint_var (some id) = map_var id
+endpoint_var None = fresh
+endpoint_var (Some id) = map_var id
 
 -- steps one after another, their records in that order
 unfoldable pub in_order : List (Lowering Recs) → Lowering Recs
@@ -106,8 +105,8 @@ push_source_all = do
 
 -- the operator before, or a source of everything
 unfoldable pub or_source_all : Option ℕ → Lowering ℕ
-or_source_all none = push_source_all
-or_source_all (some k) = ret k
+or_source_all None = push_source_all
+or_source_all (Some k) = ret k
 
 -- ── patterns, out of what was made of their elements ──
 
@@ -116,12 +115,12 @@ abbrev pub Props : Type 0
 Props = Option (Lowering Recs)
 
 unfoldable pub has : {A : Type 0} → Option A → Bool
-has none = false
-has (some a) = true
+has None = false
+has (Some a) = true
 
 unfoldable pub lower_props : Props → Lowering Recs
-lower_props none = ret []
-lower_props (some m) = m
+lower_props None = ret []
+lower_props (Some m) = m
 
 pub record NodeStep : Type 0 where
   pub bind : Option ℕ
@@ -151,8 +150,8 @@ node_recs n props = rec (in_plan node_spec) tt (length n.labels, (has n.props, t
 
 -- a filter by a node's props, if it has any
 unfoldable pub filter_by_props : ℕ → Props → Lowering ℕ
-filter_by_props k none = ret k
-filter_by_props k (some m) = do
+filter_by_props k None = ret k
+filter_by_props k (Some m) = do
   predicate ← m
   push (filter k predicate)
 
@@ -166,23 +165,23 @@ unfoldable pub start_node : Chain → NodeStep → ℕ → Lowering Chain
 start_node c n bind = do
   k ← push (source bind n.labels)
   root ← filter_by_props k n.props
-  ret (record { last = some (root, bind); pending = none; path = c.path ++ (bind ∷ []) })
+  ret (record { last = Some (root, bind); pending = None; path = c.path ++ (bind ∷ []) })
 
 unfoldable pub expand_to : Chain → NodeStep → RelStep → ℕ → ℕ → ℕ → Lowering Chain
 expand_to c n r input origin bind_to = do
   spec ← lower_rel_element r
   props ← lower_props n.props
   k ← push (op ReadOp.Expand (input, (origin, (spec.0, (bind_to, tt)))) ∷ (spec.1 ++ node_recs n props))
-  ret (record { last = some (k, bind_to); pending = none; path = c.path ++ (spec.0 ∷ bind_to ∷ []) })
+  ret (record { last = Some (k, bind_to); pending = None; path = c.path ++ (spec.0 ∷ bind_to ∷ []) })
 
 unfoldable pub reach : Chain → NodeStep → ℕ → Option RelStep → Option (ℕ × ℕ) → Lowering Chain
-reach c n bind none l = start_node c n bind
-reach c n bind (some r) none = start_node c n bind
-reach c n bind (some r) (some l) = expand_to c n r l.0 l.1 bind
+reach c n bind None l = start_node c n bind
+reach c n bind (Some r) None = start_node c n bind
+reach c n bind (Some r) (Some l) = expand_to c n r l.0 l.1 bind
 
 -- the next element: a rel waits, in place of one that waited; a node is numbered before the rel that leads to it
 unfoldable pub lower_element : Chain → Step → Lowering Chain
-lower_element c (of_rel r) = ret (record { last = c.last; pending = some r; path = c.path })
+lower_element c (of_rel r) = ret (record { last = c.last; pending = Some r; path = c.path })
 lower_element c (of_node n) = do
   bind ← endpoint_var n.bind
   reach c n bind c.pending c.last
@@ -194,8 +193,8 @@ lower_elements c (s ∷ ss) = do
   lower_elements d ss
 
 unfoldable pub root_of : Option (ℕ × ℕ) → Option ℕ
-root_of none = none
-root_of (some l) = some l.0
+root_of None = None
+root_of (Some l) = Some l.0
 
 unfoldable pub path_elements : List ℕ → Recs
 path_elements [] = []
@@ -203,14 +202,14 @@ path_elements (n ∷ ns) = rec (in_plan path_element) tt (n, tt) ∷ path_elemen
 
 -- a named part ends in its path, whose number comes last
 unfoldable pub bind_path : Option ℕ → ℕ → List ℕ → Lowering ℕ
-bind_path none root path = ret root
-bind_path (some id) root path = do
+bind_path None root path = ret root
+bind_path (Some id) root path = do
   bind ← map_var id
   push (op ReadOp.BindPath (root, (bind, (length path, tt))) ∷ path_elements path)
 
 unfoldable pub lower_chain : Option ℕ → List Step → Lowering ℕ
 lower_chain named_as steps = do
-  c ← lower_elements (record { last = none; pending = none; path = [] }) steps
+  c ← lower_elements (record { last = None; pending = None; path = [] }) steps
   root ← or_source_all (root_of c.last)
   bind_path named_as root c.path
 
@@ -269,8 +268,8 @@ lower_parts (p ∷ ps) = do
 
 unfoldable pub optional_join : Bool → Option ℕ → ℕ → Lowering ℕ
 optional_join false current root = ret root
-optional_join true none root = ret root
-optional_join true (some outer) root = do
+optional_join true None root = ret root
+optional_join true (Some outer) root = do
   inner ← copy root
   push (op ReadOp.OptionalJoin (outer, tt) ∷ inner)
 
@@ -297,8 +296,8 @@ Lowered expr = Lowering Recs
 Lowered (in_plan p) = Unit {0}
 
 unfoldable pub props_of : (b : Bool) → Many (Lowering Recs) (one b) → Props
-props_of false _ = none
-props_of true (m, _) = some m
+props_of false _ = None
+props_of true (m, _) = Some m
 
 -- a record over its children in order
 unfoldable pub over : Rec → (n : ℕ) → Many (Lowering Recs) n → Lowering Recs
@@ -330,7 +329,7 @@ expr_step Expr.Var (id, t) _ = do
 expr_step Expr.Map (n, t) (es, _) = over (expr_head no_note Expr.Map (n, t)) n es
 expr_step Expr.Call (func, (n, t)) (args, _) = over (expr_head no_note Expr.Call (func, (n, t))) n args
 expr_step Expr.PatternPredicate (n, t) (parts, _) = do
-  k ← lower_match_pattern (to_list n parts) none false
+  k ← lower_match_pattern (to_list n parts) None false
   inner ← copy k
   ret (expr_head k Expr.PatternPredicate (n, t) ∷ inner)
 expr_step Expr.ListPredicate (kind, (id, (pred, t))) (es, _) = do
@@ -407,8 +406,8 @@ unfoldable pub synthesise_alias : Tree expr → Bytes
 synthesise_alias (node expr line k f kids) = expr_alias k f
 
 unfoldable pub alias_or : Option Bytes → Bytes → Bytes
-alias_or none t = t
-alias_or (some a) t = a
+alias_or None t = t
+alias_or (Some a) t = a
 
 unfoldable pub item : Bytes → Recs → Recs
 item alias rs = rec (in_plan plan_projection) tt (alias, tt) ∷ rs
@@ -537,19 +536,19 @@ aggregate_if (suc n) input s = push (op ReadOp.Aggregate (input, (s.keys, (s.agg
 unfoldable pub lower_clause : Tree clause → Option ℕ → Lowering (Option ℕ)
 lower_clause (node clause line Clause.Match (optional, _) (parts ▸ end)) current = do
   k ← lower_match_pattern (lower_pattern parts) current optional
-  ret (some k)
+  ret (Some k)
 lower_clause (node clause line Clause.Where f (e ∷ᵗ []ᵗ ▸ end)) current = do
   predicate ← lower_expr e
   input ← or_source_all current
   k ← push (filter input predicate)
-  ret (some k)
+  ret (Some k)
 lower_clause (node clause line Clause.With (n, (filtered, _)) (items ▸ predicate ▸ keys ▸ skip ▸ limit ▸ end)) current = do
   input ← or_source_all current
   rs ← lower_projections items
   ss ← lower_exprs predicate
   k ← push (op ReadOp.With (input, (n, (filtered, tt))) ∷ (rs ++ ss))
   root ← lower_trailers k keys skip limit
-  ret (some root)
+  ret (Some root)
 lower_clause (node clause line Clause.Return (n, (distinct, _)) (items ▸ keys ▸ skip ▸ limit ▸ end)) current = do
   input ← or_source_all current
   first ← split_projections_agg items
@@ -558,18 +557,18 @@ lower_clause (node clause line Clause.Return (n, (distinct, _)) (items ▸ keys 
   b ← push (op ReadOp.Project (a, (n, tt)) ∷ rs)
   d ← distinct_if distinct b
   root ← lower_trailers d keys skip limit
-  ret (some root)
+  ret (Some root)
 lower_clause (node clause line Clause.Unwind (id, _) (e ∷ᵗ []ᵗ ▸ end)) current = do
   input ← or_source_all current
   rs ← lower_expr e
   bind ← map_var id
   k ← push (op ReadOp.Unwind (input, (bind, tt)) ∷ rs)
-  ret (some k)
+  ret (Some k)
 lower_clause (node clause line Clause.Call (procedure, (args, (yields, (optional, _)))) (es ▸ ys ▸ end)) current = do
   rs ← lower_exprs es
   ss ← lower_yields ys
   k ← push (op ReadOp.ProcedureCall (current, (procedure, (args, (yields, (optional, tt))))) ∷ (rs ++ ss))
-  ret (some k)
+  ret (Some k)
 lower_clause (node clause line Clause.Write f kids) current = ret current
 
 unfoldable pub lower_clauses : {n : ℕ} → Trees clause n → Option ℕ → Lowering (Option ℕ)
@@ -583,16 +582,16 @@ lower_clauses (c ∷ᵗ cs) current = do
 unfoldable pub lower_arms : {n : ℕ} → Trees union_arm n → Option ℕ → Lowering (Option ℕ)
 lower_arms []ᵗ root = ret root
 lower_arms (node union_arm line k (all, _) (cs ▸ end) ∷ᵗ arms) root = do
-  below ← lower_clauses cs none
+  below ← lower_clauses cs None
   left ← or_source_all root
   right ← or_source_all below
   both ← push (op ReadOp.Union (left, (right, (all, tt))) ∷ [])
-  lower_arms arms (some both)
+  lower_arms arms (Some both)
 
 -- the operator that the lowering ends on, where there is one
 unfoldable pub lower : Tree statement → Lowering (Option ℕ)
 lower (node statement line k f (cs ▸ arms ▸ end)) = do
-  head ← lower_clauses cs none
+  head ← lower_clauses cs None
   lower_arms arms head
 
 unfoldable pub empty : LowerCtx

@@ -1,6 +1,5 @@
 -- The record table of both sheets: of each kind its keyword, its fields and its children. A line is a keyword and fields. Assumes nothing: these are definitions.
-use Rattle.std.specs.Prelude.{ℕ, zero, suc, ◌+◌, ◌*◌, Bool, true, false, cond, List, [], ◌∷◌, ◌++◌, map}
-use Rattle.std.proofs.Math.Option.{Option, none, some}
+use Rattle.std.specs.Prelude.{ℕ, zero, suc, ◌+◌, ◌*◌, Bool, true, false, cond, List, [], ◌∷◌, ◌++◌, map, Option, None, Some}
 use Rattle.model.specs.Text.{Bytes, bytes, same, split, join, tab, line_feed}
 use Rattle.model.specs.Field.{Form, Val, num, flag, var, var_or_absent, num_or_absent, number, number_or_absent, operator, variable, int, float, text, alias, span, length, u32, Fields, spell_fields, read_fields}
 use Rattle.model.specs.Kind.{Sort, PlanSort, Kind, PlanKind, Clause, PatternElement, Same, Expr, ReadOp, PlanExpr}
@@ -416,8 +415,8 @@ rec s k f = record { sort = s; kind = k; fields = f }
 
 -- the numbers of operators among fields
 abbrev pub of_option : Option ℕ → List ℕ
-of_option none = []
-of_option (some k) = k ∷ []
+of_option None = []
+of_option (Some k) = k ∷ []
 
 abbrev pub operator_in : (f : Form) → Val f → List ℕ
 operator_in (num l) v = []
@@ -454,20 +453,20 @@ spell_recs (r ∷ rs) = spell_rec r ++ spell_recs rs
 
 -- the kind that a keyword names among some of a sort
 unfoldable pub kind_named : (s : Sort) → Bytes → List (Kind s) → Option (Kind s)
-kind_named s w [] = none
-kind_named s w (k ∷ ks) = cond (same w (keyword s k)) (some k) (kind_named s w ks)
+kind_named s w [] = None
+kind_named s w (k ∷ ks) = cond (same w (keyword s k)) (Some k) (kind_named s w ks)
 
 -- a line without its line feed, read as a record of a sort
 abbrev pub RecOf : Sort → Type 0
 RecOf s = (k : Kind s) × Fields (forms s k)
 
 unfoldable pub with_fields : (s : Sort) (k : Kind s) → Option (Fields (forms s k)) → Option (RecOf s)
-with_fields s k none = none
-with_fields s k (some f) = some (k, f)
+with_fields s k None = None
+with_fields s k (Some f) = Some (k, f)
 
 unfoldable pub read_as : (s : Sort) → List Bytes → Option (Kind s) → Option (RecOf s)
-read_as s ps none = none
-read_as s ps (some k) = with_fields s k (read_fields (forms s k) ps)
+read_as s ps None = None
+read_as s ps (Some k) = with_fields s k (read_fields (forms s k) ps)
 
 unfoldable pub read_rec : (s : Sort) → Bytes → Option (RecOf s)
 read_rec s l = let p = split tab l in read_as s p.more (kind_named s p.first (kinds s))

@@ -1,6 +1,5 @@
 -- Reading a sheet: refusals 3 and 4 at a line, or the tree; then refusal 5. Assumes nothing: these are definitions.
-use Rattle.std.specs.Prelude.{ℕ, zero, suc, Bool, true, false, cond, ◌||◌, List, [], ◌∷◌, ltb}
-use Rattle.std.proofs.Math.Option.{Option, none, some}
+use Rattle.std.specs.Prelude.{ℕ, zero, suc, Bool, true, false, cond, ◌||◌, List, [], ◌∷◌, ltb, Option, None, Some}
 use Rattle.model.specs.Text.{Bytes, split, line_feed}
 use Rattle.model.specs.Kind.{Sort, Clause, statement, union_arm, clause}
 use Rattle.model.specs.Record.{Group, RecOf, read_rec, children, beside}
@@ -34,8 +33,8 @@ abbrev pub Reader : Type 0 → Type 0
 Reader A = Place → Reading A
 
 unfoldable pub formed : {A : Type 0} → ℕ → Place → Option A → Reading A
-formed line p none = refused (Refusal.BadLine line)
-formed line p (some a) = got a p
+formed line p None = refused (Refusal.BadLine line)
+formed line p (Some a) = got a p
 
 -- A record is due. No line feed gives 3, then too many lines or too deep gives 4, then another form than the due one 3.
 unfoldable pub line_at : (s : Sort) (deep : Bool) (line : ℕ) (text : Bytes) → List Bytes → Reading (RecOf s)
@@ -77,24 +76,24 @@ read_sheet d sheet =
 
 -- the line of the first `write`
 unfoldable pub or_else : {A : Type 0} → Option A → Option A → Option A
-or_else none o = o
-or_else (some a) o = some a
+or_else None o = o
+or_else (Some a) o = Some a
 
 unfoldable pub is_write : Tree clause → Option ℕ
-is_write (node clause line Clause.Match f kids) = none
-is_write (node clause line Clause.Where f kids) = none
-is_write (node clause line Clause.With f kids) = none
-is_write (node clause line Clause.Return f kids) = none
-is_write (node clause line Clause.Unwind f kids) = none
-is_write (node clause line Clause.Call f kids) = none
-is_write (node clause line Clause.Write f kids) = some line
+is_write (node clause line Clause.Match f kids) = None
+is_write (node clause line Clause.Where f kids) = None
+is_write (node clause line Clause.With f kids) = None
+is_write (node clause line Clause.Return f kids) = None
+is_write (node clause line Clause.Unwind f kids) = None
+is_write (node clause line Clause.Call f kids) = None
+is_write (node clause line Clause.Write f kids) = Some line
 
 unfoldable pub write_in : {n : ℕ} → Trees clause n → Option ℕ
-write_in []ᵗ = none
+write_in []ᵗ = None
 write_in (c ∷ᵗ cs) = or_else (is_write c) (write_in cs)
 
 unfoldable pub write_in_arms : {n : ℕ} → Trees union_arm n → Option ℕ
-write_in_arms []ᵗ = none
+write_in_arms []ᵗ = None
 write_in_arms (node union_arm line k f (cs ▸ end) ∷ᵗ arms) = or_else (write_in cs) (write_in_arms arms)
 
 unfoldable pub first_write : Tree statement → Option ℕ

@@ -1,7 +1,6 @@
 -- The text of a line of numbers, of one with a name before them, and of a signed number's. Assumes nothing: these are definitions.
-use Rattle.std.specs.Prelude.{◌≡◌, ℕ, suc, ◌+◌, ◌≤◌, ◌<◌, List, [], ◌∷◌, ◌++◌, map, ℤ, length}
+use Rattle.std.specs.Prelude.{◌≡◌, ℕ, suc, ◌+◌, ◌≤◌, ◌<◌, List, [], ◌∷◌, ◌++◌, map, ℤ, length, Option}
 use Rattle.model.specs.Text.{Bytes, tab, line_feed, behind, decimal, signed, max_digits}
-use Rattle.std.proofs.Math.Option.{Option}
 use Rattle.model.specs.Field.{spell_option}
 use Rattle.plan_line.specs.Keywords.{word, word_count, int_word, rel_word, call_word}
 

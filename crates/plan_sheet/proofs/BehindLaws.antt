@@ -4,7 +4,7 @@ use Prim.Native.Nat.{ℕ, suc, ◌+◌, ◌-◌, ◌<◌}
 use native.Mathlib.Omega.{arith}
 use mathlib.Core.Bool.{false, true}
 use mathlib.Core.List.{List, [], ◌∷◌, ◌++◌, append-nil}
-use mathlib.Core.Option.{none}
+use Rattle.std.specs.Prelude.{None}
 use borrow.Author.Tests.{ne_eqb, eqb-false}
 use lib.Dec.{eqb}
 use lib.ListN.{length}
@@ -234,8 +234,8 @@ module _ {sheet : Bytes} {a b rest : List ℕ} {o : Op} where
   labels_tail : {n i : ℕ} → o.kind ≡ source_kind → n ≡ cell a b o.idx node_labels_at → (y : Names sheet a b n i) → Tail sheet a b rest o i (names_recs y)
   labels_tail {n} {i} e c = subst (λ (n : ℕ). (y : Names sheet a b n i) → Tail sheet a b rest o i (names_recs y)) (sym c) (λ y. Behind.labels e y)
 
-  path_tail : {n i : ℕ} → o.kind ≡ bind_path_kind → n ≡ cell a b o.idx part_elements_at → (y : Elements sheet a b n i) → Tail sheet a b rest o i (path_elements (kept_from (shift (noted rest) o.base) false none y.trees))
-  path_tail {n} {i} e c = subst (λ (n : ℕ). (y : Elements sheet a b n i) → Tail sheet a b rest o i (path_elements (kept_from (shift (noted rest) o.base) false none y.trees))) (sym c) (λ y. Behind.path e y)
+  path_tail : {n i : ℕ} → o.kind ≡ bind_path_kind → n ≡ cell a b o.idx part_elements_at → (y : Elements sheet a b n i) → Tail sheet a b rest o i (path_elements (kept_from (shift (noted rest) o.base) false None y.trees))
+  path_tail {n} {i} e c = subst (λ (n : ℕ). (y : Elements sheet a b n i) → Tail sheet a b rest o i (path_elements (kept_from (shift (noted rest) o.base) false None y.trees))) (sym c) (λ y. Behind.path e y)
 
   yields_tail : {n i : ℕ} → o.kind ≡ procedure_call_kind → n ≡ cell a b o.idx call_yields_at → (y : Yields sheet a b n i) → Tail sheet a b rest o i (yields_recs (shift (noted rest) o.base) y)
   yields_tail {n} {i} e c = subst (λ (n : ℕ). (y : Yields sheet a b n i) → Tail sheet a b rest o i (yields_recs (shift (noted rest) o.base) y)) (sym c) (λ y. Behind.yields e y)

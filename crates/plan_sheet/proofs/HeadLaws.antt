@@ -4,7 +4,8 @@ use Prim.Native.Nat.{ℕ, ◌+◌, ◌≤◌, ◌<◌}
 use native.Mathlib.Omega.{arith}
 use mathlib.Core.Bool.{Bool, true, false, cond}
 use mathlib.Core.List.{List, [], ◌∷◌, append-nil}
-use mathlib.Core.Option.{Option, none, some, some-injective}
+use Rattle.std.specs.Prelude.{Option, None, Some}
+use Rattle.std.proofs.lemmas.Option.{same_Some}
 use borrow.Author.Tests.{ltb-false}
 use lib.Dec.{ltb}
 use Rattle.model.specs.Text.{Bytes, bytes, bytes_from}
@@ -43,7 +44,7 @@ not_renamed c z =
 abbrev pub lines : List ℕ
 lines = item_kind ∷ key_kind ∷ entry_kind ∷ []
 
-from_first : {A : Type 0} (t : Bool) (f n : ℕ) (o : Option A) (k : A) → t ≡ ltb n f → cond t none o ≡ some k → f ≤ n
+from_first : {A : Type 0} (t : Bool) (f n : ℕ) (o : Option A) (k : A) → t ≡ ltb n f → cond t None o ≡ Some k → f ≤ n
 from_first true f n o k l h = let z : ◌≡◌ {A = ℕ} 0 1 = cc in absurd (omega arith)
 from_first false f n o k l h = ltb-false n f (sym l)
 
@@ -84,8 +85,8 @@ module _ {sheet : Bytes} {a b : List ℕ} {i : ℕ} (room : Roomy a b) where
   pub number_is : (h : ExprAt sheet a b i) → cell a b i kind_at ≡ expr_number h.kind
   number_is h = expr_number_law (cell a b i kind_at) h.kind (shown room h.at).kind
 
-  pub kind_is : (h : ExprAt sheet a b i) (n : ℕ) (k : Expr) → cell a b i kind_at ≡ n → kind_of expr n ≡ some k → k ≡ h.kind
-  kind_is h n k e q = some-injective _ _ (sym q ∙ rw e at (shown room h.at).kind)
+  pub kind_is : (h : ExprAt sheet a b i) (n : ℕ) (k : Expr) → cell a b i kind_at ≡ n → kind_of expr n ≡ Some k → k ≡ h.kind
+  kind_is h n k e q = same_Some _ _ (sym q ∙ rw e at (shown room h.at).kind)
 
   module _ (n : ℕ) (h : ExprAt sheet a b i) where
     pub var_head : cell a b i kind_at ≡ var_kind → spell_rec (expr_head n h.kind h.fields) ≡ row_text var_word (n ∷ [])

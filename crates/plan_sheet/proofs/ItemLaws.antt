@@ -4,7 +4,7 @@ use Prim.Native.Nat.{ℕ, zero, suc, ◌+◌, ◌/◌, ◌%◌, ◌<◌}
 use native.Mathlib.Omega.{arith}
 use mathlib.Core.Bool.{Bool, true, false, cond}
 use mathlib.Core.List.{List, [], ◌∷◌, ◌++◌, append_assoc}
-use mathlib.Core.Option.{none, some}
+use Rattle.std.specs.Prelude.{None, Some}
 use borrow.Author.Tests.{ne_eqb, ltb-true}
 use lib.Dec.{ltb}
 use lib.Seq.{slice}
@@ -132,12 +132,12 @@ module _ {sheet : Bytes} {a b : List ℕ} {i : ℕ} (room : Roomy a b) (h : Expr
 
 -- ── an item ──
 
-alias_some : (sheet : Bytes) (x y : ℕ) → (x ≡ 0 → ⊥) → alias_of sheet x y ≡ some (unescape (slice x y sheet))
+alias_some : (sheet : Bytes) (x y : ℕ) → (x ≡ 0 → ⊥) → alias_of sheet x y ≡ Some (unescape (slice x y sheet))
 unfolding alias_of
 alias_some sheet zero y z = absurd (z refl)
 alias_some sheet (suc x) y z = refl
 
-alias_none : (sheet : Bytes) (x y : ℕ) → x ≡ 0 → alias_of sheet x y ≡ none
+alias_none : (sheet : Bytes) (x y : ℕ) → x ≡ 0 → alias_of sheet x y ≡ None
 unfolding alias_of
 alias_none sheet x y e = rw e
 

@@ -4,7 +4,7 @@ use Prim.Native.Nat.{ℕ, suc, ◌+◌, ◌-◌, ◌<◌}
 use native.Mathlib.Omega.{arith}
 use mathlib.Core.Bool.{Bool, true, false}
 use mathlib.Core.List.{List, [], ◌∷◌, ◌++◌, append-nil, append_assoc}
-use mathlib.Core.Option.{Option, none}
+use Rattle.std.specs.Prelude.{Option, None}
 use lib.ListN.{length, get_or}
 use Rattle.model.specs.Text.{Bytes, bytes, bytes_from}
 use Rattle.model.specs.Field.{spell, spell_fields}
@@ -90,7 +90,7 @@ module _ {sheet : Bytes} {a b rest : List ℕ} {base at kind next : ℕ} {path p
       let before : List ℕ = kept_rel (shift (noted rest) base) path.seen (waits_of path.waits) ++ (get_or rest (base + line) 0 ∷ []) in
       rw (e, n, w.0, w.1) (record {
         others = record { depth = d; trees = ts; held = h.1 };
-        text = λ r v. rw (← append_assoc (kept_rel (shift (noted rest) base) path.seen (waits_of path.waits)) (get_or rest (base + line) 0 ∷ []) (kept_from (shift (noted rest) base) true none ts), path_append before (kept_from (shift (noted rest) base) true none ts)) (rw l at w.2 ⨾ v);
+        text = λ r v. rw (← append_assoc (kept_rel (shift (noted rest) base) path.seen (waits_of path.waits)) (get_or rest (base + line) 0 ∷ []) (kept_from (shift (noted rest) base) true None ts), path_append before (kept_from (shift (noted rest) base) true None ts)) (rw l at w.2 ⨾ v);
       })
   walk {m = suc m} z d (node pattern_element line PatternElement.Rel f kids ∷ᵗ ts) h =
       let x : ElementAt sheet a b at = record { kind = PatternElement.Rel; fields = f; at = h.0.1 } in
@@ -105,7 +105,7 @@ module _ {sheet : Bytes} {a b rest : List ℕ} {base at kind next : ℕ} {path p
 
 pub record Walking (sheet : Bytes) (a b rest : List ℕ) (base n i : ℕ) (start : Page) (m at : ℕ) (path : Path) (p : Page) : Type 0 where
   pub some : Elements sheet a b m at
-  pub each : (h : Elements sheet a b n i) → Walked sheet a b rest base m at path (kept_from (shift (noted rest) base) false none h.trees) start p
+  pub each : (h : Elements sheet a b n i) → Walked sheet a b rest base m at path (kept_from (shift (noted rest) base) false None h.trees) start p
   pub low : WaitsLow path.waits
   pub long : length p.bytes ≡ length start.bytes
 

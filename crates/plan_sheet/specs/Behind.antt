@@ -1,6 +1,5 @@
 -- What stands behind the first line of an operator: so many expressions from a record on, and then its names, its path or its yields. Assumes nothing: these are definitions.
-use Rattle.std.specs.Prelude.{◌≡◌, ℕ, zero, suc, ◌+◌, false, cond, List, [], ◌∷◌, eqb}
-use Rattle.std.proofs.Math.Option.{none}
+use Rattle.std.specs.Prelude.{◌≡◌, ℕ, zero, suc, ◌+◌, false, cond, List, [], ◌∷◌, eqb, None}
 use Rattle.model.specs.Text.{Bytes}
 use Rattle.model.specs.Field.{Fields}
 use Rattle.model.specs.Kind.{yield_item}
@@ -63,7 +62,7 @@ WroteYields sheet a b rest base n i p q = (h : Yields sheet a b n i) → Puts (s
 pub data Tail (sheet : Bytes) (a b rest : List ℕ) (o : Op) (i : ℕ) : Recs → Type 0 where
   nothing : (o.kind ≡ source_kind → ⊥) → (o.kind ≡ bind_path_kind → ⊥) → (o.kind ≡ procedure_call_kind → ⊥) → Tail sheet a b rest o i []
   labels : o.kind ≡ source_kind → (h : Names sheet a b (cell a b o.idx node_labels_at) i) → Tail sheet a b rest o i (names_recs h)
-  path : o.kind ≡ bind_path_kind → (h : Elements sheet a b (cell a b o.idx part_elements_at) i) → Tail sheet a b rest o i (path_elements (kept_from (shift (noted rest) o.base) false none h.trees))
+  path : o.kind ≡ bind_path_kind → (h : Elements sheet a b (cell a b o.idx part_elements_at) i) → Tail sheet a b rest o i (path_elements (kept_from (shift (noted rest) o.base) false None h.trees))
   yields : o.kind ≡ procedure_call_kind → (h : Yields sheet a b (cell a b o.idx call_yields_at) i) → Tail sheet a b rest o i (yields_recs (shift (noted rest) o.base) h)
 
 pub record SomeTail (sheet : Bytes) (a b rest : List ℕ) (o : Op) (i : ℕ) : Type 0 where

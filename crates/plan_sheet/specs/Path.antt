@@ -1,6 +1,5 @@
 -- The numbers of a path, element by element as the code lists them. Assumes nothing: these are definitions.
-use Rattle.std.specs.Prelude.{◌≡◌, ℕ, suc, ◌≤◌, ◌<◌, true, false, List, [], ◌∷◌, ◌++◌, length}
-use Rattle.std.proofs.Math.Option.{Option, none, some}
+use Rattle.std.specs.Prelude.{◌≡◌, ℕ, suc, ◌≤◌, ◌<◌, true, false, List, [], ◌∷◌, ◌++◌, length, Option, None, Some}
 use Rattle.model.specs.Text.{Bytes}
 use Rattle.model.specs.Kind.{pattern_element}
 use Rattle.model.specs.Record.{spell_recs}
@@ -22,8 +21,8 @@ use Rattle.model.specs.Call.{work_words}
 
 -- the line of the rel that waits
 unfoldable pub waits_of : Waits → Option ℕ
-waits_of waits.Nothing = none
-waits_of (waits.Rel i) = some (suc i)
+waits_of waits.Nothing = None
+waits_of (waits.Rel i) = Some (suc i)
 
 -- the rel that waits is one of the records
 abbrev pub WaitsLow : Waits → Type 0
@@ -49,4 +48,4 @@ pub record Elements (sheet : Bytes) (a b : List ℕ) (n i : ℕ) : Type 0 where
   pub held : HeldOf sheet a b trees depth i
 
 abbrev pub WrotePath : (sheet : Bytes) (a b rest : List ℕ) (base n i : ℕ) → Page → Page → Type 0
-WrotePath sheet a b rest base n i p q = (h : Elements sheet a b n i) → Puts (spell_recs (path_elements (kept_from (shift (noted rest) base) false none h.trees))) p q
+WrotePath sheet a b rest base n i p q = (h : Elements sheet a b n i) → Puts (spell_recs (path_elements (kept_from (shift (noted rest) base) false None h.trees))) p q

@@ -11,7 +11,7 @@ use Rattle.model.specs.Kind.{Sort, expr, pattern_part, pattern_element}
 use Rattle.model.specs.Check.{Verdict, fine, no_span}
 use Rattle.words.specs.Words.{Roomy, cell, fields_of, field_of}
 use Rattle.precheck.specs.Answer.{span_of, Found}
-use Rattle.precheck.specs.Steps.{Stage, Some, Ends, Walks, Run}
+use Rattle.precheck.specs.Steps.{Stage, Exists, Ends, Walks, Run}
 use Rattle.words.specs.Numbers.{Others, expr_number_law}
 use Rattle.words.specs.Count.{count_at, is_leaf}
 use Rattle.words.proofs.Counting.{leaf_not, leaf_count}
@@ -34,13 +34,13 @@ pub record Turns (P Q : Stage) : Type 0 where
   pub to : (v : Verdict) (e : ℕ) → P v e → Q v e
 
 module _ {P Q : Stage} (t : Turns P Q) where
-  pub some_turned : Some P → Some Q
+  pub some_turned : Exists P → Exists Q
   some_turned h = record { verdict = h.verdict; next = h.next; is = t.to _ _ h.is }
 
   pub walks_turned : {r : Walk} → Walks r Q → Walks r P
   walks_turned w = record { each = λ v e p. w.each v e (t.to v e p) }
 
-module _ {a b : List ℕ} (room : Roomy a b) {s : Sort} {d : ℕ} {span : Span} {i : ℕ} (h : Some (At a b s d span i)) where
+module _ {a b : List ℕ} (room : Roomy a b) {s : Sort} {d : ℕ} {span : Span} {i : ℕ} (h : Exists (At a b s d span i)) where
   pub standing : Standing a b s d span i
   standing = let o = open_at room h.is in record { low = o.low; deep = o.deep; some = h }
 
@@ -49,7 +49,7 @@ module _ {a b : List ℕ} (room : Roomy a b) {s : Sort} {d : ℕ} {span : Span} 
 
 -- so many as a word says
 module _ {P : ℕ → Stage} {n m i : ℕ} (e : n ≡ m) where
-  pub some_counted : Some (Run P m i) → Some (Run P n i)
+  pub some_counted : Exists (Run P m i) → Exists (Run P n i)
   some_counted h = rw e h
 
   pub walks_counted : {r : Walk} → Walks r (Run P n i) → Walks r (Run P m i)

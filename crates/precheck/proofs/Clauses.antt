@@ -2,7 +2,7 @@
 use mathlib.Core.Path.{◌≡◌, refl, ◌∙◌}
 use Prim.Native.Nat.{ℕ, ◌+◌, ◌-◌, ◌≤◌}
 use mathlib.Core.List.{List, [], ◌∷◌}
-use mathlib.Core.Option.{some}
+use Rattle.std.specs.Prelude.{Some}
 use lib.Dec.{eqb}
 use borrow.Author.Tests.{ne_eqb}
 use Rattle.model.specs.Text.{Bytes}
@@ -15,7 +15,7 @@ use Rattle.model.specs.Record.{one, kinds, clause_forms}
 use Rattle.model.specs.Check.{Verdict, no_span, of_record, precheck_statement}
 use Rattle.words.specs.Words.{Roomy, cell, kind_of, first_kind, nth, fields_of, field_of}
 use Rattle.precheck.specs.Answer.{span_of}
-use Rattle.precheck.specs.Steps.{Some, Then, Walks, Run}
+use Rattle.precheck.specs.Steps.{Exists, Then, Walks, Run}
 use Rattle.words.specs.Cells.{flag_word, cells}
 use Rattle.words.specs.Numbers.{Others, clause_number, clause_number_law}
 use Rattle.precheck.specs.Stands.{At, Exprs, Spans, span_in, span_word, Projected, Called}
@@ -44,7 +44,7 @@ span_is : {a b : List ℕ} {i c w k : ℕ} {s : HirSpan} → Spans a b i w s →
 span_is {a} {b} {i} h e k = span_read h ∙ rw (e, k)
 
 module _ {a b : List ℕ} (room : Roomy a b) {i c w n : ℕ} {s : HirSpan} (kind : c ≡ cell a b i kind_at) (word4 : n ≡ cell a b i match_parts_at) (spans : Spans a b i w s) (at : w ≡ span_word c) {d : ℕ} where
-  clause_as : {u v : Verdict} {e : ℕ} (o : Opened a b clause d no_span i u v e) (k : Clause) → kind_of clause c ≡ some k → As o.sheet a b clause d no_span i v e k
+  clause_as : {u v : Verdict} {e : ℕ} (o : Opened a b clause d no_span i u v e) (k : Clause) → kind_of clause c ≡ Some k → As o.sheet a b clause d no_span i v e k
   clause_as o k z = open_as o k (rw kind at z)
 
   pub as_match : c ≡ match_kind → Turns (At a b clause d no_span i) (Run (At a b pattern_part (d - 1) (span_of s)) n (i + 1))
@@ -120,7 +120,7 @@ pub held_at : {a b : List ℕ} {d : ℕ} (sheet : Bytes) (t : Tree statement) �
 unfolding precheck_statement
 held_at sheet t h = record { sheet = sheet; tree = t; held = h; verdict = refl; next = refl }
 
-pub some_held : {a b : List ℕ} {d : ℕ} → ((sheet : Bytes) × HeldSome sheet a b statement d 0) → Some (At a b statement d no_span 0)
+pub some_held : {a b : List ℕ} {d : ℕ} → ((sheet : Bytes) × HeldSome sheet a b statement d 0) → Exists (At a b statement d no_span 0)
 some_held (sheet, h) = record { verdict = precheck_statement h.tree; next = 0 + size h.tree; is = held_at sheet h.tree h.is }
 
 -- the span of a clause that the code does not name stands where that of a `with` does

@@ -4,7 +4,7 @@ use mathlib.Core.Bool.{Bool, true, false, not, false≢true}
 use Prim.Native.Nat.{ℕ, ◌+◌, ◌<◌, ◌≤◌}
 use native.Mathlib.Omega.{arith}
 use mathlib.Core.List.{List}
-use mathlib.Core.Option.{none, some}
+use Rattle.std.specs.Prelude.{None, Some}
 use lib.Dec.{ltb}
 use borrow.Author.Tests.{ltb-true, ltb-false}
 use Rattle.model.specs.Text.{Bytes}
@@ -75,10 +75,10 @@ told h e = h.so (passed _ e)
 
 -- no record but a part has the number of its kind
 module _ {a b : List ℕ} (room : Roomy a b) {i : ℕ} (part : cell a b i kind_at ≡ part_kind) (sheet : Bytes) (d : ℕ) where
-  none_such : {s : Sort} (t : Tree s) → kind_of s part_kind ≡ none → Held sheet a b t d i → SomeAt a b pattern_part i
+  none_such : {s : Sort} (t : Tree s) → kind_of s part_kind ≡ None → Held sheet a b t d i → SomeAt a b pattern_part i
   none_such {s} t e h =
       let o = open_held room sheet d t no_span h in
-      let q : kind_of s part_kind ≡ some o.kind = rw part at o.number in
+      let q : kind_of s part_kind ≡ Some o.kind = rw part at o.number in
       let z : ◌≡◌ {A = ℕ} 0 1 = cc in
       absurd (omega arith)
 

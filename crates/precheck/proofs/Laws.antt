@@ -5,7 +5,7 @@ use native.Mathlib.Numerals.{sub-one}
 use native.Mathlib.Omega.{arith}
 use Rattle.model.specs.Check.{Verdict, fine, violated, and_then}
 use Rattle.precheck.specs.Answer.{Found}
-use Rattle.precheck.specs.Steps.{Stage, Some, Ends, first_of, Walks, Then, Run, no_more, one_more}
+use Rattle.precheck.specs.Steps.{Stage, Exists, Ends, first_of, Walks, Then, Run, no_more, one_more}
 use Rattle.precheck.specs.declared.PlanLowerError.{PlanLowerError}
 use Rattle.precheck.specs.declared.Walk.{Walk}
 use Rattle.precheck.specs.declared.Walk.TheVariants.{Go, Refused}
@@ -27,7 +27,7 @@ stopped_as e w = rw e w
 -- ── one stage, then another ──
 
 module _ {P : Stage} {Q : ℕ → Stage} where
-  pub first_of_law : Some (Then P Q) → Some P
+  pub first_of_law : Exists (Then P Q) → Exists P
   first_of_law h = record { verdict = h.is.verdict; next = h.is.next; is = h.is.first }
 
   module _ {r : Walk} (walks : Walks r P) where
@@ -46,7 +46,7 @@ module _ {P : Stage} {Q : ℕ → Stage} where
         first_met h.later h.both w
 
     -- the same of walks: the first went on, and another walks the second stage; or the first is stopped
-    pub after : {k : ℕ} → r ≡ Go k → Some (Then P Q) → Some (Q k)
+    pub after : {k : ℕ} → r ≡ Go k → Exists (Then P Q) → Exists (Q k)
     after g h = record { verdict = h.verdict; next = h.next; is = rest_of g h.is }
 
     pub then_walks : {k : ℕ} → r ≡ Go k → {q : Walk} → Walks q (Q k) → Walks q (Then P Q)
@@ -56,7 +56,7 @@ module _ {P : Stage} {Q : ℕ → Stage} where
     then_stopped g = record { each = λ v e h. rw g (stopped g h) }
 
 -- none of a kind are there, wherever that is
-pub some_none : {P : ℕ → Stage} {i : ℕ} → Some (Run P 0 i)
+pub some_none : {P : ℕ → Stage} {i : ℕ} → Exists (Run P 0 i)
 some_none {i = i} = record { verdict = fine; next = i; is = no_more }
 
 -- other stages in their places
@@ -107,7 +107,7 @@ module _ {P : ℕ → Stage} {n i : ℕ} where
   whole = record { same = λ v e p. p }
 
   module _ {m at : ℕ} (remaining : Remaining P n i m at) where
-    pub child : ((m ≡ 0) → ⊥) → Some (Run P n i) → Some (P at)
+    pub child : ((m ≡ 0) → ⊥) → Exists (Run P n i) → Exists (P at)
     child h s = first_of_law (record { verdict = s.verdict; next = s.next; is = opened h (remaining.same _ _ s.is) })
 
     pub done : m ≡ 0 → Walks (Go at) (Run P n i)

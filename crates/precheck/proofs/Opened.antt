@@ -4,7 +4,7 @@ use Prim.Native.Nat.{ℕ, suc, ◌+◌, ◌<◌, ◌≤◌}
 use native.Mathlib.Nat.{add_assoc, add-zero}
 use native.Mathlib.Omega.{arith}
 use mathlib.Core.List.{List, [], ◌∷◌}
-use mathlib.Core.Option.{some}
+use Rattle.std.specs.Prelude.{Some}
 use Rattle.model.specs.Text.{Bytes}
 use Rattle.model.specs.Field.{Span, Fields}
 use Rattle.model.specs.Kind.{Sort, Kind}
@@ -79,7 +79,7 @@ pub record Opened (a b : List ℕ) (s : Sort) (d : ℕ) (span : Span) (i : ℕ) 
   pub kind : Kind s
   pub low : i < max_records
   pub deep : 0 < d
-  pub number : kind_of s (cell a b i kind_at) ≡ some kind
+  pub number : kind_of s (cell a b i kind_at) ≡ Some kind
   pub flags : Flags (forms s kind) (cells a b i) 0
   pub count : count_at a b i ≡ total (children s kind (fields_of (forms s kind) sheet (cells a b i) 0))
   pub body : Body sheet a b s d span i v e kind (fields_of (forms s kind) sheet (cells a b i) 0)
@@ -119,7 +119,7 @@ pub record As (sheet : Bytes) (a b : List ℕ) (s : Sort) (d : ℕ) (span : Span
   pub flags : Flags (forms s k) (cells a b i) 0
   pub body : Body sheet a b s d span i v e k (fields_of (forms s k) sheet (cells a b i) 0)
 
-pub open_as : {a b : List ℕ} {s : Sort} {d : ℕ} {span : Span} {i : ℕ} {u v : Verdict} {e : ℕ} (o : Opened a b s d span i u v e) (k : Kind s) → kind_of s (cell a b i kind_at) ≡ some k → As o.sheet a b s d span i v e k
+pub open_as : {a b : List ℕ} {s : Sort} {d : ℕ} {span : Span} {i : ℕ} {u v : Verdict} {e : ℕ} (o : Opened a b s d span i u v e) (k : Kind s) → kind_of s (cell a b i kind_at) ≡ Some k → As o.sheet a b s d span i v e k
 open_as {a} {b} {s} {d} {span} {i} {u} {v} {e} o k h =
     let p : o.kind ≡ k = cc o.number in
     subst (λ (x : Kind s). As o.sheet a b s d span i v e x) p (record { flags = o.flags; body = o.body })

@@ -12,7 +12,7 @@ use Rattle.words.specs.Words.{Roomy, cell, max_records}
 use Rattle.words.specs.Places.{match_kind, match_span_at, where_kind, where_span_at, unwind_kind, unwind_span_at, call_kind, call_span_at, call_args_at, call_yields_at, write_kind, write_span_at, projection_span_at, items_at, keys_at, skip_at, limit_at}
 use Rattle.words.specs.Held.{Held, size}
 use Rattle.precheck.specs.Answer.{span_of}
-use Rattle.precheck.specs.Steps.{Stage, Some, Ends, first_of, Then, Run}
+use Rattle.precheck.specs.Steps.{Stage, Exists, Ends, first_of, Then, Run}
 use Rattle.precheck.specs.declared.HirSpan.{HirSpan}
 use Rattle.precheck.specs.declared.Props.{Props}
 use Rattle.precheck.specs.declared.Walk.{Walk}
@@ -29,7 +29,7 @@ pub record At (a b : List ℕ) (s : Sort) (d : ℕ) (span : Span) (i : ℕ) (v :
 pub record Standing (a b : List ℕ) (s : Sort) (d : ℕ) (span : Span) (i : ℕ) : Type 0 where
   pub low : i < max_records
   pub deep : 0 < d
-  pub some : Some (At a b s d span i)
+  pub some : Exists (At a b s d span i)
 
 -- n expressions, each behind so many records
 abbrev pub Exprs : (a b : List ℕ) (skip d : ℕ) → Span → (n i : ℕ) → Stage

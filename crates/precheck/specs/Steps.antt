@@ -9,7 +9,7 @@ abbrev pub Stage : Type 1
 Stage = Verdict → ℕ → Type 0
 
 -- some verdict and some record behind it
-pub record Some (P : Stage) : Type 0 where
+pub record Exists (P : Stage) : Type 0 where
   pub verdict : Verdict
   pub next : ℕ
   pub is : P verdict next

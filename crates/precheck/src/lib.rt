@@ -11,7 +11,7 @@ ghost use Rattle.words.specs.Places.{kind_at, line_end_at};
 ghost use Rattle.words.specs.Words.{Roomy, cell, max_records};
 ghost use Rattle.words.specs.Count.{Starts};
 ghost use Rattle.precheck.specs.Answer.{span_of, Says};
-ghost use Rattle.precheck.specs.Steps.{Some, Ends, Walks, Run};
+ghost use Rattle.precheck.specs.Steps.{Exists, Ends, Walks, Run};
 ghost use Rattle.precheck.specs.Stands.{At, Standing, Exprs, Spans, SomeAt, Inside, Begins, Own, span_word, Trailers, Projected, Called, Tells, Taken, NoneRefused, least_depth, WalkAsked, ClauseAsked};
 
 use words::records::{children, count};
@@ -185,7 +185,7 @@ fn check_exprs(
     span: HirSpan,
 ) -> Walk
     requires roomy { Roomy a.now b.now }
-    requires some { Some (Exprs a.now b.now skip left (span_of span) n i) }
+    requires some { Exists (Exprs a.now b.now skip left (span_of span) n i) }
     ensures { Walks result (Exprs a.now b.now skip left (span_of span) n i) }
 {
     let mut at = i;
@@ -209,7 +209,7 @@ fn check_exprs(
 #[cycle(check_elements_check_expr_check_exprs_check_pattern)]
 fn check_pattern(a: &[u32], b: &[u32], i: usize, n: usize, left: usize, span: HirSpan) -> Walk
     requires roomy { Roomy a.now b.now }
-    requires some { Some (Run (At a.now b.now pattern_part left (span_of span)) n i) }
+    requires some { Exists (Run (At a.now b.now pattern_part left (span_of span)) n i) }
     ensures { Walks result (Run (At a.now b.now pattern_part left (span_of span)) n i) }
 {
     let mut at = i;
@@ -238,7 +238,7 @@ fn check_pattern(a: &[u32], b: &[u32], i: usize, n: usize, left: usize, span: Hi
 #[cycle(check_elements_check_expr_check_exprs_check_pattern)]
 fn check_elements(a: &[u32], b: &[u32], i: usize, n: usize, left: usize) -> Walk
     requires roomy { Roomy a.now b.now }
-    requires some { Some (Run (At a.now b.now pattern_element left no_span) n i) }
+    requires some { Exists (Run (At a.now b.now pattern_element left no_span) n i) }
     ensures { Walks result (Run (At a.now b.now pattern_element left no_span) n i) }
 {
     let mut at = i;
@@ -287,7 +287,7 @@ fn check_order_skip_limit(
     left: usize,
     span: HirSpan,
 ) -> Walk
-    requires { ClauseAsked a.now b.now i left (Some (Trailers a.now b.now i left (span_of span) at)) }
+    requires { ClauseAsked a.now b.now i left (Exists (Trailers a.now b.now i left (span_of span) at)) }
     ensures { Walks result (Trailers a.now b.now i left (span_of span) at) }
 {
     let keys = count(a, b, i, field::KEYS);
@@ -314,7 +314,7 @@ fn check_projections(
     left: usize,
     span: HirSpan,
 ) -> Walk
-    requires { ClauseAsked a.now b.now i left (Some (Projected a.now b.now i filters left (span_of span))) }
+    requires { ClauseAsked a.now b.now i left (Exists (Projected a.now b.now i filters left (span_of span))) }
     ensures { Walks result (Projected a.now b.now i filters left (span_of span)) }
 {
     let items = count(a, b, i, field::ITEMS);
@@ -333,7 +333,7 @@ fn check_projections(
 
 // The arguments of the `call` at record i; its yields are passed over.
 fn check_call(a: &[u32], b: &[u32], i: usize, left: usize, span: HirSpan) -> Walk
-    requires { ClauseAsked a.now b.now i left (Some (Called a.now b.now i left (span_of span))) }
+    requires { ClauseAsked a.now b.now i left (Exists (Called a.now b.now i left (span_of span))) }
     ensures { Walks result (Called a.now b.now i left (span_of span)) }
 {
     let args = count(a, b, i, field::CALL_ARGS);
@@ -372,7 +372,7 @@ fn check_clause(a: &[u32], b: &[u32], i: usize, left: usize) -> Walk
 
 // n clauses from record i on.
 fn check_clauses(a: &[u32], b: &[u32], i: usize, n: usize, left: usize) -> Walk
-    requires { WalkAsked a.now b.now 1 left (Some (Run (At a.now b.now clause left no_span) n i)) }
+    requires { WalkAsked a.now b.now 1 left (Exists (Run (At a.now b.now clause left no_span) n i)) }
     ensures { Walks result (Run (At a.now b.now clause left no_span) n i) }
 {
     let mut at = i;
@@ -393,7 +393,7 @@ fn check_clauses(a: &[u32], b: &[u32], i: usize, n: usize, left: usize) -> Walk
 
 // n arms from record i on, the clauses of each.
 fn check_arms(a: &[u32], b: &[u32], i: usize, n: usize, left: usize) -> Walk
-    requires { WalkAsked a.now b.now 2 left (Some (Run (At a.now b.now union_arm left no_span) n i)) }
+    requires { WalkAsked a.now b.now 2 left (Exists (Run (At a.now b.now union_arm left no_span) n i)) }
     ensures { Walks result (Run (At a.now b.now union_arm left no_span) n i) }
 {
     let mut at = i;

@@ -4,7 +4,7 @@ use Prim.Native.Nat.{ℕ, ◌+◌, ◌-◌, ◌≤◌}
 use native.Mathlib.Omega.{arith}
 use mathlib.Core.Bool.{Bool}
 use mathlib.Core.List.{List, ◌∷◌, ◌++◌}
-use mathlib.Core.Option.{Option, some}
+use Rattle.std.specs.Prelude.{Option, Some}
 use lib.Dec.{eqb}
 use lib.ListN.{length}
 use Rattle.model.specs.Text.{Bytes}
@@ -66,7 +66,7 @@ abbrev pub with_recs : {n : ℕ} (filtered : Bool) → Trees projection n → Tr
 with_recs {n} filtered items predicate input s = op ReadOp.With (input, (n, (filtered, tt))) ∷ ((lower_c (items_c items) s).0 ++ (lower_c (plain_c predicate) (behind_items items s)).0)
 
 abbrev pub leaving : ℕ × State → Option ℕ × State
-leaving r = (some r.0, r.1)
+leaving r = (Some r.0, r.1)
 
 pub record IsWith (sheet : Bytes) (a b : List ℕ) (d i : ℕ) (t : Tree clause) : Type 0 where
   pub n : ℕ
@@ -93,7 +93,7 @@ with_def : {n x y z : ℕ} (filtered : Bool) (items : Trees projection n) (predi
       ss ← Lower.lower_exprs predicate
       k ← push (op ReadOp.With (input, (n, (filtered, tt))) ∷ (rs ++ ss))
       root ← lower_trailers k keys skip limit
-      ret (some root)) s
+      ret (Some root)) s
     ≡ leaving (lower_trailers k keys skip limit (push (with_recs filtered items predicate input (or_source_all current s).1) (behind_exprs predicate (behind_items items (or_source_all current s).1))).1)
 unfolding ◌>>=◌ ret push
 with_def filtered items predicate keys skip limit current s input k e₁ e₂ = rw (items_lower items (or_source_all current s).1, exprs_lower predicate (behind_items items (or_source_all current s).1), e₂, e₁)

@@ -3,7 +3,7 @@ use mathlib.Core.Path.{◌≡◌, sym, ap, subst, ◌∙◌}
 use Prim.Native.Nat.{ℕ, suc, ◌+◌, ◌-◌, ◌≤◌}
 use native.Mathlib.Omega.{arith}
 use mathlib.Core.List.{List, ◌∷◌}
-use mathlib.Core.Option.{some}
+use Rattle.std.specs.Prelude.{Some}
 use lib.Dec.{eqb}
 use Rattle.model.specs.Text.{Bytes}
 use Rattle.model.specs.Kind.{clause, projection}
@@ -93,7 +93,7 @@ module _ {sheet : Bytes} {a b : List ℕ} {at : At} {current : Before} {m : Mem}
             let y = v.sized in
             omega arith
 
-        return_run : {first : ℕ} (t : Tree clause) → Held sheet a b t at.left at.i → (W : Written) (s : State) → Rep (side sheet a b first) W s m → BothBlank W (suc at.i) (suc e) → Leaves (side sheet a b first) W (λ s. lower_clause t (before_of current) s) (some k) (suc at.i) (suc e) s m m₃
+        return_run : {first : ℕ} (t : Tree clause) → Held sheet a b t at.left at.i → (W : Written) (s : State) → Rep (side sheet a b first) W s m → BothBlank W (suc at.i) (suc e) → Leaves (side sheet a b first) W (λ s. lower_clause t (before_of current) s) (Some k) (suc at.i) (suc e) s m m₃
         return_run t hd W s r bl =
             let v = a_return g.asked.words t hd g.asked.kind in
             let P : ℕ = at.i + 1 + size_of v.items in
@@ -106,8 +106,8 @@ module _ {sheet : Bytes} {a b : List ℕ} {at : At} {current : Before} {m : Mem}
             let D = v.def (before_of current) s k₁ k₂ x₁.root x₂.root in
             record {
               to = rw D (to_wider (return_sub at.i j j₂ P e W p.up eq ep l) (to_then x₁.to (to_then x₂.to x₃.to)));
-              gives = rw D (ap (λ (z : ℕ). some z) (sym x₃.root));
+              gives = rw D (ap (λ (z : ℕ). Some z) (sym x₃.root));
             }
 
-        pub return_law : LowersClause sheet a b at.left at.i e (before_of current) (some k) m m₃
+        pub return_law : LowersClause sheet a b at.left at.i e (before_of current) (Some k) m m₃
         return_law = record { moved = twice_then return_moved tl.moved; stands = tl.low; next = return_next; run = return_run }

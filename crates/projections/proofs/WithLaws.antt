@@ -4,7 +4,7 @@ use Prim.Native.Nat.{ℕ, suc, ◌+◌, ◌-◌, ◌≤◌}
 use native.Mathlib.Nat.{le_refl}
 use native.Mathlib.Omega.{arith}
 use mathlib.Core.List.{List, ◌∷◌, ◌++◌}
-use mathlib.Core.Option.{some}
+use Rattle.std.specs.Prelude.{Some}
 use lib.ListN.{length}
 use Rattle.model.specs.Text.{Bytes}
 use Rattle.model.specs.Kind.{clause}
@@ -113,7 +113,7 @@ module _ {a b : List ℕ} {at : At} {current : Before} {m : Mem} (g : ClauseAske
               let y = v.sized in
               omega arith
 
-          with_run : (sheet : Bytes) {first : ℕ} (t : Tree clause) → Held sheet a b t at.left at.i → (W : Written) (s : State) → Rep (side sheet a b first) W s m → BothBlank W (suc at.i) (suc e) → Leaves (side sheet a b first) W (λ s. lower_clause t (before_of current) s) (some k) (suc at.i) (suc e) s m m₅
+          with_run : (sheet : Bytes) {first : ℕ} (t : Tree clause) → Held sheet a b t at.left at.i → (W : Written) (s : State) → Rep (side sheet a b first) W s m → BothBlank W (suc at.i) (suc e) → Leaves (side sheet a b first) W (λ s. lower_clause t (before_of current) s) (Some k) (suc at.i) (suc e) s m m₅
           with_run sheet {first} t hd W s r bl =
               let v = a_with g.words t hd g.kind in
               let P : ℕ = at.i + 1 + size_of v.items + size_of v.predicate in
@@ -147,8 +147,8 @@ module _ {a b : List ℕ} {at : At} {current : Before} {m : Mem} (g : ClauseAske
               let D = v.def (before_of current) s k₀ m₃.ctx.ops x₀.root x₂.to.rep.count in
               record {
                 to = rw D (to_wider (with_sub at.i j p P e W u₁ u₂ ep u₃) (to_then x₀.to (to_then x₁.to (to_then x₂.to (to_then x₃ x₄.to)))));
-                gives = rw D (ap (λ (z : ℕ). some z) (sym x₄.root));
+                gives = rw D (ap (λ (z : ℕ). Some z) (sym x₄.root));
               }
 
-          pub with_law : (sheet : Bytes) → LowersClause sheet a b at.left at.i e (before_of current) (some k) m m₅
+          pub with_law : (sheet : Bytes) → LowersClause sheet a b at.left at.i e (before_of current) (Some k) m m₅
           with_law sheet = record { moved = twice_then with_moved tl.moved; stands = tl.low; next = with_next sheet; run = with_run sheet }

@@ -1,8 +1,7 @@
 // The lowering of a `with` or a `return` into the tables. a and b hold the records, ops the operators, rest the notes and the variables; a clause's place has no pass of its own.
 #![tactic(auto)]
 
-ghost use Rattle.std.specs.Prelude.{List, ℕ};
-ghost use Rattle.std.proofs.Math.Option.{some};
+ghost use Rattle.std.specs.Prelude.{List, ℕ, Some};
 ghost use Rattle.words.specs.Places.{with_kind};
 ghost use Rattle.context.specs.Ops.{before_of};
 ghost use Rattle.lower.specs.Rep.{mem};
@@ -29,7 +28,7 @@ pub fn lower_with(
     at: At,
 ) -> Root
     requires { ClauseAsked with_kind a.now b.now at current (mem ctx ops.old rest.old) }
-    ensures { (sheet : List ℕ) → LowersClause sheet a.now b.now at.left at.i result.next (before_of current) (some result.op) (mem ctx ops.old rest.old) (mem result.ctx ops.new rest.new) }
+    ensures { (sheet : List ℕ) → LowersClause sheet a.now b.now at.left at.i result.next (before_of current) (Some result.op) (mem ctx ops.old rest.old) (mem result.ctx ops.new rest.new) }
 {
     let i = at.i;
     let items = words::records::count(a, b, i, field::ITEMS);
@@ -79,7 +78,7 @@ pub fn lower_return(
     at: At,
 ) -> Root
     requires { ReturnAsked sheet.now a.now b.now at current (mem ctx ops.old rest.old) }
-    ensures { LowersClause sheet.now a.now b.now at.left at.i result.next (before_of current) (some result.op) (mem ctx ops.old rest.old) (mem result.ctx ops.new rest.new) }
+    ensures { LowersClause sheet.now a.now b.now at.left at.i result.next (before_of current) (Some result.op) (mem ctx ops.old rest.old) (mem result.ctx ops.new rest.new) }
 {
     let i = at.i;
     let n = words::records::count(a, b, i, field::ITEMS);

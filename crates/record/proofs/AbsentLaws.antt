@@ -2,7 +2,7 @@
 use mathlib.Core.Path.{◌≡◌, refl, sym, ap, ◌∙◌}
 use mathlib.Core.Bool.{Bool, true, false, cond, ◌&&◌, and-true, and-false}
 use mathlib.Core.List.{[], ◌∷◌}
-use mathlib.Core.Option.{none, some}
+use Rattle.std.specs.Prelude.{None, Some}
 use Prim.Native.Nat.{ℕ, ◌+◌, ◌<◌, ◌≤◌}
 use native.Mathlib.Omega.{arith}
 use borrow.Author.Tests.{ne_eqb}
@@ -51,7 +51,7 @@ option_number : (limit : ℕ) (s : Bytes) → same s dash ≡ false → opt_deci
 unfolding read meaning piece option_value fits fits_option spell spell_option lift
 option_number limit s e = rw e (go (leb (value s) limit && same_by (λ s t. same s t) (decimal (value s) ∷ []) (s ∷ [])))
   where
-    go : (t : Bool) → opt_decimal_of (cond t (some (some (value s))) none) ≡ lift (decimal_of (cond t (some (value s)) none))
+    go : (t : Bool) → opt_decimal_of (cond t (Some (Some (value s))) None) ≡ lift (decimal_of (cond t (Some (value s)) None))
     go true = refl
     go false = refl
 

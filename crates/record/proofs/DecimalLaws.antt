@@ -2,7 +2,7 @@
 use mathlib.Core.Path.{◌≡◌, refl, sym, ap, ◌∙◌}
 use mathlib.Core.Bool.{Bool, true, false, cond, not, ◌&&◌, and-true, false≢true}
 use mathlib.Core.List.{[], ◌∷◌, ◌++◌, append_assoc, append-nil}
-use mathlib.Core.Option.{Option, none, some}
+use Rattle.std.specs.Prelude.{Option, None, Some}
 use Prim.Native.Nat.{ℕ, zero, suc, ◌+◌, ◌*◌, ◌-◌, ◌/◌, ◌%◌, ◌^◌, ◌≤◌, ◌<◌}
 use native.Mathlib.Nat.{pow-suc, zero-add}
 use native.Mathlib.Omega.{arith}
@@ -139,11 +139,11 @@ decimal_plain n h = go (eqb n 0) refl
 
 -- ── what is read ──
 
-pub number_read : (limit : ℕ) → limit ≤ u64 → (s : Bytes) → read (num limit) (s ∷ []) ≡ cond (plain s && leb (value s) limit) (some (value s)) none
+pub number_read : (limit : ℕ) → limit ≤ u64 → (s : Bytes) → read (num limit) (s ∷ []) ≡ cond (plain s && leb (value s) limit) (Some (value s)) None
 unfolding spell fits limited
 number_read limit l s = go (plain s) refl (leb (value s) limit) refl
   where
-    go : (p : Bool) → plain s ≡ p → (q : Bool) → leb (value s) limit ≡ q → read (num limit) (s ∷ []) ≡ cond (plain s && leb (value s) limit) (some (value s)) none
+    go : (p : Bool) → plain s ≡ p → (q : Bool) → leb (value s) limit ≡ q → read (num limit) (s ∷ []) ≡ cond (plain s && leb (value s) limit) (Some (value s)) None
     go true e true h = rw (e, h) (accepted (num limit) (s ∷ []) (le-leb limit u64 l) (value s) (ap (λ t. t ∷ []) (spelled s e (omega (arith, leb-true (value s) limit h)))) h)
     go true e false h = rw (e, h) (refused (num limit) (s ∷ []) (λ n t f.
         let k = leb-true n limit f in
@@ -156,7 +156,7 @@ number_read limit l s = go (plain s) refl (leb (value s) limit) refl
 pub number_answer : (limit : ℕ) → limit ≤ u64 → (s : Bytes) → decimal_of (read (num limit) (s ∷ [])) ≡ cond (plain s && leb (value s) limit) (Is (value s)) Not
 number_answer limit l s = ap decimal_of (number_read limit l s) ∙ go (plain s && leb (value s) limit)
   where
-    go : (t : Bool) → decimal_of (cond t (some (value s)) none) ≡ cond t (Is (value s)) Not
+    go : (t : Bool) → decimal_of (cond t (Some (value s)) None) ≡ cond t (Is (value s)) Not
     go true = refl
     go false = refl
 
@@ -260,5 +260,5 @@ module _ (limit : ℕ) (l : limit ≤ u32) (s : Bytes) (p : ℕ) (f : Fed s p) (
     decimal_on a d = by_first a (go (decimal_end a) d.ends) (omega arith) (λ q h. d.is q h ∙ on_first (slice (p + 1) q s))
       where
         go : (o : Option ℕ) → EndsAt s (p + 1) o → EndsAt s p o
-        go none h = tt
-        go (some r) h = along_back s p (p + 1) (along_on s p p (along_start s p) (rw (← e) (separates_other b (omega arith)))) r h
+        go None h = tt
+        go (Some r) h = along_back s p (p + 1) (along_on s p p (along_start s p) (rw (← e) (separates_other b (omega arith)))) r h

@@ -2,7 +2,7 @@
 use mathlib.Core.Path.{◌≡◌, refl, sym, ap, ◌∙◌}
 use mathlib.Core.Bool.{Bool, true, false, cond, and-false}
 use mathlib.Core.List.{[], ◌∷◌}
-use mathlib.Core.Option.{none}
+use Rattle.std.specs.Prelude.{None}
 use Prim.Native.Nat.{ℕ, zero, suc, ◌≤◌}
 use native.Mathlib.Omega.{arith}
 use borrow.Author.Tests.{eqb-true, eqb-false, ne_eqb, ltb-true, ltb-false, leb-true}
@@ -49,7 +49,7 @@ flag_long : (b c : ℕ) (s : Bytes) → flag_of (read flag ((b ∷ c ∷ s) ∷ 
 unfolding read meaning piece fits spell spell_flag same same_by
 flag_long b c s = rw (and-false (eqb b digit1), and-false (eqb digit0 b))
 
-number_long : (b c : ℕ) (s : Bytes) → read (num 1) ((b ∷ c ∷ s) ∷ []) ≡ none
+number_long : (b c : ℕ) (s : Bytes) → read (num 1) ((b ∷ c ∷ s) ∷ []) ≡ None
 unfolding spell fits decimal digits
 number_long b c s = refused (num 1) ((b ∷ c ∷ s) ∷ []) (λ n e h. go n (piece_is e) (leb-true n 1 h))
   where

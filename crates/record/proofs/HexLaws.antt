@@ -2,7 +2,7 @@
 use mathlib.Core.Path.{◌≡◌, refl, sym, ap, ◌∙◌}
 use mathlib.Core.Bool.{Bool, true, false, false≢true}
 use mathlib.Core.List.{[], ◌∷◌, ◌++◌, append_assoc, append-nil}
-use mathlib.Core.Option.{none, some}
+use Rattle.std.specs.Prelude.{None, Some}
 use Prim.Native.Nat.{ℕ, zero, suc, ◌+◌, ◌*◌, ◌-◌, ◌/◌, ◌%◌, ◌^◌, ◌≤◌, ◌<◌}
 use native.Mathlib.Nat.{pow-suc, pow-le-pow_right, add-zero}
 use native.Mathlib.Numerals.{add-one}
@@ -136,15 +136,15 @@ hex_on_cons v b s h = rw (lt-ltb (digit b) hex_base h) (ap (λ x. hex_on (v * 16
 -- ── what is read ──
 
 module _ (s : Bytes) where
-  float_none : (length s ≡ float_digits → ⊥) → read float (s ∷ []) ≡ none
+  float_none : (length s ≡ float_digits → ⊥) → read float (s ∷ []) ≡ None
   unfolding spell
   float_none h = refused float (s ∷ []) (λ n t f. h (sym (ap length (piece_is t)) ∙ spelled_length float_digits n))
 
-  float_bad : all_hex s ≡ false → read float (s ∷ []) ≡ none
+  float_bad : all_hex s ≡ false → read float (s ∷ []) ≡ None
   unfolding spell
   float_bad e = refused float (s ∷ []) (λ n t f. false≢true (sym e ∙ (rw (piece_is t) at (spelled_hex float_digits n))))
 
-  float_read : length s ≡ float_digits → all_hex s ≡ true → read float (s ∷ []) ≡ some (hex_value_on 0 s)
+  float_read : length s ≡ float_digits → all_hex s ≡ true → read float (s ∷ []) ≡ Some (hex_value_on 0 s)
   unfolding spell fits limited
   float_read h e =
       let b : hex_value_on 0 s < 16 ^ (0 + length s) = hex_bound 0 0 s e (omega arith) in

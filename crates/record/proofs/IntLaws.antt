@@ -2,7 +2,7 @@
 use mathlib.Core.Path.{◌≡◌, refl, sym, ap, ◌∙◌}
 use mathlib.Core.Bool.{true}
 use mathlib.Core.List.{[], ◌∷◌}
-use mathlib.Core.Option.{none, some}
+use Rattle.std.specs.Prelude.{None, Some}
 use Prim.Native.Nat.{ℕ, zero, suc, ◌-◌, ◌≤◌, ◌<◌}
 use native.Mathlib.Nat.{zero-add}
 use native.Mathlib.Omega.{arith}
@@ -57,7 +57,7 @@ module _ (limit : ℕ) (s : Bytes) (d : Decimal) (p : d ≡ decimal_of (read (nu
   number_not : limit ≤ u64 → d ≡ Decimal.Not → (n : ℕ) → n ≤ limit → decimal n ≡ s → ⊥
   unfolding spell fits limited
   number_not l e n h q =
-      let r : none ≡ some n = sym (decimal_read _ d p ∙ ap number_in e) ∙ accepted (num limit) (s ∷ []) (le-leb limit u64 l) n (ap (λ t. t ∷ []) q) (le-leb n limit h) in
+      let r : None ≡ Some n = sym (decimal_read _ d p ∙ ap number_in e) ∙ accepted (num limit) (s ∷ []) (le-leb limit u64 l) n (ap (λ t. t ∷ []) q) (le-leb n limit h) in
       let z : ◌≡◌ {A = ℕ} 0 1 = cc in
       omega arith
 
@@ -71,11 +71,11 @@ behind_minus : {s t : Bytes} → ◌≡◌ {A = Bytes} (minus ∷ s) (minus ∷ 
 behind_minus e = cc
 
 module _ (s : Bytes) where
-  minus_read : (k : ℕ) → k ≤ i64 → decimal (suc k) ≡ s → read int ((minus ∷ s) ∷ []) ≡ some (negsuc k)
+  minus_read : (k : ℕ) → k ≤ i64 → decimal (suc k) ≡ s → read int ((minus ∷ s) ∷ []) ≡ Some (negsuc k)
   unfolding spell signed fits fits_int limited
   minus_read k h e = accepted int ((minus ∷ s) ∷ []) refl (negsuc k) (ap (λ t. (minus ∷ t) ∷ []) e) (le-leb k i64 h)
 
-  minus_none : ((k : ℕ) → k ≤ i64 → decimal (suc k) ≡ s → ⊥) → read int ((minus ∷ s) ∷ []) ≡ none
+  minus_none : ((k : ℕ) → k ≤ i64 → decimal (suc k) ≡ s → ⊥) → read int ((minus ∷ s) ∷ []) ≡ None
   unfolding spell signed fits fits_int
   minus_none g = refused int ((minus ∷ s) ∷ []) go
     where
@@ -113,7 +113,7 @@ module _ (s : Bytes) (m : length s ≡ 0 → ⊥) where
   signed_minus e r q = q ∙ ap (λ t. signed_of (read int (t ∷ []))) (sym (headed s minus m e))
 
   module _ (h : get_or s 0 0 ≡ minus → ⊥) where
-    plus_none : ((n : ℕ) → n ≤ i64 → decimal n ≡ s → ⊥) → read int (s ∷ []) ≡ none
+    plus_none : ((n : ℕ) → n ≤ i64 → decimal n ≡ s → ⊥) → read int (s ∷ []) ≡ None
     unfolding spell signed fits fits_int
     plus_none g = refused int (s ∷ []) go
       where

@@ -2,7 +2,7 @@
 use mathlib.Core.Path.{◌≡◌, refl, sym, ap, ap₂, ◌∙◌}
 use mathlib.Core.Bool.{Bool, true, false, cond, ◌&&◌, and-true, and-false}
 use mathlib.Core.List.{[], ◌∷◌}
-use mathlib.Core.Option.{Option, none, some}
+use Rattle.std.specs.Prelude.{Option, None, Some}
 use Prim.Native.Nat.{ℕ}
 use native.Mathlib.Omega.{arith}
 use borrow.Author.Tests.{eq-eqb, ne_eqb}
@@ -58,9 +58,9 @@ module _ (limit : ℕ) (s : Bytes) (o : OptDecimal) (p : o ≡ opt_decimal_of (r
   same_given = ap given p ∙ go (read (num_or_absent limit) (s ∷ []))
     where
       go : (r : Option (Option ℕ)) → given (opt_decimal_of r) ≡ is_read r
-      go none = refl
-      go (some none) = refl
-      go (some (some n)) = refl
+      go None = refl
+      go (Some None) = refl
+      go (Some (Some n)) = refl
 
   pub bound_is : (n : ℕ) → o ≡ OptDecimal.Is n → true ≡ is_read (read (num_or_absent limit) (s ∷ []))
   unfolding given
@@ -84,7 +84,7 @@ same_sym s t = go (same s t) refl (same t s) refl
     go false e true f = rw (same_sound t s f)
     go false e false f = e ∙ sym f
 
-is_read_law : {A : Type 0} (t : Bool) (v : A) → is_read (cond t (some v) none) ≡ t
+is_read_law : {A : Type 0} (t : Bool) (v : A) → is_read (cond t (Some v) None) ≡ t
 is_read_law true v = refl
 is_read_law false v = refl
 

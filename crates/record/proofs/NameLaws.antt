@@ -2,7 +2,7 @@
 use mathlib.Core.Path.{◌≡◌, refl, sym, ap, ◌∙◌}
 use mathlib.Core.Bool.{Bool, true, false, cond, not, ◌&&◌, false≢true}
 use mathlib.Core.List.{[], ◌∷◌}
-use mathlib.Core.Option.{none, some}
+use Rattle.std.specs.Prelude.{None, Some}
 use Prim.Native.Nat.{ℕ, ◌+◌, ◌<◌, ◌≤◌}
 use native.Mathlib.Omega.{arith}
 use borrow.Author.Tests.{eqb-true, eq-eqb, ne_eqb, not-true, not-false}
@@ -67,7 +67,7 @@ pub name_read : (s : Bytes) → is_plain (seen_on Plain s) ≡ is_read (read tex
 unfolding read meaning piece fits spell same_by unescape
 name_read s = (walked s).plain ∙ go (same (escape (unescape_on false s)) s)
   where
-    go : (t : Bool) → t ≡ is_read (cond (t && true) (some (unescape_on false s)) none)
+    go : (t : Bool) → t ≡ is_read (cond (t && true) (Some (unescape_on false s)) None)
     go true = refl
     go false = refl
 
@@ -229,21 +229,21 @@ module _ (s : Bytes) (p i : ℕ) (d : Naming s p i) where
 -- ── an alias ──
 
 -- behind an equals sign stands a name
-alias_named : (s : Bytes) → alias_of (read alias ((equals ∷ s) ∷ [])) ≡ cond (is_read (read text (s ∷ []))) (some true) none
+alias_named : (s : Bytes) → alias_of (read alias ((equals ∷ s) ∷ [])) ≡ cond (is_read (read text (s ∷ []))) (Some true) None
 unfolding read meaning piece fits spell spell_alias alias_value same same_by
 alias_named s = go (same (escape (unescape s)) s)
   where
-    go : (t : Bool) → alias_of (cond (t && true) (some (some (unescape s))) none) ≡ cond (is_read (cond (t && true) (some (unescape s)) none)) (some true) none
+    go : (t : Bool) → alias_of (cond (t && true) (Some (Some (unescape s))) None) ≡ cond (is_read (cond (t && true) (Some (unescape s)) None)) (Some true) None
     go true = refl
     go false = refl
 
 -- what begins with neither sign is none
-alias_other : (s : Bytes) → same s dash ≡ false → (get_or s 0 0 ≡ equals → ⊥) → none ≡ alias_of (read alias (s ∷ []))
+alias_other : (s : Bytes) → same s dash ≡ false → (get_or s 0 0 ≡ equals → ⊥) → None ≡ alias_of (read alias (s ∷ []))
 unfolding read meaning piece fits spell spell_alias alias_value same same_by
 alias_other [] e h = refl
 alias_other (b ∷ s) e h = rw (e, ne_eqb equals b (λ q. h (sym q)))
 
-absent_is : some false ≡ alias_of (read alias (dash ∷ []))
+absent_is : Some false ≡ alias_of (read alias (dash ∷ []))
 unfolding read meaning piece fits spell spell_alias alias_value same same_by
 absent_is = refl
 
@@ -269,7 +269,7 @@ module _ (s : Bytes) (p : ℕ) (f : Fed s p) where
   pub alias_neither : (get_or s p 0 ≡ minus → ⊥) → (get_or s p 0 ≡ equals → ⊥) → AliasReadAt s p AliasAt.Not
   alias_neither m n = record { is = λ q h. go q h (separates (get_or s p 0)) refl; ends = tt }
     where
-      go : (q : ℕ) → Ends s p q → (t : Bool) → separates (get_or s p 0) ≡ t → none ≡ alias_of (read alias (slice p q s ∷ []))
+      go : (q : ℕ) → Ends s p q → (t : Bool) → separates (get_or s p 0) ≡ t → None ≡ alias_of (read alias (slice p q s ∷ []))
       go q h true z = rw (ends_none s p q h z) (alias_other [] (sym (dash_not [] (λ k. omega arith))) (λ k. omega arith))
       go q h false z = rw (ends_cons s p q h z) (alias_other _ (sym (dash_first (get_or s p 0) (slice (p + 1) q s) m)) n)
 
@@ -281,10 +281,10 @@ module _ (s : Bytes) (p : ℕ) (f : Fed s p) where
     name_fed = byte_fed s p f (omega arith)
 
     module _ (a : TextAt) (d : NameAt s (p + 1) a) where
-      named : (q : ℕ) → Ends s p q → alias_of (read alias (slice p q s ∷ [])) ≡ cond (is_text a) (some true) none
+      named : (q : ℕ) → Ends s p q → alias_of (read alias (slice p q s ∷ [])) ≡ cond (is_text a) (Some true) None
       named q h =
           rw (ends_cons s p q h name_past, e) (alias_named (slice (p + 1) q s))
-          ∙ ap (λ t. cond t (some true) none) (sym (d.is q (ends_next s p q h name_past)))
+          ∙ ap (λ t. cond t (Some true) None) (sym (d.is q (ends_next s p q h name_past)))
 
       pub alias_name : (r : ℕ) → a ≡ TextAt.To r → AliasReadAt s p (AliasAt.Named r)
       alias_name r z =

@@ -2,7 +2,7 @@
 use mathlib.Core.Path.{◌≡◌, refl}
 use mathlib.Core.Bool.{true}
 use mathlib.Core.List.{List, [], ◌∷◌}
-use mathlib.Core.Option.{Option, none, some}
+use Rattle.std.specs.Prelude.{Option, None, Some}
 use Prim.Native.Nat.{ℕ, suc, ◌-◌}
 use native.Mathlib.Omega.{arith}
 use lib.ListN.{length, take, drop, get_or}
@@ -12,15 +12,15 @@ use Rattle.model.specs.Field.{Form, Val, read, spell, fits}
 use Rattle.laws.specs.FieldLaws.{limited, spell_read, read_spell}
 
 module _ (f : Form) (ps : List Bytes) where
-  pub accepted : limited f ≡ true → (v : Val f) → spell f v ≡ ps → fits f v ≡ true → read f ps ≡ some v
+  pub accepted : limited f ≡ true → (v : Val f) → spell f v ≡ ps → fits f v ≡ true → read f ps ≡ Some v
   accepted l v e h = rw e at (spell_read f l v h)
 
-  pub refused : ((v : Val f) → spell f v ≡ ps → fits f v ≡ true → ⊥) → read f ps ≡ none
+  pub refused : ((v : Val f) → spell f v ≡ ps → fits f v ≡ true → ⊥) → read f ps ≡ None
   refused no_value = go (read f ps) refl
     where
-      go : (o : Option (Val f)) → read f ps ≡ o → o ≡ none
-      go none e = refl
-      go (some v) e = let h = read_spell f ps v e in absurd (no_value v h.0 h.1)
+      go : (o : Option (Val f)) → read f ps ≡ o → o ≡ None
+      go None e = refl
+      go (Some v) e = let h = read_spell f ps v e in absurd (no_value v h.0 h.1)
 
 -- the only piece of a form that has one
 pub piece_is : {s t : Bytes} → ◌≡◌ {A = List Bytes} (s ∷ []) (t ∷ []) → s ≡ t

@@ -1,6 +1,5 @@
 -- What the readers in place answer: what the definition reads of the piece at a place, and where the piece ends. Assumes nothing: these are definitions.
-use Rattle.std.specs.Prelude.{ℕ, Bool, true, false, [], ◌∷◌}
-use Rattle.std.proofs.Math.Option.{Option, none, some}
+use Rattle.std.specs.Prelude.{ℕ, Bool, true, false, [], ◌∷◌, Option, None, Some}
 use Rattle.model.specs.Text.{Bytes}
 use Rattle.model.specs.Field.{Form, read}
 use Rattle.record.specs.declared.Decimal.{Decimal}
@@ -20,8 +19,8 @@ decimal_in (DecimalAt.Is n r) = Decimal.Is n
 decimal_in DecimalAt.Not = Decimal.Not
 
 abbrev pub decimal_end : DecimalAt → Option ℕ
-decimal_end (DecimalAt.Is n r) = some r
-decimal_end DecimalAt.Not = none
+decimal_end (DecimalAt.Is n r) = Some r
+decimal_end DecimalAt.Not = None
 
 abbrev pub opt_decimal_in : OptDecimalAt → OptDecimal
 opt_decimal_in (OptDecimalAt.Is n r) = OptDecimal.Is n
@@ -29,28 +28,28 @@ opt_decimal_in (OptDecimalAt.Absent r) = OptDecimal.Absent
 opt_decimal_in OptDecimalAt.Not = OptDecimal.Not
 
 abbrev pub opt_decimal_end : OptDecimalAt → Option ℕ
-opt_decimal_end (OptDecimalAt.Is n r) = some r
-opt_decimal_end (OptDecimalAt.Absent r) = some r
-opt_decimal_end OptDecimalAt.Not = none
+opt_decimal_end (OptDecimalAt.Is n r) = Some r
+opt_decimal_end (OptDecimalAt.Absent r) = Some r
+opt_decimal_end OptDecimalAt.Not = None
 
 abbrev pub is_text : TextAt → Bool
 is_text (TextAt.To r) = true
 is_text TextAt.Not = false
 
 abbrev pub text_end : TextAt → Option ℕ
-text_end (TextAt.To r) = some r
-text_end TextAt.Not = none
+text_end (TextAt.To r) = Some r
+text_end TextAt.Not = None
 
 -- whether there is an alias, and whether it names
 abbrev pub alias_in : AliasAt → Option Bool
-alias_in (AliasAt.Absent r) = some false
-alias_in (AliasAt.Named r) = some true
-alias_in AliasAt.Not = none
+alias_in (AliasAt.Absent r) = Some false
+alias_in (AliasAt.Named r) = Some true
+alias_in AliasAt.Not = None
 
 abbrev pub alias_end : AliasAt → Option ℕ
-alias_end (AliasAt.Absent r) = some r
-alias_end (AliasAt.Named r) = some r
-alias_end AliasAt.Not = none
+alias_end (AliasAt.Absent r) = Some r
+alias_end (AliasAt.Named r) = Some r
+alias_end AliasAt.Not = None
 
 -- ── what is read ──
 

@@ -1,6 +1,5 @@
 -- Places in a sheet: where a line ends, where a piece of it ends, and what is read of the piece at a place. Assumes nothing: these are definitions.
-use Rattle.std.specs.Prelude.{◌≡◌, Bool, true, false, cond, ℕ, ◌≤◌, ◌<◌, eqb, length, get_or}
-use Rattle.std.proofs.Math.Option.{Option, none, some}
+use Rattle.std.specs.Prelude.{◌≡◌, Bool, true, false, cond, ℕ, ◌≤◌, ◌<◌, eqb, length, get_or, Option, None, Some}
 use Rattle.std.proofs.Math.Seq.{slice}
 use Rattle.model.specs.Text.{Bytes, tab, line_feed}
 
@@ -28,8 +27,8 @@ pub record Ends (s : Bytes) (p r : ℕ) : Type 0 where
   pub stop : separates (get_or s r 0) ≡ true
 
 abbrev pub EndsAt : Bytes → ℕ → Option ℕ → Type 0
-EndsAt s p none = Unit {0}
-EndsAt s p (some r) = Ends s p r
+EndsAt s p None = Unit {0}
+EndsAt s p (Some r) = Ends s p r
 
 -- what is said of the piece at p is what is read of it; and where it ends, if that is told
 pub record ReadAt {A : Type 0} (s : Bytes) (p : ℕ) (reads : Bytes → A) (said : A) (place : Option ℕ) : Type 0 where

@@ -1,9 +1,8 @@
 -- Lines of a sheet: which of them have their line feed, and how the line of a record that is read stands in the sheet. Assumes nothing.
-use Rattle.std.specs.Prelude.{◌≡◌, refl, ℕ, zero, suc, ◌+◌, ◌-◌, ◌<◌, ◌≤◌, Bool, true, false, eqb, ltb, length, take, drop, get_or}
+use Rattle.std.specs.Prelude.{◌≡◌, refl, ℕ, zero, suc, ◌+◌, ◌-◌, ◌<◌, ◌≤◌, Bool, true, false, eqb, ltb, length, take, drop, get_or, Some}
 use Rattle.std.proofs.Common.{sym, ◌∙◌, add-one, arith, eqb-true, ne_eqb, ltb-true, ltb-false, take-append-drop, drop_of_length-le, take_all, length-take-le, take-take, drop-cons}
 use Rattle.std.proofs.Math.Path.{ap}
 use mathlib.Core.List.{[], ◌∷◌, ◌++◌, append-nil}
-use Rattle.std.proofs.Math.Option.{some}
 use Rattle.std.proofs.lemmas.Bool.{eqb-false}
 use Rattle.std.proofs.Math.Seq.{slice, slice-cons, slice_empty}
 use Rattle.std.proofs.lemmas.List.{drop-append-le}
@@ -119,7 +118,7 @@ module _ (sheet : Bytes) (p e : ℕ) (line : LineEnd sheet p e) where
       cut_at (e + 1) (omega arith) (omega (arith, line.to)) ∙ ap (λ t. slice p e sheet ++ t) last
 
   -- the line of a record that is read stands in the sheet as the record is spelled, line feed and all
-  pub line_stands : (s : Sort) (k : Kind s) (f : Fields (forms s k)) → read_rec s (slice p e sheet) ≡ some (k, f) → LineAt s k f sheet p (e + 1)
+  pub line_stands : (s : Sort) (k : Kind s) (f : Fields (forms s k)) → read_rec s (slice p e sheet) ≡ Some (k, f) → LineAt s k f sheet p (e + 1)
   unfolding spell_rec line_text line_pieces
   line_stands s k f q =
       record {

@@ -1,8 +1,7 @@
 -- What one line does to the reader's state. Assumes nothing.
-use Rattle.std.specs.Prelude.{◌≡◌, ℕ, suc, ◌+◌, ◌*◌, ◌-◌, ◌%◌, ◌<◌, Bool, true, false, List, [], ◌∷◌, ◌++◌, eqb, drop, get_or}
+use Rattle.std.specs.Prelude.{◌≡◌, ℕ, suc, ◌+◌, ◌*◌, ◌-◌, ◌%◌, ◌<◌, Bool, true, false, List, [], ◌∷◌, ◌++◌, eqb, drop, get_or, Some}
 use Rattle.std.proofs.Math.Path.{refl, ap}
 use Rattle.std.proofs.Common.{sym, ◌∙◌, add-one, arith, eqb-true}
-use Rattle.std.proofs.Math.Option.{some}
 use Rattle.std.proofs.lemmas.Bool.{eqb-false}
 use Rattle.std.proofs.Math.Seq.{slice}
 use Rattle.sheet.specs.Stack.{due_words, due_count_at, due_room_at}
@@ -100,11 +99,11 @@ module _ {depth : ℕ} (sheet : Bytes) (a b w : List ℕ) (i pos m wr : ℕ) (o 
         fields : Fields (forms (group w m).sort got_it.kind)
         fields = fields_of (forms (group w m).sort got_it.kind) sheet (part a' b' i) 0
 
-        decoded : decode (group w m).sort sheet (part a' b' i) ≡ some (got_it.kind, fields)
+        decoded : decode (group w m).sort sheet (part a' b' i) ≡ Some (got_it.kind, fields)
         unfolding decode rec_of fields
         decoded = rw (got_it.number, got_it.named)
 
-        is_read_law : read_rec (group w m).sort (slice pos e sheet) ≡ some (got_it.kind, fields)
+        is_read_law : read_rec (group w m).sort (slice pos e sheet) ≡ Some (got_it.kind, fields)
         is_read_law = got_it.read ∙ sym got_it.held ∙ decoded
 
         stands : LineAt (group w m).sort got_it.kind fields sheet (get_or (part a' b' i) line_start_at 0) (get_or (part a' b' i) line_end_at 0)

@@ -1,8 +1,7 @@
 -- The reading of a sheet from a position on, with groups still due: what is left to read gives the whole answer. Assumes nothing.
-use Rattle.std.specs.Prelude.{◌≡◌, refl, ℕ, zero, suc, ◌<◌, ◌≤◌, Bool, true, false, cond, List, [], ◌∷◌, ◌++◌, eqb, length, drop}
+use Rattle.std.specs.Prelude.{◌≡◌, refl, ℕ, zero, suc, ◌<◌, ◌≤◌, Bool, true, false, cond, List, [], ◌∷◌, ◌++◌, eqb, length, drop, None, Some}
 use Rattle.std.proofs.Common.{sym, ◌∙◌, ap, arith, append-nil, drop-cons}
 use Rattle.std.proofs.Math.Bool.{or-true}
-use Rattle.std.proofs.Math.Option.{none, some}
 use Rattle.std.proofs.Math.Seq.{drop-length}
 use borrow.Author.Tests.{lt-ltb, le-ltb}
 use Rattle.model.specs.Text.{Bytes, Pieces, split, line_feed}
@@ -85,11 +84,11 @@ module _ (sheet : Bytes) (pos n : ℕ) (s : Sort) (d : ℕ) where
     deep h = rw (e, h)
 
     module _ (few : n ≤ max_lines) (room : 0 < d) where
-      pub unformed : read_rec s (split line_feed (drop pos sheet)).first ≡ none → read_line s (is_zero d) (place_at sheet pos n) ≡ refused (Refusal.BadLine n)
+      pub unformed : read_rec s (split line_feed (drop pos sheet)).first ≡ None → read_line s (is_zero d) (place_at sheet pos n) ≡ refused (Refusal.BadLine n)
       unfolding read_line place_at line_at formed
       unformed h = rw (e, h, le-ltb max_lines n few, positive d room)
 
-      pub well_formed : (x : RecOf s) → read_rec s (split line_feed (drop pos sheet)).first ≡ some x → read_line s (is_zero d) (place_at sheet pos n) ≡ got x (place_at sheet to (suc n))
+      pub well_formed : (x : RecOf s) → read_rec s (split line_feed (drop pos sheet)).first ≡ Some x → read_line s (is_zero d) (place_at sheet pos n) ≡ got x (place_at sheet to (suc n))
       unfolding read_line place_at line_at formed
       well_formed x h = rw (e, h, le-ltb max_lines n few, positive d room)
 

@@ -1,9 +1,8 @@
 -- What the reader of a sheet answers and promises, and how far it has come between two lines. Assumes nothing.
-use Rattle.std.specs.Prelude.{◌≡◌, refl, ℕ, zero, suc, ◌+◌, ◌-◌, ◌<◌, ◌≤◌, true, false}
+use Rattle.std.specs.Prelude.{◌≡◌, refl, ℕ, zero, suc, ◌+◌, ◌-◌, ◌<◌, ◌≤◌, true, false, Option, None, Some}
 use Rattle.std.proofs.Math.Path.{sym, ap, subst}
 use Rattle.std.proofs.Common.{◌∙◌, zero-add, arith, length-append}
 use mathlib.Core.List.{List, [], ◌∷◌, ◌++◌, append_assoc, append-nil}
-use Rattle.std.proofs.Math.Option.{Option, none, some}
 use Rattle.std.proofs.Math.ListN.{length}
 use Rattle.words.specs.Places.{statement_sort}
 use Rattle.model.specs.Text.{Bytes}
@@ -46,8 +45,8 @@ Reads depth sheet a b (WriteClause l) = read_only depth sheet ≡ refuse (Refusa
 
 -- the line of the first write so far, 0 for none
 unfoldable pub write_of : ℕ → Option ℕ
-write_of zero = none
-write_of (suc l) = some (suc l)
+write_of zero = None
+write_of (suc l) = Some (suc l)
 
 -- i records are read, up to position pos; m groups are due
 pub record SoFar (depth : ℕ) (sheet : Bytes) (a b w : List ℕ) (i pos m wr : ℕ) : Type 0 where
@@ -157,7 +156,7 @@ pub top_is : (w : List ℕ) (m : ℕ) → Fit (dues w (suc m)) → dues w (suc m
 unfolding dues
 top_is w m f = ap (λ n. due (group w m).sort n (group w m).room ∷ dues w m) (omega (arith, f.0))
 
-first_of_law : (wr wr' i : ℕ) (v : Option ℕ) → (wr ≡ 0 → wr' ≡ suc i) → ((wr ≡ 0 → ⊥) → wr' ≡ wr) → or_else (write_of wr) (some (suc i)) ≡ or_else (write_of wr') v
+first_of_law : (wr wr' i : ℕ) (v : Option ℕ) → (wr ≡ 0 → wr' ≡ suc i) → ((wr ≡ 0 → ⊥) → wr' ≡ wr) → or_else (write_of wr) (Some (suc i)) ≡ or_else (write_of wr') v
 unfolding or_else write_of
 first_of_law zero wr' i v new old = rw (new refl)
 first_of_law (suc l) wr' i v new old = rw (old (λ e. omega arith))

@@ -1,7 +1,6 @@
 -- What the steps of a line come to: the room below a record, a write, room for its groups, and the groups that are due then. Assumes nothing.
-use Rattle.std.specs.Prelude.{◌≡◌, refl, ℕ, zero, suc, ◌+◌, ◌*◌, ◌-◌, ◌<◌, ◌≤◌, Bool, true, false, cond, List, ◌∷◌, ◌++◌, eqb, length, get_or}
+use Rattle.std.specs.Prelude.{◌≡◌, refl, ℕ, zero, suc, ◌+◌, ◌*◌, ◌-◌, ◌<◌, ◌≤◌, Bool, true, false, cond, List, ◌∷◌, ◌++◌, eqb, length, get_or, Some}
 use Rattle.std.proofs.Common.{sym, ◌∙◌, subst, arith, eqb-true, eq-eqb, ne_eqb}
-use Rattle.std.proofs.Math.Option.{some}
 use Rattle.model.specs.Call.{work_words}
 use Rattle.words.specs.Places.{write_kind, entry_kind, entry_sort, sort_count}
 use Rattle.model.specs.Text.{Bytes}
@@ -69,7 +68,7 @@ write_rows (suc (suc (suc (suc (suc (suc (suc (suc (suc (suc zero)))))))))) l = 
 write_rows (suc (suc (suc (suc (suc (suc (suc (suc (suc (suc (suc n))))))))))) l = absurd (omega arith)
 
 -- one kind alone is a write
-pub writes_kind : (m : ℕ) → m < sort_count → (n : ℕ) (k : Kind (sort_of m)) → kind_of (sort_of m) n ≡ some k → writes (sort_of m) k ≡ eqb n write_kind
+pub writes_kind : (m : ℕ) → m < sort_count → (n : ℕ) (k : Kind (sort_of m)) → kind_of (sort_of m) n ≡ Some k → writes (sort_of m) k ≡ eqb n write_kind
 writes_kind m h n k e = kind_row (sort_of m) (λ n k. writes (sort_of m) k ≡ eqb n write_kind) (write_rows m h) n k e
 
 -- ── room for the groups ──
@@ -94,11 +93,11 @@ entry_groups (suc (suc (suc zero))) h = refl
 entry_groups (suc (suc (suc (suc zero)))) h = refl
 entry_groups (suc (suc (suc (suc (suc g))))) h = absurd (omega arith)
 
-entry_number : (m n : ℕ) (k : Kind (sort_of m)) → m ≡ entry_sort → kind_of (sort_of m) n ≡ some k → n ≡ entry_kind
-entry_number m n k e q = subst (λ z. (k : Kind (sort_of z)) → kind_of (sort_of z) n ≡ some k → n ≡ entry_kind) (sym e) (λ k q. kind_row (sort_of entry_sort) (λ n k. n ≡ entry_kind) entry_row n k q) k q
+entry_number : (m n : ℕ) (k : Kind (sort_of m)) → m ≡ entry_sort → kind_of (sort_of m) n ≡ Some k → n ≡ entry_kind
+entry_number m n k e q = subst (λ z. (k : Kind (sort_of z)) → kind_of (sort_of z) n ≡ Some k → n ≡ entry_kind) (sym e) (λ k q. kind_row (sort_of entry_sort) (λ n k. n ≡ entry_kind) entry_row n k q) k q
 
 -- an entry's groups are none of entries
-entry_slack_law : (m n g : ℕ) (k : Kind (sort_of m)) → m ≡ entry_sort → kind_of (sort_of m) n ≡ some k → g < group_count → slack (sort_of (group_sort n g)) ≡ 0
+entry_slack_law : (m n g : ℕ) (k : Kind (sort_of m)) → m ≡ entry_sort → kind_of (sort_of m) n ≡ Some k → g < group_count → slack (sort_of (group_sort n g)) ≡ 0
 entry_slack_law m n g k e q h = let z : n ≡ entry_kind = entry_number m n k e q in rw z (entry_groups g h)
 
 -- the numbers: m groups lie below the one of room d and slack x, of which r are left or one more; t is the slack of a new one, whose room is e
@@ -111,7 +110,7 @@ numbers_below m r d t h l z k e = omega arith
 -- ── the line's groups on the stack ──
 
 -- m groups lie below the top one, of which a record was read: a record of sort number s and kind number n
-module _ (w w' : List ℕ) (m r n : ℕ) (long : work_words ≤ length w) (fit : Fit (dues w (suc m))) (sorted : Sorted w (suc m)) (pop : Popped w w' m r) (room : 0 < (group w m).room) (k : Kind (group w m).sort) (named : kind_of (group w m).sort n ≡ some k) where
+module _ (w w' : List ℕ) (m r n : ℕ) (long : work_words ≤ length w) (fit : Fit (dues w (suc m))) (sorted : Sorted w (suc m)) (pop : Popped w w' m r) (room : 0 < (group w m).room) (k : Kind (group w m).sort) (named : kind_of (group w m).sort n ≡ Some k) where
   low_sort : get_or w (m * due_words) 0 < sort_count
   low_sort = sorted.at m (omega arith)
 

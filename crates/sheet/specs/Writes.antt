@@ -1,8 +1,7 @@
 -- The first `write` record of a sheet is that of its tree. Assumes nothing.
-use Rattle.std.specs.Prelude.{◌≡◌, refl, ℕ, suc, ◌+◌, Bool, true, false, cond, List, [], ◌∷◌, ◌++◌, length}
+use Rattle.std.specs.Prelude.{◌≡◌, refl, ℕ, suc, ◌+◌, Bool, true, false, cond, List, [], ◌∷◌, ◌++◌, length, Option, None, Some}
 use Rattle.std.proofs.Common.{sym, ◌∙◌, ap, add-zero, arith, append_assoc, append-nil, length-append}
 use Rattle.std.proofs.lemmas.Bool.{false≢true}
-use Rattle.std.proofs.Math.Option.{Option, none, some}
 use Rattle.model.specs.Field.{Fields}
 use Rattle.model.specs.Kind.{Sort, Kind, Clause, PatternElement, Expr}
 use Rattle.model.specs.Kind.{statement, union_arm, clause, projection, order_item, pattern_part, pattern_element, name, yield_item, entry, expr, in_plan}
@@ -36,8 +35,8 @@ writes (in_plan p) k = false
 
 -- the number of the first write among records numbered from n on
 unfoldable pub write_among : ℕ → List Rec → Option ℕ
-write_among n [] = none
-write_among n (r ∷ rs) = cond (writes r.sort r.kind) (some n) (write_among (suc n) rs)
+write_among n [] = None
+write_among n (r ∷ rs) = cond (writes r.sort r.kind) (Some n) (write_among (suc n) rs)
 
 -- the sorts inside a clause
 abbrev inner : Sort → Bool
@@ -139,14 +138,14 @@ mutual
 abbrev Seen : (rs : List Rec) → ℕ → Option ℕ → Type 0
 Seen rs n w = (ss : List Rec) → write_among n (rs ++ ss) ≡ or_else w (write_among (n + length rs) ss)
 
-seen_none : (n : ℕ) → Seen [] n none
+seen_none : (n : ℕ) → Seen [] n None
 unfolding or_else
 seen_none n ss = rw (add-zero n)
 
 or_else_assoc : {A : Type 0} (u v w : Option A) → or_else u (or_else v w) ≡ or_else (or_else u v) w
 unfolding or_else
-or_else_assoc none v w = refl
-or_else_assoc (some a) v w = refl
+or_else_assoc None v w = refl
+or_else_assoc (Some a) v w = refl
 
 seen_both : (rs us : List Rec) (n : ℕ) (v w : Option ℕ) → Seen rs n v → Seen us (n + length rs) w → Seen (rs ++ us) n (or_else v w)
 seen_both rs us n v w h g ss =
@@ -171,10 +170,10 @@ unfolding records numbered write_in
 seen_clauses []ᵗ n = seen_none n
 seen_clauses (c ∷ᵗ cs) n = seen_both (records c) (records_of cs) n (is_write (numbered c n)) (write_in (numbered_of cs (n + length (records c)))) (seen_clause c n) (seen_clauses cs (n + length (records c)))
 
-pub or_else_none : {A : Type 0} (v : Option A) → or_else v none ≡ v
+pub or_else_none : {A : Type 0} (v : Option A) → or_else v None ≡ v
 unfolding or_else
-or_else_none none = refl
-or_else_none (some a) = refl
+or_else_none None = refl
+or_else_none (Some a) = refl
 
 -- a record that is no write, before records that were seen
 seen_more : (r : Rec) (rs : List Rec) (n : ℕ) (w : Option ℕ) → writes r.sort r.kind ≡ false → Seen rs (suc n) w → Seen (r ∷ rs) n w

@@ -1,7 +1,6 @@
 -- The laws of the tests on two sheets: what the code finds is what the definition's tests say. Assumes nothing: these are laws with their proofs.
-use Rattle.std.specs.Prelude.{◌≡◌, refl, ℕ, List, []}
+use Rattle.std.specs.Prelude.{◌≡◌, refl, ℕ, List, [], Option, None, Some}
 use Rattle.std.proofs.Common.{sym, subst, ◌∙◌, arith}
-use Rattle.std.proofs.Math.Option.{Option, none, some}
 use Rattle.model.specs.Text.{Bytes}
 use Rattle.model.specs.Kind.{statement}
 use Rattle.model.specs.Tree.{Tree}
@@ -56,8 +55,8 @@ OfWrite Refusal.NoRoom = ⊥
 
 write_refuses : (t : Tree statement) (o : Option ℕ) (x : Refusal) → test_write t o ≡ refuse x → OfWrite x
 unfolding test_write
-write_refuses t none x e = let z : ◌≡◌ {A = ℕ} 0 1 = cc in absurd (omega arith)
-write_refuses t (some line) x e = let z : Refusal.WriteClause line ≡ x = cc in subst (λ y. OfWrite y) z tt
+write_refuses t None x e = let z : ◌≡◌ {A = ℕ} 0 1 = cc in absurd (omega arith)
+write_refuses t (Some line) x e = let z : Refusal.WriteClause line ≡ x = cc in subst (λ y. OfWrite y) z tt
 
 unread : (r : Reading (Tree statement)) (x : Refusal) → (OfWrite x → ⊥) → then (test_reading r) (λ t. test_write t (first_write t)) ≡ refuse x → test_reading r ≡ refuse x
 unfolding then test_reading
@@ -74,17 +73,17 @@ module _ (sheet : Bytes) where
   big_unread line e = unread (read_sheet max_depth sheet) (Refusal.BigTree line) (λ z. z) e
 
 -- a tree that comes through was read, and has no `write`
-write_passes : (t u : Tree statement) (o : Option ℕ) → test_write t o ≡ pass u → (t ≡ u) × (o ≡ none)
+write_passes : (t u : Tree statement) (o : Option ℕ) → test_write t o ≡ pass u → (t ≡ u) × (o ≡ None)
 unfolding test_write
-write_passes t u none e = let z : t ≡ u = cc in (z, refl)
-write_passes t u (some line) e = let z : ◌≡◌ {A = ℕ} 0 1 = cc in absurd (omega arith)
+write_passes t u None e = let z : t ≡ u = cc in (z, refl)
+write_passes t u (Some line) e = let z : ◌≡◌ {A = ℕ} 0 1 = cc in absurd (omega arith)
 
-reads_only : (r : Reading (Tree statement)) (u : Tree statement) → then (test_reading r) (λ t. test_write t (first_write t)) ≡ pass u → (test_reading r ≡ pass u) × (first_write u ≡ none)
+reads_only : (r : Reading (Tree statement)) (u : Tree statement) → then (test_reading r) (λ t. test_write t (first_write t)) ≡ pass u → (test_reading r ≡ pass u) × (first_write u ≡ None)
 unfolding then test_reading
 reads_only (got t p) u e = let h = write_passes t u (first_write t) e in (rw h.0, rw h.0 at h.1)
 reads_only (refused y) u e = let z : ◌≡◌ {A = ℕ} 0 1 = cc in absurd (omega arith)
 
-read_only_law : (sheet : Bytes) (t : Tree statement) → read_only max_depth sheet ≡ pass t → (test_reading (read_sheet max_depth sheet) ≡ pass t) × (first_write t ≡ none)
+read_only_law : (sheet : Bytes) (t : Tree statement) → read_only max_depth sheet ≡ pass t → (test_reading (read_sheet max_depth sheet) ≡ pass t) × (first_write t ≡ None)
 unfolding read_only
 read_only_law sheet t e = reads_only (read_sheet max_depth sheet) t e
 
@@ -105,16 +104,16 @@ module _ (left right : Bytes) where
     right_unread f e' = record { unresolved = []; is = rw (each_right read left right t e (fault_of f []) e') }
 
     module _ (u : Tree statement) (e' : read right ≡ pass u) where
-      left_writes : (l : ℕ) → first_write t ≡ some l → FailsOn left_side (Fault.WriteClause l) (read_sides left right)
+      left_writes : (l : ℕ) → first_write t ≡ Some l → FailsOn left_side (Fault.WriteClause l) (read_sides left right)
       unfolding read_sides then_sides test_write
       left_writes l w = record { unresolved = []; is = rw (each_both read left right t e u e', each_left (λ t. test_write t (first_write t)) t u (Refusal.WriteClause l) (rw w)) }
 
-      module _ (w : first_write t ≡ none) where
-        right_writes : (l : ℕ) → first_write u ≡ some l → FailsOn right_side (Fault.WriteClause l) (read_sides left right)
+      module _ (w : first_write t ≡ None) where
+        right_writes : (l : ℕ) → first_write u ≡ Some l → FailsOn right_side (Fault.WriteClause l) (read_sides left right)
         unfolding read_sides then_sides test_write
         right_writes l w' = record { unresolved = []; is = rw (each_both read left right t e u e', each_right (λ t. test_write t (first_write t)) t u t (rw w) (Refusal.WriteClause l) (rw w')) }
 
-        none_writes : first_write u ≡ none → read_sides left right ≡ check_sides (t, (u, tt))
+        none_writes : first_write u ≡ None → read_sides left right ≡ check_sides (t, (u, tt))
         unfolding read_sides then_sides test_write
         none_writes w' = rw (each_both read left right t e u e', each_both (λ t. test_write t (first_write t)) t u t (rw w) u (rw w'))
 

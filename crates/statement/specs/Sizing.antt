@@ -1,8 +1,7 @@
 -- The sizing call's tests in order, from what the reader and the check answer. Assumes nothing.
-use Rattle.std.specs.Prelude.{◌≡◌, refl, ℕ, ◌*◌, ◌<◌, ◌≤◌, Bool, true, false, List, [], ◌∷◌, ltb, length}
+use Rattle.std.specs.Prelude.{◌≡◌, refl, ℕ, ◌*◌, ◌<◌, ◌≤◌, Bool, true, false, List, [], ◌∷◌, ltb, length, Option, None, Some}
 use Rattle.std.proofs.Common.{sym, ap, arith}
 use Rattle.std.proofs.Math.Bool.{or-true}
-use Rattle.std.proofs.Math.Option.{Option, none, some}
 use borrow.Author.Tests.{lt-ltb, le-ltb}
 use Rattle.model.specs.Text.{Bytes}
 use Rattle.model.specs.Kind.{statement}
@@ -111,8 +110,8 @@ held_some sheet a b r n z q = let d = rw z at q in (sheet, record { tree = d.0; 
 
 written : (u t : Tree statement) (o : Option ℕ) → test_write u o ≡ pass t → u ≡ t
 unfolding test_write
-written u t none e = cc
-written u t (some l) e = let z : ◌≡◌ {A = ℕ} 0 1 = cc in absurd (omega arith)
+written u t None e = cc
+written u t (Some l) e = let z : ◌≡◌ {A = ℕ} 0 1 = cc in absurd (omega arith)
 
 passed : (sheet : Bytes) (t : Tree statement) (r : Reading (Tree statement)) → then (test_reading r) (λ t. test_write t (first_write t)) ≡ pass t → (p : Place) × (r ≡ got t p)
 unfolding then test_reading

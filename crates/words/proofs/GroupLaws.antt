@@ -1,8 +1,7 @@
 -- The table of children: a record's groups of it are the definition's groups, but for groups of none and for neighbours of one sort, which add up. Assumes nothing.
-use Rattle.std.specs.Prelude.{◌≡◌, refl, ℕ, zero, suc, ◌+◌, ◌*◌, ◌-◌, ◌/◌, ◌%◌, ◌<◌, ◌≤◌, Bool, true, false, cond, ◌&&◌, List, [], ◌∷◌, ◌++◌, eqb, ltb, leb, length, get_or, take, replicate}
+use Rattle.std.specs.Prelude.{◌≡◌, refl, ℕ, zero, suc, ◌+◌, ◌*◌, ◌-◌, ◌/◌, ◌%◌, ◌<◌, ◌≤◌, Bool, true, false, cond, ◌&&◌, List, [], ◌∷◌, ◌++◌, eqb, ltb, leb, length, get_or, take, replicate, Some}
 use Rattle.std.proofs.Common.{sym, ap, ◌∙◌, add-zero, mod-eq_of_lt, append_assoc, arith, ltb-true, le-ltb, leb-true, eqb-true, get_or-take, get_or-drop, length-append}
 use Rattle.std.proofs.Math.Nat.{mul-add-div_right, mul-add-mod_self_right, div-eq_of_lt}
-use Rattle.std.proofs.Math.Option.{some}
 use Rattle.std.proofs.Math.Seq.{slice}
 use Rattle.std.proofs.lemmas.List.{length-replicate, replicate-append-replicate}
 use Rattle.words.specs.Places.{kind_count, sort_count, with_kind, return_kind, node_kind, rel_kind, slice_kind, case_kind, list_predicate_kind}
@@ -132,11 +131,11 @@ group_rows (suc (suc (suc (suc (suc (suc (suc (suc (suc (suc zero)))))))))) l =
 group_rows (suc (suc (suc (suc (suc (suc (suc (suc (suc (suc (suc n))))))))))) l = absurd (omega arith)
 
 -- the groups of a kind by its number
-pub groups_are : (m : ℕ) → m < sort_count → (n : ℕ) (k : Kind (sort_of m)) → kind_of (sort_of m) n ≡ some k → GroupRow (sort_of m) n k
+pub groups_are : (m : ℕ) → m < sort_count → (n : ℕ) (k : Kind (sort_of m)) → kind_of (sort_of m) n ≡ Some k → GroupRow (sort_of m) n k
 groups_are m h n k e = kind_row (sort_of m) (λ n k. GroupRow (sort_of m) n k) (group_rows m h) n k e
 
 -- and how many children they count
-pub children_are : (m : ℕ) → m < sort_count → (n : ℕ) (k : Kind (sort_of m)) → kind_of (sort_of m) n ≡ some k → (sheet : Bytes) (ws : List ℕ) → Flags (forms (sort_of m) k) ws 0 → total (groups_of n ws) ≡ total (children (sort_of m) k (fields_of (forms (sort_of m) k) sheet ws 0))
+pub children_are : (m : ℕ) → m < sort_count → (n : ℕ) (k : Kind (sort_of m)) → kind_of (sort_of m) n ≡ Some k → (sheet : Bytes) (ws : List ℕ) → Flags (forms (sort_of m) k) ws 0 → total (groups_of n ws) ≡ total (children (sort_of m) k (fields_of (forms (sort_of m) k) sheet ws 0))
 children_are m h n k e sheet ws flags = sym (sorts_total (groups_of n ws)) ∙ ap length (groups_are m h n k e sheet ws flags) ∙ sorts_total _
 
 -- the groups behind a kind's last count none

@@ -1,7 +1,6 @@
 -- From the promise to the words: a record's kind number is its first word, and its fields are read off the others, word by word. Assumes nothing.
-use Rattle.std.specs.Prelude.{◌≡◌, refl, ℕ, zero, suc, ◌+◌, ◌*◌, ◌-◌, ◌<◌, ◌≤◌, Bool, true, false, cond, ◌&&◌, List, [], ◌∷◌, eqb, ltb, length, get_or}
+use Rattle.std.specs.Prelude.{◌≡◌, refl, ℕ, zero, suc, ◌+◌, ◌*◌, ◌-◌, ◌<◌, ◌≤◌, Bool, true, false, cond, ◌&&◌, List, [], ◌∷◌, eqb, ltb, length, get_or, Option, None, Some}
 use Rattle.std.proofs.Common.{sym, ap, subst, ◌∙◌, add-zero, arith, ltb-true, ltb-false, eqb-true}
-use Rattle.std.proofs.Math.Option.{Option, none, some}
 use Rattle.std.proofs.Math.Seq.{slice, slice-cons, slice_empty}
 use Rattle.std.proofs.lemmas.Bool.{eqb-false}
 use Rattle.model.specs.Text.{Bytes}
@@ -48,22 +47,22 @@ part_cells a b i room low =
 
 -- what the words of a record show: the number of its kind, its fields, and that flags are 0 or 1
 pub record Shown (sheet : Bytes) (a b : List ℕ) (i : ℕ) (s : Sort) (k : Kind s) (f : Fields (forms s k)) : Type 0 where
-  pub kind : kind_of s (cell a b i 0) ≡ some k
+  pub kind : kind_of s (cell a b i 0) ≡ Some k
   pub fields : f ≡ fields_of (forms s k) sheet (cells a b i) 0
   pub flags : Flags (forms s k) (cells a b i) 0
 
-decoded : (s : Sort) (sheet : Bytes) (ws : List ℕ) (o : Option (Kind s)) (k : Kind s) (f : Fields (forms s k)) → rec_of s sheet ws o ≡ some (k, f) → (o ≡ some k) × (f ≡ fields_of (forms s k) sheet ws 0)
+decoded : (s : Sort) (sheet : Bytes) (ws : List ℕ) (o : Option (Kind s)) (k : Kind s) (f : Fields (forms s k)) → rec_of s sheet ws o ≡ Some (k, f) → (o ≡ Some k) × (f ≡ fields_of (forms s k) sheet ws 0)
 unfolding rec_of
-decoded s sheet ws none k f h = let z : ◌≡◌ {A = ℕ} 0 1 = cc in absurd (omega arith)
-decoded s sheet ws (some k') k f h =
+decoded s sheet ws None k f h = let z : ◌≡◌ {A = ℕ} 0 1 = cc in absurd (omega arith)
+decoded s sheet ws (Some k') k f h =
     let p : ◌≡◌ {A = RecOf s} (k', fields_of (forms s k') sheet ws 0) (k, f) = cc in
-    (ap (λ (x : RecOf s). some x.0) p, subst (λ (x : RecOf s). ◌≡◌ {A = Fields (forms s x.0)} x.1 (fields_of (forms s x.0) sheet ws 0)) p refl)
+    (ap (λ (x : RecOf s). Some x.0) p, subst (λ (x : RecOf s). ◌≡◌ {A = Fields (forms s x.0)} x.1 (fields_of (forms s x.0) sheet ws 0)) p refl)
 
 pub shown : {sheet : Bytes} {a b : List ℕ} {i : ℕ} {s : Sort} {k : Kind s} {f : Fields (forms s k)} → Roomy a b → RecordAt sheet a b i s k f → Shown sheet a b i s k f
 unfolding decode
 shown {sheet} {a} {b} {i} {s} {k} {f} room h =
     let e : part a b i ≡ cells a b i = part_cells a b i room h.low in
-    let d : (kind_of s (cell a b i 0) ≡ some k) × (f ≡ fields_of (forms s k) sheet (cells a b i) 0) = decoded s sheet (cells a b i) (kind_of s (cell a b i 0)) k f (rw e at h.is) in
+    let d : (kind_of s (cell a b i 0) ≡ Some k) × (f ≡ fields_of (forms s k) sheet (cells a b i) 0) = decoded s sheet (cells a b i) (kind_of s (cell a b i 0)) k f (rw e at h.is) in
     record { kind = d.0; fields = d.1; flags = rw e at h.flags }
 
 -- ── the numbers of kinds ──
@@ -77,7 +76,7 @@ and-true : (t u : Bool) → (t && u) ≡ true → (t ≡ true) × (u ≡ true)
 and-true true u h = (refl, h)
 and-true false u h = let z : ◌≡◌ {A = ℕ} 0 1 = cc in absurd (omega arith)
 
-nth_number : {A : Type 0} (c : A → ℕ) (n : ℕ) (ks : List A) → numbered c n ks ≡ true → (m : ℕ) (k : A) → nth ks m ≡ some k → n + m ≡ c k
+nth_number : {A : Type 0} (c : A → ℕ) (n : ℕ) (ks : List A) → numbered c n ks ≡ true → (m : ℕ) (k : A) → nth ks m ≡ Some k → n + m ≡ c k
 unfolding numbered nth
 nth_number c n [] t m k h = let z : ◌≡◌ {A = ℕ} 0 1 = cc in absurd (omega arith)
 nth_number c n (x ∷ ks) t zero k h =
@@ -87,7 +86,7 @@ nth_number c n (x ∷ ks) t (suc m) k h =
     let e : suc n + m ≡ c k = nth_number c (suc n) ks (and-true (eqb (c x) n) (numbered c (suc n) ks) t).1 m k h in
     omega arith
 
-number_in : (t : Bool) (f n : ℕ) {A : Type 0} (c : A → ℕ) (ks : List A) (k : A) → t ≡ ltb n f → numbered c f ks ≡ true → cond t none (nth ks (n - f)) ≡ some k → n ≡ c k
+number_in : (t : Bool) (f n : ℕ) {A : Type 0} (c : A → ℕ) (ks : List A) (k : A) → t ≡ ltb n f → numbered c f ks ≡ true → cond t None (nth ks (n - f)) ≡ Some k → n ≡ c k
 number_in true f n c ks k l t h = let z : ◌≡◌ {A = ℕ} 0 1 = cc in absurd (omega arith)
 number_in false f n c ks k l t h =
     let e : f + (n - f) ≡ c k = nth_number c f ks t (n - f) k h in
@@ -95,7 +94,7 @@ number_in false f n c ks k l t h =
     omega arith
 
 -- the first word of a record is the number of its kind, if c numbers the kinds of its sort
-pub number_of : (s : Sort) (c : Kind s → ℕ) → numbered c (first_kind s) (kinds s) ≡ true → (n : ℕ) (k : Kind s) → kind_of s n ≡ some k → n ≡ c k
+pub number_of : (s : Sort) (c : Kind s → ℕ) → numbered c (first_kind s) (kinds s) ≡ true → (n : ℕ) (k : Kind s) → kind_of s n ≡ Some k → n ≡ c k
 unfolding kind_of
 number_of s c t n k h = number_in (ltb n (first_kind s)) (first_kind s) n c (kinds s) k refl t h
 

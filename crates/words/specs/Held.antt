@@ -1,6 +1,5 @@
 -- The reader's promise: a tree's records stand in the words from a record on, one after another in sheet order, within a depth. The crates above rest on this alone. Assumes nothing: these are definitions.
-use Rattle.std.specs.Prelude.{◌≡◌, ℕ, suc, ◌+◌, ◌-◌, ◌%◌, ◌<◌, ◌≤◌, cond, List, [], ◌∷◌, length, get_or}
-use Rattle.std.proofs.Math.Option.{some}
+use Rattle.std.specs.Prelude.{◌≡◌, ℕ, suc, ◌+◌, ◌-◌, ◌%◌, ◌<◌, ◌≤◌, cond, List, [], ◌∷◌, length, get_or, Some}
 use Rattle.std.proofs.Math.Seq.{slice}
 use Rattle.model.specs.Text.{Bytes}
 use Rattle.model.specs.Field.{Form, Fields, num, flag, var, var_or_absent, num_or_absent, number, number_or_absent, int, float, text, alias, span, spell}
@@ -78,7 +77,7 @@ total (g ∷ gs) = g.1 + total gs
 -- record i is one of the first 2,048, and its words are those of a kind, its fields, its line and, as far as a word holds it, the number of its children
 pub record RecordAt (sheet : Bytes) (a b : List ℕ) (i : ℕ) (s : Sort) (k : Kind s) (f : Fields (forms s k)) : Type 0 where
   pub low : i < max_records
-  pub is : decode s sheet (part a b i) ≡ some (k, f)
+  pub is : decode s sheet (part a b i) ≡ Some (k, f)
   pub flags : Flags (forms s k) (part a b i) 0
   pub texts : Texts (forms s k) sheet (part a b i) 0
   pub line : LineAt s k f sheet (get_or (part a b i) line_start_at 0) (get_or (part a b i) line_end_at 0)

@@ -1,7 +1,6 @@
 -- What a tree is whose record's first word is the number of a kind: one inversion law for all sorts, and the numbers of clauses, pattern elements and expressions. Assumes nothing.
-use Rattle.std.specs.Prelude.{◌≡◌, refl, ℕ, List}
+use Rattle.std.specs.Prelude.{◌≡◌, refl, ℕ, List, Option, None, Some}
 use Rattle.std.proofs.Common.{sym, ap, subst, ◌∙◌}
-use Rattle.std.proofs.Math.Option.{Option, none, some}
 use Rattle.model.specs.Text.{Bytes}
 use Rattle.model.specs.Field.{Fields}
 use Rattle.model.specs.Kind.{Sort, Kind, Clause, PatternElement, Same, Expr, clause, pattern_element, expr}
@@ -14,15 +13,15 @@ use Rattle.words.specs.Cells.{shown}
 use Rattle.words.specs.Numbers.{clause_number, element_number, same_number, expr_number}
 
 some_or : {A : Type 0} → A → Option A → A
-some_or x none = x
-some_or x (some y) = y
+some_or x None = x
+some_or x (Some y) = y
 
 -- what is said of every record of kind k that stands at record i
 abbrev pub Opens : (sheet : Bytes) (a b : List ℕ) (d i : ℕ) (s : Sort) → (Tree s → Type 0) → Kind s → Type 0
 Opens sheet a b d i s P k = (line : ℕ) (f : Fields (forms s k)) (kids : Forest (children s k f)) → Held sheet a b (node s line k f kids) d i → P (node s line k f kids)
 
 -- it holds of the tree there, if the first word is that kind's number
-pub by_kind : (sheet : Bytes) {a b : List ℕ} (d i : ℕ) {s : Sort} → Roomy a b → (P : Tree s → Type 0) (k : Kind s) → Opens sheet a b d i s P k → (t : Tree s) → Held sheet a b t d i → kind_of s (cell a b i kind_at) ≡ some k → P t
+pub by_kind : (sheet : Bytes) {a b : List ℕ} (d i : ℕ) {s : Sort} → Roomy a b → (P : Tree s → Type 0) (k : Kind s) → Opens sheet a b d i s P k → (t : Tree s) → Held sheet a b t d i → kind_of s (cell a b i kind_at) ≡ Some k → P t
 unfolding Held some_or
 by_kind sheet {a} {b} d i room P k opens (node s line k' f kids) hd e =
     let is : k ≡ k' = ap (some_or k) (sym e ∙ (shown room hd.1).kind) in
@@ -30,7 +29,7 @@ by_kind sheet {a} {b} d i room P k opens (node s line k' f kids) hd e =
 
 -- ── clauses ──
 
-clause_kind : (k : Clause) → kind_of clause (clause_number k) ≡ some k
+clause_kind : (k : Clause) → kind_of clause (clause_number k) ≡ Some k
 unfolding kind_of first_kind nth kinds clause_number
 clause_kind Clause.Match = refl
 clause_kind Clause.Where = refl
@@ -45,7 +44,7 @@ by_clause sheet d i room P k opens t hd e = by_kind sheet d i room P k opens t h
 
 -- ── pattern elements ──
 
-element_kind : (k : PatternElement) → kind_of pattern_element (element_number k) ≡ some k
+element_kind : (k : PatternElement) → kind_of pattern_element (element_number k) ≡ Some k
 unfolding kind_of first_kind nth kinds element_number
 element_kind PatternElement.Node = refl
 element_kind PatternElement.Rel = refl
@@ -55,7 +54,7 @@ by_element sheet d i room P k opens t hd e = by_kind sheet d i room P k opens t 
 
 -- ── expressions ──
 
-same_kind : (h : Same) → kind_of expr (same_number h) ≡ some (Expr.Over h)
+same_kind : (h : Same) → kind_of expr (same_number h) ≡ Some (Expr.Over h)
 unfolding kind_of first_kind nth kinds sames same_number
 same_kind Same.Null = refl
 same_kind Same.Bool = refl
@@ -73,7 +72,7 @@ same_kind Same.Case = refl
 same_kind Same.IsNull = refl
 same_kind Same.InList = refl
 
-expr_kind : (k : Expr) → kind_of expr (expr_number k) ≡ some k
+expr_kind : (k : Expr) → kind_of expr (expr_number k) ≡ Some k
 unfolding kind_of first_kind nth kinds sames expr_number
 expr_kind (Expr.Over h) = same_kind h
 expr_kind Expr.Var = refl

@@ -1,8 +1,7 @@
 -- The numbers of the kinds that the code tells apart, as the first word of a record has them. Assumes nothing.
-use Rattle.std.specs.Prelude.{◌≡◌, refl, Bool, true, false, cond, eqb, ℕ, ◌<◌, List, [], ◌∷◌}
+use Rattle.std.specs.Prelude.{◌≡◌, refl, Bool, true, false, cond, eqb, ℕ, ◌<◌, List, [], ◌∷◌, Some}
 use Rattle.std.proofs.Common.{◌∙◌, eqb-true, arith}
 use Rattle.std.proofs.lemmas.Bool.{false≢true}
-use Rattle.std.proofs.Math.Option.{some}
 use Rattle.model.specs.Kind.{Clause, PatternElement, Same, Expr, clause, pattern_element, expr}
 use Rattle.model.specs.Record.{kinds, sames}
 use Rattle.words.specs.Words.{kind_of, first_kind}
@@ -38,7 +37,7 @@ clause_number Clause.Unwind = unwind_kind
 clause_number Clause.Call = call_kind
 clause_number Clause.Write = write_kind
 
-pub clause_number_law : (n : ℕ) (k : Clause) → kind_of clause n ≡ some k → n ≡ clause_number k
+pub clause_number_law : (n : ℕ) (k : Clause) → kind_of clause n ≡ Some k → n ≡ clause_number k
 unfolding numbered first_kind kinds clause_number
 clause_number_law n k h = number_of clause (λ x. clause_number x) refl n k h
 
@@ -48,7 +47,7 @@ unfoldable pub element_number : PatternElement → ℕ
 element_number PatternElement.Node = node_kind
 element_number PatternElement.Rel = rel_kind
 
-pub element_number_law : (n : ℕ) (k : PatternElement) → kind_of pattern_element n ≡ some k → n ≡ element_number k
+pub element_number_law : (n : ℕ) (k : PatternElement) → kind_of pattern_element n ≡ Some k → n ≡ element_number k
 unfolding numbered first_kind kinds element_number
 element_number_law n k h = number_of pattern_element (λ x. element_number x) refl n k h
 
@@ -81,7 +80,7 @@ expr_number Expr.ListPredicate = list_predicate_kind
 expr_number Expr.Unresolved = unres_kind
 expr_number Expr.Undesugared = undes_kind
 
-pub expr_number_law : (n : ℕ) (k : Expr) → kind_of expr n ≡ some k → n ≡ expr_number k
+pub expr_number_law : (n : ℕ) (k : Expr) → kind_of expr n ≡ Some k → n ≡ expr_number k
 unfolding numbered first_kind kinds sames expr_number same_number
 expr_number_law n k h = number_of expr (λ x. expr_number x) refl n k h
 

@@ -1,8 +1,8 @@
 -- The tables say what the record table of the definitions says, kind by kind, by computation. Assumes nothing.
-use Rattle.std.specs.Prelude.{◌≡◌, refl, ℕ, zero, suc, ◌+◌, ◌-◌, ◌<◌, ◌≤◌, Bool, true, false, cond, ◌&&◌, List, [], ◌∷◌, ltb, leb, eqb, length, get_or, drop}
+use Rattle.std.specs.Prelude.{◌≡◌, refl, ℕ, zero, suc, ◌+◌, ◌-◌, ◌<◌, ◌≤◌, Bool, true, false, cond, ◌&&◌, List, [], ◌∷◌, ltb, leb, eqb, length, get_or, drop, None, Some}
 use Rattle.std.proofs.Common.{sym, ◌∙◌, add-zero, add-suc, suc-add, arith, ltb-true, ltb-false, leb-true, eqb-true}
 use Rattle.std.proofs.lemmas.Bool.{false≢true, eqb-false}
-use Rattle.std.proofs.Math.Option.{none, some, some-injective, none-ne-some}
+use Rattle.std.proofs.lemmas.Option.{none-some, same_Some}
 use Rattle.model.specs.Text.{Bytes, bytes, bytes_from}
 use Rattle.model.specs.Kind.{Sort, Kind}
 use Rattle.model.specs.Record.{forms, kinds, sames, keyword, same_keyword, expr_keyword, clause_keyword, element_keyword}
@@ -121,7 +121,7 @@ code_row n h =
 -- kind j of some, and what holds of it
 pub record Nth (s : Sort) (P : ℕ → Kind s → Type 0) (n : ℕ) (ks : List (Kind s)) (j : ℕ) : Type 0 where
   pub kind : Kind s
-  pub is : nth ks j ≡ some kind
+  pub is : nth ks j ≡ Some kind
   pub onward : drop j ks ≡ kind ∷ drop (suc j) ks
   pub row : P (n + j) kind
 
@@ -133,21 +133,21 @@ nth_row {s} {P} {n} (◌▸◌ {k = k} r rs) (suc j) h =
     let t = nth_row rs j (omega arith) in
     record { kind = t.kind; is = t.is; onward = t.onward; row = rw (add-suc, ← suc-add) t.row }
 
-nth_low : {A : Type 0} (l : List A) (j : ℕ) (a : A) → nth l j ≡ some a → j < length l
+nth_low : {A : Type 0} (l : List A) (j : ℕ) (a : A) → nth l j ≡ Some a → j < length l
 unfolding nth
-nth_low [] j a e = absurd (none-ne-some a e)
+nth_low [] j a e = absurd (none-some a e)
 nth_low (b ∷ l) zero a e = omega arith
 nth_low (b ∷ l) (suc j) a e = omega (arith, nth_low l j a e)
 
 -- what holds of a kind by its number
-pub kind_row : (s : Sort) (P : ℕ → Kind s → Type 0) → Rows s P (first_kind s) (kinds s) → (n : ℕ) (k : Kind s) → kind_of s n ≡ some k → P n k
+pub kind_row : (s : Sort) (P : ℕ → Kind s → Type 0) → Rows s P (first_kind s) (kinds s) → (n : ℕ) (k : Kind s) → kind_of s n ≡ Some k → P n k
 unfolding kind_of
 kind_row s P rs n k e = go (ltb n (first_kind s)) refl e
   where
-    go : (t : Bool) → ltb n (first_kind s) ≡ t → cond t none (nth (kinds s) (n - first_kind s)) ≡ some k → P n k
-    go true p q = absurd (none-ne-some k q)
+    go : (t : Bool) → ltb n (first_kind s) ≡ t → cond t None (nth (kinds s) (n - first_kind s)) ≡ Some k → P n k
+    go true p q = absurd (none-some k q)
     go false p q =
         let t = nth_row rs (n - first_kind s) (nth_low (kinds s) _ k q) in
-        let same : t.kind ≡ k = some-injective _ _ (sym t.is ∙ q) in
+        let same : t.kind ≡ k = same_Some _ _ (sym t.is ∙ q) in
         let at : first_kind s + (n - first_kind s) ≡ n = omega (arith, ltb-false n (first_kind s) p) in
         rw (← at, ← same) t.row

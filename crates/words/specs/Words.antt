@@ -1,7 +1,6 @@
 -- How words hold records: sixteen words a record, the first 1,024 records in one slice and the others in a second. Word 0 is the number of the record's kind; words 1 and 15 say where its line stands, word 14 how many children it has; field g is words 2g + 2 and 2g + 3; a text is its place in the sheet.
 -- One function reads a record of a sort off its words, and the crates above cite that. Definitions only.
-use Rattle.std.specs.Prelude.{ℕ, zero, suc, ◌+◌, ◌*◌, ◌-◌, ◌≤◌, cond, List, [], ◌∷◌, eqb, ltb, ℤ, pos, negsuc, length, get_or}
-use Rattle.std.proofs.Math.Option.{Option, none, some}
+use Rattle.std.specs.Prelude.{ℕ, zero, suc, ◌+◌, ◌*◌, ◌-◌, ◌≤◌, cond, List, [], ◌∷◌, eqb, ltb, ℤ, pos, negsuc, length, get_or, Option, None, Some}
 use Rattle.std.proofs.Math.Seq.{slice}
 use Rattle.model.specs.Text.{Bytes, unescape, split, tab}
 use Rattle.model.specs.Field.{Form, num, flag, var, var_or_absent, num_or_absent, number, number_or_absent, int, float, text, alias, span, Fields, Val, meaning}
@@ -54,13 +53,13 @@ int_of lo hi = cond (ltb hi two31) (pos (hi * two32 + lo)) (negsuc ((hi - two31)
 
 -- a number or none, by a first word that is 0 for none
 unfoldable pub option_of : ℕ → ℕ → Option ℕ
-option_of zero n = none
-option_of (suc p) n = some n
+option_of zero n = None
+option_of (suc p) n = Some n
 
 -- a name at a place; no name stands at the place 0
 unfoldable pub alias_of : Bytes → ℕ → ℕ → Option Bytes
-alias_of sheet zero y = none
-alias_of sheet (suc x) y = some (unescape (slice (suc x) y sheet))
+alias_of sheet zero y = None
+alias_of sheet (suc x) y = Some (unescape (slice (suc x) y sheet))
 
 -- pieces of a part of the sheet
 unfoldable pub pieces_of : Bytes → List Bytes
@@ -112,18 +111,18 @@ first_kind expr = null_kind
 first_kind (in_plan p) = kind_count
 
 unfoldable pub nth : {A : Type 0} → List A → ℕ → Option A
-nth [] i = none
-nth (a ∷ l) zero = some a
+nth [] i = None
+nth (a ∷ l) zero = Some a
 nth (a ∷ l) (suc i) = nth l i
 
 unfoldable pub kind_of : (s : Sort) → ℕ → Option (Kind s)
-kind_of s n = cond (ltb n (first_kind s)) none (nth (kinds s) (n - first_kind s))
+kind_of s n = cond (ltb n (first_kind s)) None (nth (kinds s) (n - first_kind s))
 
 -- ── records ──
 
 unfoldable pub rec_of : (s : Sort) → Bytes → List ℕ → Option (Kind s) → Option (RecOf s)
-rec_of s sheet ws none = none
-rec_of s sheet ws (some k) = some (k, fields_of (forms s k) sheet ws 0)
+rec_of s sheet ws None = None
+rec_of s sheet ws (Some k) = Some (k, fields_of (forms s k) sheet ws 0)
 
 -- sixteen words, read as a record of a sort
 unfoldable pub decode : (s : Sort) → Bytes → List ℕ → Option (RecOf s)

@@ -1,7 +1,7 @@
 -- `clauses::lower_clauses` meets its contract.
 use Rattle.clauses.proofs.Turning
 use mathlib.Core.Path.{◌≡◌}
-use mathlib.Core.Option.{none}
+use Rattle.std.specs.Prelude.{None}
 use lib.ListN.{length}
 use Rattle.model.specs.Kind.{clause}
 use Rattle.context.specs.Ops.{before_of}
@@ -18,7 +18,7 @@ invariant-loop-m l =
     l.a
     l.b
     l.at.left
-    (λ e o m'. LowersClauses l.sheet l.a l.b l.n l.at.left l.at.i e none o (mem l.initial.cur.ctx l.initial.ops l.initial.rest) m')
+    (λ e o m'. LowersClauses l.sheet l.a l.b l.n l.at.left l.at.i e None o (mem l.initial.cur.ctx l.initial.ops l.initial.rest) m')
     l.m
     l.cur.next
     (before_of l.cur.op)
