@@ -4,6 +4,8 @@
 ghost use Rattle.std.specs.Prelude.{◌≡◌, ◌<◌};
 ghost use Rattle.words.specs.Words.{Roomy, cell, max_records, record_words};
 
+pub use records::{Records, RecordsMut};
+
 pub mod field;
 pub mod form;
 pub mod key;
@@ -49,10 +51,5 @@ pub fn word(a: &[u32], b: &[u32], i: usize, c: usize) -> u32
     requires roomy { Roomy a.now b.now }
     ensures { result ≡ cell a.now b.now i c }
 {
-    if i < FIRST_RECORDS {
-        let at = i * RECORD_WORDS + c;
-        return a[at];
-    }
-    let at = (i - FIRST_RECORDS) * RECORD_WORDS + c;
-    b[at]
+    Records { a, b }.word(i, c)
 }

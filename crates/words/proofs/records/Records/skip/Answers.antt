@@ -1,24 +1,20 @@
 -- `words::records::skip` meets its contract: what is due from a record on is the whole tree there. Assumes nothing.
 use Rattle.words.proofs.Counting
 use native.Mathlib.Omega.{arith}
-use Rattle.words.proofs.records.skip.Goals as goal
+use Rattle.words.proofs.records.Records.skip.Goals as goal
 
 pub loop-due-init : goal.loop-due-init
-loop-due-init c = (omega (arith, Counting.start_low c.requires.starts), Counting.first _)
+loop-due-init c = (omega (arith, Counting.start_low c.requires), Counting.first _)
 
 pub children-n-requires : goal.children-n-requires
-children-n-requires c =
-    record {
-      i_lt_max_records = Counting.in_range c.requires.starts c.loop-due.invariant.1 c.loop-due-test.true;
-      roomy = c.requires.roomy;
-    }
+children-n-requires c = Counting.in_range c.requires c.loop-due.invariant.1 c.loop-due-test.true
 
 pub overflow_sub-due : goal.overflow_sub-due
 overflow_sub-due c = omega arith
 
 pub overflow_add-due : goal.overflow_add-due
 overflow_add-due c =
-    let p = Counting.few c.requires.starts c.loop-due.invariant.1 c.loop-due.invariant.0 in
+    let p = Counting.few c.requires c.loop-due.invariant.1 c.loop-due.invariant.0 in
     omega (arith, c.children-n.ensures.1)
 
 pub overflow_add-at : goal.overflow_add-at
@@ -28,13 +24,13 @@ overflow_add-at c =
 
 pub loop-due-smaller : goal.loop-due-smaller
 loop-due-smaller c =
-    let p = Counting.in_range c.requires.starts c.loop-due.invariant.1 c.loop-due-test.true in
+    let p = Counting.in_range c.requires c.loop-due.invariant.1 c.loop-due-test.true in
     omega arith
 
 pub loop-due-preserved : goal.loop-due-preserved
 loop-due-preserved c =
-    let p = Counting.in_range c.requires.starts c.loop-due.invariant.1 c.loop-due-test.true in
-    (omega arith, Counting.again c.requires.roomy c.loop-due-test.true c.children-n.ensures.0 c.loop-due.invariant.1)
+    let p = Counting.in_range c.requires c.loop-due.invariant.1 c.loop-due-test.true in
+    (omega arith, Counting.again c.args.self.now.roomy c.loop-due-test.true c.children-n.ensures.0 c.loop-due.invariant.1)
 
 pub returns : goal.returns
 returns c = Counting.done c.loop-due-test.false c.loop-due.invariant.1

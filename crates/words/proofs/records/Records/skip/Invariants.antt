@@ -2,10 +2,10 @@
 use Rattle.words.proofs.Counting
 use Rattle.words.specs.Words.{max_records}
 use Prim.Native.Nat.{◌-◌, ◌≤◌}
-use Rattle.words.proofs.records.skip.Given as goal
+use Rattle.words.proofs.records.Records.skip.Given as goal
 
 abbrev pub invariant-loop-due : goal.invariant-loop-due
-invariant-loop-due l = (l.at ≤ max_records) × Counting.Remaining l.a l.b l.i l.due l.at
+invariant-loop-due l = (l.at ≤ max_records) × Counting.Remaining l.self.a.now l.self.b.now l.i l.due l.at
 
 abbrev pub decreases-loop-due : goal.decreases-loop-due
 decreases-loop-due l = max_records - l.at
