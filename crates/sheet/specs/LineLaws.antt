@@ -72,11 +72,11 @@ module _ (s : Bytes) (z : ℕ) (u : Unfed s z) where
           let whole : slice p (p + (length s - p)) s ≡ drop p s = rw (sum, take_all (length s) s (omega arith)) in
           unsplit (drop p s) (rw whole at (free_of line_feed s (length s - p) p (omega arith) (λ i a b. ne_eqb (get_or s i 0) line_feed (u.free i (omega arith) (omega arith)))))
 
-  pub lines_found : 0 < z → get_or s (z - 1) 0 ≡ line_feed → LinesEnd s z
-  lines_found h e = record { fed = λ p k. feed_from s (z - 1) (omega (arith, u.low)) e p (omega arith); none = none_from }
+  pub lines_found : (r : ℕ) → (0 < z) × (r ≡ z - 1 + 1) → get_or s (z - 1) 0 ≡ line_feed → LinesEnd s r
+  lines_found r h e = let q : r ≡ z = omega (arith, h.0, h.1) in rw q (record { fed = λ p k. feed_from s (z - 1) (omega (arith, u.low)) e p (omega arith); none = none_from })
 
-  pub lines_none : z ≡ 0 → LinesEnd s z
-  lines_none e = record { fed = λ p k. absurd (omega arith); none = none_from }
+  pub lines_none : z ≡ 0 → LinesEnd s 0
+  lines_none e = record { fed = λ p k. absurd (omega arith); none = rw e at none_from }
 
   pub unfed_more : 0 < z → (get_or s (z - 1) 0 ≡ line_feed → ⊥) → Unfed s (z - 1)
   unfed_more h n = record { low = omega (arith, u.low); free = λ i a b. at i a b (ltb i z) refl }
