@@ -6,7 +6,7 @@ use Rattle.model.specs.Call.{work_words}
 use Rattle.words.specs.Places.{sort_count, kind_count}
 use Rattle.model.specs.Kind.{Sort}
 use Rattle.words.specs.Words.{max_records}
-use Rattle.words.proofs.GroupLaws.{none_behind}
+use Rattle.words.proofs.GroupLaws.{groups_few, none_behind}
 use Rattle.words.specs.Table.{group_numbers, sort_of, group_sort, group_source, count_of, groups_from, group_count}
 use Rattle.sheet.specs.Due.{Due, due, due_of}
 use Rattle.sheet.specs.Stack.{Alike, alike_refl, alike_sym, alike_trans, alike_under, alike_none, slack, due_words, due_count_at, due_room_at, allowed, max_room}
@@ -54,6 +54,11 @@ pub record Top (s : Sort) (n d m : ℕ) : Type 0 where
   pub room : d ≤ max_room
   pub low : m + 1 + slack s ≤ allowed d
 
+-- the topmost group, of sort number s, and those below it
+pub record Popped (w w' : List ℕ) (m m' s n d : ℕ) : Type 0 where
+  pub top : Top (sort_of s) n d m'
+  pub is : dues w m ≡ due (sort_of s) n d ∷ dues w' m'
+
 -- what is due when nothing is left
 pub none_due_is : (w : List ℕ) (m : ℕ) → m ≡ 0 → dues w m ≡ []
 unfolding dues
@@ -69,16 +74,19 @@ module _ (w : List ℕ) (m : ℕ) (h : 0 < m) (s : Stacked w m) where
   pub top_room : get_or w ((m - 1) * due_words + due_room_at) 0 ≤ max_room
   top_room = (s.each (m - 1) (omega arith)).room
 
-  pub top_fits : Top (group w (m - 1)).sort (group w (m - 1)).count (group w (m - 1)).room (m - 1)
+  top_fits : Top (group w (m - 1)).sort (group w (m - 1)).count (group w (m - 1)).room (m - 1)
   top_fits = let t = s.each (m - 1) (omega arith) in record { count = t.count; room = t.room; low = t.low }
 
   pub below_top : Stacked w (m - 1)
   below_top = record { long = s.long; each = λ j l. s.each j (omega arith) }
 
-pub top_is : (w : List ℕ) (m : ℕ) → 0 < m → dues w m ≡ group w (m - 1) ∷ dues w (m - 1)
+top_is : (w : List ℕ) (m : ℕ) → 0 < m → dues w m ≡ group w (m - 1) ∷ dues w (m - 1)
 unfolding dues
 top_is w zero h = absurd (omega arith)
 top_is w (suc m) h = let e : suc m - 1 ≡ m = omega arith in rw e
+
+pub popped : {w : List ℕ} {m : ℕ} → 0 < m → Stacked w m → Popped w w m (m - 1) (get_or w ((m - 1) * due_words) 0) (get_or w ((m - 1) * due_words + due_count_at) 0) (get_or w ((m - 1) * due_words + due_room_at) 0)
+popped {w} {m} h s = record { top = top_fits w m h s; is = top_is w m h }
 
 -- ── pushing ──
 
@@ -133,8 +141,8 @@ module _ (w : List ℕ) (m s n d : ℕ) (h : Stacked w m) (few : m < max_due) wh
   written_fits : (n ≡ 0 → ⊥) → s < sort_count → d ≤ max_room → m + 1 + slack (sort_of s) ≤ allowed d → Fits (written w m s n d) m
   written_fits z l r p = record { sort = rw written_sort l; count = rw written_count (nonzero n z); room = rw written_room r; low = rw (written_sort, written_room) p }
 
-pub pushed_stacked : (w : List ℕ) (m s n d m' : ℕ) → Stacked w m → m' ≡ suc m → (n ≡ 0 → ⊥) → s < sort_count → d ≤ max_room → m + 1 + slack (sort_of s) ≤ allowed d → Stacked (written w m s n d) m'
-pushed_stacked w m s n d m' h e z l r p = record { long = omega (arith, written_long w m s n d h few, h.long); each = λ j k. at j k (eqb j m) refl }
+pub pushed_stacked : {w : List ℕ} {m s n d m' : ℕ} → Stacked w m → m' ≡ suc m → (n ≡ 0 → ⊥) → s < sort_count → d ≤ max_room → m + 1 + slack (sort_of s) ≤ allowed d → Stacked (written w m s n d) m'
+pushed_stacked {w} {m} {s} {n} {d} {m'} h e z l r p = record { long = omega (arith, written_long w m s n d h few, h.long); each = λ j k. at j k (eqb j m) refl }
   where
     few : m < max_due
     few = omega arith
@@ -146,11 +154,11 @@ pushed_stacked w m s n d m' h e z l r p = record { long = omega (arith, written_
         let low : j < m = omega arith in
         fits_same w (written w m s n d) j (λ x y. written_below w m s n d h few x (omega arith)) (h.each j low)
 
-pub pushed : (w : List ℕ) (m s n d m' : ℕ) → Stacked w m → m' ≡ suc m → m + 1 + slack (sort_of s) ≤ allowed d → Pushed w (written w m s n d) m m' s n d
-pushed w m s n d m' h e p = let few : m < max_due = omega arith in record { high = omega arith; is = rw (e, push_is w m s n d h few) (alike_refl _) }
+pub pushed : {w : List ℕ} {m s n d m' : ℕ} → Stacked w m → m' ≡ suc m → m + 1 + slack (sort_of s) ≤ allowed d → Pushed w (written w m s n d) m m' s n d
+pushed {w} {m} {s} {n} {d} {m'} h e p = let few : m < max_due = omega arith in record { high = omega arith; is = rw (e, push_is w m s n d h few) (alike_refl _) }
 
-pub pushed_none : (w : List ℕ) (m s n d : ℕ) → n ≡ 0 → Pushed w w m m s n d
-pushed_none w m s n d e = record { high = omega arith; is = rw e (alike_sym (alike_none (sort_of s) d (dues w m))) }
+pub pushed_none : {w : List ℕ} {m s n d : ℕ} → n ≡ 0 → Pushed w w m m s n d
+pushed_none {w} {m} {s} {n} {d} e = record { high = omega arith; is = rw e (alike_sym (alike_none (sort_of s) d (dues w m))) }
 
 -- ── a record's groups ──
 
@@ -192,17 +200,23 @@ groups_behind w n ws m d low (suc k) h =
     let after : group_count - k ≡ suc g = omega arith in
     let before : Groups w w n ws (group_count - k) k m d m = groups_behind w n ws m d low k (omega arith) in
     let none : count_of ws (group_source n g) ≡ 0 = rw (none_behind n g low (omega arith) (omega arith)) in
-    groups_more w w w n ws g k m d m m (rw after at before) (pushed_none w m (group_sort n g) (count_of ws (group_source n g)) d none)
+    groups_more w w w n ws g k m d m m (rw after at before) (pushed_none none)
 
--- the same, counted from the other end
-pub begun : (w : List ℕ) (n : ℕ) (ws : List ℕ) (m d g : ℕ) → g ≤ group_count → Groups w w n ws (group_count - (group_count - g)) (group_count - g) m d m → Groups w w n ws g (group_count - g) m d m
-begun w n ws m d g h p = let e : group_count - (group_count - g) ≡ g = omega arith in rw e at p
+-- before the first step, from the end of a kind's groups
+pub begun : {w : List ℕ} {n : ℕ} {ws : List ℕ} {m d g : ℕ} → n < kind_count → g ≡ get_or group_numbers n 0 → (g ≤ group_count) × Groups w w n ws g (group_count - g) m d m
+begun {w} {n} {ws} {m} {d} {g} low q =
+    let few : g ≤ group_count = rw q (groups_few n low) in
+    let e : group_count - (group_count - g) ≡ g = omega arith in
+    (few, rw e at (groups_behind w n ws m d low (group_count - g) (omega arith)))
 
 -- ── the loop over a record's groups, from the last to the first ──
 
-pub groups_step : (w w' w'' : List ℕ) (n : ℕ) (ws : List ℕ) (g m d r r' : ℕ) → 0 < g → g ≤ group_count → Groups w w' n ws g (group_count - g) m d r → Pushed w' w'' r r' (group_sort n (g - 1)) (count_of ws (group_source n (g - 1))) d → Groups w w'' n ws (g - 1) (group_count - (g - 1)) m d r'
-groups_step w w' w'' n ws zero m d r r' h l p q = absurd (omega arith)
-groups_step w w' w'' n ws (suc g) m d r r' h l p q =
+stepped : (w w' w'' : List ℕ) (n : ℕ) (ws : List ℕ) (g m d r r' : ℕ) → 0 < g → g ≤ group_count → Groups w w' n ws g (group_count - g) m d r → Pushed w' w'' r r' (group_sort n (g - 1)) (count_of ws (group_source n (g - 1))) d → Groups w w'' n ws (g - 1) (group_count - (g - 1)) m d r'
+stepped w w' w'' n ws zero m d r r' h l p q = absurd (omega arith)
+stepped w w' w'' n ws (suc g) m d r r' h l p q =
     let e : suc g - 1 ≡ g = omega arith in
     let k : group_count - (suc g - 1) ≡ suc (group_count - suc g) = omega arith in
     rw (k, e) (groups_more w w' w'' n ws g (group_count - suc g) m d r r' p (rw e at q))
+
+pub groups_step : {w w' w'' : List ℕ} {n : ℕ} {ws : List ℕ} {g m d r r' s c : ℕ} → 0 < g → g ≤ group_count → Groups w w' n ws g (group_count - g) m d r → Pushed w' w'' r r' s c d → s ≡ group_sort n (g - 1) → c ≡ count_of ws (group_source n (g - 1)) → Groups w w'' n ws (g - 1) (group_count - (g - 1)) m d r'
+groups_step {w} {w'} {w''} {n} {ws} {g} {m} {d} {r} {r'} h l p q x y = stepped w w' w'' n ws g m d r r' h l p (rw (x, y) at q)

@@ -195,15 +195,15 @@ unfolding mapped
 mapped_all (got rs p) = refl
 mapped_all (refused y) = refl
 
-pub begin : (depth : ℕ) (sheet : Bytes) (a b w w' : List ℕ) (m : ℕ) → Pushed w w' 0 m statement_sort 1 depth → SoFar depth sheet a b (dues w' m) 0 0 None
+pub begin : {depth : ℕ} {sheet : Bytes} {a b w w' : List ℕ} {m d : ℕ} → Pushed w w' 0 m statement_sort 1 d → d ≡ depth → SoFar depth sheet a b (dues w' m) 0 0 None
 unfolding dues or_else sort_of sorts
-begin depth sheet a b w w' m p =
+begin {depth} {sheet} p e =
     record {
       done = [];
       stands = tt;
       many = refl;
       here = omega arith;
-      remains = at_start depth sheet ∙ sym (mapped_all (read_rest (due statement 1 depth ∷ []) (place_at sheet 0 1))) ∙ ap (mapped (λ rs. [] ++ rs)) (sym (rest_alike p.is (place_at sheet 0 1)));
+      remains = at_start depth sheet ∙ sym (mapped_all (read_rest (due statement 1 depth ∷ []) (place_at sheet 0 1))) ∙ ap (mapped (λ rs. [] ++ rs)) (sym (rest_alike (rw e at p.is) (place_at sheet 0 1)));
       wrote = λ ss. refl;
     }
 
@@ -213,11 +213,11 @@ begin depth sheet a b w w' m p =
 pub record Ends (sheet : Bytes) (i pos : ℕ) (wr : Option ℕ) (r : Result ℕ ReadError) : Type 0 where
   pub is : (depth : ℕ) (a b : List ℕ) → SoFar depth sheet a b [] i pos wr → Reads depth sheet a b r
 
-pub ends_bad : (sheet : Bytes) (i pos : ℕ) (wr : Option ℕ) (l : ℕ) → pos < length sheet → l ≡ i + 1 → Ends sheet i pos wr (Err (BadLine l))
-ends_bad sheet i pos wr l h e = record { is = λ depth a b s. rw (e, add-one i) (rest_refused sheet a b [] i pos wr s (Refusal.BadLine (suc i)) (not_the_end sheet pos (suc i) h)) }
+pub ends_bad : {sheet : Bytes} {i pos : ℕ} {wr : Option ℕ} {l : ℕ} → pos < length sheet → l ≡ i + 1 → Ends sheet i pos wr (Err (BadLine l))
+ends_bad {sheet} {i} {pos} {wr} h e = record { is = λ depth a b s. rw (e, add-one i) (rest_refused sheet a b [] i pos wr s (Refusal.BadLine (suc i)) (not_the_end sheet pos (suc i) h)) }
 
-pub ends_read : (sheet : Bytes) (i pos : ℕ) (wr : Option ℕ) → length sheet ≤ pos → wr ≡ None → Ends sheet i pos wr (Ok i)
-ends_read sheet i pos wr h z = record { is = λ depth a b s. all_read sheet a b i pos wr s (omega (arith, s.here)) z }
+pub ends_read : {sheet : Bytes} {i pos : ℕ} {wr : Option ℕ} → length sheet ≤ pos → wr ≡ None → Ends sheet i pos wr (Ok i)
+ends_read {sheet} {i} {pos} {wr} h z = record { is = λ depth a b s. all_read sheet a b i pos wr s (omega (arith, s.here)) z }
 
-pub ends_write : (sheet : Bytes) (i pos : ℕ) (wr : Option ℕ) (l : ℕ) → length sheet ≤ pos → wr ≡ Some l → Ends sheet i pos wr (Err (WriteClause l))
-ends_write sheet i pos wr l h z = record { is = λ depth a b s. write_read sheet a b i pos wr s (omega (arith, s.here)) l z }
+pub ends_write : {sheet : Bytes} {i pos : ℕ} {wr : Option ℕ} {l : ℕ} → length sheet ≤ pos → wr ≡ Some l → Ends sheet i pos wr (Err (WriteClause l))
+ends_write {sheet} {i} {pos} {wr} {l} h z = record { is = λ depth a b s. write_read sheet a b i pos wr s (omega (arith, s.here)) l z }

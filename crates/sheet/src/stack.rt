@@ -1,11 +1,11 @@
 // The stack of due groups: three words a group (sort, count, room), group m from word 3m on.
-ghost use Rattle.std.specs.Prelude.{◌≡◌, ◌+◌, ◌<◌, ◌≤◌, ◌∷◌};
+ghost use Rattle.std.specs.Prelude.{◌≡◌, ◌+◌, ◌<◌, ◌≤◌};
 ghost use Rattle.words.specs.Words.{part};
 ghost use Rattle.words.specs.Places.{sort_count};
 ghost use Rattle.words.specs.Table.{sort_of, group_count};
-ghost use Rattle.sheet.specs.Due.{due, room_below};
+ghost use Rattle.sheet.specs.Due.{room_below};
 ghost use Rattle.sheet.specs.Stack.{slack, allowed, max_room};
-ghost use Rattle.sheet.specs.Dues.{dues, Stacked, Top, Pushed, Groups, GroupsAsked};
+ghost use Rattle.sheet.specs.Dues.{Stacked, Popped, Pushed, Groups, GroupsAsked};
 
 use line::group::{group_count, group_sort};
 use words::table::groups_of;
@@ -54,8 +54,7 @@ impl Stack<'_> {
     // Takes the topmost group.
     pub fn pop(&mut self) -> Group
         requires { 0 < self.old.groups }
-        ensures top { Top (sort_of result.sort) result.count result.room self.new.groups }
-        ensures is { dues self.old.words.now self.old.groups ≡ due (sort_of result.sort) result.count result.room ∷ dues self.new.words.now self.new.groups }
+        ensures { Popped self.old.words.now self.new.words.now self.old.groups self.new.groups result.sort result.count result.room }
     {
         self.groups -= 1;
         let at = self.groups * GROUP_WORDS;

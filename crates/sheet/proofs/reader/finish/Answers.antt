@@ -3,10 +3,10 @@ use Rattle.sheet.specs.Reader.{ends_bad, ends_read, ends_write}
 use Rattle.sheet.proofs.reader.finish.Goals as goal
 
 pub returns-then-at-sheet : goal.returns-then-at-sheet
-returns-then-at-sheet c = ends_bad _ _ _ _ _ c.if-at-sheet.true c.line.ensures
+returns-then-at-sheet c = ends_bad c.if-at-sheet.true c.line.ensures
 
 pub returns-in-Some : goal.returns-in-Some
-returns-in-Some c = ends_write _ _ _ _ _ c.if-at-sheet.false c.in-Some.is
+returns-in-Some c = ends_write c.if-at-sheet.false c.in-Some.is
 
 pub returns-in-None : goal.returns-in-None
-returns-in-None c = ends_read _ _ _ _ c.if-at-sheet.false c.in-None.is
+returns-in-None c = ends_read c.if-at-sheet.false c.in-None.is
