@@ -102,10 +102,6 @@ fits_same w w' j h f =
 pub word_behind : (w : List ℕ) (m j v : ℕ) → m * due_words ≤ j → Stacked w m → Stacked (set w j v) m
 word_behind w m j v l h = record { long = omega (arith, length-set w j v, h.long); each = λ x y. fits_same w (set w j v) x (λ z k. get_or-set_other w j z v 0 (omega arith)) (h.each x y) }
 
-nonzero : (n : ℕ) → (n ≡ 0 → ⊥) → 0 < n
-nonzero zero z = absurd (z refl)
-nonzero (suc n) z = omega arith
-
 -- the three words of a group
 abbrev pub written : List ℕ → ℕ → ℕ → ℕ → ℕ → List ℕ
 written w m s n d = set (set (set w (m * due_words) s) (m * due_words + due_count_at) n) (m * due_words + due_room_at) d
@@ -139,7 +135,7 @@ module _ (w : List ℕ) (m s n d : ℕ) (h : Stacked w m) (few : m < max_due) wh
   push_is = rw (written_sort, written_count, written_room) (ap (λ l. due (sort_of s) n d ∷ l) (dues_same w (written w m s n d) m written_below))
 
   written_fits : (n ≡ 0 → ⊥) → s < sort_count → d ≤ max_room → m + 1 + slack (sort_of s) ≤ allowed d → Fits (written w m s n d) m
-  written_fits z l r p = record { sort = rw written_sort l; count = rw written_count (nonzero n z); room = rw written_room r; low = rw (written_sort, written_room) p }
+  written_fits z l r p = record { sort = rw written_sort l; count = rw written_count (omega arith); room = rw written_room r; low = rw (written_sort, written_room) p }
 
 pub pushed_stacked : {w : List ℕ} {m s n d m' : ℕ} → Stacked w m → m' ≡ suc m → (n ≡ 0 → ⊥) → s < sort_count → d ≤ max_room → m + 1 + slack (sort_of s) ≤ allowed d → Stacked (written w m s n d) m'
 pushed_stacked {w} {m} {s} {n} {d} {m'} h e z l r p = record { long = omega (arith, written_long w m s n d h few, h.long); each = λ j k. at j k (eqb j m) refl }

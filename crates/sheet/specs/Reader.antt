@@ -21,7 +21,7 @@ use Rattle.laws.specs.SheetLaws.{sheet_sound}
 use Rattle.words.specs.Table.{sorts, sort_of}
 use Rattle.sheet.specs.declared.reader.ReadError.{ReadError}
 use Rattle.sheet.specs.declared.reader.ReadError.TheVariants.{BadLine, BigTree, WriteClause}
-use Rattle.sheet.specs.Due.{Due, due, due_of, mapped, mapped_mapped, mapped_ext, room_below, is_zero}
+use Rattle.sheet.specs.Due.{Due, due, due_of, mapped, mapped_id, mapped_mapped, mapped_ext, room_below, is_zero}
 use Rattle.sheet.specs.Standing.{Standing, standing_both, stands_held}
 use Rattle.sheet.specs.Writes.{writes, write_among, first_write_law, or_else_none}
 use Rattle.sheet.specs.Progress.{place_at, read_rest, whole, at_start, line_got, at_the_end, not_the_end}
@@ -190,11 +190,6 @@ module _ {depth : ℕ} (sheet : Bytes) (a b a' b' : List ℕ) (s : Sort) (n d : 
 
 -- ── the beginning ──
 
-mapped_all : (r : Reading (List Rec)) → mapped (λ rs. [] ++ rs) r ≡ r
-unfolding mapped
-mapped_all (got rs p) = refl
-mapped_all (refused y) = refl
-
 pub begin : {depth : ℕ} {sheet : Bytes} {a b w w' : List ℕ} {m d : ℕ} → Pushed w w' 0 m statement_sort 1 d → d ≡ depth → SoFar depth sheet a b (dues w' m) 0 0 None
 unfolding dues or_else sort_of sorts
 begin {depth} {sheet} p e =
@@ -203,7 +198,7 @@ begin {depth} {sheet} p e =
       stands = tt;
       many = refl;
       here = omega arith;
-      remains = at_start depth sheet ∙ sym (mapped_all (read_rest (due statement 1 depth ∷ []) (place_at sheet 0 1))) ∙ ap (mapped (λ rs. [] ++ rs)) (sym (rest_alike (rw e at p.is) (place_at sheet 0 1)));
+      remains = at_start depth sheet ∙ sym (mapped_id (read_rest (due statement 1 depth ∷ []) (place_at sheet 0 1))) ∙ ap (mapped (λ rs. [] ++ rs)) (sym (rest_alike (rw e at p.is) (place_at sheet 0 1)));
       wrote = λ ss. refl;
     }
 

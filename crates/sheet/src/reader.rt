@@ -1,7 +1,7 @@
 // Reading a sheet line by line.
 ghost use Rattle.std.specs.Prelude.{◌≡◌, ℕ, ◌+◌, ◌<◌, ◌≤◌};
 ghost use Rattle.line.specs.Place.{InLine};
-ghost use Rattle.sheet.specs.LineLaws.{LinesEnd};
+ghost use Rattle.sheet.specs.LineLaws.{LastFeed, LinesEnd};
 ghost use Rattle.sheet.specs.Stack.{max_room};
 ghost use Rattle.sheet.specs.Dues.{dues};
 ghost use Rattle.sheet.specs.Reader.{ReaderAsked, Reads, SoFar, Ends};
@@ -33,16 +33,18 @@ fn finish(sheet: &[u8], at: Reached) -> Result<usize, ReadError>
     }
 }
 
+// Where the last line feed stands.
+fn last_feed(sheet: &[u8]) -> Option<usize>
+    ensures { LastFeed sheet.now result }
+{
+    sheet.iter().rposition(|b| *b == b'\n')
+}
+
 // The place behind the last line feed, 0 if there is none: from there on no line has its line feed.
 fn lines_end(sheet: &[u8]) -> usize
     ensures { LinesEnd sheet.now result }
 {
-    for z in (0..sheet.len()).rev() {
-        if sheet[z] == b'\n' {
-            return z + 1;
-        }
-    }
-    0
+    last_feed(sheet).map_or(0, |z| z + 1)
 }
 
 // The line behind what is read, which has its line feed, as a record of the topmost group.

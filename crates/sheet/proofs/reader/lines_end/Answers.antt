@@ -1,11 +1,12 @@
--- `lines_end` meets its contract. The loop's invariant: from z on no line feed stands. Assumes nothing.
-use native.Mathlib.Omega.{arith}
-use Prim.Native.Nat.{◌<◌}
-use Rattle.sheet.specs.LineLaws.{lines_found, lines_none}
+-- `lines_end` meets its contract. Assumes nothing.
+use mathlib.Core.Path.{◌≡◌}
+use Prim.Native.Nat.{◌+◌}
+use borrow.Author.Rules.{rules}
+use Rattle.std.specs.Prelude.{MatchOption}
+use Rattle.sheet.specs.LineLaws.{lines_end_law}
 use Rattle.sheet.proofs.reader.lines_end.Goals as goal
 
-pub returns-then-sheet-z-eq10 : goal.returns-then-sheet-z-eq10
-returns-then-sheet-z-eq10 c = let h : 0 < c.loop-z.z = omega arith in lines_found _ _ c.loop-z.invariant _ (h, omega arith) c.if-sheet-z-eq10.true
-
 pub returns : goal.returns
-returns c = lines_none _ _ c.loop-z.invariant (omega arith)
+returns c =
+    let behind : MatchOption c.last_feed.result (c.map_or.result ≡ 0) (λ z. c.map_or.result ≡ z + 1) = search rules in
+    lines_end_law _ _ _ c.last_feed.ensures behind
