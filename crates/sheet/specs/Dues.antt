@@ -1,4 +1,4 @@
--- The due groups that words hold, the top first, and what the stack's two steps do to them. Assumes nothing.
+-- The due groups that words hold, the top first, and what the steps of the stack do to them. Assumes nothing.
 use Rattle.std.specs.Prelude.{◌≡◌, refl, ℕ, zero, suc, ◌+◌, ◌*◌, ◌-◌, ◌<◌, ◌≤◌, Bool, true, false, List, [], ◌∷◌, ◌++◌, eqb, length, get_or, set}
 use Rattle.std.proofs.Common.{◌∙◌, ap, arith, eqb-true, length-set, get_or-set_same, get_or-set_other}
 use Rattle.std.proofs.lemmas.Bool.{eqb-false}
@@ -24,7 +24,7 @@ dues w zero = []
 dues w (suc m) = group w m ∷ dues w m
 
 -- words behind group m do not matter
-pub dues_same : (w w' : List ℕ) (m : ℕ) → ((j : ℕ) → j < m * due_words → get_or w' j 0 ≡ get_or w j 0) → dues w' m ≡ dues w m
+dues_same : (w w' : List ℕ) (m : ℕ) → ((j : ℕ) → j < m * due_words → get_or w' j 0 ≡ get_or w j 0) → dues w' m ≡ dues w m
 unfolding dues
 dues_same w w' zero h = refl
 dues_same w w' (suc m) h = rw (h (m * due_words) (omega arith), h (m * due_words + due_count_at) (omega arith), h (m * due_words + due_room_at) (omega arith), dues_same w w' m (λ j l. h j (omega arith)))
@@ -41,11 +41,6 @@ pub record Stacked (w : List ℕ) (m : ℕ) : Type 0 where
   pub long : work_words ≤ length w
   pub each : (j : ℕ) → j < m → Fits w j
 
--- a group on top, which is passed over if it is one of none
-pub record Pushed (w w' : List ℕ) (m m' sort count room : ℕ) : Type 0 where
-  pub high : m' ≤ suc m
-  pub is : Alike (dues w' m') (due (sort_of sort) count room ∷ dues w m)
-
 -- ── the topmost group ──
 
 -- what is so of a group on top of m others
@@ -54,10 +49,16 @@ pub record Top (s : Sort) (n d m : ℕ) : Type 0 where
   pub room : d ≤ max_room
   pub low : m + 1 + slack s ≤ allowed d
 
--- the topmost group, of sort number s, and those below it
-pub record Popped (w w' : List ℕ) (m m' s n d : ℕ) : Type 0 where
-  pub top : Top (sort_of s) n d m'
-  pub is : dues w m ≡ due (sort_of s) n d ∷ dues w' m'
+-- the topmost of m groups: n records of sort number s, each with room d
+pub record Topmost (w : List ℕ) (m s n d : ℕ) : Type 0 where
+  pub top : Top (sort_of s) n d (m - 1)
+  pub is : dues w m ≡ due (sort_of s) n d ∷ dues w (m - 1)
+
+-- one of its records is read: it has one less, and is gone at none
+pub record Taken (w w' : List ℕ) (m m' s n d : ℕ) : Type 0 where
+  pub topmost : Topmost w m s n d
+  pub high : m' ≤ suc (m - 1)
+  pub left : Alike (dues w' m') (due (sort_of s) (n - 1) d ∷ dues w (m - 1))
 
 -- what is due when nothing is left
 pub none_due_is : (w : List ℕ) (m : ℕ) → m ≡ 0 → dues w m ≡ []
@@ -65,30 +66,48 @@ unfolding dues
 none_due_is w m e = rw e
 
 module _ (w : List ℕ) (m : ℕ) (h : 0 < m) (s : Stacked w m) where
-  pub top_low : m - 1 < max_due
+  top_low : m - 1 < max_due
   top_low = let t = s.each (m - 1) (omega arith) in omega (arith, t.low)
-
-  pub top_sort : get_or w ((m - 1) * due_words) 0 < sort_count
-  top_sort = (s.each (m - 1) (omega arith)).sort
-
-  pub top_room : get_or w ((m - 1) * due_words + due_room_at) 0 ≤ max_room
-  top_room = (s.each (m - 1) (omega arith)).room
 
   top_fits : Top (group w (m - 1)).sort (group w (m - 1)).count (group w (m - 1)).room (m - 1)
   top_fits = let t = s.each (m - 1) (omega arith) in record { count = t.count; room = t.room; low = t.low }
-
-  pub below_top : Stacked w (m - 1)
-  below_top = record { long = s.long; each = λ j l. s.each j (omega arith) }
 
 top_is : (w : List ℕ) (m : ℕ) → 0 < m → dues w m ≡ group w (m - 1) ∷ dues w (m - 1)
 unfolding dues
 top_is w zero h = absurd (omega arith)
 top_is w (suc m) h = let e : suc m - 1 ≡ m = omega arith in rw e
 
-pub popped : {w : List ℕ} {m : ℕ} → 0 < m → Stacked w m → Popped w w m (m - 1) (get_or w ((m - 1) * due_words) 0) (get_or w ((m - 1) * due_words + due_count_at) 0) (get_or w ((m - 1) * due_words + due_room_at) 0)
-popped {w} {m} h s = record { top = top_fits w m h s; is = top_is w m h }
+pub topmost : {w : List ℕ} {m : ℕ} → 0 < m → Stacked w m → Topmost w m (get_or w ((m - 1) * due_words) 0) (get_or w ((m - 1) * due_words + due_count_at) 0) (get_or w ((m - 1) * due_words + due_room_at) 0)
+topmost {w} {m} h s = record { top = top_fits w m h s; is = top_is w m h }
+
+pub taken_last : {w : List ℕ} {m : ℕ} → 0 < m → Stacked w m → get_or w ((m - 1) * due_words + due_count_at) 0 ≡ 1 → Taken w w m (m - 1) (get_or w ((m - 1) * due_words) 0) (get_or w ((m - 1) * due_words + due_count_at) 0) (get_or w ((m - 1) * due_words + due_room_at) 0)
+taken_last {w} {m} h s e = record { topmost = topmost h s; high = omega arith; left = rw e (alike_sym (alike_none (group w (m - 1)).sort (group w (m - 1)).room (dues w (m - 1)))) }
+
+module _ {w : List ℕ} {m : ℕ} (h : 0 < m) (s : Stacked w m) (more : get_or w ((m - 1) * due_words + due_count_at) 0 ≡ 1 → ⊥) where
+  -- one less
+  abbrev pub lessened : List ℕ
+  lessened = set w ((m - 1) * due_words + due_count_at) (get_or w ((m - 1) * due_words + due_count_at) 0 - 1)
+
+  lessened_count : get_or lessened ((m - 1) * due_words + due_count_at) 0 ≡ get_or w ((m - 1) * due_words + due_count_at) 0 - 1
+  lessened_count = let few = top_low w m h s in get_or-set_same w ((m - 1) * due_words + due_count_at) (get_or w ((m - 1) * due_words + due_count_at) 0 - 1) 0 (omega (arith, s.long))
+
+  lessened_other : (j : ℕ) → (j ≡ (m - 1) * due_words + due_count_at → ⊥) → get_or lessened j 0 ≡ get_or w j 0
+  lessened_other j n = get_or-set_other w ((m - 1) * due_words + due_count_at) j (get_or w ((m - 1) * due_words + due_count_at) 0 - 1) 0 (omega arith)
+
+  pub taken_more : Taken w lessened m m (get_or w ((m - 1) * due_words) 0) (get_or w ((m - 1) * due_words + due_count_at) 0) (get_or w ((m - 1) * due_words + due_room_at) 0)
+  taken_more =
+      let x = lessened_other ((m - 1) * due_words) (omega arith) in
+      let y = lessened_other ((m - 1) * due_words + due_room_at) (omega arith) in
+      let below : dues lessened (m - 1) ≡ dues w (m - 1) = dues_same w lessened (m - 1) (λ j l. lessened_other j (omega arith)) in
+      let same : dues lessened m ≡ due (group w (m - 1)).sort ((group w (m - 1)).count - 1) (group w (m - 1)).room ∷ dues w (m - 1) = top_is lessened m h ∙ rw (x, lessened_count, y, below) in
+      record { topmost = topmost h s; high = omega arith; left = rw same (alike_refl _) }
 
 -- ── pushing ──
+
+-- a group on top, which is passed over if it is one of none
+pub record Pushed (w w' : List ℕ) (m m' sort count room : ℕ) : Type 0 where
+  pub high : m' ≤ suc m
+  pub is : Alike (dues w' m') (due (sort_of sort) count room ∷ dues w m)
 
 -- a group's words
 fits_same : (w w' : List ℕ) (j : ℕ) → ((x : ℕ) → x < suc j * due_words → get_or w' x 0 ≡ get_or w x 0) → Fits w j → Fits w' j
@@ -97,10 +116,6 @@ fits_same w w' j h f =
     let c = h (j * due_words + due_count_at) (omega arith) in
     let d = h (j * due_words + due_room_at) (omega arith) in
     record { sort = rw s f.sort; count = rw c f.count; room = rw d f.room; low = rw (s, d) f.low }
-
--- a word behind the groups that are due may change
-pub word_behind : (w : List ℕ) (m j v : ℕ) → m * due_words ≤ j → Stacked w m → Stacked (set w j v) m
-word_behind w m j v l h = record { long = omega (arith, length-set w j v, h.long); each = λ x y. fits_same w (set w j v) x (λ z k. get_or-set_other w j z v 0 (omega arith)) (h.each x y) }
 
 -- the three words of a group
 abbrev pub written : List ℕ → ℕ → ℕ → ℕ → ℕ → List ℕ
@@ -176,11 +191,11 @@ pub record GroupsAsked (m i n d : ℕ) : Type 0 where
 
 -- ── all groups of a record ──
 
-pub groups_none : (w : List ℕ) (n : ℕ) (ws : List ℕ) (m d : ℕ) → Groups w w n ws group_count 0 m d m
+groups_none : (w : List ℕ) (n : ℕ) (ws : List ℕ) (m d : ℕ) → Groups w w n ws group_count 0 m d m
 unfolding groups_from due_of
 groups_none w n ws m d = record { high = omega arith; is = alike_refl (dues w m) }
 
-pub groups_more : (w w' w'' : List ℕ) (n : ℕ) (ws : List ℕ) (g k m d r r' : ℕ) → Groups w w' n ws (suc g) k m d r → Pushed w' w'' r r' (group_sort n g) (count_of ws (group_source n g)) d → Groups w w'' n ws g (suc k) m d r'
+groups_more : (w w' w'' : List ℕ) (n : ℕ) (ws : List ℕ) (g k m d r r' : ℕ) → Groups w w' n ws (suc g) k m d r → Pushed w' w'' r r' (group_sort n g) (count_of ws (group_source n g)) d → Groups w w'' n ws g (suc k) m d r'
 unfolding groups_from due_of
 groups_more w w' w'' n ws g k m d r r' p q =
     record {
@@ -189,7 +204,7 @@ groups_more w w' w'' n ws g k m d r r' p q =
     }
 
 -- the groups behind a kind's last are passed over
-pub groups_behind : (w : List ℕ) (n : ℕ) (ws : List ℕ) (m d : ℕ) → n < kind_count → (k : ℕ) → get_or group_numbers n 0 + k ≤ group_count → Groups w w n ws (group_count - k) k m d m
+groups_behind : (w : List ℕ) (n : ℕ) (ws : List ℕ) (m d : ℕ) → n < kind_count → (k : ℕ) → get_or group_numbers n 0 + k ≤ group_count → Groups w w n ws (group_count - k) k m d m
 groups_behind w n ws m d low zero h = groups_none w n ws m d
 groups_behind w n ws m d low (suc k) h =
     let g : ℕ = group_count - suc k in

@@ -25,7 +25,7 @@ use Rattle.sheet.specs.LineLaws.{line_first, line_more, line_stands}
 use Rattle.sheet.specs.Due.{Due, due, room_below, is_zero}
 use Rattle.sheet.specs.Writes.{writes}
 use Rattle.sheet.specs.Progress.{place_at, line_refused, no_feed, too_many, deep, unformed, well_formed}
-use Rattle.sheet.specs.Dues.{dues, Popped, Pushed, Groups, GroupsAsked}
+use Rattle.sheet.specs.Dues.{dues, Topmost, Taken, Groups, GroupsAsked}
 use Rattle.sheet.specs.Steps.{writes_kind, space, due_now}
 use Rattle.sheet.specs.Reader.{read_only, SoFar, refusal_of, rest_refused, advance}
 
@@ -35,13 +35,13 @@ Next depth sheet a b st i at (Ok u) = (at.records ≡ i + 1) × SoFar depth shee
 Next depth sheet a b st i at (Err e) = read_only depth sheet ≡ refuse (refusal_of e)
 
 -- the topmost group has tn records of sort number ts, each with room td, and lies on m others
-module _ {depth : ℕ} {sheet : Bytes} {a b v w : List ℕ} {k m i pos : ℕ} {wr : Option ℕ} {ts tn td : ℕ} (o : SoFar depth sheet a b (dues v k) i pos wr) (pop : Popped v w k m ts tn td) where
+module _ {depth : ℕ} {sheet : Bytes} {a b w : List ℕ} {m i pos : ℕ} {wr : Option ℕ} {ts tn td : ℕ} (o : SoFar depth sheet a b (dues w m) i pos wr) (topmost : Topmost w m ts tn td) where
   -- with the successor that definitions go by
-  state : SoFar depth sheet a b (due (sort_of ts) (suc (tn - 1)) td ∷ dues w m) i pos wr
-  state = let e : suc (tn - 1) ≡ tn = omega (arith, pop.top.count) in rw (e, ← pop.is) o
+  state : SoFar depth sheet a b (due (sort_of ts) (suc (tn - 1)) td ∷ dues w (m - 1)) i pos wr
+  state = let e : suc (tn - 1) ≡ tn = omega (arith, topmost.top.count) in rw (e, ← topmost.is) o
 
   line_refuses : (x : ℕ → Refusal) {l : ℕ} → l ≡ i + 1 → read_line (sort_of ts) (is_zero td) (place_at sheet pos (suc i)) ≡ refused (x (suc i)) → read_only depth sheet ≡ refuse (x l)
-  line_refuses x q e = rw (q, add-one i) (rest_refused sheet a b (due (sort_of ts) (suc (tn - 1)) td ∷ dues w m) i pos wr state (x (suc i)) (line_refused (sort_of ts) (tn - 1) td (dues w m) (place_at sheet pos (suc i)) (x (suc i)) e))
+  line_refuses x q e = rw (q, add-one i) (rest_refused sheet a b (due (sort_of ts) (suc (tn - 1)) td ∷ dues w (m - 1)) i pos wr state (x (suc i)) (line_refused (sort_of ts) (tn - 1) td (dues w (m - 1)) (place_at sheet pos (suc i)) (x (suc i)) e))
 
   -- from pos on there is no line feed
   pub next_unended : {l : ℕ} → l ≡ i + 1 → (split line_feed (drop pos sheet)).more ≡ [] → read_only depth sheet ≡ refuse (Refusal.BadLine l)
@@ -89,8 +89,8 @@ module _ {depth : ℕ} {sheet : Bytes} {a b v w : List ℕ} {k m i pos : ℕ} {w
         kids = got_it.kids ∙ ap (λ x. x % two32) (children_are ts sorted n got_it.kind got_it.named sheet (part a' b' i) got_it.flags)
 
         -- what its groups ask, where d is their room, on top of r others
-        pub next_asked : {r d : ℕ} → r ≤ suc m → d ≡ room_below (sort_of ts) td → GroupsAsked r i n d
-        next_asked {r} {d} high below = record { kind = got_it.low; low = low; space = space ts sorted tn td m r n pop.top high room got_it.kind got_it.named d below }
+        pub next_asked : {r d : ℕ} → r ≤ suc (m - 1) → d ≡ room_below (sort_of ts) td → GroupsAsked r i n d
+        next_asked {r} {d} high below = record { kind = got_it.low; low = low; space = space ts sorted tn td (m - 1) r n topmost.top high room got_it.kind got_it.named d below }
 
         writes_is : writes (sort_of ts) got_it.kind ≡ eqb n write_kind
         writes_is = writes_kind ts sorted n got_it.kind got_it.named
@@ -98,15 +98,15 @@ module _ {depth : ℕ} {sheet : Bytes} {a b v w : List ℕ} {k m i pos : ℕ} {w
         pub next_more :
             {w' w'' : List ℕ} {r r' d : ℕ}
             → d ≡ room_below (sort_of ts) td
-            → Pushed w w' m r ts (tn - 1) td
+            → Taken w w' m r ts tn td
             → Groups w' w'' n (part a' b' i) 0 group_count r d r'
             → SoFar depth sheet a' b' (dues w'' r') (i + 1) z (option_or wr (then_some (eqb n write_kind) (i + 1)))
         unfolding fields
-        next_more {w'} {w''} {r} {r'} {d} below push groups =
+        next_more {w'} {w''} {r} {r'} {d} below taken groups =
             rw (add-one i, into.line.answer.0, ← writes_is)
-            (advance sheet a b a' b' (sort_of ts) (tn - 1) td (dues w m) (dues w'' r') i pos wr state (e + 1) (got_it.kind, fields)
+            (advance sheet a b a' b' (sort_of ts) (tn - 1) td (dues w (m - 1)) (dues w'' r') i pos wr state (e + 1) (got_it.kind, fields)
             (well_formed sheet pos (suc i) (sort_of ts) td (e + 1) behind low room (got_it.kind, fields) (ap (read_rec (sort_of ts)) (sym (line_first sheet pos e line)) ∙ is_read_law))
             (omega (arith, line.to))
             (record { low = low; is = decoded; flags = got_it.flags; texts = got_it.texts; line = stands; kids = kids })
             (λ j h. into.others j (omega arith) (λ q. omega arith))
-            (due_now ts sorted (tn - 1) td n got_it.kind got_it.named w w' w'' m r r' d sheet (part a' b' i) got_it.flags below push groups))
+            (due_now ts sorted (tn - 1) td n got_it.kind got_it.named (dues w (m - 1)) w' w'' r r' d sheet (part a' b' i) got_it.flags below taken.left groups))

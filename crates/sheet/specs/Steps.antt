@@ -10,10 +10,10 @@ use Rattle.words.specs.Held.{Flags}
 use Rattle.words.specs.Table.{sorts, sort_of, group_sort, groups_from, groups_of, group_count}
 use Rattle.words.specs.TableLaws.{Rows, done, ◌▸◌, kind_row}
 use Rattle.words.proofs.GroupLaws.{groups_are}
-use Rattle.sheet.specs.Due.{due, due_of, room_below}
+use Rattle.sheet.specs.Due.{Due, due, due_of, room_below}
 use Rattle.sheet.specs.Writes.{writes}
 use Rattle.sheet.specs.Stack.{Alike, alike_trans, alike_behind, alike_groups, slack, allowed, entry_slack, max_room}
-use Rattle.sheet.specs.Dues.{dues, Top, Pushed, Groups, Space}
+use Rattle.sheet.specs.Dues.{dues, Top, Groups, Space}
 
 -- ── the room below ──
 
@@ -132,15 +132,15 @@ pub due_now :
     → s < sort_count
     → (c d n : ℕ) (k : Kind (sort_of s))
     → kind_of (sort_of s) n ≡ Some k
-    → (w w' w'' : List ℕ) (m m' m'' e : ℕ) (sheet : Bytes) (ws : List ℕ)
+    → (st : List Due) (w' w'' : List ℕ) (m' m'' e : ℕ) (sheet : Bytes) (ws : List ℕ)
     → Flags (forms (sort_of s) k) ws 0
     → e ≡ room_below (sort_of s) d
-    → Pushed w w' m m' s c d
+    → Alike (dues w' m') (due (sort_of s) c d ∷ st)
     → Groups w' w'' n ws 0 group_count m' e m''
-    → Alike (dues w'' m'') (due_of (room_below (sort_of s) d) (children (sort_of s) k (fields_of (forms (sort_of s) k) sheet ws 0)) ++ (due (sort_of s) c d ∷ dues w m))
+    → Alike (dues w'' m'') (due_of (room_below (sort_of s) d) (children (sort_of s) k (fields_of (forms (sort_of s) k) sheet ws 0)) ++ (due (sort_of s) c d ∷ st))
 unfolding groups_of
-due_now s low c d n k named w w' w'' m m' m'' e sheet ws flags q p g =
+due_now s low c d n k named st w' w'' m' m'' e sheet ws flags q left g =
     rw (← q)
     (alike_trans g.is
-    (alike_trans (alike_behind (due_of e (groups_from n ws 0 group_count)) p.is)
+    (alike_trans (alike_behind (due_of e (groups_from n ws 0 group_count)) left)
     (alike_groups e (groups_from n ws 0 group_count) (children (sort_of s) k (fields_of (forms (sort_of s) k) sheet ws 0)) _ (groups_are s low n k named sheet ws flags))))

@@ -60,21 +60,14 @@ fn read_next(
     ensures { (depth : ℕ) → SoFar depth sheet.now words.old.a.now words.old.b.now (dues stack.old.words.now stack.old.groups) at.old.records at.old.pos at.old.write → Next depth sheet.now words.new.a.now words.new.b.now (dues stack.new.words.now stack.new.groups) at.old.records at.new result }
 {
     let i = at.records;
-    let top = stack.pop();
+    let top = stack.take();
     if i == words::MAX_RECORDS || top.room == 0 {
         return Err(ReadError::BigTree(at.line()));
     }
     let Line::Kind(kind, end) = read_into(sheet, at.pos, top.sort, words.a, words.b, i) else {
         return Err(ReadError::BadLine(at.line()));
     };
-    let room = top.room_below();
-    let count = top.count - 1;
-    stack.push(Group {
-        sort: top.sort,
-        count,
-        room: top.room,
-    });
-    stack.push_groups(&words.shared(), i, kind, room);
+    stack.push_groups(&words.shared(), i, kind, top.room_below());
     at.advance(kind, end);
     Ok(())
 }

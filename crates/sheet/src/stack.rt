@@ -5,7 +5,7 @@ ghost use Rattle.words.specs.Places.{sort_count};
 ghost use Rattle.words.specs.Table.{sort_of, group_count};
 ghost use Rattle.sheet.specs.Due.{room_below};
 ghost use Rattle.sheet.specs.Stack.{slack, allowed, max_room};
-ghost use Rattle.sheet.specs.Dues.{Stacked, Popped, Pushed, Groups, GroupsAsked};
+ghost use Rattle.sheet.specs.Dues.{Stacked, Taken, Pushed, Groups, GroupsAsked};
 
 use line::group::{group_count, group_sort};
 use words::table::groups_of;
@@ -51,16 +51,21 @@ pub struct Stack<'a> {
 }
 
 impl Stack<'_> {
-    // Takes the topmost group.
-    pub fn pop(&mut self) -> Group
+    // One record of the topmost group is read: the group as it stood before.
+    pub fn take(&mut self) -> Group
         requires { 0 < self.old.groups }
-        ensures { Popped self.old.words.now self.new.words.now self.old.groups self.new.groups result.sort result.count result.room }
+        ensures { Taken self.old.words.now self.new.words.now self.old.groups self.new.groups result.sort result.count result.room }
     {
-        self.groups -= 1;
-        let at = self.groups * GROUP_WORDS;
+        let last = self.groups - 1;
+        let at = last * GROUP_WORDS;
         let sort = self.words[at];
         let count = self.words[at + COUNT];
         let room = self.words[at + ROOM];
+        if count == 1 {
+            self.groups = last;
+        } else {
+            self.words[at + COUNT] = count - 1;
+        }
         Group { sort, count, room }
     }
 
