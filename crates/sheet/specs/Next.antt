@@ -17,7 +17,6 @@ use Rattle.words.proofs.GroupLaws.{children_are}
 use Rattle.words.specs.Words.{part, decode, rec_of, fields_of, max_records, two32}
 use Rattle.record.specs.Place.{LineEnd}
 use Rattle.line.specs.LineRead.{Got, IntoRead}
-use Rattle.line.specs.declared.read.Line.{Line}
 use Rattle.sheet.specs.declared.reader.ReadError.{ReadError}
 use Rattle.sheet.specs.declared.reached.Reached.{Reached}
 use Rattle.words.specs.Held.{LineAt, total}
@@ -67,7 +66,7 @@ module _ {depth : ℕ} {sheet : Bytes} {a b w : List ℕ} {m i pos : ℕ} {wr : 
 
       -- ── a record ──
 
-      module _ {a' b' : List ℕ} {n z : ℕ} (sorted : ts < sort_count) (into : IntoRead (sort_of ts) sheet pos e i a b a' b' (Line.Kind n z)) where
+      module _ {a' b' : List ℕ} {n z : ℕ} (sorted : ts < sort_count) (into : IntoRead (sort_of ts) sheet pos e i a b a' b' (Some (record { value = n; end = z }))) where
         got_it : Got (sort_of ts) sheet pos e (part a' b' i) n
         got_it = into.line.answer.1
 

@@ -9,7 +9,7 @@ ghost use Rattle.sheet.specs.Next.{Next};
 
 use crate::reached::Reached;
 use crate::stack::{Group, Stack};
-use line::read::{Line, read_into};
+use line::read::read_into;
 use words::{RecordsMut, sort};
 
 // Why a sheet is not read as a tree that can be lowered, with the line.
@@ -64,11 +64,10 @@ fn read_next(
     if i == words::MAX_RECORDS || top.room == 0 {
         return Err(ReadError::BigTree(at.line()));
     }
-    let Line::Kind(kind, end) = read_into(sheet, at.pos, top.sort, words.a, words.b, i) else {
-        return Err(ReadError::BadLine(at.line()));
-    };
-    stack.push_groups(&words.shared(), i, kind, top.room_below());
-    at.advance(kind, end);
+    let bad = ReadError::BadLine(at.line());
+    let line = read_into(sheet, at.pos, top.sort, words, i).ok_or(bad)?;
+    stack.push_groups(&words.shared(), i, line.value, top.room_below());
+    at.advance(line.value, line.end);
     Ok(())
 }
 

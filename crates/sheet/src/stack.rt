@@ -91,7 +91,7 @@ impl Stack<'_> {
     {
         for g in (0..groups_of(kind)).rev() {
             let sort = group_sort(kind, g);
-            let count = group_count(r.a, r.b, i, kind, g);
+            let count = group_count(r, i, kind, g);
             self.push(Group { sort, count, room });
         }
     }
