@@ -37,7 +37,7 @@ fn check_order_skip_limit(r: &Records<'_>, i: usize, at: usize, under: Under) ->
     let limit = r.count(i, field::LIMIT);
     let less = Under {
         left: under.left - 1,
-        span: under.span,
+        ..under
     };
     let p = check_exprs(r, at, keys, 1, less)?;
     let q = check_exprs(r, p, skip, 0, under)?;
@@ -52,7 +52,7 @@ fn check_projections(r: &Records<'_>, i: usize, filters: usize, under: Under) ->
     let items = r.count(i, field::ITEMS);
     let less = Under {
         left: under.left - 1,
-        span: under.span,
+        ..under
     };
     let p = check_exprs(r, i + 1, items, 1, less)?;
     let q = check_exprs(r, p, filters, 0, under)?;
@@ -103,7 +103,7 @@ pub fn check_clauses(r: &Records<'_>, i: usize, n: usize, left: usize) -> Walk
     ensures { Walks result (Run (At r.now.a.now r.now.b.now clause left no_span) n i) }
 {
     let mut at = i;
-    for _k in 0..n {
+    for _ in 0..n {
         at = check_clause(r, at, left)?;
     }
     Ok(at)
@@ -115,7 +115,7 @@ pub fn check_arms(r: &Records<'_>, i: usize, n: usize, left: usize) -> Walk
     ensures { Walks result (Run (At r.now.a.now r.now.b.now union_arm left no_span) n i) }
 {
     let mut at = i;
-    for _k in 0..n {
+    for _ in 0..n {
         let clauses = r.count(at, field::ARM_CLAUSES);
         at = check_clauses(r, at + 1, clauses, left - 1)?;
     }

@@ -31,7 +31,7 @@ fn check_expr(r: &Records<'_>, i: usize, under: Under) -> Walk
     let n = r.children(i);
     let less = Under {
         left: under.left - 1,
-        span: under.span,
+        ..under
     };
     match kind {
         // each expression behind its name
@@ -49,7 +49,7 @@ pub fn check_exprs(r: &Records<'_>, i: usize, n: usize, skip: usize, under: Unde
     ensures { Walks result (Exprs r.now.a.now r.now.b.now skip under.left (span_of under.span) n i) }
 {
     let mut at = i;
-    for _k in 0..n {
+    for _ in 0..n {
         at = check_expr(r, at + skip, under)?;
     }
     Ok(at)
@@ -62,7 +62,7 @@ pub fn check_pattern(r: &Records<'_>, i: usize, n: usize, under: Under) -> Walk
     ensures { Walks result (Run (At r.now.a.now r.now.b.now pattern_part under.left (span_of under.span)) n i) }
 {
     let mut at = i;
-    for _k in 0..n {
+    for _ in 0..n {
         part_verdict(r, at, under.span)?;
         let elements = r.count(at, field::PART_ELEMENTS);
         at = check_elements(r, at + 1, elements, under.left - 1)?;
@@ -77,7 +77,7 @@ fn check_elements(r: &Records<'_>, i: usize, n: usize, left: usize) -> Walk
     ensures { Walks result (Run (At r.now.a.now r.now.b.now pattern_element left no_span) n i) }
 {
     let mut at = i;
-    for _k in 0..n {
+    for _ in 0..n {
         let props = props_of(r, at);
         let less = Under {
             left: left - 1,

@@ -41,4 +41,4 @@ pub returns-in-7 : goal.returns-in-7
 returns-in-7 c = search (walks_turned, as_call, rules)
 
 pub returns-in_default : goal.returns-in_default
-returns-in_default c = as_write c.args.r.now.roomy c.word-kind.ensures c.in_default.in_default-own.rest
+returns-in_default c = search (as_write, rules)

@@ -3,17 +3,17 @@ use Rattle.precheck.proofs.Checks.{next_standing}
 use Rattle.precheck.proofs.Laws.{whole, again, stop, done, stopped_as}
 use Rattle.precheck.proofs.clauses.check_clauses.Goals as goal
 
-pub loop-k-init : goal.loop-k-init
-loop-k-init c = whole
+pub loop-init : goal.loop-init
+loop-init c = whole
 
 pub check_clause-requires : goal.check_clause-requires
-check_clause-requires c = record { deep = c.requires.deep; there = next_standing c.args.r.now.roomy c.loop-k.invariant c.loop-k-test.true c.requires.there }
+check_clause-requires c = record { deep = c.requires.deep; there = next_standing c.args.r.now.roomy c.loop.invariant c.loop-test.true c.requires.there }
 
 pub returns-in_err-at : goal.returns-in_err-at
-returns-in_err-at c = stopped_as c.from_residual.ensures.1 (stop c.loop-k.invariant c.loop-k-test.true c.in_err-at.ensures)
+returns-in_err-at c = stopped_as c.from_residual.ensures.1 (stop c.loop.invariant c.loop-test.true c.in_err-at.ensures)
 
-pub loop-k-preserved : goal.loop-k-preserved
-loop-k-preserved c = again c.loop-k.invariant c.loop-k-test.true c.in_ok-at.ensures
+pub loop-preserved : goal.loop-preserved
+loop-preserved c = again c.loop.invariant c.loop-test.true c.in_ok-at.ensures
 
 pub returns : goal.returns
-returns c = done c.loop-k.invariant c.loop-k-test.false
+returns c = done c.loop.invariant c.loop-test.false

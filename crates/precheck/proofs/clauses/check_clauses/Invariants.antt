@@ -5,5 +5,5 @@ use Rattle.precheck.specs.Stands.{At}
 use Rattle.precheck.proofs.Laws.{Remaining}
 use Rattle.precheck.proofs.clauses.check_clauses.Given as goal
 
-abbrev pub invariant-loop-k : goal.invariant-loop-k
-invariant-loop-k l = Remaining (At l.r.a.now l.r.b.now clause l.left no_span) l.n l.i l._k l.at
+abbrev pub invariant-loop : goal.invariant-loop
+invariant-loop l = Remaining (At l.r.a.now l.r.b.now clause l.left no_span) l.n l.i l.counter l.at

@@ -19,11 +19,11 @@ decreases-check_exprs l = 2 * l.under.left + 1
 abbrev pub decreases-check_pattern : goal.decreases-check_pattern
 decreases-check_pattern l = 2 * l.under.left + 1
 
-abbrev pub invariant-check_elements-loop-k : goal.invariant-check_elements-loop-k
-invariant-check_elements-loop-k l = Remaining (At l.r.a.now l.r.b.now pattern_element l.left no_span) l.n l.i l._k l.at
+abbrev pub invariant-check_elements-loop : goal.invariant-check_elements-loop
+invariant-check_elements-loop l = Remaining (At l.r.a.now l.r.b.now pattern_element l.left no_span) l.n l.i l.counter l.at
 
-abbrev pub invariant-check_exprs-loop-k : goal.invariant-check_exprs-loop-k
-invariant-check_exprs-loop-k l = Remaining (λ j. At l.r.a.now l.r.b.now expr l.under.left (span_of l.under.span) (j + l.skip)) l.n l.i l._k l.at
+abbrev pub invariant-check_exprs-loop : goal.invariant-check_exprs-loop
+invariant-check_exprs-loop l = Remaining (λ j. At l.r.a.now l.r.b.now expr l.under.left (span_of l.under.span) (j + l.skip)) l.n l.i l.counter l.at
 
-abbrev pub invariant-check_pattern-loop-k : goal.invariant-check_pattern-loop-k
-invariant-check_pattern-loop-k l = Remaining (At l.r.a.now l.r.b.now pattern_part l.under.left (span_of l.under.span)) l.n l.i l._k l.at
+abbrev pub invariant-check_pattern-loop : goal.invariant-check_pattern-loop
+invariant-check_pattern-loop l = Remaining (At l.r.a.now l.r.b.now pattern_part l.under.left (span_of l.under.span)) l.n l.i l.counter l.at
