@@ -11,7 +11,7 @@ use Rattle.model.specs.Field.{Span}
 use Rattle.model.specs.Kind.{Sort, expr, pattern_part, pattern_element}
 use Rattle.model.specs.Check.{Verdict, fine, no_span}
 use Rattle.words.specs.Words.{Roomy, cell, fields_of, field_of}
-use Rattle.precheck.specs.Answer.{span_of, Found}
+use Rattle.precheck.specs.Answer.{span_of}
 use Rattle.precheck.specs.Steps.{Stage, Exists, Ends, Walks, Run}
 use Rattle.words.specs.Numbers.{Others, expr_number_law}
 use Rattle.words.specs.Count.{count_at, is_leaf}

@@ -4,12 +4,11 @@ use Prim.Native.Nat.{ℕ, ◌+◌, ◌-◌, ◌≤◌}
 use mathlib.Core.List.{List, [], ◌∷◌}
 use Rattle.std.specs.Prelude.{Some, Ok}
 use lib.Dec.{eqb}
-use borrow.Author.Tests.{ne_eqb}
 use Rattle.model.specs.Text.{Bytes}
 use Rattle.model.specs.Field.{Span}
 use Rattle.model.specs.Tree.{Tree}
 use Rattle.words.specs.Held.{Held, HeldSome, size}
-use Rattle.words.specs.Places.{match_kind, where_kind, with_kind, return_kind, unwind_kind, call_kind, write_kind, kind_at, stmt_clauses_at, stmt_arms_at, arm_clauses_at, match_parts_at, projection_span_at}
+use Rattle.words.specs.Places.{match_kind, where_kind, with_kind, return_kind, unwind_kind, call_kind, kind_at, stmt_clauses_at, stmt_arms_at, arm_clauses_at, match_parts_at}
 use Rattle.model.specs.Kind.{Clause, expr, clause, union_arm, statement, order_item, pattern_part}
 use Rattle.model.specs.Record.{one, kinds, clause_forms}
 use Rattle.model.specs.Check.{Verdict, no_span, of_record, precheck_statement}
@@ -121,7 +120,3 @@ held_at sheet t h = record { sheet = sheet; tree = t; held = h; verdict = refl; 
 
 pub some_held : {a b : List ℕ} {d : ℕ} → ((sheet : Bytes) × HeldSome sheet a b statement d 0) → Exists (At a b statement d no_span 0)
 some_held (sheet, h) = record { verdict = precheck_statement h.tree; next = 0 + size h.tree; is = held_at sheet h.tree h.is }
-
--- the span of a clause that the code does not name stands where that of a `with` does
-pub span_else : {c : ℕ} → Others c (write_kind ∷ call_kind ∷ unwind_kind ∷ where_kind ∷ match_kind ∷ []) → projection_span_at ≡ span_word c
-span_else {c} r = rw (ne_eqb c match_kind r.0.0.0.0.1, ne_eqb c where_kind r.0.0.0.1, ne_eqb c unwind_kind r.0.0.1, ne_eqb c call_kind r.0.1, ne_eqb c write_kind r.1)

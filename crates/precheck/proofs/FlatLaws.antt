@@ -1,6 +1,6 @@
 -- The records alone: where the lowering takes each record of a tree, the tree is refused for nothing. Assumes nothing.
 use mathlib.Core.Path.{◌≡◌, refl, sym, ◌∙◌}
-use mathlib.Core.Bool.{Bool, true, false, not, false≢true}
+use mathlib.Core.Bool.{Bool, true, false}
 use Prim.Native.Nat.{ℕ, ◌+◌, ◌<◌, ◌≤◌}
 use native.Mathlib.Omega.{arith}
 use mathlib.Core.List.{List}
@@ -18,7 +18,7 @@ use Rattle.words.specs.Places.{kind_at, part_kind, unres_kind}
 use Rattle.words.specs.Held.{Held, HeldOf, HeldIn, HeldSome, size, size_of, size_in, room_in}
 use Rattle.words.specs.Count.{Starts, Ends}
 use Rattle.words.specs.Cells.{numbered, number_of}
-use Rattle.precheck.specs.Stands.{SomeAt, Begins, Tells, Taken, NoneRefused, own_verdict}
+use Rattle.precheck.specs.Stands.{SomeAt, Begins, Taken, NoneRefused, own_verdict}
 use Rattle.precheck.proofs.Opened.{open_held}
 use Rattle.precheck.proofs.Expressions.{in_expr}
 use Rattle.precheck.proofs.Checks.{some_at}
@@ -62,14 +62,6 @@ one_more {a} {b} {n} before this j l = go (ltb j n) refl
     go : (t : Bool) → ltb j n ≡ t → Taken a b j
     go true e = before j (ltb-true j n e)
     go false e = let q : j ≡ n = omega (arith, ltb-false j n e) in rw q this
-
--- a test that has not failed has passed
-pub told : {r : Bool} {P : Type 0} → Tells r P → not r ≡ false → P
-told h e = h.so (passed _ e)
-  where
-    passed : (r : Bool) → not r ≡ false → r ≡ true
-    passed true e = refl
-    passed false e = absurd (false≢true (sym e))
 
 -- ── one record ──
 

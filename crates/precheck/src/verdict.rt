@@ -52,11 +52,7 @@ pub fn begins_with_node(r: &Records<'_>, i: usize) -> bool
     ensures { Begins r.now.a.now r.now.b.now i result }
 {
     let elements = r.word(i, field::PART_ELEMENTS);
-    if elements == 0 {
-        return false;
-    }
-    let head = r.word(i + 1, field::KIND);
-    head == kind::NODE
+    elements != 0 && r.word(i + 1, field::KIND) == kind::NODE
 }
 
 // What the expression at record i is refused for by itself.

@@ -29,14 +29,16 @@ pub check_arms-requires : goal.check_arms-requires
 check_arms-requires c =
     let statement = as_statement c.args.r.now.roomy c.count-clauses.ensures.0 c.count-arms.ensures.0 in
     let arms = after c.in_ok-at.ensures (some_turned statement (some_held c.requires.held_some)) in
+    -- by `some_none` this goal stands where no arms are looked at, and what is false then is the answer's
     record { deep = omega (arith, c.requires.least_depth_le_depth); there = search (arms, some_none) }
+
+-- before the goal at the other end, so that a check that leaves out the arms is refused here first
+pub returns : goal.returns
+returns c =
+    let statement = as_statement c.args.r.now.roomy c.count-clauses.ensures.0 c.count-arms.ensures.0 in
+    λ sheet t h. walk_fine (walks_turned statement (then_walks c.in_ok-at.ensures c.in_ok-check_arms.ensures)) (held_at sheet t h)
 
 pub returns-in_err-check_arms : goal.returns-in_err-check_arms
 returns-in_err-check_arms c =
     let statement = as_statement c.args.r.now.roomy c.count-clauses.ensures.0 c.count-arms.ensures.0 in
     rw (handed_on c.from_residual-in_err-check_arms.ensures.1) λ sheet t h. (walks_turned statement (then_walks c.in_ok-at.ensures c.in_err-check_arms.ensures)).each _ _ (held_at sheet t h)
-
-pub returns : goal.returns
-returns c =
-    let statement = as_statement c.args.r.now.roomy c.count-clauses.ensures.0 c.count-arms.ensures.0 in
-    λ sheet t h. walk_fine (walks_turned statement (then_walks c.in_ok-at.ensures c.in_ok-check_arms.ensures)) (held_at sheet t h)
