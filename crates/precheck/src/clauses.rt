@@ -1,4 +1,4 @@
-// The check of a clause, and of clauses and arms one behind another.
+// The check of a clause, and of clauses and arms one behind another. Kinds of records stay the numbers that the words hold: a rule of the project.
 ghost use Rattle.std.specs.Prelude.{◌≡◌, ◌<◌};
 ghost use Rattle.model.specs.Kind.{union_arm, clause};
 ghost use Rattle.model.specs.Check.{no_span};

@@ -1,4 +1,4 @@
-// What the check reads off a record, and what it refuses for the record alone.
+// What the check reads off a record, and what it refuses for the record alone. Kinds of records stay the numbers that the words hold: a rule of the project.
 ghost use Rattle.std.specs.Prelude.{◌≡◌, ◌<◌};
 ghost use Rattle.model.specs.Kind.{expr, pattern_part, pattern_element};
 ghost use Rattle.words.specs.Places.{kind_at, line_end_at};

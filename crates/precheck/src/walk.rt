@@ -1,4 +1,7 @@
 // The check of an expression and that of a pattern, which call each other.
+//
+// Tree walks recurse, the depth left falling, and kinds of records stay the numbers that the words hold: rules of the project.
+// The loops here and in `clauses` differ in their step, each with its own contract. One loop over a step of a trait would put the recursion behind a bound, and is no plainer for two lines.
 ghost use Rattle.model.specs.Kind.{expr, pattern_part, pattern_element};
 ghost use Rattle.model.specs.Check.{no_span};
 ghost use Rattle.precheck.specs.Answer.{span_of};
@@ -42,7 +45,7 @@ fn check_expr(r: &Records<'_>, i: usize, under: Under) -> Walk
     }
 }
 
-// n expressions from record i on, each behind skip records.
+// n expressions from record i on, each behind skip records. A struct of i and n would be made at each call and taken apart at once, so that they stay two.
 #[cycle(expression)]
 pub fn check_exprs(r: &Records<'_>, i: usize, n: usize, skip: usize, under: Under) -> Walk
     requires { Exists (Exprs r.now.a.now r.now.b.now skip under.left (span_of under.span) n i) }
