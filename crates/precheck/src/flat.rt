@@ -18,7 +18,7 @@ fn record_taken(r: &Records<'_>, i: usize) -> bool
     kind < kind::UNRES
 }
 
-// Whether the lowering takes every record. How many there are is known only as their counts are read, `due` being those still to come: a `for` would have to go over them twice, and this loop stands for speed.
+// Whether the lowering takes every record. How many there are is known only as their counts are read, `due` being those still to come, so that a `for` would need a pass before it.
 pub fn nothing_refused(r: &Records<'_>) -> bool
     requires { Starts r.now.a.now r.now.b.now 0 }
     ensures { Tells result (NoneRefused r.now.a.now r.now.b.now) }

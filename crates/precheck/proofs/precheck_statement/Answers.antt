@@ -6,9 +6,6 @@ use Rattle.precheck.proofs.FlatLaws.{starts_held, fine_statement}
 use Rattle.precheck.proofs.Laws.{first_of_law, after, then_walks, then_stopped, handed_on, some_none}
 use Rattle.precheck.proofs.precheck_statement.Goals as goal
 
-pub nothing_refused-requires : goal.nothing_refused-requires
-nothing_refused-requires c = starts_held c.requires.held_some
-
 pub returns-then-nothing_refused : goal.returns-then-nothing_refused
 returns-then-nothing_refused c = fine_statement (c.nothing_refused.ensures.so c.if-nothing_refused.true) _
 

@@ -6,9 +6,6 @@ use Rattle.precheck.proofs.Checks.{some_turned, walks_turned, next_standing}
 use Rattle.precheck.proofs.Laws.{whole, child, again, stop, done, stopped_as}
 use Rattle.precheck.proofs.clauses.check_arms.Goals as goal
 
-pub loop-init : goal.loop-init
-loop-init c = whole
-
 pub count-clauses-requires : goal.count-clauses-requires
 count-clauses-requires c = ((next_standing c.args.r.now.roomy c.loop.invariant c.loop-test.true c.requires.there).low, search rules)
 

@@ -11,16 +11,16 @@ pub check_exprs-requires : goal.check_exprs-requires
 check_exprs-requires c = search (some_turned, as_where, rules)
 
 pub check_projections-requires : goal.check_projections-requires
-check_projections-requires c = record { low = search rules; deep = search rules; there = search (some_turned, as_with, rules) }
+check_projections-requires c = search (some_turned, as_with, rules)
 
 pub check_projections-requires-in-5 : goal.check_projections-requires-in-5
-check_projections-requires-in-5 c = record { low = search rules; deep = search rules; there = search (some_turned, as_return, rules) }
+check_projections-requires-in-5 c = search (some_turned, as_return, rules)
 
 pub check_exprs-requires-in-6 : goal.check_exprs-requires-in-6
 check_exprs-requires-in-6 c = search (some_turned, as_unwind, rules)
 
 pub check_call-requires : goal.check_call-requires
-check_call-requires c = record { low = search rules; deep = search rules; there = search (some_turned, as_call, rules) }
+check_call-requires c = search (some_turned, as_call, rules)
 
 pub returns-in-2 : goal.returns-in-2
 returns-in-2 c = search (walks_turned, as_match, rules)

@@ -3,9 +3,6 @@ use Rattle.precheck.proofs.Checks.{next_standing}
 use Rattle.precheck.proofs.Laws.{whole, again, stop, done, stopped_as}
 use Rattle.precheck.proofs.clauses.check_clauses.Goals as goal
 
-pub loop-init : goal.loop-init
-loop-init c = whole
-
 pub check_clause-requires : goal.check_clause-requires
 check_clause-requires c = record { deep = c.requires.deep; there = next_standing c.args.r.now.roomy c.loop.invariant c.loop-test.true c.requires.there }
 

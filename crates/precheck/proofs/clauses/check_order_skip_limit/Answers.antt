@@ -3,17 +3,8 @@ use Rattle.precheck.proofs.Checks.{some_counted, walks_counted}
 use Rattle.precheck.proofs.Laws.{first_of_law, after, then_walks, then_stopped, stopped_as}
 use Rattle.precheck.proofs.clauses.check_order_skip_limit.Goals as goal
 
-pub check_exprs-requires : goal.check_exprs-requires
-check_exprs-requires c = some_counted c.count-keys.ensures.0 (first_of_law c.requires.there)
-
 pub returns-in_err-p : goal.returns-in_err-p
 returns-in_err-p c = stopped_as c.from_residual.ensures.1 (then_stopped (walks_counted c.count-keys.ensures.0 c.in_err-p.ensures))
-
-pub check_exprs-requires-2 : goal.check_exprs-requires-2
-check_exprs-requires-2 c =
-    some_counted
-    c.count-skip.ensures.0
-    (first_of_law (after (walks_counted c.count-keys.ensures.0 c.in_ok-p.ensures) c.requires.there))
 
 pub returns-in_err-q : goal.returns-in_err-q
 returns-in_err-q c =
@@ -22,14 +13,6 @@ returns-in_err-q c =
     (then_walks
     (walks_counted c.count-keys.ensures.0 c.in_ok-p.ensures)
     (then_stopped (walks_counted c.count-skip.ensures.0 c.in_err-q.ensures)))
-
-pub check_exprs-requires-3 : goal.check_exprs-requires-3
-check_exprs-requires-3 c =
-    some_counted
-    c.count-limit.ensures.0
-    (after
-    (walks_counted c.count-skip.ensures.0 c.in_ok-q.ensures)
-    (after (walks_counted c.count-keys.ensures.0 c.in_ok-p.ensures) c.requires.there))
 
 pub returns : goal.returns
 returns c =

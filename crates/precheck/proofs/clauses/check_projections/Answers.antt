@@ -3,28 +3,14 @@ use Rattle.precheck.proofs.Checks.{some_counted, walks_counted}
 use Rattle.precheck.proofs.Laws.{first_of_law, after, then_walks, then_stopped, stopped_as}
 use Rattle.precheck.proofs.clauses.check_projections.Goals as goal
 
-pub check_exprs-requires : goal.check_exprs-requires
-check_exprs-requires c = some_counted c.count-items.ensures.0 (first_of_law c.requires.there)
-
 pub returns-in_err-p : goal.returns-in_err-p
 returns-in_err-p c = stopped_as c.from_residual.ensures.1 (then_stopped (walks_counted c.count-items.ensures.0 c.in_err-p.ensures))
-
-pub check_exprs-requires-2 : goal.check_exprs-requires-2
-check_exprs-requires-2 c = first_of_law (after (walks_counted c.count-items.ensures.0 c.in_ok-p.ensures) c.requires.there)
 
 pub returns-in_err-q : goal.returns-in_err-q
 returns-in_err-q c =
     stopped_as
     c.from_residual-in_err-q.ensures.1
     (then_walks (walks_counted c.count-items.ensures.0 c.in_ok-p.ensures) (then_stopped c.in_err-q.ensures))
-
-pub check_order_skip_limit-requires : goal.check_order_skip_limit-requires
-check_order_skip_limit-requires c =
-    record {
-      low = c.requires.low;
-      deep = c.requires.deep;
-      there = after c.in_ok-q.ensures (after (walks_counted c.count-items.ensures.0 c.in_ok-p.ensures) c.requires.there);
-    }
 
 pub returns : goal.returns
 returns c =

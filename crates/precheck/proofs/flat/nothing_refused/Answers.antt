@@ -5,14 +5,8 @@ use Rattle.words.proofs.Counting
 use Rattle.precheck.proofs.FlatLaws.{none_yet, one_more, all_taken}
 use Rattle.precheck.proofs.flat.nothing_refused.Goals as goal
 
-pub loop-due-init : goal.loop-due-init
-loop-due-init c = (omega arith, Counting.first _, none_yet)
-
 pub record_taken-requires : goal.record_taken-requires
 record_taken-requires c = Counting.next c.requires c.loop-due.invariant.1 c.loop-due-test.true
-
-pub returns-then-not-record_taken : goal.returns-then-not-record_taken
-returns-then-not-record_taken c = record { so = λ e. absurd (false≢true e) }
 
 pub children-requires : goal.children-requires
 children-requires c = Counting.in_range c.requires c.loop-due.invariant.1 c.loop-due-test.true

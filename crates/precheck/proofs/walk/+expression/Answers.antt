@@ -8,9 +8,6 @@ use Rattle.precheck.proofs.walk.+expression.Goals as goal
 
 -- ── check_elements ──
 
-pub check_elements-loop-init : goal.check_elements-loop-init
-check_elements-loop-init t c = whole
-
 pub check_elements-props_of-props-requires : goal.check_elements-props_of-props-requires
 check_elements-props_of-props-requires t c = some_at c.args.r.now.roomy (child c.loop.invariant c.loop-test.true c.requires)
 
@@ -65,9 +62,6 @@ check_expr-returns-in_default t c = walks_turned (as_plain c.args.r.now.roomy c.
 
 -- ── check_exprs ──
 
-pub check_exprs-loop-init : goal.check_exprs-loop-init
-check_exprs-loop-init t c = whole
-
 pub check_exprs-overflow_add-at : goal.check_exprs-overflow_add-at
 check_exprs-overflow_add-at t c = omega (arith, (standing c.args.r.now.roomy (child c.loop.invariant c.loop-test.true c.requires)).low)
 
@@ -84,9 +78,6 @@ pub check_exprs-returns : goal.check_exprs-returns
 check_exprs-returns t c = done c.loop.invariant c.loop-test.false
 
 -- ── check_pattern ──
-
-pub check_pattern-loop-init : goal.check_pattern-loop-init
-check_pattern-loop-init t c = whole
 
 pub check_pattern-part_verdict-requires : goal.check_pattern-part_verdict-requires
 check_pattern-part_verdict-requires t c = some_at c.args.r.now.roomy (child c.loop.invariant c.loop-test.true c.requires)
