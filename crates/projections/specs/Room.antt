@@ -1,5 +1,5 @@
 -- The room that clauses have: what it allows of a call below, and how the steps of a clause add up. Assumes nothing.
-use Rattle.std.specs.Prelude.{◌≡◌, refl, ℕ, ◌+◌, ◌≤◌, ◌<◌, List, length}
+use Rattle.std.specs.Prelude.{◌≡◌, refl, ℕ, ◌+◌, ◌-◌, ◌≤◌, ◌<◌, List, length}
 use Rattle.std.proofs.Common.{◌∙◌, le_refl, arith}
 use Rattle.model.specs.Call.{work_words}
 use Rattle.model.specs.Text.{Bytes}
@@ -93,6 +93,10 @@ module _ {o : ℕ} {L : Lowering ℕ} {k i : ℕ} {m m₁ : Mem} (g : Ready i m)
   -- its number is small
   pub few_source : k ≤ max_found
   few_source = omega (arith, g.few, g.here, q.few, q.low)
+
+-- behind it, at the first record below a clause
+pub clause_room : {k k₀ : ℕ} {a b : List ℕ} {at : At} {current : Before} {L : Lowering ℕ} {m m₁ : Mem} → ClauseAsked k a b at current m → OrSource m.ctx.ops L k₀ m m₁ → RoomFor (at.left - 1) (at.i + 1) m₁
+clause_room {at = at} g q = let l = bounds g in room_source g.ready q (at.left - 1) (le_refl _) (omega (arith, l.low)) (omega (arith, l.shallow))
 
 pub can_source : {i : ℕ} {m : Mem} → Ready i m → CanPush m.ctx m.ops
 can_source r = record { few = omega (arith, r.few, r.here); long = r.in_ops }
