@@ -192,28 +192,28 @@ at_most_one true = omega arith
 at_most_one false = omega arith
 
 -- one of n remains after c of them, and one less after it
-pub remains : {c n : ℕ} → c < n → (n - c ≡ 0) → ⊥
+remains : {c n : ℕ} → c < n → (n - c ≡ 0) → ⊥
 remains l e = omega arith
 
-pub none_remains : {c n : ℕ} → n ≤ c → n - c ≡ 0
+none_remains : {c n : ℕ} → n ≤ c → n - c ≡ 0
 none_remains l = omega arith
 
 one_less : (c n : ℕ) → n - c - 1 ≡ n - (c + 1)
 one_less c n = omega arith
 
 module _ {sheet : Bytes} {a b : List ℕ} {n d : ℕ} {Done : ℕ → ℕ → Mem → Type 0} where
-  pub child : {k i g : ℕ} {m : Mem} → ((k ≡ 0) → ⊥) → Remaining sheet a b n d Done k i g m → HeldSome sheet a b expr (d - 1) (i + 1)
-  child {i = i} h p = (first_by_law sheet a b d i p.some.trees h p.some.are).held
+  pub child : {c x i g : ℕ} {m : Mem} → c < x → Remaining sheet a b n d Done (x - c) i g m → HeldSome sheet a b expr (d - 1) (i + 1)
+  child {i = i} l p = (first_by_law sheet a b d i p.some.trees (remains l) p.some.are).held
 
-  pub deep : {k i g : ℕ} {m : Mem} → ((k ≡ 0) → ⊥) → Remaining sheet a b n d Done k i g m → 1 ≤ d
-  deep {i = i} h p = (first_by_law sheet a b d i p.some.trees h p.some.are).deep
+  pub deep : {c x i g : ℕ} {m : Mem} → c < x → Remaining sheet a b n d Done (x - c) i g m → 1 ≤ d
+  deep {i = i} l p = (first_by_law sheet a b d i p.some.trees (remains l) p.some.are).deep
 
-  pub some_child : {k i g : ℕ} {m : Mem} → ((k ≡ 0) → ⊥) → Remaining sheet a b n d Done k i g m → SomeTree a b expr (d - 1) (i + 1)
-  some_child h p = let x = child h p in record { sheet = sheet; tree = x.tree; held = x.is }
+  pub some_child : {c x i g : ℕ} {m : Mem} → c < x → Remaining sheet a b n d Done (x - c) i g m → SomeTree a b expr (d - 1) (i + 1)
+  some_child l p = let x = child l p in record { sheet = sheet; tree = x.tree; held = x.is }
 
   -- there is room at its expression
-  pub child_room : {k i g : ℕ} {m : Mem} → ((k ≡ 0) → ⊥) → Remaining sheet a b n d Done k i g m → RoomFor (d - 1) (i + 1) m
-  child_room {i = i} h p = let x = child h p in let l = tree_low sheet a b x.tree (d - 1) (i + 1) x.is in room_from (omega arith) (omega arith) (omega arith) p.room
+  pub child_room : {c x i g : ℕ} {m : Mem} → c < x → Remaining sheet a b n d Done (x - c) i g m → RoomFor (d - 1) (i + 1) m
+  child_room {i = i} l p = let x = child l p in let l = tree_low sheet a b x.tree (d - 1) (i + 1) x.is in room_from (omega arith) (omega arith) (omega arith) p.room
 
   less : {k i g : ℕ} {m : Mem} → Remaining sheet a b n d Done k i g m → Remaining sheet a b n d Done (suc k - 1) i g m
   less {k} p = let e : suc k - 1 ≡ k = omega arith in rw e p
@@ -230,11 +230,11 @@ module _ {sheet : Bytes} {a b : List ℕ} {n d : ℕ} {Done : ℕ → ℕ → Me
   pub again : {c x i j g : ℕ} {m m₁ : Mem} (agg : Bool) → c < x → Remaining sheet a b n d Done (x - c) i g m → ((t : Tree expr) → Held sheet a b t (d - 1) (i + 1) → agg ≡ is_aggregate t) → LowersExpr a b (d - 1) 0 (i + 1) j m m₁ → Remaining sheet a b n d Done (x - (c + 1)) j (g + from_bool agg) m₁
   again {c} {x} {j = j} {g} {m₁ = m₁} agg l p is q = subst (λ (z : ℕ). Remaining sheet a b n d Done z j (g + from_bool agg) m₁) (one_less c x) (next_one agg (remains l) p is q)
 
-  pub done : {k i g : ℕ} {m : Mem} → k ≡ 0 → Remaining sheet a b n d Done k i g m → Done i g m
-  done {k} {i} {g} {m} h p = subst (λ (z : ℕ). Done i z m) (add-zero g) (p.finish i 0 m (rw h (nil_law sheet a b d i m p.room.here)))
+  pub done : {c x i g : ℕ} {m : Mem} → x ≤ c → Remaining sheet a b n d Done (x - c) i g m → Done i g m
+  done {c} {x} {i} {g} {m} l p = let h : x - c ≡ 0 = none_remains l in subst (λ (z : ℕ). Done i z m) (add-zero g) (p.finish i 0 m (rw h (nil_law sheet a b d i m p.room.here)))
 
-  pub done_few : {k i g : ℕ} {m : Mem} → k ≡ 0 → Remaining sheet a b n d Done k i g m → g ≤ n
-  done_few h p = omega (arith, p.few)
+  pub done_few : {k i g : ℕ} {m : Mem} → Remaining sheet a b n d Done k i g m → g ≤ n
+  done_few p = omega (arith, p.few)
 
 pub start : {sheet : Bytes} {a b : List ℕ} {n d i : ℕ} {m : Mem} → HeldMany sheet a b projection n d i → RoomFor d i m → Remaining sheet a b n d (λ e g m'. LowersSplit sheet a b n d i e g m m') (n - 0) i 0 m
 start {n = n} x g = rw (sub-zero n) (record { some = x; room = g; few = omega arith; finish = λ e h m' r. (let z : 0 + h ≡ h = omega arith in rw z r) })

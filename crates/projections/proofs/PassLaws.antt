@@ -14,8 +14,7 @@ use Rattle.model.specs.Tree.{Trees}
 use Rattle.model.specs.Lower.{Recs, Lowering, ◌>>=◌, ret, push, op, or_source_all, Split, split_projections_agg, aggregate_if, distinct_if}
 use Rattle.words.specs.Held.{HeldOf, size_of}
 use Rattle.context.specs.Tables.{Pushed, second_pass}
-use Rattle.context.specs.Ops.{before_of, aggregate_op, project_op, distinct_op}
-use Rattle.context.specs.declared.Before.{Before}
+use Rattle.context.specs.Ops.{aggregate_op, project_op, distinct_op}
 use Rattle.context.specs.declared.LowerCtx.{LowerCtx}
 use Rattle.lower.specs.Side.{side}
 use Rattle.lower.specs.Render.{key_recs, agg_recs}
@@ -62,20 +61,20 @@ unfolding ◌>>=◌
 first_def current items s input e = rw e
 
 -- behind the source there is room for the items
-pub first_room : {sheet : Bytes} {a b : List ℕ} {at : At} {n k₀ : ℕ} {current : Before} {L : Lowering ℕ} {m m₁ : Mem} → FirstAsked sheet a b at n current m → OrSource m.ctx.ops L k₀ m m₁ → RoomFor at.left (at.i + 1) m₁
+pub first_room : {sheet : Bytes} {a b : List ℕ} {at : At} {n k₀ : ℕ} {current : Option ℕ} {L : Lowering ℕ} {m m₁ : Mem} → FirstAsked sheet a b at n current m → OrSource m.ctx.ops L k₀ m m₁ → RoomFor at.left (at.i + 1) m₁
 first_room g q = room_source g.ready q _ (le_refl _) (omega (arith, g.low)) g.depth
 
 keys_left : (x y n g : ℕ) → x + y ≡ n → y ≡ g → x ≡ n - g
 keys_left x y n g e f = omega arith
 
-module _ {sheet : Bytes} {a b : List ℕ} {at : At} {n : ℕ} {current : Before} {j aggs k₀ k : ℕ} {c' : LowerCtx} {o' : List ℕ} {m m₁ m₂ : Mem}
+module _ {sheet : Bytes} {a b : List ℕ} {at : At} {n : ℕ} {current : Option ℕ} {j aggs k₀ k : ℕ} {c' : LowerCtx} {o' : List ℕ} {m m₁ m₂ : Mem}
     (g : FirstAsked sheet a b at n current m)
-    (sr : OrSource m.ctx.ops (or_source_all (before_of current)) k₀ m m₁)
+    (sr : OrSource m.ctx.ops (or_source_all current) k₀ m m₁)
     (pt : LowersSplit sheet a b n at.left (at.i + 1) j aggs m₁ m₂)
     (pi : PushedIf (not (eqb aggs 0)) (aggregate_op (at_place 0 at.i at.left) k₀ (n - aggs) aggs) k₀ k m₂.ctx c' m₂.ops o') where
-  first_run : {first : ℕ} (items : Trees projection n) → HeldOf sheet a b items at.left (at.i + 1) → (W : Written) (s : State) → Rep (side sheet a b first) W s m → Blank W (0 + suc (at.i + 1)) (0 + suc j) → Rooted (side sheet a b first) W (first_l n (before_of current) items) k 0 (suc (at.i + 1)) (suc j) s m (mem c' o' m₂.rest)
+  first_run : {first : ℕ} (items : Trees projection n) → HeldOf sheet a b items at.left (at.i + 1) → (W : Written) (s : State) → Rep (side sheet a b first) W s m → Blank W (0 + suc (at.i + 1)) (0 + suc j) → Rooted (side sheet a b first) W (first_l n current items) k 0 (suc (at.i + 1)) (suc j) s m (mem c' o' m₂.rest)
   first_run items hd W s r bl =
-      let s₁ : State = (or_source_all (before_of current) s).1 in
+      let s₁ : State = (or_source_all current s).1 in
       let S : Split = parted items s₁ in
       let x₀ = sr.run _ W s r.from r in
       let x₁ = pt.run items hd W s₁ x₀.to.rep bl in
@@ -94,10 +93,10 @@ module _ {sheet : Bytes} {a b : List ℕ} {at : At} {n : ℕ} {current : Before}
           is = aggregate_is k₀ S.keys (n - aggs) S.aggs aggs (key_recs (shift N 0) A items) S.key_recs (agg_recs (shift N 0) A items) S.agg_recs ek x₁.counted (x₁.keys N A f) (x₁.aggregates N A f);
         });
       }) in
-      let D = first_def (before_of current) items s k₀ x₀.root in
+      let D = first_def current items s k₀ x₀.root in
       record { to = rw D (to_then x₀.to (to_then x₁.to x₂.to)); root = rw D x₂.root; low = left_low pi (let g = x₁.to.grow in let l = sr.low in omega arith) }
 
-  pub first_law : LowersPass sheet a b n at.left 0 (at.i + 1) j k (first_l n (before_of current)) m (mem c' o' m₂.rest)
+  pub first_law : LowersPass sheet a b n at.left 0 (at.i + 1) j k (first_l n current) m (mem c' o' m₂.rest)
   first_law =
       let x = pt.moved in
       let y = counted pi in

@@ -1,5 +1,5 @@
 -- What the functions that lower a clause ask, by name. Assumes nothing: these are definitions.
-use Rattle.std.specs.Prelude.{◌≡◌, ℕ, ◌+◌, ◌-◌, ◌≤◌, ◌<◌, List}
+use Rattle.std.specs.Prelude.{◌≡◌, ℕ, ◌+◌, ◌-◌, ◌≤◌, ◌<◌, List, Option}
 use Rattle.model.specs.Text.{Bytes}
 use Rattle.model.specs.Kind.{clause, projection}
 use Rattle.words.specs.Words.{cell, max_records, two32}
@@ -8,7 +8,6 @@ use Rattle.words.specs.Held.{HeldSome, HeldMany}
 use Rattle.context.specs.Tables.{second_pass, deepest}
 use Rattle.context.specs.Ops.{Under}
 use Rattle.context.specs.declared.At.{At}
-use Rattle.context.specs.declared.Before.{Before}
 use Rattle.lower.specs.Rep.{Mem, RoomFor}
 use Rattle.lower.specs.Pieces.{SomeTree, SomeCarried}
 use Rattle.lower.specs.Patterns.{SomeTrees}
@@ -18,7 +17,7 @@ use Rattle.projections.specs.Promises.{SomeTail}
 -- ── a clause ──
 
 -- the clause at a place, of kind k, behind the operator that stands before it
-pub record ClauseAsked (k : ℕ) (a b : List ℕ) (at : At) (current : Before) (m : Mem) : Type 0 where
+pub record ClauseAsked (k : ℕ) (a b : List ℕ) (at : At) (current : Option ℕ) (m : Mem) : Type 0 where
   pub tree : SomeTree a b clause at.left at.i
   pub kind : cell a b at.i kind_at ≡ k
   pub ready : Ready at.i m
@@ -26,7 +25,7 @@ pub record ClauseAsked (k : ℕ) (a b : List ℕ) (at : At) (current : Before) (
   pub stands : Under current m.ctx.ops
 
 -- a `return`, of the sheet that is passed
-pub record ReturnAsked (sheet : Bytes) (a b : List ℕ) (at : At) (current : Before) (m : Mem) : Type 0 where
+pub record ReturnAsked (sheet : Bytes) (a b : List ℕ) (at : At) (current : Option ℕ) (m : Mem) : Type 0 where
   pub asked : ClauseAsked return_kind a b at current m
   pub held : HeldSome sheet a b clause at.left at.i
 
@@ -46,7 +45,7 @@ pub record SplitAsked (sheet : Bytes) (a b : List ℕ) (at : At) (n : ℕ) (m : 
   pub depth : at.left ≤ deepest
 
 -- the n items of the `return` at a place, before their first lowering
-pub record FirstAsked (sheet : Bytes) (a b : List ℕ) (at : At) (n : ℕ) (current : Before) (m : Mem) : Type 0 where
+pub record FirstAsked (sheet : Bytes) (a b : List ℕ) (at : At) (n : ℕ) (current : Option ℕ) (m : Mem) : Type 0 where
   pub counted : n ≡ cell a b at.i items_at
   pub items : HeldMany sheet a b projection n at.left (at.i + 1)
   pub ready : Ready at.i m

@@ -10,7 +10,7 @@ use lower::Reached;
 use words::Records;
 
 // What is reached behind the items, and how many of them are aggregates.
-#[derive(Clone, Copy)]
+#[derive(Clone, Copy, Debug, PartialEq, Eq)]
 pub struct Parted {
     pub reached: Reached,
     pub aggs: usize,
@@ -32,7 +32,7 @@ pub fn lower_items(
         left: at.left.saturating_sub(1),
         ..at
     };
-    lower::lower_exprs(r.a, r.b, ops, rest, ctx, below, n, 1)
+    lower::lower_exprs(r, ops, rest, ctx, below, n, 1)
 }
 
 // The first lowering of the n items of a `return` from a place on. The state is that of lowering each whole, also of an aggregate, of which the arguments alone are lowered.
@@ -59,7 +59,7 @@ pub fn split_projections_agg(
             i,
             left: less,
         };
-        cur = lower::lower_expr(r.a, r.b, ops, rest, cur.ctx, item);
+        cur = lower::lower_expr(r, ops, rest, cur.ctx, item);
         aggs += usize::from(agg);
     }
     Parted { reached: cur, aggs }

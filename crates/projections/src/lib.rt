@@ -4,14 +4,13 @@
 ghost use Rattle.std.specs.Prelude.{◌≡◌, List, ℕ, Some};
 ghost use Rattle.words.specs.Places.{with_kind};
 ghost use Rattle.context.specs.Tables.{CanPush};
-ghost use Rattle.context.specs.Ops.{before_of};
 ghost use Rattle.lower.specs.Rep.{mem};
 ghost use Rattle.lower.specs.Clauses.{LowersClause};
 ghost use Rattle.projections.specs.Asked.{ClauseAsked, ReturnAsked};
 ghost use Rattle.projections.specs.Promises.{PushedIf};
 
 use context::op::Op;
-use context::{At, Before, LowerCtx, op};
+use context::{At, LowerCtx, op};
 use lower::{Reached, Root};
 use words::{Records, field};
 
@@ -46,11 +45,11 @@ pub fn lower_with(
     ops: &mut [u32],
     rest: &mut [u32],
     ctx: LowerCtx,
-    current: Before,
+    current: Option<usize>,
     at: At,
 ) -> Root
     requires { ClauseAsked with_kind r.now.a.now r.now.b.now at current (mem ctx ops.old rest.old) }
-    ensures { (sheet : List ℕ) → LowersClause sheet r.now.a.now r.now.b.now at.left at.i result.next (before_of current) (Some result.op) (mem ctx ops.old rest.old) (mem result.ctx ops.new rest.new) }
+    ensures { (sheet : List ℕ) → LowersClause sheet r.now.a.now r.now.b.now at.left at.i result.next current (Some result.op) (mem ctx ops.old rest.old) (mem result.ctx ops.new rest.new) }
 {
     let i = at.i;
     let items = r.count(i, field::ITEMS);
@@ -69,9 +68,9 @@ pub fn lower_with(
         i: s.next,
         ..clause
     };
-    let t = lower::lower_exprs(r.a, r.b, ops, rest, s.ctx, predicate, filter, 0);
+    let t = lower::lower_exprs(r, ops, rest, s.ctx, predicate, filter, 0);
     let k = t.ctx.ops;
-    let z = t.ctx.push(ops, op::with(clause, q.op));
+    let z = t.ctx.push(ops, op::over(op::WITH, clause, q.op));
     let behind = At {
         i: t.next,
         ..clause
@@ -86,11 +85,11 @@ pub fn lower_return(
     ops: &mut [u32],
     rest: &mut [u32],
     ctx: LowerCtx,
-    current: Before,
+    current: Option<usize>,
     at: At,
 ) -> Root
     requires { ReturnAsked sheet.now r.now.a.now r.now.b.now at current (mem ctx ops.old rest.old) }
-    ensures { LowersClause sheet.now r.now.a.now r.now.b.now at.left at.i result.next (before_of current) (Some result.op) (mem ctx ops.old rest.old) (mem result.ctx ops.new rest.new) }
+    ensures { LowersClause sheet.now r.now.a.now r.now.b.now at.left at.i result.next current (Some result.op) (mem ctx ops.old rest.old) (mem result.ctx ops.new rest.new) }
 {
     let i = at.i;
     let n = r.count(i, field::ITEMS);

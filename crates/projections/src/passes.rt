@@ -2,13 +2,12 @@
 ghost use Rattle.std.specs.Prelude.{List, ℕ, ◌+◌, ◌<◌};
 ghost use Rattle.words.specs.Words.{two32};
 ghost use Rattle.context.specs.Tables.{second_pass};
-ghost use Rattle.context.specs.Ops.{before_of};
 ghost use Rattle.lower.specs.Rep.{mem};
 ghost use Rattle.projections.specs.Asked.{FirstAsked, SecondAsked};
 ghost use Rattle.projections.specs.Promises.{LowersPass, first_l, second_l};
 
 use crate::{items, push_if};
-use context::{At, Before, LowerCtx, SECOND_PASS, op};
+use context::{At, LowerCtx, SECOND_PASS, op};
 use lower::{Reached, Root};
 use words::Records;
 
@@ -19,12 +18,12 @@ pub fn first_pass(
     ops: &mut [u32],
     rest: &mut [u32],
     ctx: LowerCtx,
-    current: Before,
+    current: Option<usize>,
     at: At,
     n: usize,
 ) -> Root
     requires { FirstAsked sheet.now r.now.a.now r.now.b.now at n current (mem ctx ops.old rest.old) }
-    ensures { LowersPass sheet.now r.now.a.now r.now.b.now n at.left 0 (at.i + 1) result.next result.op (first_l n (before_of current)) (mem ctx ops.old rest.old) (mem result.ctx ops.new rest.new) × (result.op < two32) }
+    ensures { LowersPass sheet.now r.now.a.now r.now.b.now n at.left 0 (at.i + 1) result.next result.op (first_l n current) (mem ctx ops.old rest.old) (mem result.ctx ops.new rest.new) × (result.op < two32) }
 {
     let first = at.i + 1;
     let clause = At { base: 0, ..at };
@@ -58,7 +57,7 @@ pub fn second_pass(
     let below = At { i: first, ..clause };
     let s = items::lower_items(r, ops, rest, ctx, below, n);
     let k = s.ctx.ops;
-    let z = s.ctx.push(ops, op::project(clause, input));
+    let z = s.ctx.push(ops, op::over(op::PROJECT, clause, input));
     let pushed = Reached {
         next: s.next,
         ctx: z,

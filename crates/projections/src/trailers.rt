@@ -29,11 +29,11 @@ pub fn lower_trailers(
     let x = op::order_by(first, input, keys);
     let p = push_if(ops, s, keys != 0, x, input);
     let second = At { i: p.next, ..first };
-    let t = lower::lower_exprs(r.a, r.b, ops, rest, p.ctx, second, skip, 0);
-    let y = op::skip(second, p.op);
+    let t = lower::lower_exprs(r, ops, rest, p.ctx, second, skip, 0);
+    let y = op::over(op::SKIP, second, p.op);
     let q = push_if(ops, t, skip != 0, y, p.op);
     let third = At { i: q.next, ..first };
-    let u = lower::lower_exprs(r.a, r.b, ops, rest, q.ctx, third, limit, 0);
-    let z = op::limit(third, q.op);
+    let u = lower::lower_exprs(r, ops, rest, q.ctx, third, limit, 0);
+    let z = op::over(op::LIMIT, third, q.op);
     push_if(ops, u, limit != 0, z, q.op)
 }

@@ -26,10 +26,10 @@ lower_exprs-t-requires c =
     let l = Room.bounds c.requires in
     let room_for = Room.clause_room c.requires (c.or_source_all-q.ensures.source _) in
     let predicate = WithLaws.with_predicate c.args.r.now.roomy c.requires c.count-items.ensures.0 c.lower_items-s.ensures c.count-filter.ensures.0 in
-    record { words = c.args.r.now.roomy; tree = predicate; room = Exprs.room_after c.lower_items-s.ensures.moved room_for; depth = omega (arith, l.shallow); pass = omega arith }
+    record { tree = predicate; room = Exprs.room_after c.lower_items-s.ensures.moved room_for; depth = omega (arith, l.shallow); pass = omega arith }
 
-pub with-requires : goal.with-requires
-with-requires c =
+pub over-requires : goal.over-requires
+over-requires c =
     let l = Room.bounds c.requires in
     let input = Room.few_source c.requires.ready (c.or_source_all-q.ensures.source _) in
     (Room.fits (omega arith) (omega (arith, l.low)) (omega (arith, l.shallow)), omega (arith, input))
@@ -43,7 +43,7 @@ pub lower_trailers-requires : goal.lower_trailers-requires
 lower_trailers-requires c =
     let room = c.args.r.now.roomy in
     let l = Room.bounds c.requires in
-    let pushed = pushed_as c.with.ensures c.push-z.ensures in
+    let pushed = pushed_as c.over.ensures c.push-z.ensures in
     let tail = WithLaws.with_tail room c.requires c.count-items.ensures.0 c.lower_items-s.ensures c.count-filter.ensures.0 c.lower_exprs-t.ensures in
     let moved = WithLaws.with_moved room c.requires c.count-items.ensures.0 c.lower_items-s.ensures c.count-filter.ensures.0 c.lower_exprs-t.ensures (c.or_source_all-q.ensures.source _) pushed c.push-z.auto.ops in
     record {
@@ -56,5 +56,5 @@ lower_trailers-requires c =
 
 pub returns : goal.returns
 returns c =
-    let pushed = pushed_as c.with.ensures c.push-z.ensures in
+    let pushed = pushed_as c.over.ensures c.push-z.ensures in
     WithLaws.with_law c.args.r.now.roomy c.requires c.count-items.ensures.0 c.lower_items-s.ensures c.count-filter.ensures.0 c.lower_exprs-t.ensures (c.or_source_all-q.ensures.source _) pushed c.push-z.auto.ops c.lower_trailers.ensures

@@ -6,7 +6,6 @@ use Rattle.projections.proofs.items.lower_items.Goals as goal
 pub lower_exprs-requires : goal.lower_exprs-requires
 lower_exprs-requires c =
     record {
-      words = c.args.r.now.roomy;
       tree = rw c.saturating_sub.ensures c.requires.items;
       room = Exprs.room_from (omega arith) (le_refl _) c.requires.room.here c.requires.room;
       depth = omega (arith, c.requires.depth);

@@ -10,7 +10,7 @@ lower_items-s-requires c = record { items = PassLaws.items_some c.requires.items
 
 pub returns : goal.returns
 returns c =
-    let pushed = pushed_as c.project.ensures c.push-z.ensures in
+    let pushed = pushed_as c.over.ensures c.push-z.ensures in
     let last = pushed_if_as c.distinct.ensures c.push_if.ensures.1 in
     let law = PassLaws.second_law c.requires c.lower_items-s.ensures pushed c.push-z.auto.ops last in
     let low = PassLaws.second_low c.requires c.lower_items-s.ensures pushed c.push-z.auto.ops last in

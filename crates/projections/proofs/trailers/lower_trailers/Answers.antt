@@ -19,7 +19,6 @@ lower_exprs-t-requires c =
     let p = TrailerLaws.keys_law g c.count-keys.ensures.0 c.lower_items-s.ensures c.order_by-x.ensures c.push_if-p.ensures in
     let r = Room.ready_after p.moved g.ready in
     record {
-      words = c.args.r.now.roomy;
       tree = TrailerLaws.expr_some (TrailerLaws.skip_some _ _ _ _ c.count-keys.ensures.0 p c.count-skip.ensures.0 g.tail);
       room = Room.ready_room r (le_refl _) r.here g.depth;
       depth = g.depth;
@@ -32,10 +31,9 @@ lower_exprs-u-requires c =
     let p = TrailerLaws.keys_law g c.count-keys.ensures.0 c.lower_items-s.ensures c.order_by-x.ensures c.push_if-p.ensures in
     let r = Room.ready_after p.moved g.ready in
     let skip = TrailerLaws.skip_some _ _ _ _ c.count-keys.ensures.0 p c.count-skip.ensures.0 g.tail in
-    let q = TrailerLaws.skip_law g.depth r skip (TrailerLaws.skip_one c.count-skip.ensures.0 g.tail) p.low c.lower_exprs-t.ensures c.skip-y.ensures c.push_if-q.ensures in
+    let q = TrailerLaws.skip_law g.depth r skip (TrailerLaws.skip_one c.count-skip.ensures.0 g.tail) p.low c.lower_exprs-t.ensures c.over-y.ensures c.push_if-q.ensures in
     let z = Room.ready_after q.moved r in
     record {
-      words = c.args.r.now.roomy;
       tree = TrailerLaws.expr_some (TrailerLaws.limit_some _ _ _ _ c.count-keys.ensures.0 p c.count-skip.ensures.0 q.next c.count-limit.ensures.0 g.tail);
       room = Room.ready_room z (le_refl _) z.here g.depth;
       depth = g.depth;
@@ -48,7 +46,7 @@ returns c =
     let p = TrailerLaws.keys_law g c.count-keys.ensures.0 c.lower_items-s.ensures c.order_by-x.ensures c.push_if-p.ensures in
     let r = Room.ready_after p.moved g.ready in
     let skip = TrailerLaws.skip_some _ _ _ _ c.count-keys.ensures.0 p c.count-skip.ensures.0 g.tail in
-    let q = TrailerLaws.skip_law g.depth r skip (TrailerLaws.skip_one c.count-skip.ensures.0 g.tail) p.low c.lower_exprs-t.ensures c.skip-y.ensures c.push_if-q.ensures in
+    let q = TrailerLaws.skip_law g.depth r skip (TrailerLaws.skip_one c.count-skip.ensures.0 g.tail) p.low c.lower_exprs-t.ensures c.over-y.ensures c.push_if-q.ensures in
     let limit = TrailerLaws.limit_some _ _ _ _ c.count-keys.ensures.0 p c.count-skip.ensures.0 q.next c.count-limit.ensures.0 g.tail in
-    let l = TrailerLaws.limit_law g.depth (Room.ready_after q.moved r) limit (TrailerLaws.limit_one c.count-limit.ensures.0 g.tail) q.low c.lower_exprs-u.ensures c.limit-z.ensures c.push_if.ensures in
+    let l = TrailerLaws.limit_law g.depth (Room.ready_after q.moved r) limit (TrailerLaws.limit_one c.count-limit.ensures.0 g.tail) q.low c.lower_exprs-u.ensures c.over-z.ensures c.push_if.ensures in
     TrailerLaws.tail_law _ _ _ _ c.count-keys.ensures.0 p c.count-skip.ensures.0 q c.count-limit.ensures.0 l
