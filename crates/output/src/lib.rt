@@ -2,7 +2,6 @@
 #![tactic(auto)]
 
 ghost use Rattle.std.specs.Prelude.{◌≡◌, cond, [], ◌∷◌, ◌+◌, ◌<◌, ◌≤◌, ltb, length, MatchOption};
-ghost use Rattle.std.proofs.lemmas.List.Edits.{sets};
 ghost use Rattle.model.specs.Text.{Bytes, tab, decimal, signed};
 ghost use Rattle.output.specs.Page.{Puts};
 ghost use Rattle.output.specs.Wide.{Counted, least, step, tens};
@@ -105,7 +104,7 @@ const FIVE_DIGITS: u64 = 10000;
 // The digits that a number loses if it is divided by the least of five.
 const STEP: usize = 4;
 
-// How many decimal digits a number has, if they are at most four.
+// How many decimal digits a number has, if they are at most four. Tests and no `checked_ilog10`, since most numbers of a plan have one digit or two, and the library's way costs more instructions for those.
 fn count_short(n: u64) -> Option<usize>
     ensures { MatchOption result (least step ≤ n) (λ r. Counted n r) }
 {
