@@ -1,7 +1,7 @@
 -- How writes join, what they keep, and the two ways of a text in the code. Assumes nothing: every law is proved.
-use Rattle.std.specs.Prelude.{◌≡◌, refl, [], ◌∷◌, ◌++◌, ℕ, suc, ◌+◌, ◌-◌, ◌<◌, ◌≤◌, min, length, set, take, drop}
+use Rattle.std.specs.Prelude.{◌≡◌, refl, [], ◌∷◌, ◌++◌, ℕ, suc, ◌+◌, ◌-◌, ◌<◌, ◌≤◌, min, length, take, drop}
 use Rattle.std.specs.Borrow.{MutBor}
-use Rattle.std.proofs.Common.{ap, append_assoc, ◌∙◌, sym, arith, add-zero, add-one, length-append, length-set}
+use Rattle.std.proofs.Common.{ap, append_assoc, ◌∙◌, sym, arith, add-zero, length-append}
 use Rattle.std.proofs.lemmas.List.{drop-drop}
 use Rattle.std.proofs.lemmas.List.Edits.{sets, sets-eq}
 use Rattle.std.proofs.Math.Seq.{length-sets}
@@ -37,15 +37,11 @@ pub ◌⨾◌ : {t u : Bytes} {g g' g'' : Page} → Puts t g g' → Puts u g' g'
 pub stay : {g : Page} → Puts [] g g
 stay {g} = record { same = refl; long = refl; moved = rw (add-zero g.out); stored = λ f. refl }
 
--- a part of the slice p, replaced by a text that is as long
-pub replaced : (t p : Bytes) (at : ℕ) {r : ℕ} → r ≡ at + length t → r ≤ length p → take at p ++ (t ++ drop (r - at) (drop at p)) ≡ sets p at t
-replaced t p at {r} e f =
-    let l : r - at ≡ length t = omega arith in
-    rw (l, drop-drop (length t) at p, sets-eq t p at (omega arith)) (sym (append_assoc (take at p) t (drop (at + length t) p)))
-
--- the same behind a byte
-pub replaced_behind : (b : ℕ) (t p : Bytes) (at : ℕ) {r : ℕ} → r ≡ at + (length t + 1) → r ≤ length p → take (at + 1) (set p at b) ++ (t ++ drop (r - (at + 1)) (drop (at + 1) (set p at b))) ≡ sets p at (b ∷ t)
-replaced_behind b t p at e f = let long = length-set p at b in replaced t (set p at b) (at + 1) (omega arith) (omega arith) ∙ rw (add-one at)
+-- the n bytes from `at` on, replaced by a text that is as long
+pub replaced : (t p : Bytes) (at n : ℕ) → n ≡ length t → at + n ≤ length p → take at p ++ (t ++ drop (at + n - at) (drop at p)) ≡ sets p at t
+replaced t p at n e f =
+    let m : at + n - at ≡ length t = omega arith in
+    rw (m, drop-drop (length t) at p, sets-eq t p at (omega arith)) (sym (append_assoc (take at p) t (drop (at + length t) p)))
 
 -- ── the two ways of a text in the code: the cursor goes on by n bytes, the text's length, and only a text that fits is stored ──
 

@@ -18,9 +18,10 @@ impl Page<'_> {
     pub fn put_byte(&mut self, b: u8)
         ensures { Puts (b ∷ []) self.old self.new }
     {
-        let end = self.out.saturating_add(1);
+        let at = self.out;
+        let end = at.saturating_add(1);
         if end <= self.bytes.len() {
-            self.bytes[self.out] = b;
+            self.bytes[at] = b;
         }
         self.out = end;
     }
@@ -29,9 +30,11 @@ impl Page<'_> {
     pub fn put_part(&mut self, s: &[u8])
         ensures { Puts s.now self.old self.new }
     {
-        let end = self.out.saturating_add(s.len());
+        let at = self.out;
+        let n = s.len();
+        let end = at.saturating_add(n);
         if end <= self.bytes.len() {
-            store_part(&mut self.bytes[self.out..end], s);
+            store_part(&mut self.bytes[at..at + n], s);
         }
         self.out = end;
     }
@@ -59,10 +62,11 @@ impl Page<'_> {
     pub fn put_decimal(&mut self, n: u64)
         ensures { Puts (decimal n) self.old self.new }
     {
+        let at = self.out;
         let d = digit_count(n);
-        let end = self.out.saturating_add(d);
+        let end = at.saturating_add(d);
         if end <= self.bytes.len() {
-            store_digits(&mut self.bytes[self.out..end], n);
+            store_digits(&mut self.bytes[at..at + d], n);
         }
         self.out = end;
     }
@@ -71,11 +75,13 @@ impl Page<'_> {
     pub fn put_tabbed(&mut self, n: u64)
         ensures { Puts (tab ∷ decimal n) self.old self.new }
     {
-        let d = digit_count(n);
-        let end = self.out.saturating_add(d + 1);
+        let at = self.out;
+        let width = digit_count(n) + 1;
+        let end = at.saturating_add(width);
         if end <= self.bytes.len() {
-            self.bytes[self.out] = b'\t';
-            store_digits(&mut self.bytes[self.out + 1..end], n);
+            let field = &mut self.bytes[at..at + width];
+            field[0] = b'\t';
+            store_digits(&mut field[1..], n);
         }
         self.out = end;
     }
