@@ -5,7 +5,8 @@ use Rattle.std.specs.Int.{w64}
 use Rattle.std.proofs.Common.{◌≡◌, refl, true, false, ◌++◌, ℕ, ◌<◌, arith, ltb-true, SFits, to_z-of_z}
 use Rattle.model.specs.Text.{dash, decimal, signed}
 use Rattle.laws.specs.SignedLaws.{held, below, above}
-use Rattle.output.specs.Page.{Page, Puts}
+use Rattle.output.specs.declared.Page.{Page}
+use Rattle.output.specs.Page.{Puts}
 use Rattle.output.specs.Writes.{◌⨾◌}
 
 -- ── of the number itself ──

@@ -3,7 +3,7 @@ use Rattle.std.specs.Prelude.{◌≡◌, ℕ, ◌+◌, ◌<◌, ◌≤◌, min, 
 use Rattle.std.specs.Borrow.{MutBor}
 use Rattle.std.proofs.lemmas.List.Edits.{sets}
 use Rattle.model.specs.Text.{Bytes}
-pub use Rattle.output.specs.declared.Page.{Page}
+use Rattle.output.specs.declared.Page.{Page}
 
 -- the page of a lent slice and a cursor in it
 abbrev pub on : MutBor Bytes → ℕ → Page

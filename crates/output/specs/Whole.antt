@@ -7,7 +7,8 @@ use Rattle.std.proofs.Math.Seq.{take-append_seam}
 use Rattle.model.specs.Text.{Bytes}
 use Rattle.model.specs.Refusal.{Refusal, accepted, values_of}
 use Rattle.model.specs.Call.{written}
-use Rattle.output.specs.Page.{Page, on, most, Puts}
+use Rattle.output.specs.declared.Page.{Page}
+use Rattle.output.specs.Page.{on, most, Puts}
 
 -- what a text that fits leaves of the slice p: the slice q and the cursor o
 pub record Written (t p q : Bytes) (o : ℕ) : Type 0 where

@@ -6,7 +6,8 @@ use Rattle.std.proofs.lemmas.List.{drop-drop}
 use Rattle.std.proofs.lemmas.List.Edits.{sets, sets-eq}
 use Rattle.std.proofs.Math.Seq.{length-sets}
 use Rattle.model.specs.Text.{Bytes}
-use Rattle.output.specs.Page.{Page, on, most, Puts}
+use Rattle.output.specs.declared.Page.{Page}
+use Rattle.output.specs.Page.{on, most, Puts}
 
 infixr 40 ◌⨾◌
 -- ── any write ──
