@@ -36,7 +36,7 @@ use Rattle.plan_sheet.proofs.HeadLaws.{texts_at}
 use Rattle.plan_sheet.proofs.HeadLaws.{two}
 use Rattle.plan_sheet.proofs.DueLaws.{tabled_less, spell_append}
 use Rattle.plan_sheet.proofs.NameLaws.{names_made}
-use Rattle.context.specs.Ops.{before_of, call_input, aggregate_kind, bind_path_kind, distinct_kind, expand_kind, filter_kind, limit_kind, optional_join_kind, order_by_kind, procedure_call_kind, project_kind, shortest_path_kind, skip_kind, source_all_kind, source_no_parts_kind, source_kind, union_kind, unwind_kind, with_kind}
+use Rattle.context.specs.Ops.{call_input, aggregate_kind, bind_path_kind, distinct_kind, expand_kind, filter_kind, limit_kind, optional_join_kind, order_by_kind, procedure_call_kind, project_kind, shortest_path_kind, skip_kind, source_all_kind, source_no_parts_kind, source_kind, union_kind, unwind_kind, with_kind}
 use Rattle.words.specs.Places.{call_args_at, call_name_at, call_optional_at, call_yields_at, items_at, node_labels_at, part_shortest_at, with_filter_at}
 use Rattle.words.specs.Numbers.{Others, other_than}
 
@@ -255,7 +255,7 @@ module _ {sheet : Bytes} {a b rest : List ℕ} {o : Op} (room : Roomy a b) (h : 
   pub procedure_in : TextAsked sheet a b o.idx call_name_at
   procedure_in = record { low = h.stored.bounded.low; from = call_text_law.from; to = call_text_law.to }
 
-  pub call_line : spell_recs (take 1 h.recs) ≡ call_text (before_of (call_input o)) (text_at sheet a b o.idx call_name_at) (cell a b o.idx call_args_at) (cell a b o.idx call_yields_at) (cell a b o.idx call_optional_at)
+  pub call_line : spell_recs (take 1 h.recs) ≡ call_text (call_input o) (text_at sheet a b o.idx call_name_at) (cell a b o.idx call_args_at) (cell a b o.idx call_yields_at) (cell a b o.idx call_optional_at)
   unfolding spell_rec keyword plan_keyword op_keyword word letters bytes bytes_from spell_fields spell fields_of field_of call_text numbers_text
   call_line =
       let s = of_kind procedure_call_kind e h.stored.shows in
@@ -266,7 +266,7 @@ module _ {sheet : Bytes} {a b rest : List ℕ} {o : Op} (room : Roomy a b) (h : 
       let optional : spell_flag s.fields.1.1.1.0 ≡ decimal (cell a b o.idx call_optional_at) = rw r.fields (flag_decimal (cell a b o.idx call_optional_at) r.flags.1.1.1.0) in
       first_rec_law s.is
       ∙ record_line (word call_word) _
-      ∙ ap (λ (t : Bytes). word call_word ++ t) (rw (name, args, yields, optional) (two_behind (spell_option (before_of (call_input o))) (text_at sheet a b o.idx call_name_at) (decimal (cell a b o.idx call_args_at) ∷ decimal (cell a b o.idx call_yields_at) ∷ decimal (cell a b o.idx call_optional_at) ∷ []) (line_feed ∷ [])))
+      ∙ ap (λ (t : Bytes). word call_word ++ t) (rw (name, args, yields, optional) (two_behind (spell_option (call_input o)) (text_at sheet a b o.idx call_name_at) (decimal (cell a b o.idx call_args_at) ∷ decimal (cell a b o.idx call_yields_at) ∷ decimal (cell a b o.idx call_optional_at) ∷ []) (line_feed ∷ [])))
 
 -- ── a whole operator ──
 

@@ -5,14 +5,14 @@ ghost use Rattle.model.specs.Field.{spell_option};
 ghost use Rattle.output.specs.Page.{on, Puts};
 ghost use Rattle.words.specs.Words.{cell, max_records};
 ghost use Rattle.words.specs.Places.{items_at, with_filter_at, call_args_at, call_yields_at, call_optional_at, call_name_at};
-ghost use Rattle.context.specs.Ops.{before_of, bind_path_kind};
+ghost use Rattle.context.specs.Ops.{bind_path_kind};
 ghost use Rattle.plan_line.specs.Keywords.{with_word, project_word};
 ghost use Rattle.plan_line.specs.Row.{numbers_text, row_text, call_text};
 ghost use Rattle.plan_sheet.specs.Due.{OpShown, WroteFirst, TextAsked, text_at};
 
 use crate::source::Source;
+use context::op;
 use context::op::Op;
-use context::{Before, op};
 use plan_line::field::put_text;
 use plan_line::{row, word};
 use words::field;
@@ -38,15 +38,15 @@ fn put_project(plan: &mut [u8], out: usize, r: &Records<'_>, i: usize, input: u3
 }
 
 // The input of a procedure, or that it has none.
-fn put_input(plan: &mut [u8], out: usize, input: Before) -> usize
-    ensures { Puts (tab ∷ spell_option (before_of input)) (on plan.old out) (on plan.new result) }
+fn put_input(plan: &mut [u8], out: usize, input: Option<usize>) -> usize
+    ensures { Puts (tab ∷ spell_option input) (on plan.old out) (on plan.new result) }
 {
     match input {
-        Before::Nothing => {
+        None => {
             let o = output::put_byte(plan, out, b'\t');
             output::put_byte(plan, o, b'-')
         }
-        Before::Op(k) => output::put_tabbed(plan, out, k as u64),
+        Some(k) => output::put_tabbed(plan, out, k as u64),
     }
 }
 
@@ -62,9 +62,15 @@ fn put_counts(plan: &mut [u8], out: usize, r: &Records<'_>, i: usize) -> usize
 }
 
 // A `call`: its input, its procedure's name, and its numbers.
-fn put_procedure(plan: &mut [u8], out: usize, s: &Source<'_>, i: usize, input: Before) -> usize
+fn put_procedure(
+    plan: &mut [u8],
+    out: usize,
+    s: &Source<'_>,
+    i: usize,
+    input: Option<usize>,
+) -> usize
     requires { TextAsked s.now.sheet.now s.now.records.a.now s.now.records.b.now i call_name_at }
-    ensures { Puts (call_text (before_of input) (text_at s.now.sheet.now s.now.records.a.now s.now.records.b.now i call_name_at) (cell s.now.records.a.now s.now.records.b.now i call_args_at) (cell s.now.records.a.now s.now.records.b.now i call_yields_at) (cell s.now.records.a.now s.now.records.b.now i call_optional_at)) (on plan.old out) (on plan.new result) }
+    ensures { Puts (call_text input (text_at s.now.sheet.now s.now.records.a.now s.now.records.b.now i call_name_at) (cell s.now.records.a.now s.now.records.b.now i call_args_at) (cell s.now.records.a.now s.now.records.b.now i call_yields_at) (cell s.now.records.a.now s.now.records.b.now i call_optional_at)) (on plan.old out) (on plan.new result) }
 {
     let from = s.records.word(i, field::CALL_NAME);
     let to = s.records.word(i, field::CALL_NAME + 1);

@@ -161,7 +161,7 @@ fn write_part(plan: &mut [u8], out: usize, s: &Source<'_>, at: At, aggregates: b
     ensures { PartWrote s.now at aggregates (on plan.old out) result.next (on plan.new result.out) }
 {
     let i = at.i;
-    let is = is_aggregate(s.sheet, s.records.a, s.records.b, i);
+    let is = is_aggregate(s.sheet, &s.records, i);
     if is != aggregates {
         let next = s.records.skip(i);
         return Wrote { next, out };

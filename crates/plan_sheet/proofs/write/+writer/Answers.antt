@@ -423,10 +423,7 @@ write_op-returns-in_default t c =
 
 pub write_part-is_aggregate-is-requires : goal.write_part-is_aggregate-is-requires
 write_part-is_aggregate-is-requires t c =
-    record {
-      roomy = c.args.s.now.records.roomy;
-      some_expr = PartedLaws.some_expr c.requires.due;
-    }
+    PartedLaws.some_expr c.requires.due
 
 pub write_part-skip-next-requires : goal.write_part-skip-next-requires
 write_part-skip-next-requires t c =
