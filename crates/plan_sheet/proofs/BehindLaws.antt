@@ -1,11 +1,12 @@
 -- What stands behind an operator's first line: its expressions by their number and place, then its labels, path or yields. Assumes nothing: every law is proved.
 use mathlib.Core.Path.{◌≡◌, refl, sym, ap, subst, ◌∙◌}
-use Prim.Native.Nat.{ℕ, suc, ◌+◌, ◌-◌, ◌<◌}
+use Prim.Native.Nat.{ℕ, suc, ◌+◌, ◌-◌, ◌≤◌, ◌<◌}
 use native.Mathlib.Omega.{arith}
-use mathlib.Core.Bool.{false, true}
+use mathlib.Core.Bool.{false}
+use mathlib.Core.Logic.{◌⊎◌, inl, inr}
 use mathlib.Core.List.{List, [], ◌∷◌, ◌++◌, append-nil}
 use Rattle.std.specs.Prelude.{None}
-use borrow.Author.Tests.{ne_eqb, eqb-false}
+use borrow.Author.Tests.{eqb-false}
 use lib.Dec.{eqb}
 use lib.ListN.{length}
 use lib.Seq.{slice}
@@ -40,35 +41,13 @@ use Rattle.plan_sheet.proofs.NameLaws.{names_made}
 use Rattle.plan_sheet.proofs.OpLaws.{here, shown_at, tabled_below, first_more}
 use Rattle.context.specs.Ops.{aggregate_kind, bind_path_kind, expand_kind, filter_kind, limit_kind, optional_join_kind, order_by_kind, procedure_call_kind, project_kind, shortest_path_kind, skip_kind, source_kind, unwind_kind, with_kind, source_all_kind, source_no_parts_kind, distinct_kind, union_kind}
 use Rattle.words.specs.Places.{call_args_at, call_yields_at, node_labels_at, part_elements_at, yield_name_at}
-use Rattle.words.specs.Numbers.{Others, among, other_than}
+use Rattle.words.specs.Numbers.{Others}
 
 -- ── how many, and from where ──
 
 -- the kinds that are written in ways of their own, as a `match` leaves them behind its arms
 abbrev pub own_ways : List ℕ
 own_ways = aggregate_kind ∷ optional_join_kind ∷ shortest_path_kind ∷ expand_kind ∷ []
-
--- the kinds that have expressions, and those that begin with one, as a `match` leaves them behind its arms
-abbrev with_exprs : List ℕ
-with_exprs = procedure_call_kind ∷ unwind_kind ∷ limit_kind ∷ skip_kind ∷ order_by_kind ∷ project_kind ∷ with_kind ∷ filter_kind ∷ []
-
-abbrev expr_first : List ℕ
-expr_first = unwind_kind ∷ limit_kind ∷ skip_kind ∷ order_by_kind ∷ filter_kind ∷ []
-
-pub none_at : (kind x y z u : ℕ) → Others kind with_exprs → 0 ≡ many_by kind x y z u
-unfolding many_by
-none_at kind x y z u r =
-    rw (none filter_kind refl, none with_kind refl, none project_kind refl, none order_by_kind refl, none skip_kind refl, none limit_kind refl, none unwind_kind refl, none procedure_call_kind refl)
-  where
-    none : (k : ℕ) → among k with_exprs ≡ true → eqb kind k ≡ false
-    none k e = ne_eqb kind k (other_than kind k with_exprs r e)
-
-pub next_at : (kind x : ℕ) → Others kind expr_first → x + 1 ≡ first_by kind x
-unfolding first_by
-next_at kind x r = rw (none filter_kind refl, none order_by_kind refl, none skip_kind refl, none limit_kind refl, none unwind_kind refl)
-  where
-    none : (k : ℕ) → among k expr_first ≡ true → eqb kind k ≡ false
-    none k e = ne_eqb kind k (other_than kind k expr_first r e)
 
 -- ── yields ──
 
@@ -87,6 +66,12 @@ yield_in room p q z (yield_more f h c) = let y = yield_place room h in rw (p, q)
 pub yield_low : {sheet : Bytes} {a b : List ℕ} {n i : ℕ} → (n ≡ 0 → ⊥) → Yields sheet a b n i → i < max_records
 yield_low z no_yields = absurd (z refl)
 yield_low z (yield_more f h c) = h.low
+
+-- they end among the records
+pub yields_end : {sheet : Bytes} {a b : List ℕ} {n i : ℕ} → Yields sheet a b n i → (n ≡ 0) ⊎ (i + n ≤ max_records)
+yields_end no_yields = inl refl
+yields_end (yield_more f h no_yields) = inr (omega (arith, h.low))
+yields_end (yield_more f h (yield_more g k c)) = inr (omega (arith, yields_end (yield_more g k c)))
 
 -- what is left of the yields h
 pub record YieldsStill (rest : List ℕ) (base : ℕ) {sheet : Bytes} {a b : List ℕ} {n i : ℕ} (h : Yields sheet a b n i) (start : Page) (m at : ℕ) (p : Page) : Type 0 where

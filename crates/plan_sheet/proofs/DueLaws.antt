@@ -1,6 +1,6 @@
 -- Expressions one after another: taken apart as the loop over them does, and made of the groups of a record. Assumes nothing: every law is proved.
 use mathlib.Core.Path.{◌≡◌, refl, sym, ap, ◌∙◌}
-use Prim.Native.Nat.{ℕ, zero, suc, ◌+◌, ◌-◌, ◌≤◌}
+use Prim.Native.Nat.{ℕ, zero, suc, ◌+◌, ◌-◌, ◌≤◌, ◌<◌}
 use native.Mathlib.Nat.{add-zero, add_assoc}
 use native.Mathlib.Omega.{arith}
 use mathlib.Core.Bool.{Bool, true, false, cond}
@@ -23,6 +23,10 @@ pub spell_append : (rs ss : Recs) → spell_recs (rs ++ ss) ≡ spell_recs rs ++
 unfolding spell_recs
 spell_append [] ss = refl
 spell_append (r ∷ rs) ss = ap (λ (t : Bytes). spell_rec r ++ t) (spell_append rs ss) ∙ sym (append_assoc (spell_rec r) (spell_recs rs) (spell_recs ss))
+
+-- of n that are gone over k are done
+pub due_yet : {n k : ℕ} → k < n → n - k ≡ 0 → ⊥
+due_yet h e = omega arith
 
 pub tabled_less : {sheet : Bytes} {a b os rest : List ℕ} {first n k : ℕ} {A : Ops} → k ≤ n → Tabled sheet a b os rest first n A → Tabled sheet a b os rest first k A
 tabled_less h p = record { few = omega (arith, p.few); stored = λ j f l. p.stored j f (omega arith) }

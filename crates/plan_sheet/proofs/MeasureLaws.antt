@@ -1,6 +1,6 @@
 -- How many bytes the first line of an expression has, by its kind, and lines that are only counted. Assumes nothing: every law is proved.
 use mathlib.Core.Path.{◌≡◌, refl, ◌∙◌}
-use Prim.Native.Nat.{ℕ, ◌+◌, ◌-◌, min}
+use Prim.Native.Nat.{ℕ, ◌+◌, ◌-◌, ◌≤◌, min}
 use native.Mathlib.Omega.{arith}
 use mathlib.Core.List.{List, [], ◌∷◌}
 use lib.ListN.{length}
@@ -20,7 +20,7 @@ use Rattle.plan_line.specs.Row.{NumberBytes}
 use Rattle.plan_line.proofs.RowLaws.{row_long, named_long}
 use Rattle.plan_sheet.specs.Due.{ExprAt, text_at}
 use Rattle.plan_sheet.specs.Measure.{var_line, fn_line, list_predicate_line, exists_line, null_line, AnyBytes, CallBytes, HeadBytes}
-use Rattle.plan_sheet.proofs.HeadLaws.{renamed, copied_kind, number_is, var_head, exists_head, unresolved_head, undesugared_head, any_head, call_in, call_head}
+use Rattle.plan_sheet.proofs.HeadLaws.{renamed, copied_kind, number_is, var_head, exists_head, null_head, any_head, call_in, call_head}
 
 module _ {a b : List ℕ} {i : ℕ} where
   pub any_bytes : {n x z dx dn dz r : ℕ} → x ≡ cell a b i list_predicate_kind_at → z ≡ cell a b i list_predicate_pred_at → NumberBytes x dx → NumberBytes n dn → NumberBytes z dz → r ≡ list_predicate_line + dx + dn + dz → AnyBytes a b i n r
@@ -48,13 +48,9 @@ module _ {a b : List ℕ} {i : ℕ} (room : Roomy a b) (n : ℕ) where
   unfolding word letters bytes bytes_from
   exists_long e = record { long = λ sheet h. rw (exists_head room n h e, row_long exists_word []) refl }
 
-  pub unresolved_long : cell a b i kind_at ≡ unres_kind → HeadBytes a b i n null_line
+  pub null_long : unres_kind ≤ cell a b i kind_at → cell a b i kind_at ≤ undes_kind → HeadBytes a b i n null_line
   unfolding word letters bytes bytes_from
-  unresolved_long e = record { long = λ sheet h. rw (unresolved_head room n h e, row_long null_word []) refl }
-
-  pub undesugared_long : cell a b i kind_at ≡ undes_kind → HeadBytes a b i n null_line
-  unfolding word letters bytes bytes_from
-  undesugared_long e = record { long = λ sheet h. rw (undesugared_head room n h e, row_long null_word []) refl }
+  null_long l m = record { long = λ sheet h. rw (null_head room n h l m, row_long null_word []) refl }
 
   pub any_long : {r : ℕ} → cell a b i kind_at ≡ list_predicate_kind → AnyBytes a b i n r → HeadBytes a b i n r
   any_long e w = record { long = λ sheet h. rw (any_head room n h e) w.long }

@@ -2,6 +2,7 @@
 use mathlib.Core.Path.{◌≡◌, refl, sym, ap, ◌∙◌}
 use Prim.Native.Nat.{ℕ, suc, ◌+◌, ◌-◌, ◌≤◌, ◌<◌}
 use native.Mathlib.Omega.{arith}
+use mathlib.Core.Logic.{◌⊎◌, inl, inr}
 use mathlib.Core.List.{List, [], ◌∷◌, ◌++◌, append-nil, append_assoc}
 use lib.ListN.{length}
 use lib.Seq.{slice}
@@ -14,7 +15,7 @@ use Rattle.model.specs.Tree.{Trees, node, []ᵗ, ◌∷ᵗ◌, end}
 use Rattle.model.specs.Lower.{Recs}
 use Rattle.output.specs.Page.{Page, Puts}
 use Rattle.output.specs.Writes.{◌⨾◌, stay}
-use Rattle.words.specs.Words.{Roomy, cell, field_of, fields_of}
+use Rattle.words.specs.Words.{Roomy, cell, field_of, fields_of, max_records}
 use Rattle.words.specs.Held.{Held, HeldOf, RecordAt, PlaceAt, size, size_of}
 use Rattle.words.specs.Cells.{shown}
 use Rattle.lower.specs.Render.{Notes, Ops, recs_over, render, render_of, spec_rec}
@@ -56,6 +57,12 @@ pub record NamesGoing (sheet : Bytes) (a b : List ℕ) (n i : ℕ) (start : Page
 
 pub names_going : {sheet : Bytes} {a b : List ℕ} {n i : ℕ} {p : Page} → Names sheet a b n i → NamesGoing sheet a b n i p n i p
 names_going h = record { some = h; each = λ h. (h, λ q r. r); sum = refl; long = refl }
+
+-- they end among the records
+pub names_end : {sheet : Bytes} {a b : List ℕ} {n i : ℕ} → Names sheet a b n i → (n ≡ 0) ⊎ (i + n ≤ max_records)
+names_end no_names = inl refl
+names_end (name_more f h no_names) = inr (omega (arith, h.low))
+names_end (name_more f h (name_more g k c)) = inr (omega (arith, names_end (name_more g k c)))
 
 pub names_again : {sheet : Bytes} {a b : List ℕ} {n i m at : ℕ} {start p q : Page} → Roomy a b → (m ≡ 0 → ⊥) → NamesGoing sheet a b n i start m at p → Copied sheet a b at p q → length q.bytes ≡ length p.bytes → NamesGoing sheet a b n i start (m - 1) (at + 1) q
 names_again room z g w l =
@@ -142,7 +149,7 @@ module _ {sheet : Bytes} {a b : List ℕ} {i : ℕ} (room : Roomy a b) where
     node_line e = node_fields h.kind h.fields h.at (sym (element_number_law h) ∙ e)
 
     pub rel_in : (cell a b i kind_at ≡ node_kind → ⊥) → TextAsked sheet a b i rel_length_at
-    rel_in e = let p = rel_place h.kind h.fields h.at (λ x. e (element_number_law h ∙ x)) in record { words = room; low = h.at.low; from = p.from; to = p.to }
+    rel_in e = let p = rel_place h.kind h.fields h.at (λ x. e (element_number_law h ∙ x)) in record { low = h.at.low; from = p.from; to = p.to }
 
     pub rel_line : (cell a b i kind_at ≡ node_kind → ⊥) → spell_rec (spec_rec h.kind h.fields) ≡ rel_text (cell a b i rel_types_at) (cell a b i rel_direction_at) (text_at sheet a b i rel_length_at) (cell a b i rel_props_at)
     rel_line e =

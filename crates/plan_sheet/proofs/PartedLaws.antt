@@ -126,7 +126,7 @@ module _ {sheet : Bytes} {a b os rest : List ℕ} {below base left i : ℕ} wher
     agg_is = agg sheet a b (shift (noted rest) base) h.first below left i room h.tree h.held h.under (sym (told left h.tree h.held) ∙ e)
 
     pub agg_in : TextAsked sheet a b i name_at
-    agg_in = record { words = room; low = agg_is.low; from = agg_is.place.from; to = agg_is.place.to }
+    agg_in = record { low = agg_is.low; from = agg_is.place.from; to = agg_is.place.to }
 
     pub args : {n : ℕ} → n ≡ cell a b i fn_args_at → Many sheet a b os rest below base (left - 1) n (i + 1)
     args q = rw q (record { first = h.first; ops = h.ops; tabled = h.tabled; list = agg_is.list })

@@ -4,7 +4,7 @@ use Prim.Native.Nat.{ℕ, suc, ◌+◌, ◌-◌, ◌<◌}
 use native.Mathlib.Omega.{arith}
 use mathlib.Core.Bool.{Bool, true, false}
 use mathlib.Core.List.{List, [], ◌∷◌, ◌++◌, append-nil, append_assoc}
-use Rattle.std.specs.Prelude.{Option, None}
+use Rattle.std.specs.Prelude.{Option, None, Some}
 use lib.ListN.{length, get_or}
 use Rattle.model.specs.Text.{Bytes, bytes, bytes_from}
 use Rattle.model.specs.Field.{spell, spell_fields}
@@ -25,7 +25,6 @@ use Rattle.plan_line.specs.Keywords.{word, letters, element_word}
 use Rattle.plan_line.specs.Row.{row_text}
 use Rattle.plan_sheet.specs.Due.{noted, ElementAt}
 use Rattle.plan_sheet.specs.Path.{waits_of, WaitsLow, Stepped, Elements, WrotePath}
-use Rattle.plan_sheet.specs.declared.path.Waits.TheVariants as waits
 use Rattle.plan_sheet.specs.declared.path.Path.{Path}
 use Rattle.plan_line.proofs.RowLaws.{row_rec}
 use Rattle.plan_sheet.proofs.NameLaws.{element_number_law}
@@ -47,19 +46,19 @@ module _ (rest : List ℕ) (base : ℕ) (path : Path) where
   abbrev pub PutsKept : Page → Page → Type 0
   PutsKept g g' = Puts (spell_recs (path_elements (kept_rel (shift (noted rest) base) path.seen (waits_of path.waits)))) g g'
 
-  pub none_waits : {g : Page} → path.waits ≡ waits.Nothing → PutsKept g g
+  pub none_waits : {g : Page} → path.waits ≡ None → PutsKept g g
   unfolding waits_of kept_rel path_elements spell_recs
   none_waits e = rw e stay
 
-  pub kept : {i n : ℕ} {g g' : Page} → path.waits ≡ waits.Rel i → path.seen ≡ true → n ≡ note_of rest base i → Puts (row_text element_word (n ∷ [])) g g' → PutsKept g g'
+  pub kept : {i n : ℕ} {g g' : Page} → path.waits ≡ Some i → path.seen ≡ true → n ≡ note_of rest base i → Puts (row_text element_word (n ∷ [])) g g' → PutsKept g g'
   unfolding waits_of kept_rel
   kept {n = n} e t q w = rw (e, t, ← q, number_line n) w
 
-  pub not_kept : {i : ℕ} {g : Page} → path.waits ≡ waits.Rel i → path.seen ≡ false → PutsKept g g
+  pub not_kept : {i : ℕ} {g : Page} → path.waits ≡ Some i → path.seen ≡ false → PutsKept g g
   unfolding waits_of kept_rel path_elements spell_recs
   not_kept e t = rw (e, t) stay
 
-  pub node_step_law : {i kind n o : ℕ} {g g' g'' : Page} → kind ≡ node_kind → PutsKept g g' → n ≡ note_of rest base i → Puts (row_text element_word (n ∷ [])) g' g'' → Stepped rest base i kind path (record { seen = true; waits = waits.Nothing; out = o }) g g''
+  pub node_step_law : {i kind n o : ℕ} {g g' g'' : Page} → kind ≡ node_kind → PutsKept g g' → n ≡ note_of rest base i → Puts (row_text element_word (n ∷ [])) g' g'' → Stepped rest base i kind path (record { seen = true; waits = None; out = o }) g g''
   node_step_law {i} {n = n} e w q v =
       record {
         low = tt;
@@ -67,7 +66,7 @@ module _ (rest : List ℕ) (base : ℕ) (path : Path) where
         of_rel_law = λ x. absurd (x e);
       }
 
-  pub rel_step : {i kind o : ℕ} {g : Page} → (kind ≡ node_kind → ⊥) → i < max_records → Stepped rest base i kind path (record { seen = path.seen; waits = waits.Rel i; out = o }) g g
+  pub rel_step : {i kind o : ℕ} {g : Page} → (kind ≡ node_kind → ⊥) → i < max_records → Stepped rest base i kind path (record { seen = path.seen; waits = Some i; out = o }) g g
   rel_step z l = record { low = l; of_node_law = λ x. absurd (z x); of_rel_law = λ x. (refl, refl, refl) }
 
 -- ── the loop ──
@@ -109,7 +108,7 @@ pub record Walking (sheet : Bytes) (a b rest : List ℕ) (base n i : ℕ) (start
   pub low : WaitsLow path.waits
   pub long : length p.bytes ≡ length start.bytes
 
-pub walking : {sheet : Bytes} {a b rest : List ℕ} {base n i o : ℕ} {p : Page} → Elements sheet a b n i → Walking sheet a b rest base n i p n i (record { seen = false; waits = waits.Nothing; out = o }) p
+pub walking : {sheet : Bytes} {a b rest : List ℕ} {base n i o : ℕ} {p : Page} → Elements sheet a b n i → Walking sheet a b rest base n i p n i (record { seen = false; waits = None; out = o }) p
 unfolding waits_of
 walking h = record { some = h; each = λ h. record { others = h; text = λ r v. v }; low = tt; long = refl }
 

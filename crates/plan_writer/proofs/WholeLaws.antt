@@ -1,5 +1,5 @@
 -- The whole plan sheet: the operators by number, the named variables, and the first line. Assumes nothing: every law is proved.
-use mathlib.Core.Path.{◌≡◌, refl, sym, ap, ◌∙◌}
+use mathlib.Core.Path.{◌≡◌, refl, ap, ◌∙◌}
 use Prim.Native.Nat.{ℕ, zero, suc, ◌+◌, ◌-◌, ◌≤◌, ◌<◌}
 use native.Mathlib.Numerals.{add-one}
 use native.Mathlib.Omega.{arith}
@@ -11,7 +11,7 @@ use Rattle.model.specs.Field.{spell, spell_fields}
 use Rattle.model.specs.Kind.{in_plan, mapped, plan}
 use Rattle.model.specs.Record.{rec, keyword, plan_keyword, spell_rec, spell_recs}
 use Rattle.model.specs.Lower.{Recs, at}
-use Rattle.model.specs.Plan.{operator_recs, mapped_recs, first_rec, plan_recs, plan_sheet}
+use Rattle.model.specs.Plan.{operator_recs, mapped_recs}
 use Rattle.output.specs.Page.{Page, Puts}
 use Rattle.output.specs.Writes.{◌⨾◌, stay}
 use Rattle.context.specs.Tables.{vars_of, vars_at}
@@ -19,7 +19,7 @@ use Rattle.lower.specs.Render.{Ops}
 use Rattle.plan_line.specs.Keywords.{word, letters, variable_word, plan_word}
 use Rattle.plan_line.specs.Row.{row_text}
 use Rattle.plan_sheet.specs.Due.{SomePlan, WroteOp}
-use Rattle.plan_writer.specs.Whole.{ops_from, WroteOps, WroteVars, WroteSheet}
+use Rattle.plan_writer.specs.Whole.{ops_from, WroteOps, WroteVars}
 use Rattle.plan_line.proofs.RowLaws.{row_rec}
 use Rattle.plan_sheet.proofs.DueLaws.{tabled_less, spell_append}
 
@@ -117,11 +117,3 @@ pub vars_count : (n : ℕ) (vs : List ℕ) → length (vars_of n vs) ≡ n
 unfolding vars_of
 vars_count zero vs = refl
 vars_count (suc n) vs = ap suc (vars_count n vs)
-
-pub sheet_wrote : {sheet : Bytes} {a b os rest : List ℕ} {n m : ℕ} {p q r t : Page} → Puts (row_text plan_word (n ∷ m ∷ [])) p q → WroteOps sheet a b os rest 0 n q r → WroteVars rest m r t → WroteSheet sheet a b os rest n m p t
-unfolding plan_sheet plan_recs first_rec spell_recs
-sheet_wrote {rest = rest} {n = n} {m = m} first ops vars s h =
-    let mapped_are : length s.scope.vars ≡ m = ap length (sym h.vars) ∙ vars_count m (drop vars_at rest) in
-    let all : n - 0 ≡ length s.ops = omega (arith, h.count) in
-    let ops_are : ops_from 0 (n - 0) (λ k. at s.ops k) ≡ operator_recs s.ops = rw all (in_order_law s.ops) in
-    rw (← h.count, mapped_are, first_line n m) (first ⨾ rw (spell_append (operator_recs s.ops) (mapped_recs s.scope.vars)) (rw ops_are at (ops (record { first = 0; ops = λ k. at s.ops k; tabled = h.tabled; inside = omega arith })) ⨾ rw h.vars at vars))

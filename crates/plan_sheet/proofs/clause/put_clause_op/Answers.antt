@@ -4,22 +4,16 @@ use Rattle.plan_sheet.proofs.clause.put_clause_op.Goals as goal
 
 pub put_with-requires : goal.put_with-requires
 put_with-requires c =
-    record {
-      roomy = c.requires.first_asked.words;
-      i_lt_max_records = c.requires.first_asked.shown.stored.bounded.low;
-    }
+    c.requires.op_shown.stored.bounded.low
 
 pub put_project-requires : goal.put_project-requires
 put_project-requires c =
-    record {
-      roomy = c.requires.first_asked.words;
-      i_lt_max_records = c.requires.first_asked.shown.stored.bounded.low;
-    }
+    c.requires.op_shown.stored.bounded.low
 
 pub put_procedure-requires : goal.put_procedure-requires
 put_procedure-requires c =
-    let asked = c.requires.first_asked in
-    OpLaws.procedure_in asked.words asked.shown (OpLaws.is_call asked.shown c.requires.bind_path_kind_lt_kind c.in_default.in_default-own.rest)
+    let shown = c.requires.op_shown in
+    OpLaws.procedure_in c.args.s.now.records.roomy shown (OpLaws.is_call shown c.requires.bind_path_kind_lt_kind c.in_default.in_default-own.rest)
 
 pub returns-in-7 : goal.returns-in-7
 returns-in-7 c = λ h. rw (OpLaws.optional_line h c.in-7.is) c.put_row1.ensures
@@ -56,7 +50,7 @@ returns-in_default c =
     λ h.
     rw
     (OpLaws.call_line
-    c.requires.first_asked.words
+    c.args.s.now.records.roomy
     h
-    (OpLaws.is_call c.requires.first_asked.shown c.requires.bind_path_kind_lt_kind c.in_default.in_default-own.rest))
+    (OpLaws.is_call c.requires.op_shown c.requires.bind_path_kind_lt_kind c.in_default.in_default-own.rest))
     (rw c.call_input.ensures at c.put_procedure.ensures)

@@ -4,11 +4,11 @@ use native.Mathlib.Omega.{arith}
 use Rattle.plan_sheet.proofs.item.put_agg.Goals as goal
 
 pub put_named2-requires : goal.put_named2-requires
-put_named2-requires c = named_in c.word-s.ensures c.word-e.ensures c.requires (omega arith)
+put_named2-requires c = named_in c.word-from.ensures c.word-to.ensures c.requires (omega arith)
 
 pub returns : goal.returns
 returns c =
     rw
-    (c.word-s.ensures, c.word-e.ensures, c.word-args.ensures, c.word-distinct.ensures)
+    (c.word-from.ensures, c.word-to.ensures, c.word-args.ensures, c.word-distinct.ensures)
     at
     c.put_named2.ensures

@@ -4,7 +4,7 @@ use native.Mathlib.Omega.{arith}
 use Rattle.plan_sheet.proofs.item.put_own_name.Goals as goal
 
 pub put_named0-requires : goal.put_named0-requires
-put_named0-requires c = named_in c.word-s.ensures c.word-e.ensures c.requires (omega arith)
+put_named0-requires c = named_in c.word-from.ensures c.word-to.ensures c.requires (omega arith)
 
 pub returns : goal.returns
-returns c = rw (c.word-s.ensures, c.word-e.ensures) at c.put_named0.ensures
+returns c = rw (c.word-from.ensures, c.word-to.ensures) at c.put_named0.ensures

@@ -1,36 +1,31 @@
 -- `put_op` meets its contract. Assumes nothing.
+use native.Mathlib.Omega.{arith}
 use Rattle.plan_sheet.proofs.OpLaws
 use Rattle.plan_sheet.proofs.op.put_op.Goals as goal
 
 pub put_source-requires : goal.put_source-requires
 put_source-requires c =
-    record {
-      roomy = c.requires.words;
-      i_lt_max_records = c.requires.shown.stored.bounded.low;
-    }
+    c.requires.stored.bounded.low
 
 pub put_expand-requires : goal.put_expand-requires
 put_expand-requires c =
     record {
       notes_in = OpLaws.notes_in c.requires;
-      y_lt_max_records = OpLaws.far_low c.requires.shown c.in-4.is;
+      y_lt_max_records = OpLaws.far_low c.requires c.in-4.is;
     }
 
 pub put_short-requires : goal.put_short-requires
-put_short-requires c = record { words = c.requires.words; notes = OpLaws.notes_in c.requires; due = c.requires.shown.stored.bounded.far c.in-5.is }
+put_short-requires c = record { notes = OpLaws.notes_in c.requires; due = c.requires.stored.bounded.far c.in-5.is }
 
 pub put_clause_op-requires : goal.put_clause_op-requires
 put_clause_op-requires c =
     record {
-      first_asked = c.requires;
-      bind_path_kind_lt_kind = OpLaws.of_clause _ c.in_default.in_default-own.rest;
+      op_shown = c.requires;
+      bind_path_kind_lt_kind = omega arith;
     }
 
 pub returns-in-0 : goal.returns-in-0
-returns-in-0 c = λ h. rw (OpLaws.all_line h c.in-0.is) c.put_row2.ensures
-
-pub returns-in-1 : goal.returns-in-1
-returns-in-1 c = λ h. rw (OpLaws.no_parts_line h c.in-1.is) c.put_row2-in-1.ensures
+returns-in-0 c = λ h. rw (OpLaws.bare_line h (omega arith)) c.put_row2.ensures
 
 pub returns-in-2 : goal.returns-in-2
 returns-in-2 c = λ h. rw (OpLaws.source_line h c.in-2.is) c.put_source.ensures

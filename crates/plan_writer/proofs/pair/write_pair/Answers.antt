@@ -4,9 +4,9 @@ use Rattle.plan_writer.specs.Whole.{answer_of}
 use Rattle.output.specs.Whole.{refuses, accepts}
 use Rattle.plan_writer.proofs.pair.write_pair.Goals as goal
 
-pub returns-then-plan-long : goal.returns-then-plan-long
+pub returns-then-bytes-long : goal.returns-then-bytes-long
 unfolding answer_of
-returns-then-plan-long c = λ s h. refuses _ (omega arith) (c.write_pair_sheet-long.ensures s h) c.if-plan-long.true
+returns-then-bytes-long c = λ s h. refuses _ (omega arith) (c.write_sheet-long.ensures s h) c.if-bytes-long.true
 
 pub returns : goal.returns
 unfolding answer_of
@@ -15,6 +15,6 @@ returns c =
     accepts
     _
     (omega arith)
-    (c.write_pair_sheet-long.ensures s h)
-    c.if-plan-long.false
-    (c.write_pair_sheet-done.ensures s h)
+    (c.write_sheet-long.ensures s h)
+    c.if-bytes-long.false
+    (c.write_sheet-done.ensures s h)

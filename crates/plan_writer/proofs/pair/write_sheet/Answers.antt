@@ -1,10 +1,9 @@
--- `pair::write_pair_sheet` meets its contract. Assumes nothing.
+-- `pair::write_sheet` meets its contract. Assumes nothing.
 use Rattle.plan_writer.proofs.PairLaws
-use borrow.Author.Rules.{rules}
-use Rattle.plan_writer.proofs.pair.write_pair_sheet.Goals as goal
+use Rattle.plan_writer.proofs.pair.write_sheet.Goals as goal
 
 pub write_vars-requires : goal.write_vars-requires
-write_vars-requires c = (search rules, c.requires.tables.few)
+write_vars-requires c = c.requires.tables.few
 
 pub returns : goal.returns
 returns c = PairLaws.pair_wrote c.put_row2-o.ensures c.write_ops-p.ensures c.write_ops-q.ensures c.write_vars.ensures

@@ -8,6 +8,8 @@
 -- `write_part`, of the cycle.
 -- `write_parts`, of the cycle.
 use Rattle.plan_sheet.proofs.DueLaws
+use Rattle.plan_sheet.proofs.DueLaws.{due_yet}
+use Rattle.std.proofs.Math.Nat.{sub-zero, sub-add-eq}
 use Rattle.plan_sheet.proofs.CycleLaws
 use Rattle.plan_sheet.proofs.MeasureLaws
 use Rattle.plan_sheet.proofs.FlatLaws
@@ -16,7 +18,7 @@ use Rattle.plan_sheet.proofs.BehindLaws
 use Rattle.plan_sheet.proofs.OpLaws
 use mathlib.Core.Path.{sym, ◌∙◌}
 use native.Mathlib.Omega.{arith}
-use Rattle.plan_sheet.proofs.write.+measure_exprs_put_exprs_write_element_write_expr_write_exprs_write_items_write_op_write_part_write_parts.Goals as goal
+use Rattle.plan_sheet.proofs.write.+writer.Goals as goal
 
 -- ── measure_exprs ──
 
@@ -27,44 +29,36 @@ pub measure_exprs-measure_before-line-requires : goal.measure_exprs-measure_befo
 measure_exprs-measure_before-line-requires t c =
     record {
       plan_len = c.loop-due.invariant.long ∙ c.requires.plan_len;
-      roomy = c.requires.exprs_asked.room.records;
       some_line = DueLaws.some_line c.loop-due-test.true c.loop-due.invariant.some;
     }
 
 pub measure_exprs-word-kind-requires : goal.measure_exprs-word-kind-requires
 measure_exprs-word-kind-requires t c =
     let one = DueLaws.one_there c.loop-due-test.true c.loop-due.invariant.some c.measure_before-line.ensures in
-    record {
-      i_lt_max_records = CycleLaws.one_low one;
-      c_lt_record_words = omega arith;
-      roomy = c.requires.exprs_asked.room.records;
-    }
+    (CycleLaws.one_low one, omega arith)
 
 pub measure_exprs-note_of-n-requires : goal.measure_exprs-note_of-n-requires
 measure_exprs-note_of-n-requires t c =
     let one = DueLaws.one_there c.loop-due-test.true c.loop-due.invariant.some c.measure_before-line.ensures in
-    (omega (arith, c.requires.exprs_asked.near.near), omega (arith, CycleLaws.one_low one), c.requires.exprs_asked.room.in_rest)
+    (omega (arith, c.requires.exprs_asked.near.near), omega (arith, CycleLaws.one_low one), c.args.s.now.room.in_rest)
 
 pub measure_exprs-expr_bytes-bytes-requires : goal.measure_exprs-expr_bytes-bytes-requires
 measure_exprs-expr_bytes-bytes-requires t c =
     let one = DueLaws.one_there c.loop-due-test.true c.loop-due.invariant.some c.measure_before-line.ensures in
-    record { words = c.requires.exprs_asked.room.records; at = (_, CycleLaws.one_at one); told = c.word-kind.ensures }
+    record { at = (_, CycleLaws.one_at one); told = c.word-kind.ensures }
 
 pub measure_exprs-write_op-o-requires : goal.measure_exprs-write_op-o-requires
 measure_exprs-write_op-o-requires t c =
     let one = DueLaws.one_there c.loop-due-test.true c.loop-due.invariant.some c.measure_before-line.ensures in
     let e = sym c.word-kind.ensures ∙ c.if-kind-eq-PAT.true in (
-      omega (arith, CycleLaws.copy_low c.requires.exprs_asked.room.records e c.note_of-n.ensures one, c.decreases),
-      (c.requires.exprs_asked.room, CycleLaws.copy_plan c.requires.exprs_asked.room.records e c.note_of-n.ensures one),
+      omega (arith, CycleLaws.copy_low c.args.s.now.records.roomy e c.note_of-n.ensures one, c.decreases),
+      CycleLaws.copy_plan c.args.s.now.records.roomy e c.note_of-n.ensures one,
     )
 
 pub measure_exprs-skip-i-requires : goal.measure_exprs-skip-i-requires
 measure_exprs-skip-i-requires t c =
     let one = DueLaws.one_there c.loop-due-test.true c.loop-due.invariant.some c.measure_before-line.ensures in
-    record {
-      roomy = c.requires.exprs_asked.room.records;
-      starts = CycleLaws.starts one;
-    }
+    CycleLaws.starts one
 
 pub measure_exprs-loop-due-smaller-then-kind-eq-PAT : goal.measure_exprs-loop-due-smaller-then-kind-eq-PAT
 measure_exprs-loop-due-smaller-then-kind-eq-PAT t c =
@@ -85,7 +79,7 @@ measure_exprs-loop-due-preserved-then-kind-eq-PAT t c =
     c.measure_before-line.ensures
     (λ h.
     CycleLaws.copy_wrote
-    c.requires.exprs_asked.room.records
+    c.args.s.now.records.roomy
     e
     c.note_of-n.ensures
     h
@@ -97,10 +91,7 @@ measure_exprs-loop-due-preserved-then-kind-eq-PAT t c =
 pub measure_exprs-children-below-requires : goal.measure_exprs-children-below-requires
 measure_exprs-children-below-requires t c =
     let one = DueLaws.one_there c.loop-due-test.true c.loop-due.invariant.some c.measure_before-line.ensures in
-    record {
-      i_lt_max_records = CycleLaws.one_low one;
-      roomy = c.requires.exprs_asked.room.records;
-    }
+    CycleLaws.one_low one
 
 pub measure_exprs-overflow_add-due : goal.measure_exprs-overflow_add-due
 measure_exprs-overflow_add-due t c =
@@ -122,7 +113,7 @@ pub measure_exprs-loop-due-preserved : goal.measure_exprs-loop-due-preserved
 measure_exprs-loop-due-preserved t c =
     let empty = c.measure_before-line.auto.plan ∙ c.loop-due.invariant.long ∙ c.requires.plan_len in
     FlatLaws.again_below
-    c.requires.exprs_asked.room.records
+    c.args.s.now.records.roomy
     c.loop-due-test.true
     c.measure_before-line.ensures
     c.children-below.ensures.0
@@ -153,51 +144,36 @@ put_exprs-write_exprs-requires t c = (omega (arith, c.decreases), c.requires)
 
 pub write_element-word-kind-requires : goal.write_element-word-kind-requires
 write_element-word-kind-requires t c =
-    record {
-      i_lt_max_records = (CycleLaws.element_is c.requires.room.records c.requires.due).at.at.low;
-      c_lt_record_words = omega arith;
-      roomy = c.requires.room.records;
-    }
+    ((CycleLaws.element_is c.args.s.now.records.roomy c.requires.due).at.at.low, omega arith)
 
 pub write_element-count-names-requires : goal.write_element-count-names-requires
 write_element-count-names-requires t c =
-    record {
-      i_lt_max_records = (CycleLaws.element_is c.requires.room.records c.requires.due).at.at.low;
-      c_lt_record_words = omega arith;
-      roomy = c.requires.room.records;
-    }
+    ((CycleLaws.element_is c.args.s.now.records.roomy c.requires.due).at.at.low, omega arith)
 
 pub write_element-props_of-props-requires : goal.write_element-props_of-props-requires
 write_element-props_of-props-requires t c =
-    record {
-      roomy = c.requires.room.records;
-      i_lt_max_records = (CycleLaws.element_is c.requires.room.records c.requires.due).at.at.low;
-    }
+    (CycleLaws.element_is c.args.s.now.records.roomy c.requires.due).at.at.low
 
 pub write_element-put_element-o-requires : goal.write_element-put_element-o-requires
-write_element-put_element-o-requires t c = record { words = c.requires.room.records; at = (CycleLaws.element_is c.requires.room.records c.requires.due).at; told = c.word-kind.ensures }
+write_element-put_element-o-requires t c = record { at = (CycleLaws.element_is c.args.s.now.records.roomy c.requires.due).at; told = c.word-kind.ensures }
 
 pub write_element-overflow_add-i : goal.write_element-overflow_add-i
-write_element-overflow_add-i t c = omega (arith, (CycleLaws.element_is c.requires.room.records c.requires.due).at.at.low)
+write_element-overflow_add-i t c = omega (arith, (CycleLaws.element_is c.args.s.now.records.roomy c.requires.due).at.at.low)
 
 pub write_element-put_names-w-requires : goal.write_element-put_names-w-requires
 write_element-put_names-w-requires t c =
-    record {
-      roomy = c.requires.room.records;
-      names = CycleLaws.element_names c.requires.room.records c.requires.due c.count-names.ensures.0;
-    }
+    CycleLaws.element_names c.args.s.now.records.roomy c.requires.due c.count-names.ensures.0
 
-pub write_element-overflow_sub-run : goal.write_element-overflow_sub-run
-write_element-overflow_sub-run t c = omega (arith, (CycleLaws.element_is c.requires.room.records c.requires.due).deep)
+pub write_element-overflow_sub-left : goal.write_element-overflow_sub-left
+write_element-overflow_sub-left t c = omega (arith, (CycleLaws.element_is c.args.s.now.records.roomy c.requires.due).deep)
 
 pub write_element-put_exprs-v-requires : goal.write_element-put_exprs-v-requires
 write_element-put_exprs-v-requires t c = (
-  omega (arith, (CycleLaws.element_is c.requires.room.records c.requires.due).deep, c.decreases),
+  omega (arith, (CycleLaws.element_is c.args.s.now.records.roomy c.requires.due).deep, c.decreases),
   record {
-    room = c.requires.room;
     near = CycleLaws.nearer c.requires.near;
     due = CycleLaws.element_props
-        c.requires.room.records
+        c.args.s.now.records.roomy
         c.requires.due
         c.word-kind.ensures
         c.count-names.ensures.0
@@ -210,7 +186,7 @@ pub write_element-returns : goal.write_element-returns
 write_element-returns t c =
     λ h.
     CycleLaws.element_wrote
-    c.requires.room.records
+    c.args.s.now.records.roomy
     h
     c.word-kind.ensures
     c.count-names.ensures.0
@@ -223,29 +199,22 @@ write_element-returns t c =
 
 pub write_expr-put_before-line-requires : goal.write_expr-put_before-line-requires
 write_expr-put_before-line-requires t c =
-    record {
-      roomy = c.requires.room.records;
-      some_line = DueLaws.first_line c.requires.due;
-    }
+    DueLaws.first_line c.requires.due
 
 pub write_expr-word-kind-requires : goal.write_expr-word-kind-requires
 write_expr-word-kind-requires t c =
     let one = DueLaws.first_there c.requires.due c.put_before-line.ensures in
-    record {
-      i_lt_max_records = CycleLaws.one_low one;
-      c_lt_record_words = omega arith;
-      roomy = c.requires.room.records;
-    }
+    (CycleLaws.one_low one, omega arith)
 
 pub write_expr-note_of-n-requires : goal.write_expr-note_of-n-requires
 write_expr-note_of-n-requires t c =
     let one = DueLaws.first_there c.requires.due c.put_before-line.ensures in
-    (omega (arith, c.requires.near.near), omega (arith, CycleLaws.one_low one), c.requires.room.in_rest)
+    (omega (arith, c.requires.near.near), omega (arith, CycleLaws.one_low one), c.args.s.now.room.in_rest)
 
 pub write_expr-put_expr-o-requires : goal.write_expr-put_expr-o-requires
 write_expr-put_expr-o-requires t c =
     let one = DueLaws.first_there c.requires.due c.put_before-line.ensures in
-    record { words = c.requires.room.records; at = CycleLaws.one_at one; told = c.word-kind.ensures }
+    record { at = CycleLaws.one_at one; told = c.word-kind.ensures }
 
 pub write_expr-overflow_add-next : goal.write_expr-overflow_add-next
 write_expr-overflow_add-next t c =
@@ -256,30 +225,27 @@ pub write_expr-returns-then-is_leaf : goal.write_expr-returns-then-is_leaf
 write_expr-returns-then-is_leaf t c =
     DueLaws.lined
     c.put_before-line.ensures
-    (CycleLaws.leaf_wrote c.requires.room.records c.word-kind.ensures (sym c.is_leaf.ensures ∙ c.if-is_leaf.true) c.note_of-n.ensures c.put_expr-o.ensures)
+    (CycleLaws.leaf_wrote c.args.s.now.records.roomy c.word-kind.ensures (sym c.is_leaf.ensures ∙ c.if-is_leaf.true) c.note_of-n.ensures c.put_expr-o.ensures)
 
 pub write_expr-write_op-p-requires : goal.write_expr-write_op-p-requires
 write_expr-write_op-p-requires t c =
     let one = DueLaws.first_there c.requires.due c.put_before-line.ensures in
     let e = sym c.word-kind.ensures ∙ c.if-kind-eq-PAT.true in (
-      omega (arith, CycleLaws.copy_low c.requires.room.records e c.note_of-n.ensures one, c.decreases),
-      (c.requires.room, CycleLaws.copy_plan c.requires.room.records e c.note_of-n.ensures one),
+      omega (arith, CycleLaws.copy_low c.args.s.now.records.roomy e c.note_of-n.ensures one, c.decreases),
+      CycleLaws.copy_plan c.args.s.now.records.roomy e c.note_of-n.ensures one,
     )
 
 pub write_expr-skip-next-requires : goal.write_expr-skip-next-requires
 write_expr-skip-next-requires t c =
     let one = DueLaws.first_there c.requires.due c.put_before-line.ensures in
-    record {
-      roomy = c.requires.room.records;
-      starts = CycleLaws.starts one;
-    }
+    CycleLaws.starts one
 
 pub write_expr-returns-then-kind-eq-PAT : goal.write_expr-returns-then-kind-eq-PAT
 write_expr-returns-then-kind-eq-PAT t c =
     let e = sym c.word-kind.ensures ∙ c.if-kind-eq-PAT.true in
     DueLaws.lined
     c.put_before-line.ensures
-    (λ h. CycleLaws.copy_wrote c.requires.room.records e c.note_of-n.ensures h c.put_expr-o.ensures c.write_op-p.ensures c.skip-next.ensures)
+    (λ h. CycleLaws.copy_wrote c.args.s.now.records.roomy e c.note_of-n.ensures h c.put_expr-o.ensures c.write_op-p.ensures c.skip-next.ensures)
 
 pub write_expr-overflow_add-first : goal.write_expr-overflow_add-first
 write_expr-overflow_add-first t c =
@@ -294,16 +260,13 @@ write_expr-overflow_sub-left t c =
 pub write_expr-children-requires : goal.write_expr-children-requires
 write_expr-children-requires t c =
     let one = DueLaws.first_there c.requires.due c.put_before-line.ensures in
-    record {
-      i_lt_max_records = CycleLaws.one_low one;
-      roomy = c.requires.room.records;
-    }
+    CycleLaws.one_low one
 
 pub write_expr-write_exprs-requires : goal.write_expr-write_exprs-requires
 write_expr-write_exprs-requires t c =
     let one = DueLaws.first_there c.requires.due c.put_before-line.ensures in (
       omega (arith, CycleLaws.one_deep one, c.decreases),
-      record { room = c.requires.room; near = CycleLaws.nearer c.requires.near; due = CycleLaws.kids c.requires.room.records c.children.ensures.0 (λ e. c.if-kind-eq-PAT.false (c.word-kind.ensures ∙ e)) one },
+      record { near = CycleLaws.nearer c.requires.near; due = CycleLaws.kids c.args.s.now.records.roomy c.children.ensures.0 (λ e. c.if-kind-eq-PAT.false (c.word-kind.ensures ∙ e)) one },
     )
 
 pub write_expr-returns : goal.write_expr-returns
@@ -312,7 +275,7 @@ write_expr-returns t c =
     c.put_before-line.ensures
     (λ h.
     CycleLaws.kids_wrote
-    c.requires.room.records
+    c.args.s.now.records.roomy
     c.children.ensures.0
     (λ e. c.if-kind-eq-PAT.false (c.word-kind.ensures ∙ e))
     h
@@ -322,20 +285,17 @@ write_expr-returns t c =
 
 -- ── write_exprs ──
 
-pub write_exprs-loop-due-init : goal.write_exprs-loop-due-init
-write_exprs-loop-due-init t c = DueLaws.going c.requires.due
+pub write_exprs-loop-init : goal.write_exprs-loop-init
+write_exprs-loop-init t c = rw (sub-zero c.args.run.n) (DueLaws.going c.requires.due)
 
 pub write_exprs-write_expr-w-requires : goal.write_exprs-write_expr-w-requires
-write_exprs-write_expr-w-requires t c = (omega (arith, c.decreases), record { room = c.requires.room; near = c.requires.near; due = DueLaws.first_one c.loop-due-test.true c.loop-due.invariant.some })
+write_exprs-write_expr-w-requires t c = (omega (arith, c.decreases), record { near = c.requires.near; due = DueLaws.first_one (due_yet c.loop-test.true) c.loop.invariant.some })
 
-pub write_exprs-loop-due-preserved : goal.write_exprs-loop-due-preserved
-write_exprs-loop-due-preserved t c = DueLaws.again c.loop-due-test.true c.loop-due.invariant c.write_expr-w.ensures c.write_expr-w.auto.plan
-
-pub write_exprs-shape_of-plan : goal.write_exprs-shape_of-plan
-write_exprs-shape_of-plan t c = c.loop-due.invariant.long
+pub write_exprs-loop-preserved : goal.write_exprs-loop-preserved
+write_exprs-loop-preserved t c = rw (sub-add-eq c.args.run.n c.loop.counter 1) (DueLaws.again (due_yet c.loop-test.true) c.loop.invariant c.write_expr-w.ensures c.write_expr-w.auto.plan)
 
 pub write_exprs-returns : goal.write_exprs-returns
-write_exprs-returns t c = DueLaws.done c.loop-due-test.false c.loop-due.invariant
+write_exprs-returns t c = DueLaws.done (omega arith) c.loop.invariant
 
 -- ── write_items ──
 
@@ -351,69 +311,62 @@ write_items-returns t c = PartedLaws.items_wrote c.write_parts-o.ensures c.write
 -- ── write_op ──
 
 pub write_op-read_op-w-requires : goal.write_op-read_op-w-requires
-write_op-read_op-w-requires t c = (omega (arith, c.requires.some_plan.tabled.few), c.requires.room.in_ops)
+write_op-read_op-w-requires t c = (omega (arith, c.requires.tabled.few), c.args.s.now.room.in_ops)
 
 pub write_op-put_op-o-requires : goal.write_op-put_op-o-requires
-write_op-put_op-o-requires t c = record { words = c.requires.room.records; in_rest = c.requires.room.in_rest; shown = OpLaws.shown_at _ c.requires.some_plan c.read_op-w.ensures }
+write_op-put_op-o-requires t c = OpLaws.shown_at _ c.requires c.read_op-w.ensures
 
 pub write_op-write_element-p-requires : goal.write_op-write_element-p-requires
 write_op-write_element-p-requires t c =
-    let near = OpLaws.element_near _ c.requires.some_plan c.read_op-w.ensures c.element_of-rel.ensures in
-    (omega (arith, c.decreases, near.0, near.1), OpLaws.element_asked _ c.requires.some_plan c.read_op-w.ensures c.element_of-rel.ensures c.requires.room (OpLaws.rel_of _ c.requires.some_plan c.read_op-w.ensures c.in-4.is))
+    let near = OpLaws.element_near _ c.requires c.read_op-w.ensures c.at_record-rel.ensures in
+    (omega (arith, c.decreases, near.0, near.1), OpLaws.element_asked _ c.requires c.read_op-w.ensures c.at_record-rel.ensures (OpLaws.rel_of _ c.requires c.read_op-w.ensures c.in-4.is))
 
 pub write_op-write_element-requires : goal.write_op-write_element-requires
 write_op-write_element-requires t c =
-    let near = OpLaws.element_near _ c.requires.some_plan c.read_op-w.ensures c.element_of-far.ensures in
-    (omega (arith, c.decreases, near.0, near.1), OpLaws.element_asked _ c.requires.some_plan c.read_op-w.ensures c.element_of-far.ensures c.requires.room (OpLaws.far_of _ c.requires.some_plan c.read_op-w.ensures c.in-4.is))
+    let near = OpLaws.element_near _ c.requires c.read_op-w.ensures c.at_record-far.ensures in
+    (omega (arith, c.decreases, near.0, near.1), OpLaws.element_asked _ c.requires c.read_op-w.ensures c.at_record-far.ensures (OpLaws.far_of _ c.requires c.read_op-w.ensures c.in-4.is))
 
 pub write_op-write_element-requires-in-5 : goal.write_op-write_element-requires-in-5
 write_op-write_element-requires-in-5 t c =
-    let near = OpLaws.element_near _ c.requires.some_plan c.read_op-w.ensures c.element_of-rel-in-5.ensures in
-    (omega (arith, c.decreases, near.0, near.1), OpLaws.element_asked _ c.requires.some_plan c.read_op-w.ensures c.element_of-rel-in-5.ensures c.requires.room (OpLaws.short_rel _ c.requires.some_plan c.read_op-w.ensures c.in-5.is))
+    let near = OpLaws.element_near _ c.requires c.read_op-w.ensures c.at_record-rel-in-5.ensures in
+    (omega (arith, c.decreases, near.0, near.1), OpLaws.element_asked _ c.requires c.read_op-w.ensures c.at_record-rel-in-5.ensures (OpLaws.short_rel _ c.requires c.read_op-w.ensures c.in-5.is))
 
 pub write_op-write_op-requires : goal.write_op-write_op-requires
 write_op-write_op-requires t c = (
-  omega (arith, c.decreases, OpLaws.optional_low _ c.requires.some_plan c.read_op-w.ensures c.in-7.is),
-  (c.requires.room, OpLaws.optional_plan _ c.requires.some_plan c.read_op-w.ensures c.in-7.is),
+  omega (arith, c.decreases, OpLaws.optional_low _ c.requires c.read_op-w.ensures c.in-7.is),
+  OpLaws.optional_plan _ c.requires c.read_op-w.ensures c.in-7.is,
 )
 
 pub write_op-items_of-items-requires : goal.write_op-items_of-items-requires
 write_op-items_of-items-requires t c =
-    record {
-      roomy = c.requires.room.records;
-      idx_lt_max_records = (OpLaws.bounded_at _ c.requires.some_plan c.read_op-w.ensures).low;
-    }
+    (OpLaws.bounded_at _ c.requires c.read_op-w.ensures).low
 
 pub write_op-write_items-requires : goal.write_op-write_items-requires
 write_op-write_items-requires t c =
-    let near = OpLaws.run_near _ c.requires.some_plan c.read_op-w.ensures c.items_of-items.ensures in
-    (omega (arith, c.decreases, near.0, near.1), OpLaws.items_asked _ c.requires.some_plan c.read_op-w.ensures c.items_of-items.ensures c.requires.room (PartedLaws.items_of _ c.requires.some_plan c.read_op-w.ensures c.in-10.is))
+    let near = OpLaws.run_near _ c.requires c.read_op-w.ensures c.items_of-items.ensures in
+    (omega (arith, c.decreases, near.0, near.1), OpLaws.items_asked _ c.requires c.read_op-w.ensures c.items_of-items.ensures (PartedLaws.items_of _ c.requires c.read_op-w.ensures c.in-10.is))
 
 pub write_op-exprs_of-run-requires : goal.write_op-exprs_of-run-requires
 write_op-exprs_of-run-requires t c =
-    record {
-      roomy = c.requires.room.records;
-      idx_lt_max_records = (OpLaws.bounded_at _ c.requires.some_plan c.read_op-w.ensures).low;
-    }
+    (OpLaws.bounded_at _ c.requires c.read_op-w.ensures).low
 
 pub write_op-put_exprs-v-requires : goal.write_op-put_exprs-v-requires
 write_op-put_exprs-v-requires t c =
-    let near = OpLaws.run_near _ c.requires.some_plan c.read_op-w.ensures c.exprs_of-run.ensures in
-    (omega (arith, c.decreases, near.0, near.1), OpLaws.exprs_asked _ c.requires.some_plan c.read_op-w.ensures c.exprs_of-run.ensures c.requires.room (BehindLaws.exprs_there _ c.requires.some_plan c.read_op-w.ensures c.requires.room.records c.in_default.in_default-own.rest))
+    let near = OpLaws.run_near _ c.requires c.read_op-w.ensures c.exprs_of-run.ensures in
+    (omega (arith, c.decreases, near.0, near.1), OpLaws.exprs_asked _ c.requires c.read_op-w.ensures c.exprs_of-run.ensures (BehindLaws.exprs_there _ c.requires c.read_op-w.ensures c.args.s.now.records.roomy c.in_default.in_default-own.rest))
 
 pub write_op-put_tail-requires : goal.write_op-put_tail-requires
 write_op-put_tail-requires t c =
-    let v = OpLaws.bounded_at _ c.requires.some_plan c.read_op-w.ensures in
+    let v = OpLaws.bounded_at _ c.requires c.read_op-w.ensures in
     record {
-      words = c.requires.room.records;
-      notes = record { in_rest = c.requires.room.in_rest; near = v.near; low = v.low };
+      notes = record { near = v.near; low = v.low };
       due = BehindLaws.tail_there
           _
-          c.requires.some_plan
+          c.requires
           c.read_op-w.ensures
-          c.requires.room.records
+          c.args.s.now.records.roomy
           c.in_default.in_default-own.rest
-          (OpLaws.exprs_written _ c.requires.some_plan c.read_op-w.ensures c.exprs_of-run.ensures c.put_exprs-v.ensures);
+          (OpLaws.exprs_written _ c.requires c.read_op-w.ensures c.exprs_of-run.ensures c.put_exprs-v.ensures);
     }
 
 pub write_op-returns-in-4 : goal.write_op-returns-in-4
@@ -425,8 +378,8 @@ write_op-returns-in-4 t c =
     c.read_op-w.ensures
     c.in-4.is
     c.put_op-o.ensures
-    (OpLaws.element_written _ p c.read_op-w.ensures c.element_of-rel.ensures c.write_element-p.ensures)
-    (OpLaws.element_written _ p c.read_op-w.ensures c.element_of-far.ensures c.write_element.ensures)
+    (OpLaws.element_written _ p c.read_op-w.ensures c.at_record-rel.ensures c.write_element-p.ensures)
+    (OpLaws.element_written _ p c.read_op-w.ensures c.at_record-far.ensures c.write_element.ensures)
 
 pub write_op-returns-in-5 : goal.write_op-returns-in-5
 write_op-returns-in-5 t c =
@@ -437,7 +390,7 @@ write_op-returns-in-5 t c =
     c.read_op-w.ensures
     c.in-5.is
     c.put_op-o.ensures
-    (OpLaws.element_written _ p c.read_op-w.ensures c.element_of-rel-in-5.ensures c.write_element-in-5.ensures)
+    (OpLaws.element_written _ p c.read_op-w.ensures c.at_record-rel-in-5.ensures c.write_element-in-5.ensures)
 
 pub write_op-returns-in-7 : goal.write_op-returns-in-7
 write_op-returns-in-7 t c = λ p. OpLaws.optional_wrote _ p c.read_op-w.ensures c.in-7.is c.put_op-o.ensures c.write_op.ensures
@@ -460,7 +413,7 @@ write_op-returns-in_default t c =
     _
     p
     c.read_op-w.ensures
-    c.requires.room.records
+    c.args.s.now.records.roomy
     c.in_default.in_default-own.rest
     c.put_op-o.ensures
     (OpLaws.exprs_written _ p c.read_op-w.ensures c.exprs_of-run.ensures c.put_exprs-v.ensures)
@@ -470,23 +423,17 @@ write_op-returns-in_default t c =
 
 pub write_part-is_aggregate-is-requires : goal.write_part-is_aggregate-is-requires
 write_part-is_aggregate-is-requires t c =
-    record {
-      roomy = c.requires.room.records;
-      some_expr = PartedLaws.some_expr c.requires.due;
-    }
+    PartedLaws.some_expr c.requires.due
 
 pub write_part-skip-next-requires : goal.write_part-skip-next-requires
 write_part-skip-next-requires t c =
-    record {
-      roomy = c.requires.room.records;
-      starts = CycleLaws.starts c.requires.due;
-    }
+    CycleLaws.starts c.requires.due
 
-pub write_part-returns-then-is-part : goal.write_part-returns-then-is-part
-write_part-returns-then-is-part t c = PartedLaws.other_wrote _ c.is_aggregate-is.ensures c.if-is-part.true c.skip-next.ensures
+pub write_part-returns-then-is-aggregates : goal.write_part-returns-then-is-aggregates
+write_part-returns-then-is-aggregates t c = PartedLaws.other_wrote _ c.is_aggregate-is.ensures c.if-is-aggregates.true c.skip-next.ensures
 
 pub write_part-put_agg-o-requires : goal.write_part-put_agg-o-requires
-write_part-put_agg-o-requires t c = PartedLaws.agg_in c.requires.room.records c.is_aggregate-is.ensures c.if-is.true c.requires.due
+write_part-put_agg-o-requires t c = PartedLaws.agg_in c.args.s.now.records.roomy c.is_aggregate-is.ensures c.if-is.true c.requires.due
 
 pub write_part-overflow_add-first : goal.write_part-overflow_add-first
 write_part-overflow_add-first t c = omega (arith, CycleLaws.one_low c.requires.due)
@@ -496,54 +443,47 @@ write_part-overflow_sub-left t c = omega (arith, CycleLaws.one_deep c.requires.d
 
 pub write_part-count-requires : goal.write_part-count-requires
 write_part-count-requires t c =
-    record {
-      i_lt_max_records = CycleLaws.one_low c.requires.due;
-      c_lt_record_words = omega arith;
-      roomy = c.requires.room.records;
-    }
+    (CycleLaws.one_low c.requires.due, omega arith)
 
 pub write_part-put_exprs-requires : goal.write_part-put_exprs-requires
 write_part-put_exprs-requires t c = (
   omega (arith, c.decreases, CycleLaws.one_deep c.requires.due),
-  record { room = c.requires.room; near = CycleLaws.nearer c.requires.near; due = PartedLaws.args c.requires.room.records c.is_aggregate-is.ensures c.if-is.true c.requires.due c.count.ensures.0 },
+  record { near = CycleLaws.nearer c.requires.near; due = PartedLaws.args c.args.s.now.records.roomy c.is_aggregate-is.ensures c.if-is.true c.requires.due c.count.ensures.0 },
 )
 
 pub write_part-returns-then-is : goal.write_part-returns-then-is
 write_part-returns-then-is t c =
     λ h.
     PartedLaws.agg_wrote
-    c.requires.room.records
+    c.args.s.now.records.roomy
     c.is_aggregate-is.ensures
     c.if-is.true
     h
     _
-    c.if-is-part.false
+    c.if-is-aggregates.false
     c.count.ensures.0
     c.put_agg-o.ensures
     c.put_exprs.ensures
 
 pub write_part-write_expr-requires : goal.write_part-write_expr-requires
-write_part-write_expr-requires t c = (omega (arith, c.decreases), record { room = c.requires.room; near = c.requires.near; due = CycleLaws.alone c.requires.due })
+write_part-write_expr-requires t c = (omega (arith, c.decreases), record { near = c.requires.near; due = CycleLaws.alone c.requires.due })
 
 pub write_part-returns : goal.write_part-returns
-write_part-returns t c = PartedLaws.key_wrote _ c.is_aggregate-is.ensures c.if-is-part.false c.if-is.false (CycleLaws.alone_wrote c.write_expr.ensures)
+write_part-returns t c = PartedLaws.key_wrote _ c.is_aggregate-is.ensures c.if-is-aggregates.false c.if-is.false (CycleLaws.alone_wrote c.write_expr.ensures)
 
 -- ── write_parts ──
 
-pub write_parts-loop-due-init : goal.write_parts-loop-due-init
-write_parts-loop-due-init t c = PartedLaws.parts_going c.requires.due
+pub write_parts-loop-init : goal.write_parts-loop-init
+write_parts-loop-init t c = rw (sub-zero c.args.run.n) (PartedLaws.parts_going c.requires.due)
 
 pub write_parts-overflow_add-expr : goal.write_parts-overflow_add-expr
-write_parts-overflow_add-expr t c = omega (arith, CycleLaws.one_low (PartedLaws.item_one c.loop-due-test.true c.loop-due.invariant.some))
+write_parts-overflow_add-expr t c = omega (arith, CycleLaws.one_low (PartedLaws.item_one (due_yet c.loop-test.true) c.loop.invariant.some))
 
 pub write_parts-write_part-w-requires : goal.write_parts-write_part-w-requires
-write_parts-write_part-w-requires t c = (omega (arith, c.decreases), record { room = c.requires.room; near = c.requires.near; due = PartedLaws.item_one c.loop-due-test.true c.loop-due.invariant.some })
+write_parts-write_part-w-requires t c = (omega (arith, c.decreases), record { near = c.requires.near; due = PartedLaws.item_one (due_yet c.loop-test.true) c.loop.invariant.some })
 
-pub write_parts-loop-due-preserved : goal.write_parts-loop-due-preserved
-write_parts-loop-due-preserved t c = PartedLaws.parts_again c.loop-due-test.true c.loop-due.invariant c.write_part-w.ensures c.write_part-w.auto.plan
-
-pub write_parts-shape_of-plan : goal.write_parts-shape_of-plan
-write_parts-shape_of-plan t c = c.loop-due.invariant.long
+pub write_parts-loop-preserved : goal.write_parts-loop-preserved
+write_parts-loop-preserved t c = rw (sub-add-eq c.args.run.n c.loop.counter 1) (PartedLaws.parts_again (due_yet c.loop-test.true) c.loop.invariant c.write_part-w.ensures c.write_part-w.auto.plan)
 
 pub write_parts-returns : goal.write_parts-returns
-write_parts-returns t c = PartedLaws.parts_done c.loop-due-test.false c.loop-due.invariant
+write_parts-returns t c = PartedLaws.parts_done (omega arith) c.loop.invariant
