@@ -58,6 +58,7 @@ impl Records<'_> {
 }
 
 // The same slices while the records are read into them.
+#[derive(Drop)]
 pub struct RecordsMut<'a> {
     pub a: &'a mut [u32],
     pub b: &'a mut [u32],
