@@ -4,6 +4,7 @@ ghost use Rattle.model.specs.Call.{short};
 ghost use Rattle.statement.specs.Work.{sizes};
 
 // What a call is lent to work in: two slices for the records, one for the reader's stack and then the operators, and one for the lowering's notes and variables.
+#[derive(Drop)]
 pub struct Work<'a> {
     pub a: &'a mut [u32],
     pub b: &'a mut [u32],
