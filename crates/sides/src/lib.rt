@@ -23,11 +23,11 @@ pub enum Fault {
     Refused(PlanLowerError),
 }
 
-// The sheet of a pair that a fault is of.
+// The sheet of a pair that a fault is of, with the numbers that document 01 tells them by; 0 is the call as a whole.
 #[derive(Clone, Copy)]
 pub enum Side {
-    Left,
-    Right,
+    Left = 1,
+    Right = 2,
 }
 
 impl Side {
