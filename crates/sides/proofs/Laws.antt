@@ -1,6 +1,6 @@
 -- The laws of the tests on two sheets: what the code finds is what the definition's tests say. Assumes nothing: these are laws with their proofs.
-use Rattle.std.specs.Prelude.{◌≡◌, refl, ℕ, List, [], Option, None, Some}
-use Rattle.std.proofs.Common.{sym, subst, ◌∙◌, arith}
+use Rattle.std.specs.Prelude.{◌≡◌, refl, ℕ, List, [], Option, None, Some, Ok, Err}
+use Rattle.std.proofs.Common.{subst, ◌∙◌, arith}
 use Rattle.model.specs.Text.{Bytes}
 use Rattle.model.specs.Kind.{statement}
 use Rattle.model.specs.Tree.{Tree}
@@ -16,11 +16,11 @@ use Rattle.precheck.specs.declared.PlanLowerError.{PlanLowerError}
 use Rattle.sheet.specs.Reader.{read_only, Reads}
 use Rattle.sheet.specs.declared.reader.Read.{Read}
 use Rattle.sides.specs.declared.Fault.{Fault}
-use Rattle.sides.specs.declared.Found.{Found}
-use Rattle.sides.specs.declared.Tested.{Tested}
+use Rattle.sides.specs.declared.Side.{Side}
+use Rattle.sides.specs.declared.SideFault.{SideFault}
 use Rattle.sides.specs.Fault.{fault_of}
 use Rattle.demands.proofs.WriteFound.{WriteFound, write_found}
-use Rattle.sides.specs.Sides.{each_of, unread_of, writes_of, read_of, FailsOn, CheckFinds, ChecksSheet, check_sides, read_sides, BothRead, ReadBoth, BothTested, TestedBoth}
+use Rattle.sides.specs.Sides.{Found, Tested, each_of, read_of, FailsOn, CheckFinds, ChecksSheet, check_sides, read_sides, BothRead, ReadBoth, BothTested, TestedBoth}
 
 -- ── a test on two sides ──
 
@@ -94,22 +94,22 @@ read sheet = test_reading (read_sheet max_depth sheet)
 
 -- a fault of the reading, and then one of test 5
 module _ (left right : Bytes) where
-  left_unread : (f : Fault) → read left ≡ refuse (fault_of f []) → FailsOn left_side f (read_sides left right)
+  left_unread : (f : Fault) → read left ≡ refuse (fault_of f []) → FailsOn (record { side = Side.Left; fault = f }) (read_sides left right)
   unfolding read_sides then_sides
   left_unread f e = record { unresolved = []; is = rw (each_left read left right (fault_of f []) e) }
 
   module _ (t : Tree statement) (e : read left ≡ pass t) where
-    right_unread : (f : Fault) → read right ≡ refuse (fault_of f []) → FailsOn right_side f (read_sides left right)
+    right_unread : (f : Fault) → read right ≡ refuse (fault_of f []) → FailsOn (record { side = Side.Right; fault = f }) (read_sides left right)
     unfolding read_sides then_sides
     right_unread f e' = record { unresolved = []; is = rw (each_right read left right t e (fault_of f []) e') }
 
     module _ (u : Tree statement) (e' : read right ≡ pass u) where
-      left_writes : (l : ℕ) → first_write t ≡ Some l → FailsOn left_side (Fault.WriteClause l) (read_sides left right)
+      left_writes : (l : ℕ) → first_write t ≡ Some l → FailsOn (record { side = Side.Left; fault = Fault.WriteClause l }) (read_sides left right)
       unfolding read_sides then_sides test_write
       left_writes l w = record { unresolved = []; is = rw (each_both read left right t e u e', each_left (λ t. test_write t (first_write t)) t u (Refusal.WriteClause l) (rw w)) }
 
       module _ (w : first_write t ≡ None) where
-        right_writes : (l : ℕ) → first_write u ≡ Some l → FailsOn right_side (Fault.WriteClause l) (read_sides left right)
+        right_writes : (l : ℕ) → first_write u ≡ Some l → FailsOn (record { side = Side.Right; fault = Fault.WriteClause l }) (read_sides left right)
         unfolding read_sides then_sides test_write
         right_writes l w' = record { unresolved = []; is = rw (each_both read left right t e u e', each_right (λ t. test_write t (first_write t)) t u t (rw w) (Refusal.WriteClause l) (rw w')) }
 
@@ -148,7 +148,7 @@ module _ (left right : Bytes) (la lb ra rb : List ℕ) where
 
 -- the check's verdict
 module _ (t : Tree statement) where
-  pub check_fine : (r : Checked) → r ≡ Checked.Fine → Says r (precheck_statement t) → CheckFinds Found.Nothing t
+  pub check_fine : (r : Checked) → r ≡ Checked.Fine → Says r (precheck_statement t) → CheckFinds (Ok tt) t
   unfolding test_check
   check_fine r e h = let f = rw e at h in rw f
 
@@ -156,7 +156,7 @@ module _ (t : Tree statement) where
   unfolding test_check
   refused_with x unresolved e = rw e
 
-  pub check_refused : (r : Checked) (x : PlanLowerError) → r ≡ Checked.Refused x → Says r (precheck_statement t) → CheckFinds (Found.Wrong (Fault.Refused x)) t
+  pub check_refused : (r : Checked) (x : PlanLowerError) → r ≡ Checked.Refused x → Says r (precheck_statement t) → CheckFinds (Err (Fault.Refused x)) t
   check_refused r x e h = let f : FoundError x (precheck_statement t) = rw e at h in record { unresolved = f.unresolved; is = refused_with x f.unresolved f.is }
 
 module _ {left right : Bytes} {la lb ra rb : List ℕ} (b : BothRead left la lb right ra rb) where
@@ -168,9 +168,9 @@ module _ {left right : Bytes} {la lb ra rb : List ℕ} (b : BothRead left la lb 
 
   pub checks_law : (x y : Found) → CheckFinds x t → CheckFinds y u → TestedBoth left la lb right ra rb (each_of x y)
   unfolding check_sides
-  checks_law (Found.Wrong f) y p q = record { unresolved = p.unresolved; is = b.passes ∙ each_left (λ t. test_check t (precheck_statement t)) t u _ p.is }
-  checks_law Found.Nothing (Found.Wrong f) p q = record { unresolved = q.unresolved; is = b.passes ∙ each_right (λ t. test_check t (precheck_statement t)) t u t p _ q.is }
-  checks_law Found.Nothing Found.Nothing p q = record { held = b.held; passes = b.passes ∙ each_both (λ t. test_check t (precheck_statement t)) t u t p u q }
+  checks_law (Err f) y p q = record { unresolved = p.unresolved; is = b.passes ∙ each_left (λ t. test_check t (precheck_statement t)) t u _ p.is }
+  checks_law (Ok x) (Err f) p q = record { unresolved = q.unresolved; is = b.passes ∙ each_right (λ t. test_check t (precheck_statement t)) t u t p _ q.is }
+  checks_law (Ok x) (Ok y) p q = record { held = b.held; passes = b.passes ∙ each_both (λ t. test_check t (precheck_statement t)) t u t p u q }
 
 -- ── at what the code found ──
 
@@ -179,38 +179,17 @@ module _ (left right : Bytes) (la lb ra rb : List ℕ) where
   read_at {r} l l' e p q = rw e (read_law left right la lb ra rb l l' p q)
 
   module _ {r : Tested} (l l' : Read) (e : r ≡ read_of l l') (p : Reads max_depth left la lb l) (q : Reads max_depth right ra rb l') where
-    pub read_passed : r ≡ Tested.Passed → BothRead left la lb right ra rb
+    pub read_passed : {x : Unit {0}} → r ≡ Ok x → BothRead left la lb right ra rb
     read_passed z = rw z at (read_at l l' e p q)
 
-    pub read_left : {f : Fault} → r ≡ Tested.Left f → FailsOn left_side f (read_sides left right)
-    read_left z = rw z at (read_at l l' e p q)
-
-    pub read_right : {f : Fault} → r ≡ Tested.Right f → FailsOn right_side f (read_sides left right)
-    read_right z = rw z at (read_at l l' e p q)
+    pub read_failed : {f : SideFault} → r ≡ Err f → FailsOn f (read_sides left right)
+    read_failed z = rw z at (read_at l l' e p q)
 
   pub checked_at : {r : Tested} (x y : Found) → r ≡ each_of x y → BothRead left la lb right ra rb → ChecksSheet la lb x → ChecksSheet ra rb y → TestedBoth left la lb right ra rb r
   checked_at {r} x y e b p q = rw e (checks_law b x y (p left b.held.tree b.held.on_left) (q right b.held.tree₂ b.held.on_right))
 
-  pub tested_passed : {r : Tested} → r ≡ Tested.Passed → TestedBoth left la lb right ra rb r → BothTested left la lb right ra rb
+  pub tested_passed : {r : Tested} {x : Unit {0}} → r ≡ Ok x → TestedBoth left la lb right ra rb r → BothTested left la lb right ra rb
   tested_passed e h = rw e at h
 
-  pub tested_left : {r : Tested} {f : Fault} → r ≡ Tested.Left f → TestedBoth left la lb right ra rb r → FailsOn left_side f (read_sides left right)
-  tested_left e h = rw e at h
-
-  pub tested_right : {r : Tested} {f : Fault} → r ≡ Tested.Right f → TestedBoth left la lb right ra rb r → FailsOn right_side f (read_sides left right)
-  tested_right e h = rw e at h
-
--- ── tests 3 and 4, and then 5, of the reader's answers, as the code has them ──
-
-module _ (l l' : Read) {x x' : Found} {t : Tested} (e : x ≡ unread_of l) (e' : x' ≡ unread_of l') (f : t ≡ each_of x x') where
-  unread_both : t ≡ each_of (unread_of l) (unread_of l')
-  unread_both = rw (e, e') at f
-
-  pub passed_next : {y y' : Found} {u : Tested} → t ≡ Tested.Passed → y ≡ writes_of l → y' ≡ writes_of l' → u ≡ each_of y y' → u ≡ read_of l l'
-  passed_next z g g' h = rw (sym unread_both ∙ z) (rw (g, g') at h)
-
-  pub left_first : {r : Fault} → t ≡ Tested.Left r → Tested.Left r ≡ read_of l l'
-  left_first z = rw (sym unread_both ∙ z)
-
-  pub right_first : {r : Fault} → t ≡ Tested.Right r → Tested.Right r ≡ read_of l l'
-  right_first z = rw (sym unread_both ∙ z)
+  pub tested_failed : {r : Tested} {f : SideFault} → r ≡ Err f → TestedBoth left la lb right ra rb r → FailsOn f (read_sides left right)
+  tested_failed e h = rw e at h

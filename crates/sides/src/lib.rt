@@ -8,7 +8,7 @@ ghost use Rattle.model.specs.Call.{max_depth};
 ghost use Rattle.words.specs.Words.{Roomy};
 ghost use Rattle.words.specs.Held.{HeldSome};
 ghost use Rattle.sheet.specs.Reader.{ReaderAsked};
-ghost use Rattle.sides.specs.Sides.{each_of, unread_of, writes_of, read_of, ChecksSheet, TestedBoth};
+ghost use Rattle.sides.specs.Sides.{found_on, each_of, unread_of, writes_of, read_of, ChecksSheet, TestedBoth};
 
 use precheck::{Checked, PlanLowerError, precheck_statement};
 use sheet::reader::{Read, read_sheet};
@@ -23,78 +23,75 @@ pub enum Fault {
     Refused(PlanLowerError),
 }
 
-// What a test finds in a sheet.
+// The sheet of a pair that a fault is of, with the numbers that document 01 tells them by; 0 is the call as a whole.
 #[derive(Clone, Copy)]
-pub enum Found {
-    Nothing,
-    Wrong(Fault),
+pub enum Side {
+    Left = 1,
+    Right = 2,
 }
 
-// What tests on two sheets find: nothing, or the first fault and its side.
-#[derive(Clone, Copy)]
-pub enum Tested {
-    Passed,
-    Left(Fault),
-    Right(Fault),
-}
-
-// One test on both sheets: the left's fault is reported first.
-fn each(left: Found, right: Found) -> Tested
-    ensures { result ≡ each_of left right }
-{
-    match left {
-        Found::Wrong(x) => Tested::Left(x),
-        Found::Nothing => match right {
-            Found::Wrong(x) => Tested::Right(x),
-            Found::Nothing => Tested::Passed,
-        },
+impl Side {
+    // What a test finds in this side's sheet, with the side.
+    fn of(self, found: Result<(), Fault>) -> Result<(), SideFault>
+        ensures { result ≡ found_on self found }
+    {
+        found.map_err(|fault| SideFault { side: self, fault })
     }
 }
 
+// A fault with its side.
+#[derive(Clone, Copy)]
+pub struct SideFault {
+    pub side: Side,
+    pub fault: Fault,
+}
+
+// One test on both sheets: the left's fault is reported first.
+fn each(left: Result<(), Fault>, right: Result<(), Fault>) -> Result<(), SideFault>
+    ensures { result ≡ each_of left right }
+{
+    Side::Left.of(left)?;
+    Side::Right.of(right)
+}
+
 // Tests 3 and 4, of what the reader answers.
-fn unread(read: Read) -> Found
+fn unread(read: Read) -> Result<(), Fault>
     ensures { result ≡ unread_of read }
 {
     match read {
-        Read::Records(_) => Found::Nothing,
-        Read::BadLine(l) => Found::Wrong(Fault::BadLine(l)),
-        Read::BigTree(l) => Found::Wrong(Fault::BigTree(l)),
-        Read::WriteClause(_) => Found::Nothing,
+        Read::BadLine(l) => Err(Fault::BadLine(l)),
+        Read::BigTree(l) => Err(Fault::BigTree(l)),
+        _ => Ok(()),
     }
 }
 
 // Test 5, of what the reader answers.
-fn writes(read: Read) -> Found
+fn writes(read: Read) -> Result<(), Fault>
     ensures { result ≡ writes_of read }
 {
     match read {
-        Read::Records(_) => Found::Nothing,
-        Read::BadLine(_) => Found::Nothing,
-        Read::BigTree(_) => Found::Nothing,
-        Read::WriteClause(l) => Found::Wrong(Fault::WriteClause(l)),
+        Read::WriteClause(l) => Err(Fault::WriteClause(l)),
+        _ => Ok(()),
     }
 }
 
 // Tests 3 and 4 on both sheets, and then 5 on both, of what the reader answers to each.
-fn both_read(left: Read, right: Read) -> Tested
+fn both_read(left: Read, right: Read) -> Result<(), SideFault>
     ensures { result ≡ read_of left right }
 {
-    match each(unread(left), unread(right)) {
-        Tested::Passed => each(writes(left), writes(right)),
-        Tested::Left(x) => Tested::Left(x),
-        Tested::Right(x) => Tested::Right(x),
-    }
+    each(unread(left), unread(right))?;
+    each(writes(left), writes(right))
 }
 
 // Tests 6 to 8 on the statement that the words hold.
-fn checks(a: &[u32], b: &[u32]) -> Found
+fn checks(a: &[u32], b: &[u32]) -> Result<(), Fault>
     requires roomy { Roomy a.now b.now }
     requires held_some { (sheet : Bytes) × HeldSome sheet a.now b.now statement max_depth 0 }
     ensures { ChecksSheet a.now b.now result }
 {
     match precheck_statement(a, b, words::MAX_DEPTH) {
-        Checked::Fine => Found::Nothing,
-        Checked::Refused(e) => Found::Wrong(Fault::Refused(e)),
+        Checked::Fine => Ok(()),
+        Checked::Refused(e) => Err(Fault::Refused(e)),
     }
 }
 
@@ -108,15 +105,12 @@ pub fn test_sides(
     ra: &mut [u32],
     rb: &mut [u32],
     rc: &mut [u32],
-) -> Tested
+) -> Result<(), SideFault>
     requires { ReaderAsked left.now la.old lb.old lc.old × ReaderAsked right.now ra.old rb.old rc.old }
     ensures { TestedBoth left.now la.new lb.new right.now ra.new rb.new result }
 {
     let l = read_sheet(left, la, lb, lc, words::MAX_DEPTH);
     let r = read_sheet(right, ra, rb, rc, words::MAX_DEPTH);
-    match both_read(l, r) {
-        Tested::Passed => each(checks(la, lb), checks(ra, rb)),
-        Tested::Left(x) => Tested::Left(x),
-        Tested::Right(x) => Tested::Right(x),
-    }
+    both_read(l, r)?;
+    each(checks(la, lb), checks(ra, rb))
 }

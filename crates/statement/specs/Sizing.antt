@@ -1,16 +1,16 @@
 -- The sizing call's tests in order, from what the reader and the check answer. Assumes nothing.
-use Rattle.std.specs.Prelude.{◌≡◌, refl, ℕ, ◌*◌, ◌<◌, ◌≤◌, Bool, true, false, List, [], ◌∷◌, ltb, length, Option, None, Some}
+use Rattle.std.specs.Prelude.{◌≡◌, refl, ℕ, ◌*◌, ◌<◌, ◌≤◌, Bool, true, false, List, [], ◌∷◌, ltb, length, Option, None, Some, Result, ◌||◌}
+use Rattle.std.specs.List.{list_any}
 use Rattle.std.proofs.Common.{sym, ap, arith}
-use Rattle.std.proofs.Math.Bool.{or-true}
+use Rattle.std.proofs.lemmas.Bool.{ltb-false}
 use borrow.Author.Tests.{lt-ltb, le-ltb}
 use Rattle.model.specs.Text.{Bytes}
 use Rattle.model.specs.Kind.{statement}
 use Rattle.model.specs.Tree.{Tree}
 use Rattle.model.specs.Sheet.{Place, Reading, got, refused, read_sheet, first_write}
-use Rattle.model.specs.Refusal.{Refusal, accepted, values_of}
+use Rattle.model.specs.Refusal.{Refusal, values_of}
 use Rattle.model.specs.Check.{violated, precheck_statement}
-use Rattle.model.specs.Call.{Test, refuse, pass, then, short, test_work, test_bytes, test_reading, test_write, test_check, checked, Sized, refusal, figure, Figure, record_count, work_words, max_bytes, max_depth}
-use Rattle.bounds.proofs.Counts as Counts
+use Rattle.model.specs.Call.{Test, refuse, pass, then, short, test_work, test_bytes, test_reading, test_write, test_check, checked, Sized, refusal, record_count, work_words, max_bytes, max_depth}
 use Rattle.words.specs.Words.{max_records}
 use Rattle.words.specs.Held.{Held, HeldSome}
 use Rattle.laws.specs.SheetLaws.{sheet_sound}
@@ -19,32 +19,42 @@ use Rattle.precheck.specs.declared.Checked.{Checked}
 use Rattle.precheck.specs.declared.PlanLowerError.{PlanLowerError}
 use Rattle.sheet.specs.Reader.{read_only, Reads}
 use Rattle.sheet.specs.declared.reader.Read.{Read}
-use Rattle.statement.specs.declared.Answer.{Answer}
-use Rattle.statement.specs.Answer.{answer_of, error_answer, Long}
+use Rattle.statement.specs.declared.Refusal.{Refusal as Refuses}
+use Rattle.statement.specs.Work.{sizes}
+use Rattle.statement.specs.Answer.{answer_of, error_answer}
 
 -- ── test 1 ──
 
--- one slice is too short
-module _ (a b c d : ℕ) where
-  pub short_a : a < work_words → short (a ∷ b ∷ c ∷ d ∷ []) ≡ true
-  unfolding short
-  short_a h = rw (lt-ltb a work_words h)
+-- the test as a search in the lengths
+pub short_any : (ws : List ℕ) → short ws ≡ list_any (λ n. ltb n work_words) ws
+unfolding short
+short_any [] = refl
+short_any (w ∷ ws) = ap (λ s. ltb w work_words || s) (short_any ws)
 
-  pub short_b : b < work_words → short (a ∷ b ∷ c ∷ d ∷ []) ≡ true
-  unfolding short
-  short_b h = rw (lt-ltb b work_words h) (or-true (ltb a work_words))
+-- four slices that are long enough
+pub record Enough (a b c d : List ℕ) : Type 0 where
+  pub first : work_words ≤ length a
+  pub second : work_words ≤ length b
+  pub third : work_words ≤ length c
+  pub fourth : work_words ≤ length d
 
-  pub short_c : c < work_words → short (a ∷ b ∷ c ∷ d ∷ []) ≡ true
-  unfolding short
-  short_c h = rw (lt-ltb c work_words h, or-true (ltb b work_words)) (or-true (ltb a work_words))
+both : (x y : Bool) → (x || y) ≡ false → (x ≡ false) × (y ≡ false)
+both true y e = cc
+both false y e = (refl, e)
 
-  pub short_d : d < work_words → short (a ∷ b ∷ c ∷ d ∷ []) ≡ true
-  unfolding short
-  short_d h = rw (lt-ltb d work_words h, or-true (ltb c work_words), or-true (ltb b work_words)) (or-true (ltb a work_words))
-
-  pub none_short : (work_words ≤ a) × (work_words ≤ b) × (work_words ≤ c) × (work_words ≤ d) → short (a ∷ b ∷ c ∷ d ∷ []) ≡ false
-  unfolding short
-  none_short h = rw (le-ltb a work_words h.0, le-ltb b work_words h.1, le-ltb c work_words h.2, le-ltb d work_words h.3)
+pub enough : (a b c d : List ℕ) → short (sizes a b c d) ≡ false → Enough a b c d
+unfolding short
+enough a b c d h =
+    let p = both (ltb (length a) work_words) _ h in
+    let q = both (ltb (length b) work_words) _ p.1 in
+    let r = both (ltb (length c) work_words) _ q.1 in
+    let s = both (ltb (length d) work_words) _ r.1 in
+    record {
+      first = ltb-false (length a) work_words p.0;
+      second = ltb-false (length b) work_words q.0;
+      third = ltb-false (length c) work_words r.0;
+      fourth = ltb-false (length d) work_words s.0;
+    }
 
 -- ── the tests in order ──
 
@@ -100,7 +110,7 @@ module _ (work : List ℕ) (sheet : Bytes) (e : short work ≡ false) where
     pub size_write : (a b : List ℕ) (r : Read) (l : ℕ) → r ≡ Read.WriteClause l → Reads max_depth sheet a b r → Sized (checked max_depth work sheet) (values_of (Refusal.WriteClause l))
     size_write a b r l z q = size_refused (Refusal.WriteClause l) (rw z at q)
 
-    pub size_tree : (a b : List ℕ) (r : Read) (n : ℕ) (x : Answer) → r ≡ Read.Records n → Reads max_depth sheet a b r → ((sheet : Bytes) (t : Tree statement) → Held sheet a b t max_depth 0 → record_count t ≡ n → Sized (test_check t (precheck_statement t)) (answer_of x)) → Sized (checked max_depth work sheet) (answer_of x)
+    pub size_tree : (a b : List ℕ) (r : Read) (n : ℕ) (x : Result ℕ Refuses) → r ≡ Read.Records n → Reads max_depth sheet a b r → ((sheet : Bytes) (t : Tree statement) → Held sheet a b t max_depth 0 → record_count t ≡ n → Sized (test_check t (precheck_statement t)) (answer_of x)) → Sized (checked max_depth work sheet) (answer_of x)
     unfolding then
     size_tree a b r n x z q f = let d = rw z at q in rw (read_third work sheet e h, d.1) (f sheet d.0 d.3 d.2)
 
@@ -125,10 +135,6 @@ held_few sheet a b r n z q =
     let g = passed sheet d.0 (read_sheet max_depth sheet) d.1 in
     omega (arith, (sheet_sound max_depth sheet d.0 g.0 g.1).0.few, d.2)
 
--- ── test 1, as the code has it ──
-
-pub yes : (a b c d : List ℕ) (r : Bool) → r ≡ true → Long a b c d r → (work_words ≤ length a) × (work_words ≤ length b) × (work_words ≤ length c) × (work_words ≤ length d)
-yes a b c d r e h = rw e at h
-
-pub no_size : (a b c d : List ℕ) (sheet : Bytes) (r : Bool) → r ≡ false → Long a b c d r → Sized (checked max_depth (length a ∷ length b ∷ length c ∷ length d ∷ []) sheet) (values_of Refusal.ShortWork)
-no_size a b c d sheet r e h = let s = rw e at h in rw (short_first (length a ∷ length b ∷ length c ∷ length d ∷ []) sheet s) refusal
+-- test 1 alone
+pub no_size : (work : List ℕ) (sheet : Bytes) → short work ≡ true → Sized (checked max_depth work sheet) (values_of Refusal.ShortWork)
+no_size work sheet e = rw (short_first work sheet e) refusal
