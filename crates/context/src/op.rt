@@ -138,7 +138,7 @@ pub fn over(kind: u32, at: At, input: usize) -> Op
     Op::at_place(kind, at, input as u32, 0, 0)
 }
 
-// The other kinds have a constructor each: what X_WORD and Y_WORD hold has its own name and type there.
+// The other kinds have a constructor each: what X_WORD and Y_WORD hold has its own name and type there. That a place fits into words is asked here and no fact of At: most places are made for the records below, and never stored.
 pub fn source(at: At, bind: u32) -> Op
     requires { Fits at }
     ensures { result ≡ source_op at bind }
