@@ -1,7 +1,9 @@
--- `line::field::float` meets its contract: the words of a float in place. Assumes nothing.
-use borrow.Author.Rules.{rules}
-use Rattle.line.proofs.WordLaws.{placed_at}
+-- `line::field::float` meets its contract. Assumes nothing.
+use Rattle.line.proofs.WordLaws.{own_words, own_none}
 use Rattle.line.proofs.field.float.Goals as goal
 
+pub returns-in_err-value : goal.returns-in_err-value
+returns-in_err-value c = rw c.from_residual.ensures (own_none _ _ _ _ c.piece_end-end.ensures c.in_err-value.ensures)
+
 pub returns : goal.returns
-returns c = search (placed_at, rules)
+returns c = own_words _ _ _ _ c.piece_end-end.ensures _ c.in_ok-value.ensures
