@@ -1,4 +1,4 @@
-// The stack of due groups: three words a group (sort, count, room), group m from word 3m on.
+// The stack of due groups: three words a group (sort, count, room), group m from word 3m on. They stand in a work slice that the caller of the C interface lends, since there is no heap.
 ghost use Rattle.std.specs.Prelude.{◌≡◌, ◌+◌, ◌<◌, ◌≤◌};
 ghost use Rattle.words.specs.Words.{part};
 ghost use Rattle.words.specs.Places.{sort_count};
