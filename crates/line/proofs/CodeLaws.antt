@@ -1,6 +1,6 @@
 -- The form of a code, arm by arm. Assumes nothing.
 use mathlib.Core.Path.{◌≡◌, refl, ◌∙◌}
-use Prim.Native.Nat.{ℕ, zero, suc, ◌-◌, ◌<◌, ◌≤◌}
+use Prim.Native.Nat.{ℕ, suc, ◌-◌, ◌<◌, ◌≤◌}
 use mathlib.Core.List.{List}
 use native.Mathlib.Omega.{arith}
 use borrow.Author.Tests.{le-ltb}
@@ -12,7 +12,7 @@ use Rattle.model.specs.Field.{Form, u32, num, flag, var, var_or_absent, int, flo
 use Rattle.model.specs.Field
 use Rattle.record.specs.AnswerLaws.{var_is}
 use Rattle.words.specs.Words.{field_of}
-use Rattle.words.specs.Table.{limits, other_forms, form_of, limit_count}
+use Rattle.words.specs.Table.{limits, other_forms, form_of}
 use Rattle.std.specs.Prelude.{Option, None, Some}
 use Rattle.record.specs.declared.piece.Piece.{Piece}
 use Rattle.record.specs.InPlace.{value_in}
@@ -20,16 +20,6 @@ use Rattle.line.specs.FieldRead.{WordsOf, WordsAt, FieldHere}
 use Rattle.line.specs.declared.field.Words.{Words}
 use Rattle.line.proofs.WordLaws.{flag_words}
 use Rattle.line.proofs.FormLaws.{one_here}
-
--- ── numbers with a limit ──
-
-limit_low : (k : ℕ) → k < limit_count → get_or limits k 0 ≤ u32
-limit_low zero h = omega arith
-limit_low (suc zero) h = omega arith
-limit_low (suc (suc zero)) h = omega arith
-limit_low (suc (suc (suc zero))) h = omega arith
-limit_low (suc (suc (suc (suc zero)))) h = omega arith
-limit_low (suc (suc (suc (suc (suc k))))) h = absurd (omega arith)
 
 number_code : (c : ℕ) → number_form ≤ c → form_of c ≡ num (get_or limits (c - number_form) 0)
 unfolding form_of
@@ -92,14 +82,7 @@ pub record Number (c : ℕ) : Type 0 where
 past : (k c : ℕ) → k ≤ c → (c ≡ k → ⊥) → suc k ≤ c
 past k c h n = omega arith
 
-pub behind_length : (c : ℕ) → 0 < c → (c ≡ flag_form → ⊥) → (c ≡ var_form → ⊥) → (c ≡ var_or_absent_form → ⊥) → (c ≡ int_form → ⊥) → (c ≡ float_form → ⊥) → (c ≡ text_form → ⊥) → (c ≡ alias_form → ⊥) → (c ≡ span_form → ⊥) → (c ≡ length_form → ⊥) → number_form ≤ c
-behind_length c h a b d e f g i j k =
-    past length_form c (past span_form c (past alias_form c (past text_form c (past float_form c (past int_form c (past var_or_absent_form c (past var_form c (past flag_form c h a) b) d) e) f) g) i) j) k
-
 module _ (c : ℕ) (n : Number c) where
-  pub code_low : get_or limits (c - number_form) 0 ≤ u32
-  code_low = let low : c - number_form < limit_count = omega (arith, n.from, n.to) in limit_low (c - number_form) low
-
   pub arm_number : (m : ℕ) → m ≡ get_or limits (c - number_form) 0 → (sheet : Bytes) (p : ℕ) (w : Option (Piece Words)) → WordsAt (num m) sheet p w → FieldHere (form_of c) sheet p w
   unfolding width
   arm_number m q sheet p w k = arm sheet p c w (num m) (rw q (number_code c n.from)) refl k

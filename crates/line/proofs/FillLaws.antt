@@ -149,9 +149,6 @@ module _ (n : ℕ) (sheet : Bytes) (p e : ℕ) (line : LineEnd sheet p e) (ws₀
   pub fill_code : form < form_count
   fill_code = rw f.code ((code_row n f.low).low g (omega (arith, f.room)))
 
-  pub fill_in : at < length sheet
-  fill_in = omega (arith, f.to, line.to)
-
   -- ── a form is left ──
 
   module _ (h : form ≡ none_form → ⊥) where

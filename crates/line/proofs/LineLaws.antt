@@ -40,9 +40,6 @@ module _ (n : ℕ) (sheet : Bytes) (p r : ℕ) (f : Fed sheet p) (h : Ends sheet
   pub fields_long : length ws₁ ≡ record_words
   fields_long = fields_there.long
 
-  pub fields_end_law : (e₁ : ℕ) → t ≡ Some e₁ → e₁ < length sheet
-  fields_end_law e₁ o = let at_end_law = (rw o at fields_there).answer.0 in omega (arith, at_end_law, f.line.to)
-
 module _ (sheet : Bytes) (p m r : ℕ) (low : m < sort_count) (ends : Ends sheet p r) (w : Option ℕ) (named : Named (sort_of m) (slice p r sheet) w) where
   line_is : (e : ℕ) → LineEnd sheet p e → read_rec (sort_of m) (slice p e sheet) ≡ read_as (sort_of m) (pieces_at sheet (r + 1) e) (kind_found (sort_of m) w)
   line_is e l =

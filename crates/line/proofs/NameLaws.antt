@@ -13,11 +13,10 @@ use Rattle.laws.specs.TextLaws.{between_fields}
 use Rattle.laws.specs.NumberLaws.{escape_free}
 use Rattle.laws.specs.FieldLaws.{read_spell}
 use Rattle.record.specs.Answer.{alias_of}
-use Rattle.record.specs.AnswerLaws.{read_none, text_value, alias_value_law}
+use Rattle.record.specs.AnswerLaws.{text_value, alias_value_law}
 use Rattle.record.specs.declared.piece.Piece.{Piece}
 use Rattle.record.specs.InPlace.{NameAt, AliasReadAt}
 use Rattle.record.proofs.PlaceLaws.{ends_alike}
-use Rattle.model.specs.Call.{max_bytes}
 use Rattle.words.specs.Words.{field_of, two32}
 use Rattle.words.specs.Words
 use Rattle.words.specs.Held.{PlaceAt}
@@ -45,23 +44,12 @@ module _ (sheet : Bytes) (p : ℕ) where
       let here : WordsOf text sheet (slice p r sheet ∷ []) (Some (record { first = p; second = r })) = record { is = is; fit = (tt, name_at_law sheet p r d.ends.from (omega (arith, d.ends.to)) spelled) } in
       record { is = λ q h. rw (ends_alike sheet p q r h d.ends) here; ends = d.ends }
 
-  pub text_small : length sheet ≤ max_bytes → (r : ℕ) → NameAt sheet p (Some r) → r < two32
-  text_small l r d = omega (arith, d.ends.to)
-
-  pub text_none : NameAt sheet p None → WordsAt text sheet p None
-  text_none d = record { is = λ q h. record { is = read_none text (slice p q sheet ∷ []) (sym (d.is q h)); fit = tt }; ends = tt }
-
 -- ── an alias ──
 
 alias_absent : (at : ℕ) (o : Option (Option Bytes)) → alias_of at o ≡ Some None → o ≡ Some None
 alias_absent at None e = cc
 alias_absent at (Some None) e = refl
 alias_absent at (Some (Some t)) e = cc
-
-alias_unread : (at : ℕ) (o : Option (Option Bytes)) → alias_of at o ≡ None → o ≡ None
-alias_unread at None e = refl
-alias_unread at (Some None) e = cc
-alias_unread at (Some (Some t)) e = cc
 
 -- an alias that is read is a name behind an equals sign
 alias_spelled : (s t : Bytes) → read alias (s ∷ []) ≡ Some (Some t) → equals ∷ escape t ≡ s
@@ -89,12 +77,6 @@ module _ (sheet : Bytes) (p : ℕ) where
           rw (add-one p) (record { is = value.0 ∙ ap (λ x. Some (Some (unescape x))) behind; fit = (tt, λ _. name_at_law sheet (suc p) a.end alias_low (omega (arith, d.ends.to)) spelled) }) in
           rw value.1 (record { is = λ q h. rw (ends_alike sheet p q a.end h d.ends) here; ends = d.ends })
 
-      pub alias_begins : n < length sheet
-      alias_begins = omega (arith, value.1, alias_low, d.ends.to)
-
-    pub alias_small : length sheet ≤ max_bytes → a.end < two32
-    alias_small l = omega (arith, d.ends.to)
-
     pub alias_dash : a.value ≡ None → WordsAt alias sheet p (Some (record { value = record { first = 0; second = 0 }; end = a.end }))
     unfolding field_of Words.alias_of
     alias_dash z =
@@ -102,6 +84,3 @@ module _ (sheet : Bytes) (p : ℕ) where
           is = λ q h. record { is = alias_absent (p + 1) (read alias (slice p q sheet ∷ [])) (sym (d.is q h) ∙ ap Some z); fit = (tt, λ z. absurd (omega arith)) };
           ends = d.ends;
         }
-
-  pub alias_none : AliasReadAt sheet p None → WordsAt alias sheet p None
-  alias_none d = record { is = λ q h. record { is = alias_unread (p + 1) (read alias (slice p q sheet ∷ [])) (sym (d.is q h)); fit = tt }; ends = tt }

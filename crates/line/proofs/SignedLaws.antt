@@ -1,7 +1,6 @@
 -- The two words of a signed number, from the test and the arithmetic that the code makes on its 64 bits. Assumes nothing.
 use mathlib.Core.Path.{◌≡◌, sym, ap, ◌∙◌}
 use mathlib.Core.Bool.{true, false}
-use mathlib.Core.List.{[], ◌∷◌}
 use Rattle.std.specs.Prelude.{Some}
 use Prim.Native.Nat.{ℕ, suc, ◌+◌, ◌*◌, ◌-◌, ◌/◌, ◌%◌, ◌<◌, ◌≤◌}
 use native.Mathlib.Nat.{div-add-mod'}
@@ -13,11 +12,11 @@ use mir.Syntax.{w64}
 use mir.Val.{SFits}
 use mir.Facts.{to_z-of_z}
 use Rattle.model.specs.Text.{Bytes}
-use Rattle.model.specs.Field.{int, read}
+use Rattle.model.specs.Field.{int}
 use Rattle.laws.specs.SignedLaws.{held, down, not_below, below, above}
 use Rattle.record.specs.Number.{most_below}
 use Rattle.words.specs.Words.{int_of, field_of, two31, two32}
-use Rattle.line.specs.FieldRead.{words_value, WordsOf}
+use Rattle.line.specs.FieldRead.{words_value}
 use Rattle.line.specs.declared.field.Words.{Words}
 
 -- ── halves ──
@@ -56,9 +55,6 @@ module _ (z : ℤ) (f : SFits w64 z) (n : ℕ) (q : n ≡ nat_abs (held z)) wher
     unfolding field_of
     below_words r e sheet = rw (e, one_above) (ap Some (negative (mag z) ∙ (down z (below z f h)).1))
 
-    pub below_high : (n - 1) / two32 + two31 < two32
-    below_high = rw one_above (omega (arith, high_low (mag z) f.sfits))
-
   module _ (h : lt_z (held z) (pos 0) ≡ false) where
     size : n ≡ mag z
     size = abs ∙ (not_below z (above z f h)).1
@@ -68,6 +64,3 @@ module _ (z : ℤ) (f : SFits w64 z) (n : ℕ) (q : n ≡ nat_abs (held z)) wher
     above_words r e sheet = rw (e, size) (ap Some (positive (mag z) f.sfits ∙ (not_below z (above z f h)).2))
 
 -- ── what is read ──
-
-pub int_is : (s : Bytes) (z : ℤ) → Some z ≡ read int (s ∷ []) → (r : Words) → ((sheet : Bytes) → words_value int sheet (Some r) ≡ Some z) → (sheet : Bytes) → WordsOf int sheet (s ∷ []) (Some r)
-int_is s z d r k sheet = record { is = sym d ∙ sym (k sheet); fit = (tt, tt) }

@@ -1,26 +1,22 @@
 -- The words of a field that has one piece, from what its leaf reader answers. Assumes nothing.
 use mathlib.Core.Path.{◌≡◌, refl, sym, ap, ◌∙◌}
-use Prim.Native.Nat.{ℕ, ◌+◌, ◌*◌, ◌/◌, ◌%◌, ◌-◌, ◌<◌, ◌≤◌}
+use Prim.Native.Nat.{ℕ, ◌+◌, ◌*◌, ◌/◌, ◌%◌, ◌<◌, ◌≤◌}
 use mathlib.Core.Bool.{Bool, true, false}
 use mathlib.Core.List.{[], ◌∷◌}
 use Rattle.std.specs.Prelude.{Option, None, Some}
 use native.Mathlib.Nat.{div-add-mod'}
-use lib.ListN.{take, drop}
 use lib.Seq.{slice}
 use native.Mathlib.Omega.{arith}
 use borrow.Author.Tests.{leb-true}
 use Rattle.model.specs.Text.{Bytes}
-use Rattle.model.specs.Field.{Form, num, u32, flag, var_or_absent, num_or_absent, float, read, fits, fits_option}
+use Rattle.model.specs.Field.{num, u32, flag, var_or_absent, num_or_absent, float, read, fits, fits_option}
 use Rattle.laws.specs.FieldLaws.{read_spell}
 use Rattle.record.specs.Answer.{flag_of}
 use Rattle.record.specs.AnswerLaws.{var_or_absent_is}
-use Rattle.record.specs.Place.{Ends}
 use Rattle.record.specs.InPlace.{NumberAt, OptNumberAt}
-use Rattle.record.proofs.PlaceLaws.{ends_alike}
 use Rattle.record.proofs.FlagLaws.{flag_number}
 use Rattle.record.specs.declared.piece.Piece.{Piece}
 use Rattle.words.specs.Words.{field_of, option_of, two32}
-use Rattle.laws.specs.PartLaws.{part_is}
 use Rattle.line.specs.FieldRead.{WordsOf, WordsFit, words_value, WordsAt}
 use Rattle.line.specs.declared.field.Words.{Words}
 
@@ -81,26 +77,12 @@ float_is s n d r k sheet =
 
 -- ── in place ──
 
--- the words of a piece that was read on its own
-module _ (f : Form) (sheet : Bytes) (p r : ℕ) (h : Ends sheet p r) where
-  same : (q : ℕ) → Ends sheet p q → q ≡ r
-  same q g = ends_alike sheet p q r g h
-
-  pub own_words : (w : Words) → ((z : Bytes) → WordsOf f z (take (r - p) (drop p sheet) ∷ []) (Some w)) → WordsAt f sheet p (Some (record { value = w; end = r }))
-  own_words w k = record { is = λ q g. rw (same q g) (rw part_is at (k sheet)); ends = h }
-
-  pub own_none : ((z : Bytes) → WordsOf f z (take (r - p) (drop p sheet) ∷ []) None) → WordsAt f sheet p None
-  own_none k = record { is = λ q g. rw (same q g) (rw part_is at (k sheet)); ends = tt }
-
 module _ (limit : ℕ) (sheet : Bytes) (p : ℕ) where
   pub number_at_low : limit ≤ u32 → (n : Piece ℕ) → NumberAt limit sheet p (Some n) → n.value < two32
   number_at_low l n d = number_low limit (slice p n.end sheet) n.value (d.is n.end d.ends) l
 
   pub number_at : (n : Piece ℕ) → NumberAt limit sheet p (Some n) → WordsAt (num limit) sheet p (Some (record { value = record { first = n.value; second = 0 }; end = n.end }))
   number_at n d = record { is = λ q h. number_is limit (slice p q sheet) n.value (d.is q h) sheet; ends = d.ends }
-
-  pub number_at_none : NumberAt limit sheet p None → WordsAt (num limit) sheet p None
-  number_at_none d = record { is = λ q h. record { is = sym (d.is q h); fit = tt }; ends = tt }
 
 module _ (sheet : Bytes) (p : ℕ) where
   module _ (v : Piece (Option ℕ)) (d : OptNumberAt u32 sheet p (Some v)) where

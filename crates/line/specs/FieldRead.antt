@@ -31,6 +31,13 @@ pub record WordsAt (f : Form) (sheet : Bytes) (p : ℕ) (r : Option (Piece Words
   pub is : (q : ℕ) → Ends sheet p q → WordsOf f sheet (slice p q sheet ∷ []) (value_in r)
   pub ends : EndsAt sheet p (end_in r)
 
+-- the piece at place p was read on its own, and P is so of it and what was read
+pub record Own (sheet : Bytes) (p : ℕ) (P : Bytes → Option Words → Type 0) (r : Option (Piece Words)) : Type 0 where
+  pub end : ℕ
+  pub piece : Ends sheet p end
+  pub reads : P (slice p end sheet) (value_in r)
+  pub ends : EndsAt sheet p (end_in r)
+
 -- the field's last piece ends at r, before the line's end at a tab, and the pieces behind the field's begin behind r
 pub record BehindAt (f : Form) (sheet : Bytes) (p e r : ℕ) : Type 0 where
   pub from : p ≤ r

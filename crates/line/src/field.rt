@@ -1,9 +1,10 @@
 // The two words of a field of one piece, which begins at a place of a line.
 ghost use Rattle.std.specs.Prelude.{◌≡◌, [], ◌∷◌, ◌+◌, ◌/◌, ◌%◌, ◌<◌, ◌≤◌, Some};
+ghost use Rattle.std.specs.Fn.{FnReturnsAt};
 ghost use Rattle.model.specs.Text.{Bytes};
 ghost use Rattle.model.specs.Field.{Form, u32};
 ghost use Rattle.words.specs.Words.{two32};
-ghost use Rattle.line.specs.FieldRead.{WordsOf, WordsAt, words_value};
+ghost use Rattle.line.specs.FieldRead.{WordsOf, WordsAt, Own, words_value};
 
 use crate::place::Place;
 use record::cursor::Cursor;
@@ -97,22 +98,28 @@ fn int_words(s: &[u8]) -> Option<Words>
     Some(signed_words(v))
 }
 
+// A field whose piece is read on its own.
+fn own<F: Fn(&[u8]) -> Option<Words>>(c: Cursor<'_>, read: F) -> Option<Piece<Words>>
+    requires { F.IsAlwaysCallable read }
+    ensures { Own c.entry.bytes.now c.entry.at (λ s w. FnReturnsAt F.Fn read s w) result }
+{
+    let end = piece_end(c);
+    let value = read(&c.bytes[c.at..end])?;
+    Some(Piece { value, end })
+}
+
 // A signed number.
 pub fn int(c: Cursor<'_>) -> Option<Piece<Words>>
     ensures { WordsAt Form.int c.entry.bytes.now c.entry.at result }
 {
-    let end = piece_end(c);
-    let value = int_words(&c.bytes[c.at..end])?;
-    Some(Piece { value, end })
+    own(c, int_words)
 }
 
 // The bits of a float.
 pub fn float(c: Cursor<'_>) -> Option<Piece<Words>>
     ensures { WordsAt Form.float c.entry.bytes.now c.entry.at result }
 {
-    let end = piece_end(c);
-    let value = float_words(&c.bytes[c.at..end])?;
-    Some(Piece { value, end })
+    own(c, float_words)
 }
 
 // A name, held as its place.

@@ -38,6 +38,7 @@ fn only(w: u64, key: u64, kind: u32) -> Option<u32>
     (key == w).then_some(kind)
 }
 
+#[tactic(auto, using(crate::proofs::KindLaws::none_keyed), unfolding(crate::specs::Kinds::keyed, crate::specs::Kinds::keyed_from))]
 fn clause_kind(w: u64) -> Option<u32>
     ensures { result ≡ keyed clause_sort w }
 {
@@ -53,6 +54,7 @@ fn clause_kind(w: u64) -> Option<u32>
     }
 }
 
+#[tactic(auto, using(crate::proofs::KindLaws::none_keyed), unfolding(crate::specs::Kinds::keyed, crate::specs::Kinds::keyed_from))]
 fn element_kind(w: u64) -> Option<u32>
     ensures { result ≡ keyed pattern_element_sort w }
 {
@@ -63,6 +65,7 @@ fn element_kind(w: u64) -> Option<u32>
     }
 }
 
+#[tactic(auto, using(crate::proofs::KindLaws::none_keyed), unfolding(crate::specs::Kinds::keyed, crate::specs::Kinds::keyed_from))]
 fn expr_kind(w: u64) -> Option<u32>
     ensures { result ≡ keyed expr_sort w }
 {

@@ -1,6 +1,6 @@
 -- A dash, and a number or a dash: what the definition reads, in the terms of the code. Assumes nothing.
 use mathlib.Core.Path.{◌≡◌, refl, sym, ap, ◌∙◌}
-use mathlib.Core.Bool.{Bool, true, false, cond, ◌&&◌, and-true, and-false}
+use mathlib.Core.Bool.{Bool, true, false, cond, ◌&&◌, and-false}
 use mathlib.Core.List.{[], ◌∷◌}
 use Rattle.std.specs.Prelude.{Option, None, Some}
 use Prim.Native.Nat.{ℕ, ◌+◌, ◌<◌, ◌≤◌}
@@ -15,17 +15,11 @@ use Rattle.laws.specs.TextLaws.{same_sound}
 use Rattle.record.specs.declared.piece.Piece.{Piece}
 use Rattle.record.specs.Place.{Fed, separates, Ends}
 use Rattle.record.specs.InPlace.{NumberAt, OptNumberAt}
-use Rattle.record.proofs.PlaceLaws.{byte_past, byte_fed, byte_alone, ends_next, ends_cons, ends_none}
+use Rattle.record.proofs.PlaceLaws.{byte_past, byte_alone, ends_next, ends_cons, ends_none}
 use Rattle.record.proofs.GatherLaws.{value_below}
 use Rattle.record.proofs.DecimalLaws.{decimal_none}
 
 -- ── a dash ──
-
-pub dash_one : (s : Bytes) → length s ≡ 1 → eqb (get_or s 0 0) minus ≡ same s dash
-unfolding same same_by
-dash_one [] h = absurd (omega arith)
-dash_one (b ∷ []) h = sym (and-true (eqb b minus))
-dash_one (b ∷ c ∷ s) h = absurd (omega arith)
 
 pub dash_not : (s : Bytes) → (length s ≡ 1 → ⊥) → false ≡ same s dash
 unfolding same same_by
@@ -79,9 +73,6 @@ module _ (s : Bytes) (p : ℕ) (f : Fed s p) (e : get_or s p 0 ≡ minus) where
 
   pub dash_past : separates (get_or s p 0) ≡ false
   dash_past = byte_past s p f dash_high
-
-  pub dash_fed : Fed s (p + 1)
-  dash_fed = byte_fed s p f dash_high
 
   pub dash_alone : separates (get_or s (p + 1) 0) ≡ true → Ends s p (p + 1)
   dash_alone z = byte_alone s p f dash_high z

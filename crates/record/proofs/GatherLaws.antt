@@ -113,9 +113,6 @@ pub record Digits (limit : ℕ) (s : Bytes) (p v₀ v i : ℕ) : Type 0 where
   pub same : (q : ℕ) → Ends s i q → digits_on limit v (slice i q s) ≡ digits_on limit v₀ (slice p q s)
 
 module _ (limit : ℕ) (s : Bytes) (p v₀ : ℕ) where
-  pub digits_start : Fed s p → v₀ ≤ limit → Digits limit s p v₀ v₀ p
-  digits_start f l = record { fed = f; along = along_start s p; low = l; same = λ q h. refl }
-
   module _ (v i : ℕ) (d : Digits limit s p v₀ v i) where
     -- none, if the byte at i lets no digits end there
     none_by : ((t : Bytes) → digits_on limit v (get_or s i 0 ∷ t) ≡ None) → separates (get_or s i 0) ≡ false → DigitsAt limit v₀ s p None

@@ -84,9 +84,6 @@ digit_is b d h = go (range b)
         rw z (record { low = omega arith; value = rw (lt-leb b digit9 (omega arith)); spells = rw (le-ltb (b - letter_base) 10 (omega arith)) (omega arith) })
     go (other e) = let z : None ≡ Some d = sym e ∙ h in cc
 
-read_digit : (b d : ℕ) → digit b ≡ Some d → is_read (digit b) ≡ true
-read_digit b d e = rw e
-
 read_value : (b : ℕ) → is_read (digit b) ≡ true → digit b ≡ Some (hex_digit_value b)
 read_value b e = go (digit b) refl e
   where

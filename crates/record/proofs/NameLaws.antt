@@ -4,7 +4,7 @@ use mathlib.Core.Bool.{Bool, true, false, cond, ◌&&◌, false≢true}
 use mathlib.Core.List.{[], ◌∷◌}
 use mathlib.Core.Logic.{◌⊎◌, inl, inr}
 use Rattle.std.specs.Prelude.{Option, None, Some}
-use Prim.Native.Nat.{ℕ, ◌+◌, ◌<◌, ◌≤◌}
+use Prim.Native.Nat.{ℕ, ◌+◌, ◌<◌}
 use native.Mathlib.Omega.{arith}
 use borrow.Author.Tests.{eqb-true, eq-eqb, ne_eqb}
 use lib.Dec.{eqb}
@@ -16,7 +16,7 @@ use Rattle.record.specs.Answer.{is_read, alias_of}
 use Rattle.record.specs.Name.{Seen, Plain, Escape, Bad, CharAt, bare_one, escaped, broken, bare, letter, step, seen_on, is_plain}
 use Rattle.record.specs.Place.{Fed, separates, Ends}
 use Rattle.record.specs.InPlace.{NameAt, AliasReadAt}
-use Rattle.record.proofs.PlaceLaws.{separates_other, no_feed, fed_on, byte_past, byte_fed, Along, along_start, along_on, along_back, along_ends, ends_here, ends_next, ends_cons, ends_none}
+use Rattle.record.proofs.PlaceLaws.{separates_other, no_feed, fed_on, byte_past, Along, along_start, along_on, along_back, along_ends, ends_here, ends_next, ends_cons, ends_none}
 use Rattle.record.proofs.AbsentLaws.{dash_not, dash_first, dash_past, dash_alone}
 
 bad_stays : (s : Bytes) → seen_on Bad s ≡ Bad
@@ -110,16 +110,8 @@ escape_other c h = rw (ne_eqb c backslash (λ e. h (inl e)), ne_eqb c letter_n (
 
 -- how many bytes a character has
 module _ (s : Bytes) (i : ℕ) where
-  pub open_fed : Fed s i → get_or s i 0 ≡ backslash → Fed s (i + 1)
-  open_fed f e = fed_on s i f (λ k. omega (arith, e))
-
   pub char_plain : (get_or s i 0 ≡ backslash → ⊥) → CharAt s i (Some 1)
   char_plain h = bare_one h
-
-  pub char_few : (o : Option ℕ) (n : ℕ) → CharAt s i o → o ≡ Some n → (0 < n) × (n ≤ 2)
-  char_few _ n (bare_one h) e = let k : 1 ≡ n = cc in (omega arith, omega arith)
-  char_few _ n (escaped e h) k = let k : 2 ≡ n = cc in (omega arith, omega arith)
-  char_few _ n (broken e h) k = cc
 
   module _ (e : get_or s i 0 ≡ backslash) (t : Bool) (q : t ≡ is_plain (letter (get_or s (i + 1) 0))) where
     pub char_escaped : t ≡ true → CharAt s i (Some 2)
@@ -162,9 +154,6 @@ pub record Naming (s : Bytes) (p i : ℕ) : Type 0 where
   pub fed : Fed s i
   pub along : Along s p i
   pub same : (q : ℕ) → Ends s i q → seen_on Plain (slice i q s) ≡ seen_on Plain (slice p q s)
-
-pub naming_start : (s : Bytes) (p : ℕ) → Fed s p → Naming s p p
-naming_start s p f = record { fed = f; along = along_start s p; same = λ q h. refl }
 
 module _ (s : Bytes) (p i : ℕ) (d : Naming s p i) where
   pub naming_done : (t : Bool) → t ≡ separates (get_or s i 0) → t ≡ true → NameAt s p (Some i)
@@ -287,9 +276,6 @@ module _ (s : Bytes) (p : ℕ) (f : Fed s p) where
   module _ (e : get_or s p 0 ≡ equals) where
     name_past : separates (get_or s p 0) ≡ false
     name_past = byte_past s p f (omega arith)
-
-    pub name_fed : Fed s (p + 1)
-    name_fed = byte_fed s p f (omega arith)
 
     module _ (a : Option ℕ) (d : NameAt s (p + 1) a) where
       named : (q : ℕ) → Ends s p q → alias_of (p + 1) (read alias (slice p q s ∷ [])) ≡ cond (is_read a) (Some (Some (p + 1))) None

@@ -31,8 +31,9 @@ impl Reached {
         ensures pos { self.new.pos ≡ end }
         ensures write { self.new.write ≡ option_or self.old.write (then_some (eqb kind write_kind) (self.old.records + 1)) }
     {
-        let line = self.line();
-        self.write = self.write.or((kind == kind::WRITE).then_some(line));
+        if kind == kind::WRITE {
+            self.write = self.write.or(Some(self.line()));
+        }
         self.records += 1;
         self.pos = end;
     }

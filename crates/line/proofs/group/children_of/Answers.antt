@@ -1,5 +1,5 @@
 -- `line::group::children_of` meets its contract. Assumes nothing.
-use mathlib.Core.Path.{ap, ◌∙◌}
+use mathlib.Core.Path.{ap}
 use Prim.Native.Nat.{◌%◌}
 use native.Mathlib.Omega.{arith}
 use Rattle.words.specs.Words.{two32}
@@ -17,7 +17,7 @@ pub overflow_add-sum : goal.overflow_add-sum
 overflow_add-sum c = omega (arith, c.count_in.type_inv, c.from-c.ensures, c.loop-g.invariant.few, c.loop-g.invariant.low, groups_few _ c.requires.0)
 
 pub loop-g-preserved : goal.loop-g-preserved
-loop-g-preserved c = add_one_group _ _ c.requires.0 _ _ _ (omega (arith, c.loop-g-test.true, c.groups_of-g-end.ensures)) (c.from-c.ensures ∙ c.count_in.ensures, omega (arith, c.count_in.type_inv, c.from-c.ensures)) c.loop-g.invariant
+loop-g-preserved c = add_one_group _ _ c.requires.0 _ _ _ (omega (arith, c.loop-g-test.true, c.groups_of-g-end.ensures)) (cc (c.from-c.ensures, c.count_in.ensures), omega (arith, c.count_in.type_inv, c.from-c.ensures)) c.loop-g.invariant
 
 pub returns : goal.returns
 returns c = ap (λ x. x % two32) (add_all _ _ c.requires.0 _ _ (omega (arith, c.loop-g-test.false, c.groups_of-g-end.ensures)) c.loop-g.invariant)
