@@ -8,10 +8,9 @@ use native.Mathlib.Omega.{arith}
 use lib.ListN.{length, get_or, set, length-set}
 use lib.Seq.{get_or-set_same, get_or-set_other}
 use Rattle.model.specs.Lower.{lookup, issue, map_var, numbered}
-use Rattle.context.specs.Tables.{vars_of, found_of, Entered, Issued, var_words, named_words, number_word, max_vars}
+use Rattle.context.specs.Tables.{vars_of, Entered, Issued, var_words, named_words, number_word, max_vars}
 use Rattle.context.specs.declared.LowerCtx.{LowerCtx}
-use Rattle.context.specs.declared.index.Found.TheVariants.{Nothing}
-use Rattle.context.proofs.Laws.{vars_same, found_none}
+use Rattle.context.proofs.Laws.{vars_same}
 
 module _ (c : LowerCtx) (vs vs₁ : List ℕ) (id : ℕ) (h : c.mapped < max_vars) (l : var_words ≤ length vs) (d : Entered c.mapped id vs vs₁) where
   abbrev vs' : List ℕ
@@ -32,10 +31,9 @@ module _ (c : LowerCtx) (vs vs₁ : List ℕ) (id : ℕ) (h : c.mapped < max_var
   below : (q : ℕ) → q < n * named_words → get_or vs' q 0 ≡ get_or vs q 0
   below q g = other q (omega arith) (omega arith) ∙ d.vars q (omega arith)
 
-  pub new_var : found_of (lookup (vars_of n vs) id) ≡ Nothing → Issued (map_var id) c vs vs' (record { number = c.numbers; ctx = record { ops = c.ops; numbers = c.numbers + 1; mapped = c.mapped + 1 } })
+  pub new_var : lookup (vars_of n vs) id ≡ None → Issued (map_var id) c vs vs' (record { number = c.numbers; ctx = record { ops = c.ops; numbers = c.numbers + 1; mapped = c.mapped + 1 } })
   unfolding map_var issue numbered vars_of
-  new_var f =
-      let e : lookup (vars_of n vs) id ≡ None = found_none _ f in
+  new_var e =
       let z : vars_of n vs' ≡ vars_of n vs = vars_same n vs vs' below in
       record {
         is = λ ops. rw (e, add-one n, add-one c.numbers, id_here, number_here, z);

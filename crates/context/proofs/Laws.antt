@@ -1,5 +1,5 @@
 -- What the small steps of the lowering's state do to the words. Assumes nothing.
-use mathlib.Core.Path.{◌≡◌, refl, sym, ap, subst, ◌∙◌}
+use mathlib.Core.Path.{◌≡◌, refl, sym, ap, ◌∙◌}
 use mathlib.Core.List.{List, [], ◌∷◌, ◌++◌, append-nil}
 use Rattle.std.specs.Prelude.{Option, None, Some}
 use Prim.Native.Nat.{ℕ, zero, suc, ◌+◌, ◌*◌, ◌-◌, ◌≤◌, ◌<◌}
@@ -9,40 +9,37 @@ use lib.ListN.{length, take, drop, get_or, set, length-set}
 use lib.Seq.{take_all, get_or-set_same, get_or-set_other, drop-set-lt, drop_at, length-take-le, get_or-take}
 use lib.ListN.{get_or-append, length-drop, drop_of_length-le}
 use borrow.Author.Tests.{eq-eqb, ne_eqb}
+use borrow.Rule.Slice.PartMut.{put_mid}
+use Rattle.std.proofs.lemmas.List.{get_or-append-add}
 use Rattle.model.specs.Lower.{lookup, issue, map_var, numbered, fresh, endpoint_var}
-use Rattle.context.specs.Tables.{vars_of, named_words, number_word, found_of, Op, op_at, max_stored, op_words, kind_word, idx_word, input_word, x_word, y_word, left_word, base_word, Indexed, Issued, NoteWritten, Numbers, Pushed, vars_at}
-use Rattle.context.specs.Ops.{bind_of}
-use Rattle.context.specs.declared.Bind.{Bind}
-use Rattle.context.specs.declared.Bind.TheVariants as bind
+use Rattle.context.specs.Tables.{vars_of, named_words, number_word, Op, op_at, max_stored, op_words, kind_word, idx_word, input_word, x_word, y_word, left_word, base_word, Indexed, Issued, NoteWritten, Numbers, Pushed, vars_at}
 use Rattle.context.specs.declared.LowerCtx.{LowerCtx}
 use Rattle.context.specs.declared.Numbered.{Numbered}
-use Rattle.context.specs.declared.index.Found.{Found}
-use Rattle.context.specs.declared.index.Found.TheVariants.{At, Nothing}
 use Rattle.model.specs.Call.{work_words}
 
 -- ── looking up ──
 
-abbrev pub from : List ℕ → ℕ → ℕ → Found
-from vs k id = found_of (lookup (vars_of k vs) id)
+abbrev pub from : List ℕ → ℕ → ℕ → Option ℕ
+from vs k id = lookup (vars_of k vs) id
 
-pub hit_last : (vs : List ℕ) (k id : ℕ) → get_or vs (k * named_words) 0 ≡ id → At (get_or vs (k * named_words + number_word) 0) ≡ from vs (suc k) id
-unfolding vars_of lookup found_of
+pub hit_last : (vs : List ℕ) (k id : ℕ) → get_or vs (k * named_words) 0 ≡ id → Some (get_or vs (k * named_words + number_word) 0) ≡ from vs (suc k) id
+unfolding vars_of lookup
 hit_last vs k id e = rw (eq-eqb _ _ e)
 
-pub hit : (vs : List ℕ) (k id : ℕ) → ((k ≡ 0) → ⊥) → get_or vs ((k - 1) * named_words) 0 ≡ id → At (get_or vs ((k - 1) * named_words + number_word) 0) ≡ from vs k id
+pub hit : (vs : List ℕ) (k id : ℕ) → ((k ≡ 0) → ⊥) → get_or vs ((k - 1) * named_words) 0 ≡ id → Some (get_or vs ((k - 1) * named_words + number_word) 0) ≡ from vs k id
 hit vs zero id h e = absurd (h refl)
 hit vs (suc k) id h e = rw sub-one (hit_last vs k id (rw sub-one at e))
 
 pub pass : (vs : List ℕ) (k id : ℕ) → ((get_or vs (k * named_words) 0 ≡ id) → ⊥) → from vs (suc k) id ≡ from vs k id
-unfolding vars_of lookup found_of
+unfolding vars_of lookup
 pass vs k id e = rw (ne_eqb _ _ e)
 
 pub miss : (vs : List ℕ) (k id : ℕ) → ((k ≡ 0) → ⊥) → ((get_or vs ((k - 1) * named_words) 0 ≡ id) → ⊥) → from vs k id ≡ from vs (k - 1) id
 miss vs zero id h e = absurd (h refl)
 miss vs (suc k) id h e = rw sub-one (pass vs k id (rw sub-one at e))
 
-pub nothing : (vs : List ℕ) (k id : ℕ) → k ≡ 0 → Nothing ≡ from vs k id
-unfolding vars_of lookup found_of
+pub nothing : (vs : List ℕ) (k id : ℕ) → k ≡ 0 → None ≡ from vs k id
+unfolding vars_of lookup
 nothing vs k id e = rw e
 
 -- ── issuing ──
@@ -52,31 +49,9 @@ unfolding vars_of
 vars_same zero vs vs' h = refl
 vars_same (suc n) vs vs' h = rw (h (n * named_words) (omega arith), h (n * named_words + number_word) (omega arith), vars_same n vs vs' (λ q l. h q (omega arith)))
 
-Told : Found → Type 0
-Told (At n) = Unit {0}
-Told Nothing = ⊥
-
-told : Found → ℕ
-told (At n) = n
-told Nothing = 0
-
-pub at_something : {n : ℕ} → At n ≡ Nothing → ⊥
-unfolding Told
-at_something e = subst Told e tt
-
-pub found_none : (o : Option ℕ) → found_of o ≡ Nothing → o ≡ None
-unfolding found_of Told
-found_none None e = refl
-found_none (Some n) e = absurd (subst Told e tt)
-
-found_some : (o : Option ℕ) (n : ℕ) → found_of o ≡ At n → o ≡ Some n
-unfolding found_of Told told
-found_some None n e = absurd (subst Told (sym e) tt)
-found_some (Some k) n e = ap Some (ap told e)
-
-pub old_var : (c : LowerCtx) (vs : List ℕ) (id n : ℕ) {r : Found} → r ≡ found_of (lookup (vars_of c.mapped vs) id) → r ≡ At n → Issued (map_var id) c vs vs (record { number = n; ctx = c })
+pub old_var : (c : LowerCtx) (vs : List ℕ) (id n : ℕ) {r : Option ℕ} → r ≡ lookup (vars_of c.mapped vs) id → r ≡ Some n → Issued (map_var id) c vs vs (record { number = n; ctx = c })
 unfolding map_var issue numbered
-old_var c vs id n h e = record { is = λ ops. rw (found_some _ n (sym h ∙ e)); ops = refl; low = omega arith; met = omega arith; index = λ x. x }
+old_var c vs id n h e = let found : lookup (vars_of c.mapped vs) id ≡ Some n = sym h ∙ e in record { is = λ ops. rw found; ops = refl; low = omega arith; met = omega arith; index = λ x. x }
 
 -- ── notes ──
 
@@ -104,12 +79,12 @@ number_law id place n c rest vs' rest' r l en i k =
     let e : drop vars_at rest' ≡ vs' = k'.vars ∙ part_drop rest vs' l in
     record { issued = rw e i'; noted = record { here = k'.noted.here; other = λ q h x. k'.noted.other q h x ∙ part_note rest vs' l q h } }
 
-pub unnamed_law : (b : Bind) (place : ℕ) (c : LowerCtx) (rest rest' : List ℕ) (r : Numbered) → b ≡ bind.Unnamed → (r.number ≡ c.numbers) × (r.ctx.ops ≡ c.ops) × (r.ctx.numbers ≡ c.numbers + 1) × (r.ctx.mapped ≡ c.mapped) → NoteWritten place r.number rest rest' → Numbers (endpoint_var (bind_of b)) place c rest rest' r
+pub unnamed_law : (b : Option ℕ) (place : ℕ) (c : LowerCtx) (rest rest' : List ℕ) (r : Numbered) → b ≡ None → (r.number ≡ c.numbers) × (r.ctx.ops ≡ c.ops) × (r.ctx.numbers ≡ c.numbers + 1) × (r.ctx.mapped ≡ c.mapped) → NoteWritten place r.number rest rest' → Numbers (endpoint_var b) place c rest rest' r
 unfolding endpoint_var fresh issue
 unnamed_law b place c rest rest' r z f n =
     rw z (record { issued = record { is = λ ops. rw (n.vars, f.0, f.2, f.3, add-one); ops = f.1; low = omega (arith, f.2); met = omega (arith, f.3); index = λ x. rw (n.vars, f.3) x }; noted = n.noted })
 
-pub named_law : (b : Bind) (id place : ℕ) (c : LowerCtx) (rest rest' : List ℕ) (r : Numbered) → b ≡ bind.Var id → Numbers (map_var id) place c rest rest' r → Numbers (endpoint_var (bind_of b)) place c rest rest' r
+pub named_law : (b : Option ℕ) (id place : ℕ) (c : LowerCtx) (rest rest' : List ℕ) (r : Numbered) → b ≡ Some id → Numbers (map_var id) place c rest rest' r → Numbers (endpoint_var b) place c rest rest' r
 unfolding endpoint_var
 named_law b id place c rest rest' r z n = rw z n
 
@@ -138,24 +113,50 @@ run_at o b j (x ∷ xs) (suc p) h l =
 abbrev words_of : Op → List ℕ
 words_of op = op.kind ∷ op.idx ∷ op.input ∷ op.x ∷ op.y ∷ op.left ∷ op.base ∷ []
 
+-- the words from B on, and those behind the operators
+module _ (o : List ℕ) (B : ℕ) (l : B + op_words ≤ length o) where
+  abbrev behind : List ℕ
+  behind = take (length o - B) (drop B o)
+
+  behind_length : length behind ≡ length o - B
+  behind_length = length-take-le (length o - B) (drop B o) (rw length-drop (omega arith))
+
+  before_length : length (take B o) ≡ B
+  before_length = length-take-le B o (omega arith)
+
+  put_at : (ws rest : List ℕ) (j : ℕ) → j < length ws → get_or (take B o ++ (ws ++ rest)) (B + j) 0 ≡ get_or ws j 0
+  put_at ws rest j h = ap (λ (p : ℕ). get_or (take B o ++ (ws ++ rest)) (p + j) 0) (sym before_length) ∙ get_or-append-add (take B o) (ws ++ rest) j 0 ∙ get_or-append ws rest 0 j h
+
+  put_other : (ws : List ℕ) (q : ℕ) → q < B → get_or (take B o ++ ws) q 0 ≡ get_or o q 0
+  put_other ws q h = get_or-append (take B o) ws 0 q (rw before_length h) ∙ get_or-take B o q 0 h
+
+-- an operator's words, from its first one that is used
+abbrev put_words : List ℕ → Op → List ℕ
+put_words ws op = set (set (set (set (set (set (set ws kind_word op.kind) idx_word op.idx) input_word op.input) x_word op.x) y_word op.y) left_word op.left) base_word op.base
+
+put_at_word : (ws : List ℕ) (op : Op) (p j : ℕ) → op_words ≤ length ws → p < 7 → j ≡ 1 + p → get_or (put_words ws op) j 0 ≡ get_or (words_of op) p 0
+unfolding run
+put_at_word ws op p j l h e = rw e (run_at ws 0 1 (words_of op) p h (omega arith))
+
 pub stored : (c : LowerCtx) (o : List ℕ) (op : Op) → c.ops < max_stored → work_words ≤ length o → Pushed c (record {
   ops = c.ops + 1;
   numbers = c.numbers;
   mapped = c.mapped;
-}) o (set (set (set (set (set (set (set o (c.ops * op_words + kind_word) op.kind) (c.ops * op_words + idx_word) op.idx) (c.ops * op_words + input_word) op.input)
-    (c.ops * op_words + x_word) op.x) (c.ops * op_words + y_word) op.y) (c.ops * op_words + left_word) op.left) (c.ops * op_words + base_word) op.base) op
-unfolding run op_at
+}) o (put_mid (c.ops * op_words) (length o - c.ops * op_words) o (put_words (take (length o - c.ops * op_words) (drop (c.ops * op_words) o)) op)) op
+unfolding op_at
 stored c o op h g =
     let B : ℕ = c.ops * op_words in
-    let xs : List ℕ = words_of op in
-    let f : (p j : ℕ) → p < 7 → j ≡ 1 + p → get_or (run o B 1 xs) (B + j) 0 ≡ get_or xs p 0 = λ p j h' e. (let e' : B + j ≡ B + 1 + p = omega arith in rw e' (run_at o B 1 xs p h' (omega arith))) in
+    let room : B + op_words ≤ length o = omega arith in
+    let long : op_words ≤ length (behind o B room) = rw (behind_length o B room) (omega arith) in
+    let long' : op_words ≤ length (put_words (behind o B room) op) = simp length-set long in
+    let f : (p j : ℕ) → p < 7 → j ≡ 1 + p → get_or (put_mid B (length o - B) o (put_words (behind o B room) op)) (B + j) 0 ≡ get_or (words_of op) p 0 = λ p j h' e. put_at o B room (put_words (behind o B room) op) _ j (omega arith) ∙ put_at_word (behind o B room) op p j long h' e in
     record {
       count = refl;
       numbers = refl;
       mapped = refl;
       here = λ _. rw (f 0 1 (omega arith) refl, f 1 2 (omega arith) refl, f 2 3 (omega arith) refl, f 3 4 (omega arith) refl, f 4 5 (omega arith) refl, f 5 6 (omega arith) refl, f 6 7 (omega arith) refl);
       other = λ k l' l''.
-          let r : (j : ℕ) → j < 8 → get_or (run o B 1 xs) (k * op_words + j) 0 ≡ get_or o (k * op_words + j) 0 = λ j h'. run_other o B 1 xs (k * op_words + j) (omega arith) in
+          let r : (j : ℕ) → j < 8 → get_or (put_mid B (length o - B) o (put_words (behind o B room) op)) (k * op_words + j) 0 ≡ get_or o (k * op_words + j) 0 = λ j h'. put_other o B room _ (k * op_words + j) (omega arith) in
           rw (r 1 (omega arith), r 2 (omega arith), r 3 (omega arith), r 4 (omega arith), r 5 (omega arith), r 6 (omega arith), r 7 (omega arith));
     }
 

@@ -10,8 +10,9 @@ use lib.ListN.{length, get_or, set, length-set}
 use lib.Dec.{eqb}
 use lib.Seq.{get_or-set_same, get_or-set_other}
 use borrow.Author.Tests.{eq-eqb, ne_eqb, eqb-true, eqb-false}
-use Rattle.context.specs.Tables.{links_at, id_of, half, with_half, child_of, Leads, here, on, Treed, Indexed, Kept, Descends, Descended, Joined, root, child, Entered, max_indexed, var_words, named_words, number_word, half_word}
-use Rattle.context.specs.declared.index.Found.TheVariants.{At, Nothing}
+use Rattle.context.specs.Tables.{links_at, id_of, half, with_half, child_of, linked, Leads, here, on, Treed, Indexed, Kept, Descends, Descended, Joined, root, child, Entered, max_indexed, var_words, named_words, number_word, half_word}
+use Rattle.std.specs.Prelude.{None, Some}
+use Rattle.std.proofs.lemmas.Option.{none-some, same_Some}
 use Rattle.context.proofs.Laws
 
 same_by_law : (x y : ℕ) (t : Bool) → eqb x y ≡ t → (x ≡ y) ⊎ ((x ≡ y) → ⊥)
@@ -66,6 +67,26 @@ module _ (w bits l : ℕ) (none : half w bits ≡ 0) (low : l < half_word) where
 half_none : (bits : ℕ) → half 0 bits ≡ 0
 half_none bits = ⊎_elim (λ (e : bits % 2 ≡ 0). omega (arith, half_left 0 bits e)) (λ (e : (bits % 2 ≡ 0) → ⊥). omega (arith, half_right 0 bits e)) (same (bits % 2) 0)
 
+-- what a half names, read back
+linked_some : (l q : ℕ) → Some q ≡ linked l → l ≡ suc q
+unfolding linked
+linked_some zero q e = absurd (none-some q (sym e))
+linked_some (suc p) q e = ap suc (sym (same_Some _ _ e))
+
+pub linked_none : (l : ℕ) → None ≡ linked l → l ≡ 0
+unfolding linked
+linked_none zero e = refl
+linked_none (suc p) e = absurd (none-some p e)
+
+pub names_none : {k l : ℕ} → k ≡ l → k ≡ 0 → None ≡ linked l
+unfolding linked
+names_none e z = rw (sym e ∙ z)
+
+pub names_some : {k l : ℕ} → k ≡ l → ((k ≡ 0) → ⊥) → Some (k - 1) ≡ linked l
+unfolding linked
+names_some {k = zero} e h = absurd (h refl)
+names_some {k = suc k} e h = rw (← e, sub-one)
+
 -- ── the way down ──
 
 -- behind a variable that does not have the id the way goes on at its child
@@ -88,9 +109,8 @@ module _ (n : ℕ) (vs : List ℕ) (id : ℕ) (x : Treed n vs) where
     back = λ vs' j k y. w.back vs' j k (on (λ (z : id_of vs' p ≡ id). d (sym (k.ids p w.low) ∙ z)) (k.children p bits q w.low e) y);
   }
 
-  pub descends_on : (p bits l : ℕ) → Descends vs n id p bits → ((id_of vs p ≡ id) → ⊥) → l ≡ child_of vs p bits → ((l ≡ 0) → ⊥) → Descends vs n id (l - 1) (bits / 2) × (p < l - 1)
-  descends_on p bits zero w d e h = absurd (h refl)
-  descends_on p bits (suc q) w d e h = rw sub-one (descends_child p bits q w d (sym e), (x.later p bits q w.low (sym e)).0)
+  pub descends_on : (p bits q : ℕ) → Descends vs n id p bits → ((id_of vs p ≡ id) → ⊥) → Some q ≡ linked (child_of vs p bits) → Descends vs n id q (bits / 2) × (p < q)
+  descends_on p bits q w d e = let z : child_of vs p bits ≡ suc q = linked_some _ _ e in (descends_child p bits q w d z, (x.later p bits q w.low z).0)
 
 -- ── looking up ──
 
@@ -102,34 +122,34 @@ ends_not : {vs : List ℕ} {id bits p j : ℕ} → ((id_of vs p ≡ id) → ⊥)
 ends_not {vs = vs} d e (here z h) = d (ap (λ i. id_of vs i) z ∙ h)
 ends_not d e (on _ e' _) = omega (arith, e, e')
 
-found_only : (vs : List ℕ) (n id p : ℕ) → p < n → id_of vs p ≡ id → ((j : ℕ) → j < n → id_of vs j ≡ id → j ≡ p) → At (get_or vs (p * named_words + number_word) 0) ≡ Laws.from vs n id
+found_only : (vs : List ℕ) (n id p : ℕ) → p < n → id_of vs p ≡ id → ((j : ℕ) → j < n → id_of vs j ≡ id → j ≡ p) → Some (get_or vs (p * named_words + number_word) 0) ≡ Laws.from vs n id
 found_only vs zero id p l h f = absurd (omega arith)
 found_only vs (suc n) id p l h f =
     ⊎_elim
     (λ (e : id_of vs n ≡ id).
     let z : n ≡ p = f n (omega arith) e in
-    subst (λ i. At (get_or vs (i * named_words + number_word) 0) ≡ Laws.from vs (suc n) id) z (Laws.hit_last vs n id e))
+    subst (λ i. Some (get_or vs (i * named_words + number_word) 0) ≡ Laws.from vs (suc n) id) z (Laws.hit_last vs n id e))
     (λ (e : (id_of vs n ≡ id) → ⊥).
     let z : (p ≡ n) → ⊥ = λ (w : p ≡ n). e (ap (λ i. id_of vs i) (sym w) ∙ h) in
     found_only vs n id p (omega arith) h (λ j lj. f j (omega arith)) ∙ sym (Laws.pass vs n id e))
     (same (id_of vs n) id)
 
-found_none : (vs : List ℕ) (n id : ℕ) → ((j : ℕ) → j < n → id_of vs j ≡ id → ⊥) → Nothing ≡ Laws.from vs n id
+found_none : (vs : List ℕ) (n id : ℕ) → ((j : ℕ) → j < n → id_of vs j ≡ id → ⊥) → None ≡ Laws.from vs n id
 found_none vs zero id f = Laws.nothing vs 0 id refl
 found_none vs (suc n) id f = found_none vs n id (λ j l. f j (omega arith)) ∙ sym (Laws.pass vs n id (f n (omega arith)))
 
-pub found_at : (vs : List ℕ) (n id p bits : ℕ) → Descended vs n id p bits → id_of vs p ≡ id → At (get_or vs (p * named_words + number_word) 0) ≡ Laws.from vs n id
+pub found_at : (vs : List ℕ) (n id p bits : ℕ) → Descended vs n id p bits → id_of vs p ≡ id → Some (get_or vs (p * named_words + number_word) 0) ≡ Laws.from vs n id
 found_at vs n id p bits w h = found_only vs n id p w.way.low h (λ j l e. ends h (w.way.all j l e))
 
-pub found_not : (vs : List ℕ) (n id p bits : ℕ) → Descended vs n id p bits → ((id_of vs p ≡ id) → ⊥) → Nothing ≡ Laws.from vs n id
+pub found_not : (vs : List ℕ) (n id p bits : ℕ) → Descended vs n id p bits → ((id_of vs p ≡ id) → ⊥) → None ≡ Laws.from vs n id
 found_not vs n id p bits w h = found_none vs n id (λ j l e. ends_not h (w.end h) (w.way.all j l e))
 
 -- what is not found is no variable's id
-pub not_met : (vs : List ℕ) (n id : ℕ) → Laws.from vs n id ≡ Nothing → (j : ℕ) → j < n → id_of vs j ≡ id → ⊥
+pub not_met : (vs : List ℕ) (n id : ℕ) → Laws.from vs n id ≡ None → (j : ℕ) → j < n → id_of vs j ≡ id → ⊥
 not_met vs zero id f j l h = absurd (omega arith)
 not_met vs (suc n) id f j l h =
     ⊎_elim
-    (λ (e : id_of vs n ≡ id). Laws.at_something (Laws.hit_last vs n id e ∙ f))
+    (λ (e : id_of vs n ≡ id). none-some _ (sym (Laws.hit_last vs n id e ∙ f)))
     (λ (e : (id_of vs n ≡ id) → ⊥).
     let z : (j ≡ n) → ⊥ = λ (w : j ≡ n). e (ap (λ i. id_of vs i) (sym w) ∙ h) in
     not_met vs n id (sym (Laws.pass vs n id e) ∙ f) j (omega arith) h)
@@ -260,6 +280,6 @@ module _ (k id : ℕ) (vs : List ℕ) (x : Indexed k vs) where
             (λ j l e. words (links_at + j) (omega arith) ∙ other₂ (links_at + j) (omega arith) (omega arith)));
       }
 
-    pub entered_room : {vs₁ : List ℕ} → Laws.from vs k id ≡ Nothing → Joined k id vs vs₁ → Entered k id vs (set vs₁ (links_at + k) 0)
+    pub entered_room : {vs₁ : List ℕ} → Laws.from vs k id ≡ None → Joined k id vs vs₁ → Entered k id vs (set vs₁ (links_at + k) 0)
     entered_room f (root z e) = rw e (entered_root z)
     entered_room f (child p bits d none e) = rw e (entered_child p bits d none (not_met vs k id f p d.low))

@@ -2,29 +2,15 @@
 use Rattle.std.specs.Prelude.{◌≡◌, ℕ, zero, suc, ◌≤◌, ◌<◌, Option, None, Some}
 use Rattle.words.specs.Words.{two32}
 use Rattle.context.specs.declared.At.{At}
-use Rattle.context.specs.declared.Before.{Before}
-use Rattle.context.specs.declared.Before.TheVariants as before
-use Rattle.context.specs.declared.Bind.{Bind}
-use Rattle.context.specs.declared.Bind.TheVariants as bind
 use Rattle.context.specs.declared.op.Op.{Op}
 
--- the operator that stands before, as the definition has it
-unfoldable pub before_of : Before → Option ℕ
-before_of before.Nothing = None
-before_of (before.Op k) = Some k
-
--- a variable that may be absent, as the definition has it
-abbrev pub bind_of : Bind → Option ℕ
-bind_of bind.Unnamed = None
-bind_of (bind.Var id) = Some id
-
 -- the operator that stands before, if there is one, is below n
-pub record Under (b : Before) (n : ℕ) : Type 0 where
-  pub op : (k : ℕ) → b ≡ before.Op k → k < n
+pub record Under (b : Option ℕ) (n : ℕ) : Type 0 where
+  pub op : (k : ℕ) → b ≡ Some k → k < n
 
 -- and from n on
-pub record Since (b : Before) (n : ℕ) : Type 0 where
-  pub op : (k : ℕ) → b ≡ before.Op k → n ≤ k
+pub record Since (b : Option ℕ) (n : ℕ) : Type 0 where
+  pub op : (k : ℕ) → b ≡ Some k → n ≤ k
 
 -- a place's numbers fit into words
 pub record Fits (at : At) : Type 0 where
@@ -149,14 +135,14 @@ unwind_op at input bind = op_over unwind_kind at input bind 0
 abbrev pub union_op : (i input right all : ℕ) → Op
 union_op i input right all = op_alone union_kind i input right all
 
-unfoldable pub procedure_call_op : At → Before → Op
-procedure_call_op at before.Nothing = op_over procedure_call_kind at 0 0 0
-procedure_call_op at (before.Op input) = op_over procedure_call_kind at input 1 0
+unfoldable pub procedure_call_op : At → Option ℕ → Op
+procedure_call_op at None = op_over procedure_call_kind at 0 0 0
+procedure_call_op at (Some input) = op_over procedure_call_kind at input 1 0
 
 -- what stands before a stored call: an operator, unless the word that tells is 0
-unfoldable pub input_if : (told input : ℕ) → Before
-input_if zero input = before.Nothing
-input_if (suc n) input = before.Op input
+unfoldable pub input_if : (told input : ℕ) → Option ℕ
+input_if zero input = None
+input_if (suc n) input = Some input
 
-abbrev pub call_input : Op → Before
+abbrev pub call_input : Op → Option ℕ
 call_input o = input_if o.x o.input

@@ -6,8 +6,6 @@ use Rattle.model.specs.Lower
 use Rattle.context.specs.declared.LowerCtx.{LowerCtx}
 pub use Rattle.context.specs.declared.op.Op.{Op}
 use Rattle.context.specs.declared.Numbered.{Numbered}
-use Rattle.context.specs.declared.index.Found.{Found}
-use Rattle.context.specs.declared.index.Found.TheVariants.{At, Nothing}
 
 -- so many operators are stored; those beyond are counted alone
 abbrev pub max_stored : ℕ
@@ -105,6 +103,11 @@ with_half w bits l = cond (eqb (bits % 2) 0) (w + l) (w + l * half_word)
 abbrev pub child_of : List ℕ → ℕ → ℕ → ℕ
 child_of vs p bits = half (get_or vs (links_at + p) 0) bits
 
+-- the variable that a half of a word of links names
+unfoldable pub linked : ℕ → Option ℕ
+linked zero = None
+linked (suc q) = Some q
+
 -- The way down from variable p, for an id whose bits in `bits` are still to come, ends at variable j, the first one met that has the id.
 pub data Leads (vs : List ℕ) (id : ℕ) : ℕ → ℕ → ℕ → Type 0 where
   here : {bits p j : ℕ} → p ≡ j → id_of vs j ≡ id → Leads vs id bits p j
@@ -150,10 +153,6 @@ pub record Entered (k id : ℕ) (vs vs' : List ℕ) : Type 0 where
   pub long : length vs' ≡ length vs
   pub vars : (q : ℕ) → q < links_at → get_or vs' q 0 ≡ get_or vs q 0
   pub index : (vs'' : List ℕ) → ((j : ℕ) → j < k → id_of vs'' j ≡ id_of vs j) → id_of vs'' k ≡ id → ((q : ℕ) → links_at ≤ q → get_or vs'' q 0 ≡ get_or vs' q 0) → Indexed (k + 1) vs''
-
-unfoldable pub found_of : Option ℕ → Found
-found_of None = Nothing
-found_of (Some n) = At n
 
 -- a state of the definition, by its operators, the counts and the variables' words
 abbrev pub state_of : List Recs → LowerCtx → List ℕ → Lower.LowerCtx

@@ -1,33 +1,32 @@
 // The variables' index in the work slice: a digital search tree, in which the bits of an id, the last one first, say the way down.
-ghost use Rattle.std.specs.Prelude.{◌≡◌, ◌+◌, ◌<◌, ◌≤◌, length, get_or, set};
+ghost use Rattle.std.specs.Prelude.{◌≡◌, ◌+◌, ◌<◌, ◌≤◌, length, get_or, set, None};
 ghost use Rattle.model.specs.Lower.{lookup};
-ghost use Rattle.context.specs.Tables.{max_vars, max_indexed, links_at, var_words, half_word, vars_of, found_of, child_of, with_half, IndexHeld, Descended, Joined, Entered};
+ghost use Rattle.context.specs.Tables.{max_vars, max_indexed, links_at, var_words, half_word, vars_of, child_of, linked, with_half, IndexHeld, Descended, Joined, Entered};
 
 use crate::{HALF_WORD, LINKS_AT, MAX_INDEXED, NAMED_WORDS, NUMBER_WORD};
 
-#[derive(Clone, Copy)]
-pub enum Found {
-    At(u32),
-    Nothing,
-}
-
 // Where a way down ends: at a variable, with bits of the id still to come, of which the last one names a side.
-#[derive(Clone, Copy)]
+#[derive(Clone, Copy, Debug, PartialEq, Eq)]
 struct End {
     place: usize,
     bits: u32,
 }
 
-// A variable's child on the side that the last bit of `bits` names, its place and one; 0 where there is none. The left one is in the lower half of the variable's word of links, the right one in the upper half.
-fn child(vars: &[u32], p: usize, bits: u32) -> usize
+// A variable's child on the side that the last bit of `bits` names, if it has one. The left one is in the lower half of the variable's word of links, the right one in the upper half: its place and one, or 0 for none.
+fn child(vars: &[u32], p: usize, bits: u32) -> Option<usize>
     requires { (p < max_indexed) × (var_words ≤ length vars.now) }
-    ensures { result ≡ child_of vars.now p bits }
+    ensures { result ≡ linked (child_of vars.now p bits) }
 {
     let w = vars[LINKS_AT + p];
-    if bits % 2 == 0 {
-        return (w % HALF_WORD) as usize;
+    let link = if bits % 2 == 0 {
+        w % HALF_WORD
+    } else {
+        w / HALF_WORD
+    };
+    if link == 0 {
+        return None;
     }
-    (w / HALF_WORD) as usize
+    Some(link as usize - 1)
 }
 
 // A variable that has no child on a side gets one there.
@@ -36,11 +35,12 @@ fn set_child(vars: &mut [u32], p: usize, bits: u32, link: u32)
     ensures { vars.new ≡ set vars.old (links_at + p) (with_half (get_or vars.old (links_at + p) 0) bits link) }
 {
     let w = vars[LINKS_AT + p];
-    if bits % 2 == 0 {
-        vars[LINKS_AT + p] = w + link;
-        return;
-    }
-    vars[LINKS_AT + p] = w + link * HALF_WORD;
+    let more = if bits % 2 == 0 {
+        link
+    } else {
+        link * HALF_WORD
+    };
+    vars[LINKS_AT + p] = w + more;
 }
 
 // The way down for an id, from the root to the variable that has it or to the one that its variable would be a child of. All variables below one at depth d have the same last d bits in their ids, so that a way has at most 33 variables, whatever the ids are.
@@ -51,57 +51,48 @@ fn descend(vars: &[u32], count: usize, id: u32) -> End
     let mut p = 0;
     let mut bits = id;
     while vars[p * NAMED_WORDS] != id {
-        let link = child(vars, p, bits);
-        if link == 0 {
-            return End {
-                place: p,
-                bits: bits,
-            };
-        }
-        p = link - 1;
+        let Some(q) = child(vars, p, bits) else {
+            break;
+        };
+        p = q;
         bits /= 2;
     }
-    End {
-        place: p,
-        bits: bits,
-    }
+    End { place: p, bits }
 }
 
 // The number of one of the first variables, by the tree.
-fn find_indexed(vars: &[u32], count: usize, id: u32) -> Found
+fn find_indexed(vars: &[u32], count: usize, id: u32) -> Option<u32>
     requires { (count ≤ max_indexed) × IndexHeld count vars.now }
-    ensures { result ≡ found_of (lookup (vars_of count vars.now) id) }
+    ensures { result ≡ lookup (vars_of count vars.now) id }
 {
     if count == 0 {
-        return Found::Nothing;
+        return None;
     }
     let end = descend(vars, count, id);
     let p = end.place;
     if vars[p * NAMED_WORDS] != id {
-        return Found::Nothing;
+        return None;
     }
-    Found::At(vars[p * NAMED_WORDS + NUMBER_WORD])
+    Some(vars[p * NAMED_WORDS + NUMBER_WORD])
 }
 
 // The number of a variable, the newest first: those behind the index one by one.
-pub fn find(vars: &[u32], count: usize, id: u32) -> Found
+pub fn find(vars: &[u32], count: usize, id: u32) -> Option<u32>
     requires { (count ≤ max_vars) × IndexHeld count vars.now }
-    ensures { result ≡ found_of (lookup (vars_of count vars.now) id) }
+    ensures { result ≡ lookup (vars_of count vars.now) id }
 {
-    let mut k = count;
-    while k > MAX_INDEXED {
-        k -= 1;
+    for k in (MAX_INDEXED..count).rev() {
         if vars[k * NAMED_WORDS] == id {
-            return Found::At(vars[k * NAMED_WORDS + NUMBER_WORD]);
+            return Some(vars[k * NAMED_WORDS + NUMBER_WORD]);
         }
     }
-    find_indexed(vars, k, id)
+    find_indexed(vars, count.min(MAX_INDEXED), id)
 }
 
 // The next variable becomes the child at the end of the way down for its id; the first one is the root.
 fn join(vars: &mut [u32], k: usize, id: u32)
     requires k_lt_max_indexed { (k < max_indexed) × IndexHeld k vars.old }
-    requires id_value { found_of (lookup (vars_of k vars.old) id) ≡ Found.Nothing }
+    requires id_value { lookup (vars_of k vars.old) id ≡ None }
     ensures { Joined k id vars.old vars.new }
 {
     if k == 0 {
@@ -114,7 +105,7 @@ fn join(vars: &mut [u32], k: usize, id: u32)
 // The next variable, which is new, gets its place in the index, if that has room. Its own links may be of an earlier call: it has no child yet.
 pub fn enter(vars: &mut [u32], k: usize, id: u32)
     requires index_held { IndexHeld k vars.old }
-    requires id_value { found_of (lookup (vars_of k vars.old) id) ≡ Found.Nothing }
+    requires id_value { lookup (vars_of k vars.old) id ≡ None }
     ensures { Entered k id vars.old vars.new }
 {
     if k >= MAX_INDEXED {

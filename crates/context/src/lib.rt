@@ -1,13 +1,11 @@
 // The state of the lowering, by value, over tables in lent slices: numbers are issued, noted and looked up, and operators pushed.
 #![tactic(auto)]
 
-ghost use Rattle.std.specs.Prelude.{◌≡◌, ◌+◌, ◌<◌, ◌≤◌, length};
+ghost use Rattle.std.specs.Prelude.{◌≡◌, ◌+◌, ◌<◌, ◌≤◌, length, None};
 ghost use Rattle.model.specs.Call.{work_words};
 ghost use Rattle.model.specs.Lower.{lookup, map_var, endpoint_var};
-ghost use Rattle.context.specs.Ops.{bind_of};
-ghost use Rattle.context.specs.Tables.{vars_at, max_count, vars_of, found_of, Issued, CanMap, CanNumber, Numbers, NoteWritten, CanPush, Pushed};
+ghost use Rattle.context.specs.Tables.{vars_at, max_count, vars_of, Issued, CanMap, CanNumber, Numbers, NoteWritten, CanPush, Pushed};
 
-use crate::index::Found;
 use crate::op::Op;
 
 pub mod index;
@@ -41,7 +39,7 @@ pub const LINKS_AT: usize = NAMED_WORDS * MAX_VARS;
 pub const HALF_WORD: u32 = 65536;
 
 // How many operators, variable numbers and named variables there are. The operators' count goes on beyond their table.
-#[derive(Clone, Copy)]
+#[derive(Clone, Copy, Debug, PartialEq, Eq)]
 pub struct LowerCtx {
     pub ops: usize,
     pub numbers: u32,
@@ -49,29 +47,15 @@ pub struct LowerCtx {
 }
 
 // Where something is lowered: the records from i on, how deep their trees may be, and where the notes of the pass begin.
-#[derive(Clone, Copy)]
+#[derive(Clone, Copy, Debug, PartialEq, Eq)]
 pub struct At {
     pub base: usize,
     pub i: usize,
     pub left: usize,
 }
 
-// The operator that stands before, if there is one.
-#[derive(Clone, Copy)]
-pub enum Before {
-    Nothing,
-    Op(usize),
-}
-
-// The variable of a node, a rel or a part, if it has one.
-#[derive(Clone, Copy)]
-pub enum Bind {
-    Unnamed,
-    Var(u32),
-}
-
 // A number issued, and the state behind it.
-#[derive(Clone, Copy)]
+#[derive(Clone, Copy, Debug, PartialEq, Eq)]
 pub struct Numbered {
     pub number: u32,
     pub ctx: LowerCtx,
@@ -89,7 +73,7 @@ impl LowerCtx {
     // A variable that has no number yet gets the next one.
     fn new_var(self, vars: &mut [u32], id: u32) -> Numbered
         requires can_map { CanMap self vars.old }
-        requires id_value { found_of (lookup (vars_of self.mapped vars.old) id) ≡ Found.Nothing }
+        requires id_value { lookup (vars_of self.mapped vars.old) id ≡ None }
         ensures { Issued (map_var id) self vars.old vars.new result }
     {
         index::enter(vars, self.mapped, id);
@@ -99,9 +83,9 @@ impl LowerCtx {
         Numbered {
             number: self.numbers,
             ctx: LowerCtx {
-                ops: self.ops,
                 numbers: self.numbers + 1,
                 mapped: self.mapped + 1,
+                ..self
             },
         }
     }
@@ -111,11 +95,8 @@ impl LowerCtx {
         ensures { Issued (map_var id) self vars.old vars.new result }
     {
         match index::find(vars, self.mapped, id) {
-            Found::At(n) => Numbered {
-                number: n,
-                ctx: self,
-            },
-            Found::Nothing => self.new_var(vars, id),
+            Some(number) => Numbered { number, ctx: self },
+            None => self.new_var(vars, id),
         }
     }
 
@@ -137,21 +118,20 @@ impl LowerCtx {
         Numbered {
             number: self.numbers,
             ctx: LowerCtx {
-                ops: self.ops,
                 numbers: self.numbers + 1,
-                mapped: self.mapped,
+                ..self
             },
         }
     }
 
     // The number of a node or a rel, by its id or, unnamed, the next one; noted at a place.
-    pub fn endpoint_var(self, rest: &mut [u32], bind: Bind, place: usize) -> Numbered
+    pub fn endpoint_var(self, rest: &mut [u32], bind: Option<u32>, place: usize) -> Numbered
         requires { CanNumber self place rest.old }
-        ensures { Numbers (endpoint_var (bind_of bind)) place self rest.old rest.new result }
+        ensures { Numbers (endpoint_var bind) place self rest.old rest.new result }
     {
         match bind {
-            Bind::Var(id) => self.number(rest, id, place),
-            Bind::Unnamed => {
+            Some(id) => self.number(rest, id, place),
+            None => {
                 let r = self.fresh();
                 note(rest, place, r.number);
                 r
@@ -165,22 +145,18 @@ impl LowerCtx {
         ensures { Pushed self result ops.old ops.new op }
     {
         let k = self.ops;
-        let more = LowerCtx {
-            ops: k + 1,
-            numbers: self.numbers,
-            mapped: self.mapped,
-        };
+        let more = LowerCtx { ops: k + 1, ..self };
         if k >= MAX_STORED {
             return more;
         }
-        let at = k * OP_WORDS;
-        ops[at + op::KIND_WORD] = op.kind;
-        ops[at + op::IDX_WORD] = op.idx;
-        ops[at + op::INPUT_WORD] = op.input;
-        ops[at + op::X_WORD] = op.x;
-        ops[at + op::Y_WORD] = op.y;
-        ops[at + op::LEFT_WORD] = op.left;
-        ops[at + op::BASE_WORD] = op.base;
+        let words = &mut ops[k * OP_WORDS..];
+        words[op::KIND_WORD] = op.kind;
+        words[op::IDX_WORD] = op.idx;
+        words[op::INPUT_WORD] = op.input;
+        words[op::X_WORD] = op.x;
+        words[op::Y_WORD] = op.y;
+        words[op::LEFT_WORD] = op.left;
+        words[op::BASE_WORD] = op.base;
         more
     }
 }

@@ -20,13 +20,13 @@
 // PROCEDURE_CALL  its clause         input   whether it has one    -                  of its arguments
 //
 // left is how deep the trees of its records may be, base where the notes of their pass begin.
-ghost use Rattle.std.specs.Prelude.{◌≡◌, ◌+◌, ◌*◌, ◌<◌, ◌≤◌, length, get_or};
+ghost use Rattle.std.specs.Prelude.{◌≡◌, ◌<◌, ◌≤◌, length};
 ghost use Rattle.model.specs.Call.{work_words};
 ghost use Rattle.words.specs.Words.{two32};
-ghost use Rattle.context.specs.Tables.{op_at, max_stored, op_words};
-ghost use Rattle.context.specs.Ops.{Fits, Under, source_all_op, source_no_parts_op, source_op, filter_op, expand_op, shortest_path_op, bind_path_op, optional_join_op, with_op, project_op, aggregate_op, order_by_op, skip_op, limit_op, distinct_op, unwind_op, union_op, procedure_call_op, call_input};
+ghost use Rattle.context.specs.Tables.{op_at, max_stored};
+ghost use Rattle.context.specs.Ops.{Fits, Under, op_over, op_alone, source_op, expand_op, shortest_path_op, bind_path_op, optional_join_op, aggregate_op, order_by_op, distinct_op, unwind_op, union_op, procedure_call_op, call_input};
 
-use crate::{At, Before, OP_WORDS};
+use crate::{At, OP_WORDS};
 
 // Where the words of an operator stand among its eight; the first is free.
 pub const KIND_WORD: usize = 1;
@@ -79,7 +79,7 @@ pub const UNION: u32 = 16;
 
 pub const PROCEDURE_CALL: u32 = 17;
 
-#[derive(Clone, Copy)]
+#[derive(Clone, Copy, Debug, PartialEq, Eq)]
 pub struct Op {
     pub kind: u32,
     pub idx: u32,
@@ -90,303 +90,143 @@ pub struct Op {
     pub base: u32,
 }
 
-// One constructor a kind.
-pub fn source_all(bind: u32) -> Op
-    ensures { result ≡ source_all_op bind }
-{
-    Op {
-        kind: SOURCE_ALL,
-        idx: 0,
-        input: 0,
-        x: bind,
-        y: 0,
-        left: 0,
-        base: 0,
+impl Op {
+    // An operator over records at a place.
+    fn at_place(kind: u32, at: At, input: u32, x: u32, y: u32) -> Op
+        requires { Fits at }
+        ensures { result ≡ op_over kind at input x y }
+    {
+        Op {
+            kind,
+            idx: at.i as u32,
+            input,
+            x,
+            y,
+            left: at.left as u32,
+            base: at.base as u32,
+        }
+    }
+
+    // An operator at a record, which reads nothing below it.
+    fn at_record(kind: u32, idx: u32, input: u32, x: u32, y: u32) -> Op
+        ensures { result ≡ op_alone kind idx input x y }
+    {
+        Op {
+            kind,
+            idx,
+            input,
+            x,
+            y,
+            left: 0,
+            base: 0,
+        }
     }
 }
 
-pub fn source_no_parts(bind: u32) -> Op
-    ensures { result ≡ source_no_parts_op bind }
+// SOURCE_ALL or SOURCE_NO_PARTS.
+pub fn binding(kind: u32, bind: u32) -> Op
+    ensures { result ≡ op_alone kind 0 0 bind 0 }
 {
-    Op {
-        kind: SOURCE_NO_PARTS,
-        idx: 0,
-        input: 0,
-        x: bind,
-        y: 0,
-        left: 0,
-        base: 0,
-    }
+    Op::at_record(kind, 0, 0, bind, 0)
 }
 
+// FILTER, WITH, PROJECT, SKIP or LIMIT.
+pub fn over(kind: u32, at: At, input: usize) -> Op
+    requires { Fits at × (input < two32) }
+    ensures { result ≡ op_over kind at input 0 0 }
+{
+    Op::at_place(kind, at, input as u32, 0, 0)
+}
+
+// The other kinds have a constructor each: what X_WORD and Y_WORD hold has its own name and type there.
 pub fn source(at: At, bind: u32) -> Op
     requires { Fits at }
     ensures { result ≡ source_op at bind }
 {
-    Op {
-        kind: SOURCE,
-        idx: at.i as u32,
-        input: 0,
-        x: bind,
-        y: 0,
-        left: at.left as u32,
-        base: at.base as u32,
-    }
-}
-
-pub fn filter(at: At, input: usize) -> Op
-    requires { Fits at × (input < two32) }
-    ensures { result ≡ filter_op at input }
-{
-    Op {
-        kind: FILTER,
-        idx: at.i as u32,
-        input: input as u32,
-        x: 0,
-        y: 0,
-        left: at.left as u32,
-        base: at.base as u32,
-    }
+    Op::at_place(SOURCE, at, 0, bind, 0)
 }
 
 pub fn expand(at: At, input: usize, from: u32, far: usize) -> Op
     requires { Fits at × (input < two32) × (far < two32) }
     ensures { result ≡ expand_op at input from far }
 {
-    Op {
-        kind: EXPAND,
-        idx: at.i as u32,
-        input: input as u32,
-        x: from,
-        y: far as u32,
-        left: at.left as u32,
-        base: at.base as u32,
-    }
+    Op::at_place(EXPAND, at, input as u32, from, far as u32)
 }
 
 pub fn shortest_path(at: At, input: usize, rel: usize, far: usize) -> Op
     requires { Fits at × (input < two32) × (rel < two32) × (far < two32) }
     ensures { result ≡ shortest_path_op at input rel far }
 {
-    Op {
-        kind: SHORTEST_PATH,
-        idx: at.i as u32,
-        input: input as u32,
-        x: rel as u32,
-        y: far as u32,
-        left: at.left as u32,
-        base: at.base as u32,
-    }
+    Op::at_place(SHORTEST_PATH, at, input as u32, rel as u32, far as u32)
 }
 
 pub fn bind_path(at: At, input: usize, count: u32, bind: u32) -> Op
     requires { Fits at × (input < two32) }
     ensures { result ≡ bind_path_op at input count bind }
 {
-    Op {
-        kind: BIND_PATH,
-        idx: at.i as u32,
-        input: input as u32,
-        x: count,
-        y: bind,
-        left: at.left as u32,
-        base: at.base as u32,
-    }
+    Op::at_place(BIND_PATH, at, input as u32, count, bind)
 }
 
 pub fn optional_join(i: usize, input: usize, inner: usize) -> Op
     requires { (i < two32) × (input < two32) × (inner < two32) }
     ensures { result ≡ optional_join_op i input inner }
 {
-    Op {
-        kind: OPTIONAL_JOIN,
-        idx: i as u32,
-        input: input as u32,
-        x: inner as u32,
-        y: 0,
-        left: 0,
-        base: 0,
-    }
-}
-
-pub fn with(at: At, input: usize) -> Op
-    requires { Fits at × (input < two32) }
-    ensures { result ≡ with_op at input }
-{
-    Op {
-        kind: WITH,
-        idx: at.i as u32,
-        input: input as u32,
-        x: 0,
-        y: 0,
-        left: at.left as u32,
-        base: at.base as u32,
-    }
-}
-
-pub fn project(at: At, input: usize) -> Op
-    requires { Fits at × (input < two32) }
-    ensures { result ≡ project_op at input }
-{
-    Op {
-        kind: PROJECT,
-        idx: at.i as u32,
-        input: input as u32,
-        x: 0,
-        y: 0,
-        left: at.left as u32,
-        base: at.base as u32,
-    }
+    Op::at_record(OPTIONAL_JOIN, i as u32, input as u32, inner as u32, 0)
 }
 
 pub fn aggregate(at: At, input: usize, keys: usize, aggregates: usize) -> Op
     requires { Fits at × (input < two32) × (keys < two32) × (aggregates < two32) }
     ensures { result ≡ aggregate_op at input keys aggregates }
 {
-    Op {
-        kind: AGGREGATE,
-        idx: at.i as u32,
-        input: input as u32,
-        x: keys as u32,
-        y: aggregates as u32,
-        left: at.left as u32,
-        base: at.base as u32,
-    }
+    Op::at_place(AGGREGATE, at, input as u32, keys as u32, aggregates as u32)
 }
 
 pub fn order_by(at: At, input: usize, keys: usize) -> Op
     requires { Fits at × (input < two32) × (keys < two32) }
     ensures { result ≡ order_by_op at input keys }
 {
-    Op {
-        kind: ORDER_BY,
-        idx: at.i as u32,
-        input: input as u32,
-        x: keys as u32,
-        y: 0,
-        left: at.left as u32,
-        base: at.base as u32,
-    }
-}
-
-pub fn skip(at: At, input: usize) -> Op
-    requires { Fits at × (input < two32) }
-    ensures { result ≡ skip_op at input }
-{
-    Op {
-        kind: SKIP,
-        idx: at.i as u32,
-        input: input as u32,
-        x: 0,
-        y: 0,
-        left: at.left as u32,
-        base: at.base as u32,
-    }
-}
-
-pub fn limit(at: At, input: usize) -> Op
-    requires { Fits at × (input < two32) }
-    ensures { result ≡ limit_op at input }
-{
-    Op {
-        kind: LIMIT,
-        idx: at.i as u32,
-        input: input as u32,
-        x: 0,
-        y: 0,
-        left: at.left as u32,
-        base: at.base as u32,
-    }
+    Op::at_place(ORDER_BY, at, input as u32, keys as u32, 0)
 }
 
 pub fn distinct(input: usize) -> Op
     requires { input < two32 }
     ensures { result ≡ distinct_op input }
 {
-    Op {
-        kind: DISTINCT,
-        idx: 0,
-        input: input as u32,
-        x: 0,
-        y: 0,
-        left: 0,
-        base: 0,
-    }
+    Op::at_record(DISTINCT, 0, input as u32, 0, 0)
 }
 
 pub fn unwind(at: At, input: usize, bind: u32) -> Op
     requires { Fits at × (input < two32) }
     ensures { result ≡ unwind_op at input bind }
 {
-    Op {
-        kind: UNWIND,
-        idx: at.i as u32,
-        input: input as u32,
-        x: bind,
-        y: 0,
-        left: at.left as u32,
-        base: at.base as u32,
-    }
+    Op::at_place(UNWIND, at, input as u32, bind, 0)
 }
 
 pub fn union(i: usize, input: usize, right: usize, all: u32) -> Op
     requires { (i < two32) × (input < two32) × (right < two32) }
     ensures { result ≡ union_op i input right all }
 {
-    Op {
-        kind: UNION,
-        idx: i as u32,
-        input: input as u32,
-        x: right as u32,
-        y: all,
-        left: 0,
-        base: 0,
-    }
+    Op::at_record(UNION, i as u32, input as u32, right as u32, all)
 }
 
-pub fn procedure_call(at: At, current: Before) -> Op
+pub fn procedure_call(at: At, current: Option<usize>) -> Op
     requires { Fits at × Under current two32 }
     ensures { result ≡ procedure_call_op at current }
 {
     match current {
-        Before::Nothing => Op {
-            kind: PROCEDURE_CALL,
-            idx: at.i as u32,
-            input: 0,
-            x: 0,
-            y: 0,
-            left: at.left as u32,
-            base: at.base as u32,
-        },
-        Before::Op(input) => Op {
-            kind: PROCEDURE_CALL,
-            idx: at.i as u32,
-            input: input as u32,
-            x: 1,
-            y: 0,
-            left: at.left as u32,
-            base: at.base as u32,
-        },
+        None => Op::at_place(PROCEDURE_CALL, at, 0, 0, 0),
+        Some(input) => Op::at_place(PROCEDURE_CALL, at, input as u32, 1, 0),
     }
 }
 
 // The operator before a stored call, if there is one: what `procedure_call` was given.
-pub fn call_input(w: Op) -> Before
+pub fn call_input(w: Op) -> Option<usize>
     ensures { result ≡ call_input w }
 {
     if w.x == 0 {
-        return Before::Nothing;
+        return None;
     }
-    Before::Op(w.input as usize)
-}
-
-// Word j of operator k.
-fn op_word(ops: &[u32], k: usize, j: usize) -> u32
-    requires k_lt_max_stored { (k < max_stored) × (j < op_words) }
-    requires work_words_in_bounds { work_words ≤ length ops.now }
-    ensures { result ≡ get_or ops.now (k * op_words + j) 0 }
-{
-    ops[k * OP_WORDS + j]
+    Some(w.input as usize)
 }
 
 // Operator k.
@@ -394,20 +234,14 @@ pub fn read_op(ops: &[u32], k: usize) -> Op
     requires { (k < max_stored) × (work_words ≤ length ops.now) }
     ensures { result ≡ op_at ops.now k }
 {
-    let kind = op_word(ops, k, KIND_WORD);
-    let idx = op_word(ops, k, IDX_WORD);
-    let input = op_word(ops, k, INPUT_WORD);
-    let x = op_word(ops, k, X_WORD);
-    let y = op_word(ops, k, Y_WORD);
-    let left = op_word(ops, k, LEFT_WORD);
-    let base = op_word(ops, k, BASE_WORD);
+    let words = &ops[k * OP_WORDS..];
     Op {
-        kind,
-        idx,
-        input,
-        x,
-        y,
-        left,
-        base,
+        kind: words[KIND_WORD],
+        idx: words[IDX_WORD],
+        input: words[INPUT_WORD],
+        x: words[X_WORD],
+        y: words[Y_WORD],
+        left: words[LEFT_WORD],
+        base: words[BASE_WORD],
     }
 }

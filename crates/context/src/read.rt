@@ -7,7 +7,7 @@ ghost use Rattle.context.specs.Read.{note_of};
 use crate::{NAMED_WORDS, NUMBER_WORD, VARS_AT};
 
 // A named variable, and its number.
-#[derive(Clone, Copy)]
+#[derive(Clone, Copy, Debug, PartialEq, Eq)]
 pub struct Named {
     pub id: u32,
     pub number: u32,

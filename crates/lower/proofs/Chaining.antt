@@ -19,17 +19,15 @@ use Rattle.context.specs.Tables.{Pushed, Numbers, second_pass, deepest}
 use Rattle.context.specs.declared.LowerCtx.{LowerCtx}
 use Rattle.context.specs.declared.Numbered.{Numbered}
 use Rattle.words.specs.Cells.{shown}
-use Rattle.context.specs.declared.Before.{Before}
-use Rattle.context.specs.declared.Before.TheVariants as before
-use Rattle.context.specs.Ops.{before_of, Under, Since, bind_path_op, source_all_kind, source_all_op}
+use Rattle.context.specs.Ops.{Under, Since, bind_path_op, source_all_kind, source_all_op}
 use Rattle.lower.specs.Side.{side}
 use Rattle.lower.specs.Shows.{shows_all, shows_path}
 use Rattle.lower.specs.Rep.{at_place, State, Mem, mem, Written, Sub, Blank, Rep, Rooted}
 use Rattle.lower.specs.Pieces.{SomeTree}
 use Rattle.lower.specs.Patterns.{SomeTrees}
 use Rattle.lower.specs.Chains.{last_of, LastUnder, LastSince, steps_of, no_rel_law, SameChain, ChainInBounds, Anchored, passed, ChainedAll, LowersElements, Sourced, OrSource, chain_l, LowersChain, start_chain}
-use Rattle.lower.specs.declared.Last.{Last}
-use Rattle.lower.specs.declared.Last.TheVariants as last
+use Rattle.std.proofs.lemmas.Option.{none-some, same_Some}
+use Rattle.lower.specs.declared.LastNode.{LastNode}
 use Rattle.lower.specs.declared.Chain.{Chain}
 use Rattle.lower.specs.State.{sub_more, sub_within, blank_within, blank_before, back, to_refl, to_then, to_wider, push_to, Given, number_to, upcoming_number}
 use Rattle.words.specs.Fits.{tree_low}
@@ -38,16 +36,12 @@ use Rattle.words.specs.Places.{part_named_at, part_var_at, part_shortest_at, par
 
 -- ── the operator before, or a source of everything ──
 
-number_of : Option ℕ → ℕ → ℕ
-number_of None n = n
-number_of (Some k) n = k
-
-pub source_there : (current : Before) (k : ℕ) (m : Mem) → current ≡ before.Op k → k < m.ctx.ops → OrSource m.ctx.ops (or_source_all (before_of current)) k m m
-unfolding or_source_all ret before_of
+pub source_there : (current : Option ℕ) (k : ℕ) (m : Mem) → current ≡ Some k → k < m.ctx.ops → OrSource m.ctx.ops (or_source_all current) k m m
+unfolding or_source_all ret
 source_there current k m e l = record { grow = le_refl _; few = omega arith; numbers = refl; mapped = refl; rest = refl; in_ops = refl; low = l; run = λ S W s h r. rw e (record { to = to_refl r; root = refl }) }
 
-pub source_new : (current : Before) (m : Mem) (c : LowerCtx) (os : List ℕ) → current ≡ before.Nothing → Pushed m.ctx c m.ops os (source_all_op m.ctx.numbers) → length os ≡ length m.ops → OrSource m.ctx.ops (or_source_all (before_of current)) m.ctx.ops m (mem c os m.rest)
-unfolding or_source_all push_source_all upcoming issue ◌>>=◌ push before_of
+pub source_new : (current : Option ℕ) (m : Mem) (c : LowerCtx) (os : List ℕ) → current ≡ None → Pushed m.ctx c m.ops os (source_all_op m.ctx.numbers) → length os ≡ length m.ops → OrSource m.ctx.ops (or_source_all current) m.ctx.ops m (mem c os m.rest)
+unfolding or_source_all push_source_all upcoming issue ◌>>=◌ push
 source_new current m c os e p lo = record {
   grow = omega (arith, p.count);
   few = omega (arith, p.count);
@@ -63,23 +57,21 @@ source_new current m c os e p lo = record {
 pub source_as : {o o' : Option ℕ} {n k : ℕ} {m m' : Mem} → o ≡ o' → OrSource n (or_source_all o) k m m' → OrSource n (or_source_all o') k m m'
 source_as e p = rw e at p
 
-under_by : (l : Last) (n k : ℕ) → LastUnder l n → Some k ≡ root_of (last_of l) → k < n
-unfolding root_of number_of
-under_by last.Nothing n k u e = let z : k ≡ suc k = ap (λ (o : Option ℕ). number_of o (suc k)) e in absurd (omega arith)
-under_by (last.Op j origin) n k u e = let z : k ≡ j = ap (λ (o : Option ℕ). number_of o 0) e in let y = u.op j origin refl in omega arith
+under_by : (l : Option LastNode) (n k : ℕ) → LastUnder l n → Some k ≡ root_of (last_of l) → k < n
+unfolding root_of
+under_by None n k u e = absurd (none-some k (sym e))
+under_by (Some x) n k u e = let z : k ≡ x.op = same_Some _ _ e in let y = u.op x refl in omega arith
 
-pub root_under : {root : Before} {l : Last} {n : ℕ} → before_of root ≡ root_of (last_of l) → LastUnder l n → Under root n
-unfolding before_of
-root_under {l = l} {n = n} e u = record { op = λ k h. under_by l n k u (rw h at e) }
+pub root_under : {root : Option ℕ} {l : Option LastNode} {n : ℕ} → root ≡ root_of (last_of l) → LastUnder l n → Under root n
+root_under {l = l} {n = n} e u = record { op = λ k h. under_by l n k u (sym h ∙ e) }
 
-since_by : (l : Last) (n k : ℕ) → LastSince l n → Some k ≡ root_of (last_of l) → n ≤ k
-unfolding root_of number_of
-since_by last.Nothing n k u e = let z : k ≡ suc k = ap (λ (o : Option ℕ). number_of o (suc k)) e in absurd (omega arith)
-since_by (last.Op j origin) n k u e = let z : k ≡ j = ap (λ (o : Option ℕ). number_of o 0) e in let y = u.op j origin refl in omega arith
+since_by : (l : Option LastNode) (n k : ℕ) → LastSince l n → Some k ≡ root_of (last_of l) → n ≤ k
+unfolding root_of
+since_by None n k u e = absurd (none-some k (sym e))
+since_by (Some x) n k u e = let z : k ≡ x.op = same_Some _ _ e in let y = u.op x refl in omega arith
 
-pub root_since : {root : Before} {l : Last} {n : ℕ} → before_of root ≡ root_of (last_of l) → LastSince l n → Since root n
-unfolding before_of
-root_since {l = l} {n = n} e u = record { op = λ k h. since_by l n k u (rw h at e) }
+pub root_since : {root : Option ℕ} {l : Option LastNode} {n : ℕ} → root ≡ root_of (last_of l) → LastSince l n → Since root n
+root_since {l = l} {n = n} e u = record { op = λ k h. since_by l n k u (sym h ∙ e) }
 
 -- ── a part, opened ──
 
@@ -109,23 +101,15 @@ some_elements room en x = let v = a_part room x.tree x.held in rw (en ∙ sym v.
 abbrev no_chain : Lower.Chain
 no_chain = record { last = None; pending = None; path = [] }
 
-last_number : Last → ℕ → ℕ
-last_number last.Nothing n = n
-last_number (last.Op k o) n = k
-
-last_apart : {k origin : ℕ} → last.Nothing ≡ last.Op k origin → ⊥
-unfolding last_number
-last_apart {k} e = let z : suc k ≡ k = ap (λ (l : Last). last_number l (suc k)) e in absurd (omega arith)
-
 pub start_bounded : (i : ℕ) (c : LowerCtx) → i + 1 ≤ max_records → ChainInBounds (start_chain i c)
-start_bounded i c l = record { from = le_refl _; next = l; last = record { op = λ k origin e. absurd (last_apart e) }; kept = omega arith }
+start_bounded i c l = record { from = le_refl _; next = l; last = record { op = λ x e. absurd (none-some x e) }; kept = omega arith }
 
 pub start_anchored : (a b : List ℕ) (sheet : Bytes) (d i : ℕ) (c : LowerCtx) → Anchored a b d (start_chain i c)
 start_anchored a b sheet d i c = record { sheet = sheet; pending = None; waiting = no_rel_law refl refl }
 
 -- the last operator of all elements was pushed since
 pub start_since : {a b : List ℕ} {n d base : ℕ} (i : ℕ) {c : LowerCtx} {ch : Chain} {os os' rs rs' : List ℕ} → LowersElements a b n d base (start_chain i c) ch os os' rs rs' → LastSince ch.last c.ops
-start_since i el = el.since _ (le_refl _) (record { op = λ k origin e. absurd (last_apart e) })
+start_since i el = el.since _ (le_refl _) (record { op = λ x e. absurd (none-some x e) })
 
 start_same : (sheet : Bytes) (a b : List ℕ) (d i : ℕ) (c : LowerCtx) → SameChain sheet a b d (start_chain i c) no_chain
 start_same sheet a b d i c = record { last = refl; waiting = no_rel_law refl refl; kept = refl }

@@ -26,11 +26,10 @@ use Rattle.lower.specs.Shows.{shift}
 use Rattle.lower.specs.Rep.{at_place, State, Mem, mem, Written, Sub, Blank, Rep, Moved}
 use Rattle.lower.specs.Pieces.{SomeTree, LowersExprs}
 use Rattle.lower.specs.Chains.{last_of, ReadAt, has_last, pending_line, from_of, from, LastUnder, LastSince, step_of, Waiting, no_rel_law, a_rel, SameChain, ChainInBounds, Anchored, Chained, LowersElement, start_l, LowersStart, StartsAnew}
-use Rattle.lower.specs.declared.Last.{Last}
-use Rattle.lower.specs.declared.Last.TheVariants as last
-use Rattle.lower.specs.declared.Pending.{Pending}
+use Rattle.std.proofs.lemmas.Option.{none-some, same_Some}
+use Rattle.lower.specs.declared.LastNode.{LastNode}
+use Rattle.lower.specs.declared.PendingRel.{PendingRel}
 use Rattle.lower.specs.declared.Read.{Read}
-use Rattle.lower.specs.declared.Pending.TheVariants as pending
 use Rattle.lower.specs.declared.Chain.{Chain}
 use Rattle.lower.specs.State.{sub_more, sub_within, blank_within, blank_behind, back, to_refl, to_then, to_wider, Given, number_to}
 use Rattle.words.specs.Fits.{tree_fits}
@@ -65,11 +64,11 @@ module _ {a b : List ℕ} (room : Roomy a b) (sheet : Bytes) (d i : ℕ) (N : No
 -- ── a rel ──
 
 abbrev pub rel_chain : Chain → ℕ → Read → Chain
-rel_chain ch stop x = record { next = stop; ctx = ch.ctx; last = ch.last; pending = pending.Rel ch.next x; kept = ch.kept }
+rel_chain ch stop x = record { next = stop; ctx = ch.ctx; last = ch.last; pending = Some (record { i = ch.next; read = x }); kept = ch.kept }
 
 module _ {a b : List ℕ} (d base : ℕ) (ch : Chain) (stop : ℕ) (os rs : List ℕ) (room : Roomy a b) (st : ChainInBounds ch) (is_rel_law : cell a b ch.next kind_at ≡ rel_kind) (en : Ends a b ch.next stop) {x : Read} (rd : ReadAt a b ch.next rel_props_at x) where
   rel_same : (sheet : Bytes) (t : Tree pattern_element) → Held sheet a b t d ch.next → (c : Lower.Chain) → SameChain sheet a b d ch c → (r : RelStep) → step_of t ≡ of_rel r → SameChain sheet a b d (rel_chain ch stop x) (record { last = c.last; pending = Some r; path = c.path })
-  rel_same sheet t hd c l r e = record { last = l.last; waiting = a_rel ch.next x refl rd t r hd e (en.each sheet pattern_element d t hd) refl; kept = l.kept }
+  rel_same sheet t hd c l r e = record { last = l.last; waiting = a_rel (record { i = ch.next; read = x }) refl rd t r hd e (en.each sheet pattern_element d t hd) refl; kept = l.kept }
 
   rel_run : (sheet : Bytes) {first : ℕ} (t : Tree pattern_element) → Held sheet a b t d ch.next → (W : Written) (s : State) (c : Lower.Chain) → Rep (side sheet a b first) W s (mem ch.ctx os rs) → SameChain sheet a b d ch c → Chained (side sheet a b first) W d base ch (rel_chain ch stop x) t (step_of t) c s (mem ch.ctx os rs) (mem ch.ctx os rs)
   unfolding lower_element ret
@@ -90,7 +89,7 @@ module _ {a b : List ℕ} (d base : ℕ) (ch : Chain) (stop : ℕ) (os rs : List
       record {
         moved = moved_within (le_refl _) st.from st.next (moved_refl (let q = st.from in let q' = st.next in omega arith));
         bounded = record { from = omega arith; next = omega arith; last = st.last; kept = omega arith };
-        anchored = record { sheet = y.sheet; pending = Some _; waiting = a_rel ch.next x refl rd y.tree _ y.held (Elements.a_rel room y.tree y.held is_rel_law).step z refl };
+        anchored = record { sheet = y.sheet; pending = Some _; waiting = a_rel (record { i = ch.next; read = x }) refl rd y.tree _ y.held (Elements.a_rel room y.tree y.held is_rel_law).step z refl };
         ahead = omega arith;
         since = λ n l h. h;
         next = λ sheet t hd. en.each sheet pattern_element d t hd;
@@ -100,57 +99,37 @@ module _ {a b : List ℕ} (d base : ℕ) (ch : Chain) (stop : ℕ) (os rs : List
 -- ── a node that starts ──
 
 abbrev pub node_chain : Chain → (next : ℕ) → LowerCtx → (k origin more : ℕ) → Chain
-node_chain ch next c k origin more = record { next = next; ctx = c; last = last.Op k origin; pending = pending.Nothing; kept = ch.kept + more }
-
-pending_apart : {i : ℕ} {x : Read} → pending.Nothing ≡ pending.Rel i x → ⊥
-pending_apart {i} e = let z : suc i ≡ i = ap (λ (p : Pending). from_of p (suc i)) e in absurd (omega arith)
-
-same_rel : {i j : ℕ} {x y : Read} → pending.Rel i x ≡ pending.Rel j y → i ≡ j
-same_rel e = ap (λ (p : Pending). from_of p 0) e
-
-read_or : Pending → Read → Read
-read_or pending.Nothing x = x
-read_or (pending.Rel i x) y = x
-
-same_read : {i j : ℕ} {x y : Read} → pending.Rel i x ≡ pending.Rel j y → x ≡ y
-unfolding read_or
-same_read {x = x} e = ap (λ (p : Pending). read_or p x) e
-
-op_or : Last → ℕ
-op_or last.Nothing = 0
-op_or (last.Op k n) = k
+node_chain ch next c k origin more = record { next = next; ctx = c; last = Some (record { op = k; number = origin }); pending = None; kept = ch.kept + more }
 
 -- the operator of a node
-op_under : {k n m : ℕ} → k < m → LastUnder (last.Op k n) m
-unfolding op_or
-op_under {k} l = record { op = λ j o e. (let z : k ≡ j = ap op_or e in omega arith) }
+op_under : {k n m : ℕ} → k < m → LastUnder (Some (record { op = k; number = n })) m
+op_under {k} l = record { op = λ x e. (let z : k ≡ x.op = ap (λ (y : LastNode). y.op) (same_Some _ _ e) in omega arith) }
 
-op_since : {k n m : ℕ} → m ≤ k → LastSince (last.Op k n) m
-unfolding op_or
-op_since {k} l = record { op = λ j o e. (let z : k ≡ j = ap op_or e in omega arith) }
+op_since : {k n m : ℕ} → m ≤ k → LastSince (Some (record { op = k; number = n })) m
+op_since {k} l = record { op = λ x e. (let z : k ≡ x.op = ap (λ (y : LastNode). y.op) (same_Some _ _ e) in omega arith) }
 
 -- the rel that waits, at its record
-pub record RelWaits (sheet : Bytes) (a b : List ℕ) (d : ℕ) (ch : Chain) (rel : ℕ) (x : Read) (o : Option RelStep) : Type 0 where
-  pub read : ReadAt a b rel rel_props_at x
+pub record RelWaits (sheet : Bytes) (a b : List ℕ) (d : ℕ) (ch : Chain) (rel : PendingRel) (o : Option RelStep) : Type 0 where
+  pub read : ReadAt a b rel.i rel_props_at rel.read
   pub tree : Tree pattern_element
   pub step : RelStep
-  pub held : Held sheet a b tree d rel
+  pub held : Held sheet a b tree d rel.i
   pub is : step_of tree ≡ of_rel step
-  pub ends : ch.next ≡ rel + size tree
+  pub ends : ch.next ≡ rel.i + size tree
   pub there : o ≡ Some step
 
-pub rel_waits : {sheet : Bytes} {a b : List ℕ} {d : ℕ} {ch : Chain} {rel : ℕ} {x : Read} {o : Option RelStep} → ch.pending ≡ pending.Rel rel x → Waiting sheet a b d ch o → RelWaits sheet a b d ch rel x o
-rel_waits h (no_rel_law w e) = absurd (pending_apart (sym w ∙ h))
-rel_waits h (a_rel i y w rd t r hd st nx e) = let z = same_rel (sym w ∙ h) in let z' = same_read (sym w ∙ h) in record { read = rw (z, z') at rd; tree = t; step = r; held = rw z at hd; is = st; ends = rw z at nx; there = e }
+pub rel_waits : {sheet : Bytes} {a b : List ℕ} {d : ℕ} {ch : Chain} {rel : PendingRel} {o : Option RelStep} → ch.pending ≡ Some rel → Waiting sheet a b d ch o → RelWaits sheet a b d ch rel o
+rel_waits h (no_rel_law w e) = absurd (none-some _ (sym w ∙ h))
+rel_waits {rel = rel} h (a_rel q w rd t r hd st nx e) = let z : q ≡ rel = same_Some _ _ (sym w ∙ h) in record { read = rw z at rd; tree = t; step = r; held = rw z at hd; is = st; ends = rw z at nx; there = e }
 
 no_last_law : (c : Lower.Chain) (n : NodeStep) (k : ℕ) (o : Option RelStep) → reach c n k o None ≡ start_node c n k
 unfolding reach
 no_last_law c n k None = refl
 no_last_law c n k (Some r) = refl
 
-nothing_waits : {sheet : Bytes} {a b : List ℕ} {d : ℕ} {ch : Chain} {o : Option RelStep} → ch.pending ≡ pending.Nothing → Waiting sheet a b d ch o → o ≡ None
+nothing_waits : {sheet : Bytes} {a b : List ℕ} {d : ℕ} {ch : Chain} {o : Option RelStep} → ch.pending ≡ None → Waiting sheet a b d ch o → o ≡ None
 nothing_waits h (no_rel_law w e) = e
-nothing_waits h (a_rel i y w rd t r hd st nx e) = absurd (pending_apart (sym h ∙ w))
+nothing_waits h (a_rel q w rd t r hd st nx e) = absurd (none-some _ (sym h ∙ w))
 
 starts_def : {sheet : Bytes} {a b : List ℕ} {d : ℕ} {ch : Chain} (c : Lower.Chain) (n : NodeStep) (k : ℕ) → StartsAnew ch → SameChain sheet a b d ch c → reach c n k c.pending c.last ≡ start_node c n k
 unfolding reach
@@ -176,9 +155,9 @@ path_one p cp rest K kr x y ep eK ek ey = rw (ep, eK, ek, ey) (append_assoc cp (
 path_two : (p cp rest K kr : List ℕ) (x x' y y' : ℕ) → p ≡ cp ++ (x ∷ y ∷ []) → K ≡ kr ++ (y' ∷ rest) → kr ≡ x' ∷ [] → x' ≡ x → y' ≡ y → p ++ rest ≡ cp ++ K
 path_two p cp rest K kr x x' y y' ep eK ek ex ey = rw (ep, eK, ek, ex, ey) (append_assoc cp (x ∷ y ∷ []) rest)
 
-kept_one : (N : Notes) (l : Last) (p : Pending) (k n rel : ℕ) (x : Read) → l ≡ last.Op k n → p ≡ pending.Rel rel x → kept_rel N (has_last l) (pending_line p) ≡ N (suc rel) ∷ []
+kept_one : (N : Notes) (l : Option LastNode) (p : Option PendingRel) (x : LastNode) (rel : PendingRel) → l ≡ Some x → p ≡ Some rel → kept_rel N (has_last l) (pending_line p) ≡ N (suc rel.i) ∷ []
 unfolding kept_rel
-kept_one N l p k n rel x el ep = rw (el, ep)
+kept_one N l p x rel el ep = rw (el, ep)
 
 abbrev started : Lower.Chain → ℕ → ℕ → Lower.Chain
 started c k x = record { last = Some (k, x); pending = None; path = c.path ++ (x ∷ []) }
@@ -265,27 +244,27 @@ unfolding Held element_number fold made element_step
 rel_kind_law room sheet d i (node pattern_element line PatternElement.Node (bind, (n, (p, (span, u)))) (names ▸ props ▸ end)) r hd e = absurd (step_apart e)
 rel_kind_law room sheet d i (node pattern_element line PatternElement.Rel f kids) r hd e = element_number_law room hd.1
 
-module _ {a b : List ℕ} (d base : ℕ) (ch : Chain) {between : Read} {rel input origin e₁ e₂ n₁ n₂ p₁ p₂ : ℕ} {os rest rest₁ rest₂ : List ℕ} {r₁ r₂ : Numbered} {m₃ m₄ : Mem} {c₅ : LowerCtx} {os₅ : List ℕ}
-    (room : Roomy a b) (lb : base ≤ second_pass) (sh : d ≤ deepest) (st : ChainInBounds ch) (w1 : ch.pending ≡ pending.Rel rel between) (h1 : ch.last ≡ last.Op input origin)
+module _ {a b : List ℕ} (d base : ℕ) (ch : Chain) {rel : PendingRel} {origin : LastNode} {e₁ e₂ n₁ n₂ p₁ p₂ : ℕ} {os rest rest₁ rest₂ : List ℕ} {r₁ r₂ : Numbered} {m₃ m₄ : Mem} {c₅ : LowerCtx} {os₅ : List ℕ}
+    (room : Roomy a b) (lb : base ≤ second_pass) (sh : d ≤ deepest) (st : ChainInBounds ch) (w1 : ch.pending ≡ Some rel) (h1 : ch.last ≡ Some origin)
     (is_node_law : cell a b ch.next kind_at ≡ node_kind) (la : ch.next < max_records) (ep₁ : p₁ ≡ base + (ch.next + 1)) (nm₁ : Numbers (endpoint_var (option_of (cell a b ch.next element_named_at)
-    (cell a b ch.next element_var_at))) p₁ ch.ctx rest rest₁ r₁) (lr₁ : length rest₁ ≡ length rest) (ep₂ : p₂ ≡ base + (rel + 1))
-    (nm₂ : Numbers (endpoint_var (option_of (cell a b rel element_named_at) (cell a b rel element_var_at))) p₂ r₁.ctx rest₁ rest₂ r₂) (lr₂ : length rest₂ ≡ length rest₁)
-    (en₁ : n₁ ≡ cell a b rel rel_props_at) (x₁ : LowersExprs a b n₁ 0 (d - 1) base (rel + 1 + cell a b rel rel_types_at) e₁ (mem r₂.ctx os rest₂) m₃)
+    (cell a b ch.next element_var_at))) p₁ ch.ctx rest rest₁ r₁) (lr₁ : length rest₁ ≡ length rest) (ep₂ : p₂ ≡ base + (rel.i + 1))
+    (nm₂ : Numbers (endpoint_var (option_of (cell a b rel.i element_named_at) (cell a b rel.i element_var_at))) p₂ r₁.ctx rest₁ rest₂ r₂) (lr₂ : length rest₂ ≡ length rest₁)
+    (en₁ : n₁ ≡ cell a b rel.i rel_props_at) (x₁ : LowersExprs a b n₁ 0 (d - 1) base (rel.i + 1 + cell a b rel.i rel_types_at) e₁ (mem r₂.ctx os rest₂) m₃)
     (en₂ : n₂ ≡ cell a b ch.next node_props_at) (x₂ : LowersExprs a b n₂ 0 (d - 1) base (ch.next + 1 + cell a b ch.next node_labels_at) e₂ m₃ m₄)
-    (pe : Pushed m₄.ctx c₅ m₄.ops os₅ (expand_op (at_place base rel d) input origin ch.next)) (lo : length os₅ ≡ length m₄.ops) where
+    (pe : Pushed m₄.ctx c₅ m₄.ops os₅ (expand_op (at_place base rel.i d) origin.op origin.number ch.next)) (lo : length os₅ ≡ length m₄.ops) where
   abbrev ch'' : Chain
   ch'' = node_chain ch e₂ c₅ m₄.ctx.ops r₁.number 2
 
   -- nothing from the rel on is lowered yet
-  from_is : from ch ≡ rel
-  from_is = ap (λ (p : Pending). from_of p ch.next) w1
+  from_is : from ch ≡ rel.i
+  from_is = ap (λ (p : Option PendingRel). from_of p ch.next) w1
 
   -- the rel that waits is a rel
-  waiting_kind : {sheet : Bytes} {o : Option RelStep} → RelWaits sheet a b d ch rel between o → cell a b rel kind_at ≡ rel_kind
-  waiting_kind {sheet} w = rel_kind_law room sheet d rel w.tree w.step w.held w.is
+  waiting_kind : {sheet : Bytes} {o : Option RelStep} → RelWaits sheet a b d ch rel o → cell a b rel.i kind_at ≡ rel_kind
+  waiting_kind {sheet} w = rel_kind_law room sheet d rel.i w.tree w.step w.held w.is
 
-  expand_end : {sheet : Bytes} {o : Option RelStep} → RelWaits sheet a b d ch rel between o → e₁ ≡ ch.next
-  expand_end {sheet} w = rel_end d base ch.next rel room is_node_law (waiting_kind w) lb sh la ep₁ nm₁ ep₂ nm₂ en₁ x₁ en₂ x₂ pe sheet w.tree w.held ∙ sym w.ends
+  expand_end : {sheet : Bytes} {o : Option RelStep} → RelWaits sheet a b d ch rel o → e₁ ≡ ch.next
+  expand_end {sheet} w = rel_end d base ch.next rel.i room is_node_law (waiting_kind w) lb sh la ep₁ nm₁ ep₂ nm₂ en₁ x₁ en₂ x₂ pe sheet w.tree w.held ∙ sym w.ends
 
   expand_moved : e₁ ≡ ch.next → Moved (from ch) e₂ (mem ch.ctx os rest) (mem c₅ os₅ m₄.rest)
   expand_moved E =
@@ -307,14 +286,14 @@ module _ {a b : List ℕ} (d base : ℕ) (ch : Chain) {between : Read} {rel inpu
       }
 
   expanded_run : (sheet : Bytes) {first : ℕ} (t : Tree pattern_element) → Held sheet a b t d ch.next → (W : Written) (s : State) (c : Lower.Chain) → Rep (side sheet a b first) W s (mem ch.ctx os rest) →
-      SameChain sheet a b d ch c → RelWaits sheet a b d ch rel between c.pending → Blank W (base + suc (from ch)) (base + suc e₂) →
+      SameChain sheet a b d ch c → RelWaits sheet a b d ch rel c.pending → Blank W (base + suc (from ch)) (base + suc e₂) →
       Chained (side sheet a b first) W d base ch ch'' t (step_of t) c s (mem ch.ctx os rest) (mem c₅ os₅ m₄.rest)
   unfolding kept_rel
   expanded_run sheet {first} t hd W s c rp l w bl =
       let v = a_node room t hd is_node_law in
       let fr = from_is in
       let x =
-      expand_run d base ch.next rel room is_node_law (waiting_kind w) lb sh la ep₁ nm₁ ep₂ nm₂ en₁ x₁ en₂ x₂ pe sheet t w.tree _ w.step hd w.held v.step w.is w.ends W s c w.there (l.last ∙ ap last_of h1) rp (rw fr at bl)
+      expand_run d base ch.next rel.i room is_node_law (waiting_kind w) lb sh la ep₁ nm₁ ep₂ nm₂ en₁ x₁ en₂ x₂ pe sheet t w.tree _ w.step hd w.held v.step w.is w.ends W s c w.there (l.last ∙ ap last_of h1) rp (rw fr at bl)
       in
       subst (λ (z : Lower.Step). Chained (side sheet a b first) W d base ch ch'' t z c s (mem ch.ctx os rest) (mem c₅ os₅ m₄.rest)) (sym v.step)
       (record {
@@ -322,7 +301,7 @@ module _ {a b : List ℕ} (d base : ℕ) (ch : Chain) {between : Read} {rel inpu
         same = rw x.is (record { last = ap (λ (z : ℕ). Some (m₄.ctx.ops, z)) (sym x.number); waiting = no_rel_law refl refl; kept = length-append c.path (x.bind_rel ∷ x.bind_to ∷ []) ∙ ap (λ (z : ℕ). z + 2) l.kept });
         path = λ N A f ts.
             (let y = x.notes N A (rw fr at f) in
-            path_two _ c.path _ _ _ _ _ _ _ (ap (λ (z : Lower.Chain). z.path) x.is) (kept_node room sheet d ch.next (shift N base) (has_last ch.last) (pending_line ch.pending) ts t hd is_node_law) (kept_one (shift N base) ch.last ch.pending input origin rel between h1 w1) y.0 y.1);
+            path_two _ c.path _ _ _ _ _ _ _ (ap (λ (z : Lower.Chain). z.path) x.is) (kept_node room sheet d ch.next (shift N base) (has_last ch.last) (pending_line ch.pending) ts t hd is_node_law) (kept_one (shift N base) ch.last ch.pending origin rel h1 w1) y.0 y.1);
       })
 
   pub expand_law : SomeTree a b pattern_element d ch.next → Anchored a b d ch → LowersElement a b d base ch ch'' os os₅ rest m₄.rest
@@ -338,6 +317,6 @@ module _ {a b : List ℕ} (d base : ℕ) (ch : Chain) {between : Read} {rel inpu
         anchored = record { sheet = x.sheet; pending = None; waiting = no_rel_law refl refl };
         ahead = omega arith;
         since = λ o l h. op_since (omega (arith, nm₁.issued.ops, nm₂.issued.ops, x₁.moved.grow, x₂.moved.grow));
-        next = λ sheet t hd. far_end d base ch.next rel room is_node_law (waiting_kind w) lb sh la ep₁ nm₁ ep₂ nm₂ en₁ x₁ en₂ x₂ pe sheet t hd;
+        next = λ sheet t hd. far_end d base ch.next rel.i room is_node_law (waiting_kind w) lb sh la ep₁ nm₁ ep₂ nm₂ en₁ x₁ en₂ x₂ pe sheet t hd;
         run = λ sheet t hd W s c r l bl. expanded_run sheet t hd W s c r l (rel_waits w1 l.waiting) bl;
       }

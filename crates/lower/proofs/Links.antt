@@ -1,6 +1,6 @@
 -- Elements one after another, and the loop over them. Assumes nothing.
-use mathlib.Core.Path.{◌≡◌, refl, sym, ◌∙◌}
-use Prim.Native.Nat.{ℕ, zero, suc, ◌+◌, ◌-◌}
+use mathlib.Core.Path.{◌≡◌, refl, sym, subst, ◌∙◌}
+use Prim.Native.Nat.{ℕ, suc, ◌+◌, ◌-◌, ◌≤◌, ◌<◌}
 use native.Mathlib.Nat.{le_refl, le_trans}
 use native.Mathlib.Omega.{arith}
 use mathlib.Core.List.{List, ◌∷◌, append-nil}
@@ -89,22 +89,27 @@ behind : {a b : List ℕ} {d base : ℕ} {ch ch₁ : Chain} {os os₁ rs rs₁ :
 unfolding Held
 behind sheet (t ∷ᵗ ts) p hd = record { sheet = sheet; trees = ts; held = rw (p.next sheet t hd.0) hd.1 }
 
+-- of n, x are lowered
 module _ {a b : List ℕ} {d base : ℕ} {Done : Chain → List ℕ → List ℕ → Type 0} where
-  pub child : {k : ℕ} {ch : Chain} {os rs : List ℕ} → ((k ≡ 0) → ⊥) → Remaining a b d base Done k ch os rs → SomeTree a b pattern_element d ch.next
-  child {ch = ch} h p = child_by ch.next p.some.sheet p.some.trees h p.some.held
+  pub begun : {n : ℕ} {ch : Chain} {os rs : List ℕ} → Remaining a b d base Done n ch os rs → Remaining a b d base Done (n - 0) ch os rs
+  begun {n} {ch} {os} {rs} p = let e : n ≡ n - 0 = omega arith in subst (λ (k : ℕ). Remaining a b d base Done k ch os rs) e p
 
-  less : {k : ℕ} {ch : Chain} {os rs : List ℕ} → Remaining a b d base Done k ch os rs → Remaining a b d base Done (suc k - 1) ch os rs
-  less {k} p = let e : suc k - 1 ≡ k = omega arith in rw e p
+  pub child : {n x : ℕ} {ch : Chain} {os rs : List ℕ} → x < n → Remaining a b d base Done (n - x) ch os rs → SomeTree a b pattern_element d ch.next
+  child {n} {x} {ch} l p = child_by ch.next p.some.sheet p.some.trees (λ (z : n - x ≡ 0). absurd (omega arith)) p.some.held
 
-  pub again : {k : ℕ} {ch ch₁ : Chain} {os os₁ rs rs₁ : List ℕ} → ((k ≡ 0) → ⊥) → Remaining a b d base Done k ch os rs → LowersElement a b d base ch ch₁ os os₁ rs rs₁ → Remaining a b d base Done (k - 1) ch₁ os₁ rs₁
-  again {k = zero} h p q = absurd (h refl)
-  again {k = suc k} h p q = less (record {
-    some = behind p.some.sheet p.some.trees q p.some.held;
-    room_for = room_after q.moved p.room_for;
-    bounded = q.bounded;
-    anchored = q.anchored;
-    finish = λ ch' os' rs' r. p.finish ch' os' rs' (more_law p.bounded q r);
-  })
+  again_by : {k k' : ℕ} {ch ch₁ : Chain} {os os₁ rs rs₁ : List ℕ} → k ≡ suc k' → Remaining a b d base Done k ch os rs → LowersElement a b d base ch ch₁ os os₁ rs rs₁ → Remaining a b d base Done k' ch₁ os₁ rs₁
+  again_by {k' = k'} {ch = ch} {os = os} {rs = rs} e p q =
+      let p' : Remaining a b d base Done (suc k') ch os rs = subst (λ (k : ℕ). Remaining a b d base Done k ch os rs) e p in
+      record {
+        some = behind p'.some.sheet p'.some.trees q p'.some.held;
+        room_for = room_after q.moved p'.room_for;
+        bounded = q.bounded;
+        anchored = q.anchored;
+        finish = λ ch' os' rs' r. p'.finish ch' os' rs' (more_law p'.bounded q r);
+      }
 
-  pub done : {k : ℕ} {ch : Chain} {os rs : List ℕ} → k ≡ 0 → Remaining a b d base Done k ch os rs → Done ch os rs
-  done {k} {ch} {os} {rs} h p = p.finish ch os rs (rw h (none_law d base ch os rs p.bounded p.anchored))
+  pub again : {n x : ℕ} {ch ch₁ : Chain} {os os₁ rs rs₁ : List ℕ} → x < n → Remaining a b d base Done (n - x) ch os rs → LowersElement a b d base ch ch₁ os os₁ rs rs₁ → Remaining a b d base Done (n - (x + 1)) ch₁ os₁ rs₁
+  again {n} {x} l p q = again_by {k = n - x} {k' = n - (x + 1)} (omega arith) p q
+
+  pub done : {n x : ℕ} {ch : Chain} {os rs : List ℕ} → n ≤ x → Remaining a b d base Done (n - x) ch os rs → Done ch os rs
+  done {n} {x} {ch} {os} {rs} l p = let e : n - x ≡ 0 = omega arith in p.finish ch os rs (rw e (none_law d base ch os rs p.bounded p.anchored))

@@ -1,5 +1,5 @@
 -- Parts one after another: the last one's root counts; and no parts. Assumes nothing.
-use mathlib.Core.Path.{◌≡◌, refl, sym, ap, ◌∙◌}
+use mathlib.Core.Path.{◌≡◌, refl, sym, ap, subst, ◌∙◌}
 use Prim.Native.Nat.{ℕ, zero, suc, ◌+◌, ◌-◌, ◌≤◌, ◌<◌}
 use native.Mathlib.Nat.{le_refl}
 use native.Mathlib.Omega.{arith}
@@ -147,16 +147,21 @@ pub some_behind : {a b : List ℕ} {k d base i j k₁ : ℕ} {m m₁ : Mem} → 
 some_behind {k = zero} h x p = absurd (h refl)
 some_behind {k = suc k} h x p = let e : suc k - 1 ≡ k = omega arith in rw e (behind x.sheet x.trees p x.held)
 
+-- of n, x are lowered
 module _ {a b : List ℕ} {d base : ℕ} {Done : ℕ → ℕ → Mem → Type 0} where
-  less : {k i root : ℕ} {m : Mem} → Remaining a b d base Done k i root m → Remaining a b d base Done (suc k - 1) i root m
-  less {k} p = let e : suc k - 1 ≡ k = omega arith in rw e p
+  pub child : {n x i root : ℕ} {m : Mem} → x < n → Remaining a b d base Done (n - x) i root m → SomeTree a b pattern_part d i
+  child {n} {x} l p = some_child (λ (z : n - x ≡ 0). absurd (omega arith)) p.some
 
-  pub again : {k i j root k₁ : ℕ} {m m₁ : Mem} → ((k ≡ 0) → ⊥) → Remaining a b d base Done k i root m → LowersPart a b d base i j k₁ m m₁ → Remaining a b d base Done (k - 1) j k₁ m₁
-  again {k = zero} h p q = absurd (h refl)
-  again {k = suc k} {root = root} h p q = less (record { some = behind p.some.sheet p.some.trees q p.some.held; room_for = room_after q.moved p.room_for; low = q.low; finish = λ e k' m' r. p.finish e k' m' (from_cons root q r) })
+  again_by : {k k' i j root k₁ : ℕ} {m m₁ : Mem} → k ≡ suc k' → Remaining a b d base Done k i root m → LowersPart a b d base i j k₁ m m₁ → Remaining a b d base Done k' j k₁ m₁
+  again_by {k' = k'} {i = i} {root = root} {m = m} e p q =
+      let p' : Remaining a b d base Done (suc k') i root m = subst (λ (k : ℕ). Remaining a b d base Done k i root m) e p in
+      record { some = behind p'.some.sheet p'.some.trees q p'.some.held; room_for = room_after q.moved p'.room_for; low = q.low; finish = λ e k' m' r. p'.finish e k' m' (from_cons root q r) }
 
-  pub done : {k i root : ℕ} {m : Mem} → k ≡ 0 → Remaining a b d base Done k i root m → Done i root m
-  done {k} {i} {root} {m} h p = p.finish i root m (rw h (from_nil a b d base i root m p.room_for.here p.low))
+  pub again : {n x i j root k₁ : ℕ} {m m₁ : Mem} → x < n → Remaining a b d base Done (n - x) i root m → LowersPart a b d base i j k₁ m m₁ → Remaining a b d base Done (n - (x + 1)) j k₁ m₁
+  again {n} {x} l p q = again_by {k = n - x} {k' = n - (x + 1)} (omega arith) p q
+
+  pub done : {n x i root : ℕ} {m : Mem} → n ≤ x → Remaining a b d base Done (n - x) i root m → Done i root m
+  done {n} {x} {i} {root} {m} l p = let e : n - x ≡ 0 = omega arith in p.finish i root m (rw e (from_nil a b d base i root m p.room_for.here p.low))
 
 -- the first part and the loop behind it
 pub first_done : {a b : List ℕ} {n d base j e k₁ k : ℕ} {m m₁ m₂ : Mem} (i : ℕ) → ((n ≡ 0) → ⊥) → LowersPart a b d base (i + 1) j k₁ m m₁ → LowersFurther a b (n - 1) d base j e k₁ k m₁ m₂ → LowersParts a b n d base i e k m m₂

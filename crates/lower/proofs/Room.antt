@@ -15,9 +15,8 @@ use Rattle.lower.specs.Carry.{plain_c, plain_held, plain_size}
 use Rattle.lower.proofs.Elements.{a_node, other_element}
 use Rattle.lower.proofs.Elements
 use Rattle.lower.proofs.Linking.{rel_kind_law, rel_waits}
-use Rattle.lower.specs.declared.Pending.{Pending}
-use Rattle.lower.specs.declared.Read.{Read}
-use Rattle.lower.specs.declared.Pending.TheVariants as pending
+use Rattle.std.specs.Prelude.{Option, Some}
+use Rattle.lower.specs.declared.PendingRel.{PendingRel}
 use Rattle.model.specs.Record.{one}
 use Rattle.words.specs.Count.{Ends}
 use Rattle.lower.specs.Chains.{from_of, from, ReadAt, LowersRel, LowersStart, OrSource, Anchored}
@@ -56,8 +55,8 @@ pub chain_bounds : {a b : List ℕ} {base left : ℕ} {ch : Chain} {os rs : List
 chain_bounds g = record { low = low g.tree; deep = deep g.tree; shallow = g.depth; near = g.pass }
 
 -- what is asked for a part of what stands at a place
-pub asked_on : {T T' : Type 0} {a b : List ℕ} {at : At} {d : ℕ} {m m' : Mem} (i d' e : ℕ) → Asked T a b at d m → d' ≤ at.left → T' → RoomFor e i m' → Asked T' a b (at_place at.base i d') e m'
-asked_on i d' e g l t r = record { words = g.words; tree = t; room = r; depth = (let h = g.depth in omega arith); pass = g.pass }
+pub asked_on : {T T' : Type 0} {at : At} {d : ℕ} {m m' : Mem} (i d' e : ℕ) → Asked T at d m → d' ≤ at.left → T' → RoomFor e i m' → Asked T' (at_place at.base i d') e m'
+asked_on i d' e g l t r = record { tree = t; room = r; depth = (let h = g.depth in omega arith); pass = g.pass }
 
 module _ {d i : ℕ} {c : LowerCtx} {os rs : List ℕ} (g : RoomFor d i (mem c os rs)) where
   pub can_number : (base place j : ℕ) → base ≤ second_pass → j ≤ max_records → place ≡ base + j → CanNumber c place rs
@@ -130,23 +129,23 @@ module _ {o : ℕ} {L : Lowering ℕ} {k d i : ℕ} {c c' : LowerCtx} {os os' rs
   source_few = (let x = g.few in let y = g.here in let z = q.few in omega arith, let x = g.few in let y = g.here in let z = q.few in let w = q.low in omega arith)
 
 -- the rel that waits
-module _ {a b : List ℕ} {d : ℕ} {ch : Chain} {rel : ℕ} {between : Read} (room : Roomy a b) (w1 : ch.pending ≡ pending.Rel rel between) (x : Anchored a b d ch) where
-  pub waiting_read : ReadAt a b rel rel_props_at between
+module _ {a b : List ℕ} {d : ℕ} {ch : Chain} {rel : PendingRel} (room : Roomy a b) (w1 : ch.pending ≡ Some rel) (x : Anchored a b d ch) where
+  pub waiting_read : ReadAt a b rel.i rel_props_at rel.read
   waiting_read = (rel_waits w1 x.waiting).read
 
-  pub waiting_rel : SomeElement a b rel_kind d rel
+  pub waiting_rel : SomeElement a b rel_kind d rel.i
   waiting_rel =
       let w = rel_waits w1 x.waiting in
-      record { tree = record { sheet = x.sheet; tree = w.tree; held = w.held }; is = rel_kind_law room x.sheet d rel w.tree w.step w.held w.is }
+      record { tree = record { sheet = x.sheet; tree = w.tree; held = w.held }; is = rel_kind_law room x.sheet d rel.i w.tree w.step w.held w.is }
 
-  pub waiting_end : {base e : ℕ} {c : LowerCtx} {os rest : List ℕ} {m' : Mem} → LowersRel a b d base rel e c os rest m' → e ≡ ch.next
+  pub waiting_end : {base e : ℕ} {c : LowerCtx} {os rest : List ℕ} {m' : Mem} → LowersRel a b d base rel.i e c os rest m' → e ≡ ch.next
   waiting_end p =
       let w = rel_waits w1 x.waiting in
-      rel_end room d rel waiting_rel.is p x.sheet w.tree w.held ∙ sym w.ends
+      rel_end room d rel.i waiting_rel.is p x.sheet w.tree w.held ∙ sym w.ends
 
 -- the record from which on nothing is lowered, where a rel waits
-pub from_rel : (ch : Chain) {rel : ℕ} {between : Read} → ch.pending ≡ pending.Rel rel between → from ch ≡ rel
-from_rel ch e = ap (λ (p : Pending). from_of p ch.next) e
+pub from_rel : (ch : Chain) {rel : PendingRel} → ch.pending ≡ Some rel → from ch ≡ rel.i
+from_rel ch e = ap (λ (p : Option PendingRel). from_of p ch.next) e
 
 -- behind a rel
 pub after_rel : {a b : List ℕ} {d base i e : ℕ} {c : LowerCtx} {os rest : List ℕ} {m' : Mem} (j : ℕ) → RoomFor (d - 1) i (mem c os rest) → LowersRel a b d base i e c os rest m' → e ≤ j → j ≤ max_records → RoomFor (d - 1) j m'

@@ -1,7 +1,7 @@
--- What the functions of the lowering ask: long enough slices, a tree where they begin, room for what they push and number, and a depth and a pass within their bounds. Assumes nothing: these are definitions.
-use Rattle.std.specs.Prelude.{◌≡◌, ℕ, ◌+◌, ◌-◌, ◌≤◌, ◌<◌, List}
+-- What the functions of the lowering ask: a tree where they begin, room for what they push and number, and a depth and a pass within their bounds. Assumes nothing: these are definitions.
+use Rattle.std.specs.Prelude.{◌≡◌, ℕ, ◌+◌, ◌-◌, ◌≤◌, ◌<◌, List, Some}
 use Rattle.model.specs.Kind.{Sort, pattern_part, pattern_element}
-use Rattle.words.specs.Words.{Roomy, cell, max_records}
+use Rattle.words.specs.Words.{cell, max_records}
 use Rattle.words.specs.Places.{kind_at, node_kind, rel_kind, node_props_at, rel_props_at}
 use Rattle.context.specs.Tables.{second_pass, deepest}
 use Rattle.context.specs.declared.At.{At}
@@ -13,12 +13,9 @@ use Rattle.lower.specs.declared.Chain.{Chain}
 use Rattle.lower.specs.declared.Link.{Link}
 use Rattle.lower.specs.declared.Read.{Read}
 use Rattle.lower.specs.declared.NodeRelNode.{NodeRelNode}
-use Rattle.lower.specs.declared.Last.TheVariants as last
-use Rattle.lower.specs.declared.Pending.TheVariants as pending
 
 -- what stands at a place, and room for what is at most so deep
-pub record Asked (Stands : Type 0) (a b : List ℕ) (at : At) (deep : ℕ) (m : Mem) : Type 0 where
-  pub words : Roomy a b
+pub record Asked (Stands : Type 0) (at : At) (deep : ℕ) (m : Mem) : Type 0 where
   pub tree : Stands
   pub room : RoomFor deep at.i m
   pub depth : at.left ≤ deepest
@@ -26,11 +23,11 @@ pub record Asked (Stands : Type 0) (a b : List ℕ) (at : At) (deep : ℕ) (m : 
 
 -- a tree of a sort
 abbrev pub TreeAsked : Sort → (a b : List ℕ) → At → Mem → Type 0
-TreeAsked s a b at m = Asked (SomeTree a b s at.left at.i) a b at at.left m
+TreeAsked s a b at m = Asked (SomeTree a b s at.left at.i) at at.left m
 
 -- n expressions, each so many records behind the one before it
 abbrev pub ExprsAsked : (a b : List ℕ) (n gap : ℕ) → At → Mem → Type 0
-ExprsAsked a b n gap at m = Asked (SomeCarried a b n gap at.left at.i) a b at at.left m
+ExprsAsked a b n gap at m = Asked (SomeCarried a b n gap at.left at.i) at at.left m
 
 -- n trees behind a record
 pub record SomeBehind (a b : List ℕ) (s : Sort) (n d i : ℕ) : Type 0 where
@@ -38,7 +35,7 @@ pub record SomeBehind (a b : List ℕ) (s : Sort) (n d i : ℕ) : Type 0 where
   pub trees : SomeTrees a b s n d (i + 1)
 
 abbrev pub BehindAsked : Sort → (a b : List ℕ) (n : ℕ) → At → Mem → Type 0
-BehindAsked s a b n at m = Asked (SomeBehind a b s n at.left at.i) a b at at.left m
+BehindAsked s a b n at m = Asked (SomeBehind a b s n at.left at.i) at at.left m
 
 -- an element of a kind, which has its number or gets it here: less deep by the one
 pub record SomeElement (a b : List ℕ) (kind d i : ℕ) : Type 0 where
@@ -46,7 +43,7 @@ pub record SomeElement (a b : List ℕ) (kind d i : ℕ) : Type 0 where
   pub is : cell a b i kind_at ≡ kind
 
 abbrev pub ElementAsked : ℕ → (a b : List ℕ) → At → Mem → Type 0
-ElementAsked kind a b at m = Asked (SomeElement a b kind at.left at.i) a b at (at.left - 1) m
+ElementAsked kind a b at m = Asked (SomeElement a b kind at.left at.i) at (at.left - 1) m
 
 -- a node with its number, and a rel, with what was read of them
 pub record NodeAsked (a b : List ℕ) (at : At) (node : Read) (m : Mem) : Type 0 where
@@ -67,7 +64,6 @@ pub record SpecialAsked (a b : List ℕ) (at : At) (ends : NodeRelNode) (between
 
 -- the next element of a chain
 pub record ChainAsked (a b : List ℕ) (base left : ℕ) (ch : Chain) (os rs : List ℕ) : Type 0 where
-  pub words : Roomy a b
   pub tree : SomeTree a b pattern_element left ch.next
   pub room : RoomFor left (from ch) (mem ch.ctx os rs)
   pub depth : left ≤ deepest
@@ -87,5 +83,5 @@ pub record ExpandAsked (a b : List ℕ) (base left : ℕ) (ch : Chain) (link : L
   pub chain : ChainAsked a b base left ch os rs
   pub is : cell a b ch.next kind_at ≡ node_kind
   pub read : ReadAt a b ch.next node_props_at link.node
-  pub waits : ch.pending ≡ pending.Rel link.rel link.between
-  pub has : ch.last ≡ last.Op link.input link.origin
+  pub waits : ch.pending ≡ Some link.rel
+  pub has : ch.last ≡ Some link.origin

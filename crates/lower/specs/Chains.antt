@@ -17,35 +17,32 @@ use Rattle.context.specs.Tables.{Numbers}
 use Rattle.context.specs.declared.LowerCtx.{LowerCtx}
 use Rattle.context.specs.declared.Numbered.{Numbered}
 use Rattle.lower.specs.declared.Chain.{Chain}
-use Rattle.lower.specs.declared.Last.{Last}
-use Rattle.lower.specs.declared.Last.TheVariants as last
-use Rattle.lower.specs.declared.Pending.{Pending}
-use Rattle.lower.specs.declared.Pending.TheVariants as pending
+use Rattle.lower.specs.declared.LastNode.{LastNode}
+use Rattle.lower.specs.declared.PendingRel.{PendingRel}
 use Rattle.lower.specs.declared.Element.{Element}
 use Rattle.lower.specs.declared.Element.TheVariants as element
 use Rattle.lower.specs.declared.Read.{Read}
-use Rattle.context.specs.Ops.{before_of, bind_of, Since}
-use Rattle.context.specs.declared.Before.{Before}
+use Rattle.context.specs.Ops.{Since}
 use Rattle.words.specs.Places.{kind_at, node_kind, rel_kind, element_named_at, element_var_at, rel_types_at, rel_props_at, part_shortest_at, part_elements_at, node_labels_at, node_props_at}
 
 -- the last operator and its node's number, as the definition has them
-abbrev pub last_of : Last → Option (ℕ × ℕ)
-last_of last.Nothing = None
-last_of (last.Op k n) = Some (k, n)
+abbrev pub last_of : Option LastNode → Option (ℕ × ℕ)
+last_of None = None
+last_of (Some l) = Some (l.op, l.number)
 
 -- whether a node stands before
-abbrev pub has_last : Last → Bool
-has_last last.Nothing = false
-has_last (last.Op k n) = true
+abbrev pub has_last : Option LastNode → Bool
+has_last None = false
+has_last (Some l) = true
 
 -- the line of the rel that waits
-abbrev pub pending_line : Pending → Option ℕ
-pending_line pending.Nothing = None
-pending_line (pending.Rel i x) = Some (suc i)
+abbrev pub pending_line : Option PendingRel → Option ℕ
+pending_line None = None
+pending_line (Some p) = Some (suc p.i)
 
-abbrev pub from_of : Pending → ℕ → ℕ
-from_of pending.Nothing next = next
-from_of (pending.Rel i x) next = i
+abbrev pub from_of : Option PendingRel → ℕ → ℕ
+from_of None next = next
+from_of (Some p) next = p.i
 
 -- the record from which on nothing is lowered yet
 abbrev pub from : Chain → ℕ
@@ -56,14 +53,14 @@ step_of t = fold Lowered made t
 
 -- what is read of the element at record i, whose props are counted by word c
 pub record ReadAt (a b : List ℕ) (i c : ℕ) (x : Read) : Type 0 where
-  pub bind : bind_of x.bind ≡ option_of (cell a b i element_named_at) (cell a b i element_var_at)
+  pub bind : x.bind ≡ option_of (cell a b i element_named_at) (cell a b i element_var_at)
   pub first : x.first ≡ i + 1 + cell a b i node_labels_at
   pub props : x.props ≡ cell a b i c
 
 -- the rel that waits, whose records end where the next element stands
 pub data Waiting (sheet : Bytes) (a b : List ℕ) (d : ℕ) (ch : Chain) (o : Option RelStep) : Type 0 where
-  no_rel_law : ch.pending ≡ pending.Nothing → o ≡ None → Waiting sheet a b d ch o
-  a_rel : (rel : ℕ) (x : Read) → ch.pending ≡ pending.Rel rel x → ReadAt a b rel rel_props_at x → (t : Tree pattern_element) (r : RelStep) → Held sheet a b t d rel → step_of t ≡ of_rel r → ch.next ≡ rel + size t → o ≡ Some r → Waiting sheet a b d ch o
+  no_rel_law : ch.pending ≡ None → o ≡ None → Waiting sheet a b d ch o
+  a_rel : (rel : PendingRel) → ch.pending ≡ Some rel → ReadAt a b rel.i rel_props_at rel.read → (t : Tree pattern_element) (r : RelStep) → Held sheet a b t d rel.i → step_of t ≡ of_rel r → ch.next ≡ rel.i + size t → o ≡ Some r → Waiting sheet a b d ch o
 
 -- the chain as the code has it is the one that the definition has
 pub record SameChain (sheet : Bytes) (a b : List ℕ) (d : ℕ) (ch : Chain) (c : Lower.Chain) : Type 0 where
@@ -72,12 +69,12 @@ pub record SameChain (sheet : Bytes) (a b : List ℕ) (d : ℕ) (ch : Chain) (c 
   pub kept : length c.path ≡ ch.kept
 
 -- the last operator, if there is one, is below n
-pub record LastUnder (l : Last) (n : ℕ) : Type 0 where
-  pub op : (k origin : ℕ) → l ≡ last.Op k origin → k < n
+pub record LastUnder (l : Option LastNode) (n : ℕ) : Type 0 where
+  pub op : (x : LastNode) → l ≡ Some x → x.op < n
 
 -- and from n on
-pub record LastSince (l : Last) (n : ℕ) : Type 0 where
-  pub op : (k origin : ℕ) → l ≡ last.Op k origin → n ≤ k
+pub record LastSince (l : Option LastNode) (n : ℕ) : Type 0 where
+  pub op : (x : LastNode) → l ≡ Some x → n ≤ x.op
 
 -- what a chain has whatever the state
 pub record ChainInBounds (ch : Chain) : Type 0 where
@@ -161,10 +158,10 @@ pub record OrSource (o : ℕ) (L : Lowering ℕ) (k : ℕ) (m m' : Mem) : Type 0
   pub run : (S : Side) (W : Written) (s : State) → S.first ≤ o → Rep S W s m → Sourced S L k W s m m'
 
 -- the operator before, or a new source of everything, at op, which is from n on if that one is; the next record is as it was passed
-pub record SourceLeft (current : Before) (next next' op : ℕ) (c c' : LowerCtx) (os os' : List ℕ) : Type 0 where
+pub record SourceLeft (current : Option ℕ) (next next' op : ℕ) (c c' : LowerCtx) (os os' : List ℕ) : Type 0 where
   pub same : next' ≡ next
   pub since : (n : ℕ) → n ≤ c.ops → Since current n → n ≤ op
-  pub source : (rest : List ℕ) → OrSource c.ops (or_source_all (before_of current)) op (mem c os rest) (mem c' os' rest)
+  pub source : (rest : List ℕ) → OrSource c.ops (or_source_all current) op (mem c os rest) (mem c' os' rest)
 
 unfoldable pub chain_l : Tree pattern_part → Lowering ℕ
 chain_l (node pattern_part line k (named_as, (shortest, (n, _))) (ts ▸ end)) = λ s. lower_chain named_as (steps_of ts) s
@@ -192,11 +189,11 @@ pub data ElementAt (a b : List ℕ) (i : ℕ) (r : Element) : Type 0 where
 
 -- no element yet, of the part at record i
 abbrev pub start_chain : ℕ → LowerCtx → Chain
-start_chain i c = record { next = i + 1; ctx = c; last = last.Nothing; pending = pending.Nothing; kept = 0 }
+start_chain i c = record { next = i + 1; ctx = c; last = None; pending = None; kept = 0 }
 
 -- no rel waits, or there is no operator before
 abbrev pub StartsAnew : Chain → Type 0
-StartsAnew ch = (ch.pending ≡ pending.Nothing) ⊎ (ch.last ≡ last.Nothing)
+StartsAnew ch = (ch.pending ≡ None) ⊎ (ch.last ≡ None)
 
 -- so many elements has a special part
 abbrev pub special_elements : ℕ

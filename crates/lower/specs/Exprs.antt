@@ -1,6 +1,6 @@
 -- Expressions one after another, and the loop over them. Assumes nothing.
-use Rattle.std.specs.Prelude.{◌≡◌, refl, ℕ, zero, suc, ◌+◌, ◌-◌, ◌≤◌, List, ◌∷◌}
-use Rattle.std.proofs.Common.{◌∙◌, le_refl}
+use Rattle.std.specs.Prelude.{◌≡◌, refl, ℕ, suc, ◌+◌, ◌-◌, ◌≤◌, ◌<◌, List, ◌∷◌}
+use Rattle.std.proofs.Common.{◌∙◌, subst, le_refl}
 use native.Mathlib.Omega.{arith}
 use Rattle.model.specs.Text.{Bytes}
 use Rattle.model.specs.Kind.{expr}
@@ -105,20 +105,25 @@ behind : {a b : List ℕ} {d base j : ℕ} {m m₁ : Mem} (gap i : ℕ) (sheet :
 unfolding HeldC
 behind gap i sheet (c ∷ᶜ cs) p hd = record { sheet = sheet; list = cs; held = rw (p.next sheet c.1 hd.0) hd.1 }
 
+-- of n, x are lowered
 module _ {a b : List ℕ} {gap d base : ℕ} {Done : ℕ → Mem → Type 0} where
-  pub child : {k i : ℕ} {m : Mem} → ((k ≡ 0) → ⊥) → Remaining a b gap d base Done k i m → SomeTree a b expr d (i + gap)
-  child {i = i} h p = child_by gap i p.some.sheet p.some.list h p.some.held
+  pub begun : {n i : ℕ} {m : Mem} → Remaining a b gap d base Done n i m → Remaining a b gap d base Done (n - 0) i m
+  begun {n} {i} {m} p = let e : n ≡ n - 0 = omega arith in subst (λ (k : ℕ). Remaining a b gap d base Done k i m) e p
 
-  less : {k i : ℕ} {m : Mem} → Remaining a b gap d base Done k i m → Remaining a b gap d base Done (suc k - 1) i m
-  less {k} p = let e : suc k - 1 ≡ k = omega arith in rw e p
+  pub child : {n x i : ℕ} {m : Mem} → x < n → Remaining a b gap d base Done (n - x) i m → SomeTree a b expr d (i + gap)
+  child {n} {x} {i} l p = child_by gap i p.some.sheet p.some.list (λ (z : n - x ≡ 0). absurd (omega arith)) p.some.held
 
-  pub again : {k i j : ℕ} {m m₁ : Mem} → ((k ≡ 0) → ⊥) → Remaining a b gap d base Done k i m → LowersExpr a b d base (i + gap) j m m₁ → Remaining a b gap d base Done (k - 1) j m₁
-  again {k = zero} h p q = absurd (h refl)
-  again {k = suc k} {i} {j} {m} {m₁} h p q = less (record {
-    some = behind gap i p.some.sheet p.some.list q p.some.held;
-    room_for = room_after (moved_within (omega arith) (le_refl _) q.moved.here q.moved) p.room_for;
-    finish = λ e m' r. p.finish e m' (cons_law gap i q r);
-  })
+  again_by : {k k' i j : ℕ} {m m₁ : Mem} → k ≡ suc k' → Remaining a b gap d base Done k i m → LowersExpr a b d base (i + gap) j m m₁ → Remaining a b gap d base Done k' j m₁
+  again_by {k} {k'} {i} {j} {m} {m₁} e p q =
+      let p' : Remaining a b gap d base Done (suc k') i m = subst (λ (k : ℕ). Remaining a b gap d base Done k i m) e p in
+      record {
+        some = behind gap i p'.some.sheet p'.some.list q p'.some.held;
+        room_for = room_after (moved_within (omega arith) (le_refl _) q.moved.here q.moved) p'.room_for;
+        finish = λ e m' r. p'.finish e m' (cons_law gap i q r);
+      }
 
-  pub done : {k i : ℕ} {m : Mem} → k ≡ 0 → Remaining a b gap d base Done k i m → Done i m
-  done {k} {i} {m} h p = p.finish i m (rw h (nil_law a b gap d base i m p.room_for.here))
+  pub again : {n x i j : ℕ} {m m₁ : Mem} → x < n → Remaining a b gap d base Done (n - x) i m → LowersExpr a b d base (i + gap) j m m₁ → Remaining a b gap d base Done (n - (x + 1)) j m₁
+  again {n} {x} l p q = again_by {k = n - x} {k' = n - (x + 1)} (omega arith) p q
+
+  pub done : {n x i : ℕ} {m : Mem} → n ≤ x → Remaining a b gap d base Done (n - x) i m → Done i m
+  done {n} {x} {i} {m} l p = let e : n - x ≡ 0 = omega arith in p.finish i m (rw e (nil_law a b gap d base i m p.room_for.here))

@@ -8,7 +8,7 @@ use Rattle.model.specs.Lower.{Recs, op, source, path_elements}
 use Rattle.words.specs.Words.{cell, max_records}
 use Rattle.words.specs.Held.{Held, HeldOf, RecordAt, size_of}
 use Rattle.context.specs.declared.op.Op.{Op}
-use Rattle.context.specs.Ops.{before_of, call_input, source_all_kind, source_no_parts_kind, source_kind, filter_kind, expand_kind, shortest_path_kind, bind_path_kind, optional_join_kind, with_kind, project_kind, aggregate_kind, order_by_kind, skip_kind, limit_kind, distinct_kind, unwind_kind, union_kind, procedure_call_kind}
+use Rattle.context.specs.Ops.{call_input, source_all_kind, source_no_parts_kind, source_kind, filter_kind, expand_kind, shortest_path_kind, bind_path_kind, optional_join_kind, with_kind, project_kind, aggregate_kind, order_by_kind, skip_kind, limit_kind, distinct_kind, unwind_kind, union_kind, procedure_call_kind}
 use Rattle.lower.specs.Side.{Side}
 use Rattle.lower.specs.Render.{Notes, Ops, render, render_of, Below, BelowOf, spec_recs, KidsBelow, kept_from, key_recs, agg_recs}
 use Rattle.words.specs.Places.{kind_at, node_kind, rel_kind, node_labels_at, part_shortest_at, part_elements_at, items_at, with_filter_at}
@@ -120,7 +120,7 @@ module _ (S : Side) (N : Notes) (A : Ops) (k : ℕ) (o : Op) where
     pub held_args : HeldOf S.sheet S.a S.b args o.left (o.idx + 1)
     pub held_yields : HeldOf S.sheet S.a S.b yields o.left (o.idx + 1 + size_of args)
     pub below : BelowOf (shift N o.base) S.first k args
-    pub is : recs ≡ op ReadOp.ProcedureCall (before_of (call_input o), (fields.0, (fields.1.0, (fields.1.1.0, (fields.1.1.1.0, tt))))) ∷ (render_of (shift N o.base) A args ++ render_of (shift N o.base) A yields)
+    pub is : recs ≡ op ReadOp.ProcedureCall (call_input o, (fields.0, (fields.1.0, (fields.1.1.0, (fields.1.1.1.0, tt))))) ∷ (render_of (shift N o.base) A args ++ render_of (shift N o.base) A yields)
 
   -- operator k
   pub data Shows (recs : Recs) : Type 0 where

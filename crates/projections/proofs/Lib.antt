@@ -1,3 +1,4 @@
+pub mod Pushing
 pub mod TrailerLaws
 pub mod Opened
 pub mod WithLaws

@@ -1,6 +1,6 @@
 -- A `with` and a `return`, opened: what their words say of their children, and the lowering of each as its steps. Assumes nothing.
 use mathlib.Core.Path.{◌≡◌, ap}
-use Prim.Native.Nat.{ℕ, ◌+◌, ◌-◌, ◌≤◌}
+use Prim.Native.Nat.{ℕ, ◌+◌, ◌-◌}
 use native.Mathlib.Omega.{arith}
 use mathlib.Core.Bool.{Bool}
 use mathlib.Core.List.{List, ◌∷◌, ◌++◌}
@@ -130,7 +130,6 @@ pub record IsReturn (sheet : Bytes) (a b : List ℕ) (d i : ℕ) (t : Tree claus
   pub items : Trees projection n
   pub tail : Tail sheet a b (d - 1) i (i + 1 + size_of items)
   pub counted : n ≡ cell a b i items_at
-  pub flag : cell a b i return_distinct_at ≤ 1
   pub held_items : HeldOf sheet a b items (d - 1) (i + 1)
   pub sized : size t ≡ 1 + size_of items + tail_size tail
   pub def : (current : Option ℕ) (s : State) (k₁ k₂ : ℕ) →
@@ -150,7 +149,6 @@ module _ {sheet : Bytes} {a b : List ℕ} {d i : ℕ} (room : Roomy a b) where
         items = items;
         tail = tail_of_law w.fields w.flags keys skip limit hd.3.1.0 hd.3.1.1.0 hd.3.1.1.1.0;
         counted = en;
-        flag = w.flags.1.0;
         held_items = hd.3.0;
         sized = omega arith;
         def = λ current s k₁ k₂ e₁ e₂. rw (e₂, e₁, ef);

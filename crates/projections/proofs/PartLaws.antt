@@ -1,10 +1,11 @@
 -- The first lowering of a `return`'s items, one after another: what each adds to the keys or to the aggregates, and the loop over them. Assumes nothing.
 use mathlib.Core.Path.{◌≡◌, refl, sym, ap, subst, ◌∙◌}
-use Prim.Native.Nat.{ℕ, zero, suc, ◌+◌, ◌-◌, ◌≤◌}
-use native.Mathlib.Nat.{le_refl, add-zero}
+use Prim.Native.Nat.{ℕ, zero, suc, ◌+◌, ◌-◌, ◌≤◌, ◌<◌}
+use native.Mathlib.Nat.{le_refl, add-zero, sub-zero}
 use native.Mathlib.Omega.{arith}
 use mathlib.Core.Bool.{Bool, true, false, cond}
 use mathlib.Core.List.{List, [], ◌∷◌, ◌++◌, append-nil}
+use Rattle.std.specs.Int.{from_bool}
 use Rattle.model.specs.Text.{Bytes}
 use Rattle.model.specs.Kind.{Expr, PlanExpr, expr, projection, in_plan, agg_expr}
 use Rattle.model.specs.Field.{Fields}
@@ -177,45 +178,63 @@ behind {sheet} {j = j} i (node projection line u f ((t ∷ᵗ []ᵗ) ▸ end) �
     let z : i + suc (size t + 0 + 0) ≡ j = omega arith in
     record { trees = ts; are = rw z at hd.1 }
 
-plus : (q : Bool) (g h : ℕ) → g + cond q (suc h) h ≡ cond q (g + 1) g + h
+plus : (q : Bool) (g h : ℕ) → g + cond q (suc h) h ≡ g + from_bool q + h
 plus true g h = omega arith
 plus false g h = omega arith
 
-plus_few : (q : Bool) (g k n : ℕ) → g + suc k ≤ n → cond q (g + 1) g + k ≤ n
+plus_few : (q : Bool) (g k n : ℕ) → g + suc k ≤ n → g + from_bool q + k ≤ n
 plus_few true g k n l = omega arith
 plus_few false g k n l = omega arith
 
+-- an item adds at most one aggregate
+pub at_most_one : (q : Bool) → from_bool q ≤ 1
+at_most_one true = omega arith
+at_most_one false = omega arith
+
+-- one of n remains after c of them, and one less after it
+remains : {c n : ℕ} → c < n → (n - c ≡ 0) → ⊥
+remains l e = omega arith
+
+none_remains : {c n : ℕ} → n ≤ c → n - c ≡ 0
+none_remains l = omega arith
+
+one_less : (c n : ℕ) → n - c - 1 ≡ n - (c + 1)
+one_less c n = omega arith
+
 module _ {sheet : Bytes} {a b : List ℕ} {n d : ℕ} {Done : ℕ → ℕ → Mem → Type 0} where
-  pub child : {k i g : ℕ} {m : Mem} → ((k ≡ 0) → ⊥) → Remaining sheet a b n d Done k i g m → HeldSome sheet a b expr (d - 1) (i + 1)
-  child {i = i} h p = (first_by_law sheet a b d i p.some.trees h p.some.are).held
+  pub child : {c x i g : ℕ} {m : Mem} → c < x → Remaining sheet a b n d Done (x - c) i g m → HeldSome sheet a b expr (d - 1) (i + 1)
+  child {i = i} l p = (first_by_law sheet a b d i p.some.trees (remains l) p.some.are).held
 
-  pub deep : {k i g : ℕ} {m : Mem} → ((k ≡ 0) → ⊥) → Remaining sheet a b n d Done k i g m → 1 ≤ d
-  deep {i = i} h p = (first_by_law sheet a b d i p.some.trees h p.some.are).deep
+  pub deep : {c x i g : ℕ} {m : Mem} → c < x → Remaining sheet a b n d Done (x - c) i g m → 1 ≤ d
+  deep {i = i} l p = (first_by_law sheet a b d i p.some.trees (remains l) p.some.are).deep
 
-  pub some_child : {k i g : ℕ} {m : Mem} → ((k ≡ 0) → ⊥) → Remaining sheet a b n d Done k i g m → SomeTree a b expr (d - 1) (i + 1)
-  some_child h p = let x = child h p in record { sheet = sheet; tree = x.tree; held = x.is }
+  pub some_child : {c x i g : ℕ} {m : Mem} → c < x → Remaining sheet a b n d Done (x - c) i g m → SomeTree a b expr (d - 1) (i + 1)
+  some_child l p = let x = child l p in record { sheet = sheet; tree = x.tree; held = x.is }
 
   -- there is room at its expression
-  pub child_room : {k i g : ℕ} {m : Mem} → ((k ≡ 0) → ⊥) → Remaining sheet a b n d Done k i g m → RoomFor (d - 1) (i + 1) m
-  child_room {i = i} h p = let x = child h p in let l = tree_low sheet a b x.tree (d - 1) (i + 1) x.is in room_from (omega arith) (omega arith) (omega arith) p.room
+  pub child_room : {c x i g : ℕ} {m : Mem} → c < x → Remaining sheet a b n d Done (x - c) i g m → RoomFor (d - 1) (i + 1) m
+  child_room {i = i} l p = let x = child l p in let l = tree_low sheet a b x.tree (d - 1) (i + 1) x.is in room_from (omega arith) (omega arith) (omega arith) p.room
 
   less : {k i g : ℕ} {m : Mem} → Remaining sheet a b n d Done k i g m → Remaining sheet a b n d Done (suc k - 1) i g m
   less {k} p = let e : suc k - 1 ≡ k = omega arith in rw e p
 
-  pub again : {k i j g : ℕ} {m m₁ : Mem} (agg : Bool) → ((k ≡ 0) → ⊥) → Remaining sheet a b n d Done k i g m → ((t : Tree expr) → Held sheet a b t (d - 1) (i + 1) → agg ≡ is_aggregate t) → LowersExpr a b (d - 1) 0 (i + 1) j m m₁ → Remaining sheet a b n d Done (k - 1) j (cond agg (g + 1) g) m₁
-  again {k = zero} agg h p is q = absurd (h refl)
-  again {k = suc k} {i} {j} {g} {m} {m₁} agg h p is q = less (record {
+  next_one : {k i j g : ℕ} {m m₁ : Mem} (agg : Bool) → ((k ≡ 0) → ⊥) → Remaining sheet a b n d Done k i g m → ((t : Tree expr) → Held sheet a b t (d - 1) (i + 1) → agg ≡ is_aggregate t) → LowersExpr a b (d - 1) 0 (i + 1) j m m₁ → Remaining sheet a b n d Done (k - 1) j (g + from_bool agg) m₁
+  next_one {k = zero} agg h p is q = absurd (h refl)
+  next_one {k = suc k} {i} {j} {g} {m} {m₁} agg h p is q = less (record {
     some = behind i p.some.trees q p.some.are;
     room = room_after (moved_within (omega arith) (le_refl _) q.moved.here q.moved) p.room;
     few = plus_few agg g k n p.few;
     finish = λ e x m' r. subst (λ (z : ℕ). Done e z m') (plus agg g x) (p.finish e (cond agg (suc x) x) m' (cons_law i agg is q r));
   })
 
-  pub done : {k i g : ℕ} {m : Mem} → k ≡ 0 → Remaining sheet a b n d Done k i g m → Done i g m
-  done {k} {i} {g} {m} h p = subst (λ (z : ℕ). Done i z m) (add-zero g) (p.finish i 0 m (rw h (nil_law sheet a b d i m p.room.here)))
+  pub again : {c x i j g : ℕ} {m m₁ : Mem} (agg : Bool) → c < x → Remaining sheet a b n d Done (x - c) i g m → ((t : Tree expr) → Held sheet a b t (d - 1) (i + 1) → agg ≡ is_aggregate t) → LowersExpr a b (d - 1) 0 (i + 1) j m m₁ → Remaining sheet a b n d Done (x - (c + 1)) j (g + from_bool agg) m₁
+  again {c} {x} {j = j} {g} {m₁ = m₁} agg l p is q = subst (λ (z : ℕ). Remaining sheet a b n d Done z j (g + from_bool agg) m₁) (one_less c x) (next_one agg (remains l) p is q)
 
-  pub done_few : {k i g : ℕ} {m : Mem} → k ≡ 0 → Remaining sheet a b n d Done k i g m → g ≤ n
-  done_few h p = omega (arith, p.few)
+  pub done : {c x i g : ℕ} {m : Mem} → x ≤ c → Remaining sheet a b n d Done (x - c) i g m → Done i g m
+  done {c} {x} {i} {g} {m} l p = let h : x - c ≡ 0 = none_remains l in subst (λ (z : ℕ). Done i z m) (add-zero g) (p.finish i 0 m (rw h (nil_law sheet a b d i m p.room.here)))
 
-pub start : {sheet : Bytes} {a b : List ℕ} {n d i : ℕ} {m : Mem} → HeldMany sheet a b projection n d i → RoomFor d i m → Remaining sheet a b n d (λ e g m'. LowersSplit sheet a b n d i e g m m') n i 0 m
-start x g = record { some = x; room = g; few = omega arith; finish = λ e h m' r. (let z : 0 + h ≡ h = omega arith in rw z r) }
+  pub done_few : {k i g : ℕ} {m : Mem} → Remaining sheet a b n d Done k i g m → g ≤ n
+  done_few p = omega (arith, p.few)
+
+pub start : {sheet : Bytes} {a b : List ℕ} {n d i : ℕ} {m : Mem} → HeldMany sheet a b projection n d i → RoomFor d i m → Remaining sheet a b n d (λ e g m'. LowersSplit sheet a b n d i e g m m') (n - 0) i 0 m
+start {n = n} x g = rw (sub-zero n) (record { some = x; room = g; few = omega arith; finish = λ e h m' r. (let z : 0 + h ≡ h = omega arith in rw z r) })

@@ -1,71 +1,36 @@
 -- The two lowerings of a `return`'s items, each with its operators. Assumes nothing.
 use mathlib.Core.Path.{◌≡◌, refl, sym, ap, ◌∙◌}
-use Prim.Native.Nat.{ℕ, zero, suc, ◌+◌, ◌-◌, ◌≤◌, ◌<◌}
+use Prim.Native.Nat.{ℕ, zero, suc, ◌+◌, ◌-◌, ◌<◌}
 use native.Mathlib.Nat.{le_refl}
 use native.Mathlib.Omega.{arith}
-use mathlib.Core.Bool.{Bool}
+use mathlib.Core.Bool.{Bool, true, false, not}
 use mathlib.Core.List.{List, [], ◌∷◌, ◌++◌}
 use Rattle.std.specs.Prelude.{Option}
 use lib.Dec.{eqb}
 use lib.ListN.{length}
-use borrow.Author.Tests.{eq-eqb}
 use Rattle.model.specs.Text.{Bytes}
 use Rattle.model.specs.Kind.{ReadOp, projection}
 use Rattle.model.specs.Tree.{Trees}
 use Rattle.model.specs.Lower.{Recs, Lowering, ◌>>=◌, ret, push, op, or_source_all, Split, split_projections_agg, aggregate_if, distinct_if}
-use Rattle.words.specs.Words.{two32}
 use Rattle.words.specs.Held.{HeldOf, size_of}
 use Rattle.context.specs.Tables.{Pushed, second_pass}
-use Rattle.context.specs.Ops.{before_of, aggregate_op, project_op, distinct_op}
-use Rattle.context.specs.declared.Before.{Before}
-use Rattle.context.specs.declared.op.Op.{Op}
+use Rattle.context.specs.Ops.{aggregate_op, project_op, distinct_op}
 use Rattle.context.specs.declared.LowerCtx.{LowerCtx}
-use Rattle.lower.specs.Side.{Side, side}
-use Rattle.lower.specs.Render.{Notes, Ops, key_recs, agg_recs}
-use Rattle.lower.specs.Shows.{shift, Stored, shows_project, shows_aggregate, shows_distinct}
-use Rattle.lower.specs.Rep.{State, Mem, mem, at_place, Written, Blank, Future, Rep, Rooted}
+use Rattle.lower.specs.Side.{side}
+use Rattle.lower.specs.Render.{key_recs, agg_recs}
+use Rattle.lower.specs.Shows.{shift, shows_project, shows_aggregate, shows_distinct}
+use Rattle.lower.specs.Rep.{State, Mem, mem, at_place, Written, Blank, Rep, Rooted, RoomFor}
 use Rattle.lower.specs.Pieces.{lower_c, SomeCarried, LowersExprs}
 use Rattle.lower.specs.Patterns.{SomeTrees}
-use Rattle.lower.specs.Chains.{Sourced, OrSource}
-use Rattle.lower.specs.State.{to_refl, to_then, push_to}
+use Rattle.lower.specs.Chains.{OrSource}
+use Rattle.lower.specs.State.{to_then, push_to}
 use Rattle.projections.specs.Items.{items_c, items_lower, items_size, items_held, items_render, items_below}
-use Rattle.projections.specs.declared.passes.ReturnItems.{ReturnItems}
+use Rattle.context.specs.declared.At.{At}
+use Rattle.projections.proofs.Pushing.{none_counted, some_counted, counted, left_low, pushed_if}
 use Rattle.projections.specs.Asked.{FirstAsked, SecondAsked}
-use Rattle.projections.specs.Promises.{LowersSplit, PushedIf, none_pushed, one_pushed, LowersPass, first_l, second_l}
+use Rattle.projections.specs.Room.{room_source}
+use Rattle.projections.specs.Promises.{LowersSplit, PushedIf, LowersPass, first_l, second_l}
 use Rattle.projections.proofs.PartLaws.{split_total}
-
--- ── an operator, or none ──
-
-pub record Counted (c c' : LowerCtx) (o o' : List ℕ) : Type 0 where
-  pub grow : c.ops ≤ c'.ops
-  pub few : c'.ops ≤ c.ops + 1
-  pub numbers : c'.numbers ≡ c.numbers
-  pub mapped : c'.mapped ≡ c.mapped
-  pub same : length o' ≡ length o
-
-pub counted : {n input k : ℕ} {x : Op} {c c' : LowerCtx} {o o' : List ℕ} → PushedIf n x input k c c' o o' → Counted c c' o o'
-counted (none_pushed e ek ec eo) = rw (ec, eo) (record { grow = le_refl _; few = omega arith; numbers = refl; mapped = refl; same = refl })
-counted (one_pushed e ek p lo) = record { grow = omega (arith, p.count); few = omega (arith, p.count); numbers = p.numbers; mapped = p.mapped; same = lo }
-
--- the operator that is left is there, if the one before was
-pub left_low : {n input k : ℕ} {x : Op} {c c' : LowerCtx} {o o' : List ℕ} → PushedIf n x input k c c' o o' → input < c.ops → k < c'.ops
-left_low (none_pushed e ek ec eo) l = rw (ek, ec) l
-left_low (one_pushed e ek p lo) l = omega (arith, p.count)
-
-pub left_word_law : {n input k : ℕ} {x : Op} {c c' : LowerCtx} {o o' : List ℕ} → PushedIf n x input k c c' o o' → input < two32 → c.ops < two32 → k < two32
-left_word_law (none_pushed e ek ec eo) l l' = omega arith
-left_word_law (one_pushed e ek p lo) l l' = omega arith
-
-pushed_if : {S : Side} {W : Written} {s : State} {n input k : ℕ} {x : Op} {c' : LowerCtx} {o' : List ℕ} (m : Mem) (L : Lowering ℕ) (recs : Recs) →
-    Rep S W s m →
-    PushedIf n x input k m.ctx c' m.ops o' →
-    (n ≡ 0 → L s ≡ (input, s)) →
-    (((n ≡ 0) → ⊥) → L s ≡ push recs s) →
-    ((N : Notes) (A : Ops) → Future W s m N A → Stored S N A m.ctx.ops x recs) →
-    Sourced S L k W s m (mem c' o' m.rest)
-unfolding push
-pushed_if m L recs r (none_pushed e ek ec eo) h h' st = rw (ek, ec, eo) (record { to = rw (h e) (to_refl r); root = rw (h e) })
-pushed_if {x = x} {c' = c'} {o' = o'} m L recs r (one_pushed e ek p lo) h h' st = record { to = rw (h' e) (push_to m c' o' x recs r p st); root = rw (h' e) (ek ∙ r.count) }
 
 -- the record behind a pass, by another name
 pub ends_at : {sheet : Bytes} {a b : List ℕ} {n d base i e e' k : ℕ} {L : Trees projection n → Lowering ℕ} {m m' : Mem} → e' ≡ e → LowersPass sheet a b n d base i e k L m m' → LowersPass sheet a b n d base i e' k L m m'
@@ -95,39 +60,43 @@ first_def : {n : ℕ} (current : Option ℕ) (items : Trees projection n) (s : S
 unfolding ◌>>=◌
 first_def current items s input e = rw e
 
+-- behind the source there is room for the items
+pub first_room : {sheet : Bytes} {a b : List ℕ} {at : At} {n k₀ : ℕ} {current : Option ℕ} {L : Lowering ℕ} {m m₁ : Mem} → FirstAsked sheet a b at n current m → OrSource m.ctx.ops L k₀ m m₁ → RoomFor at.left (at.i + 1) m₁
+first_room g q = room_source g.ready q _ (le_refl _) (omega (arith, g.low)) g.depth
+
 keys_left : (x y n g : ℕ) → x + y ≡ n → y ≡ g → x ≡ n - g
 keys_left x y n g e f = omega arith
 
-module _ {sheet : Bytes} {a b : List ℕ} {of : ReturnItems} {current : Before} {j aggs k₀ k : ℕ} {c' : LowerCtx} {o' : List ℕ} {m m₁ m₂ : Mem}
-    (g : FirstAsked sheet a b of current m)
-    (sr : OrSource m.ctx.ops (or_source_all (before_of current)) k₀ m m₁)
-    (pt : LowersSplit sheet a b of.n of.left (of.i + 1) j aggs m₁ m₂)
-    (pi : PushedIf aggs (aggregate_op (at_place 0 of.i of.left) k₀ (of.n - aggs) aggs) k₀ k m₂.ctx c' m₂.ops o') where
-  first_run : {first : ℕ} (items : Trees projection of.n) → HeldOf sheet a b items of.left (of.i + 1) → (W : Written) (s : State) → Rep (side sheet a b first) W s m → Blank W (0 + suc (of.i + 1)) (0 + suc j) → Rooted (side sheet a b first) W (first_l of.n (before_of current) items) k 0 (suc (of.i + 1)) (suc j) s m (mem c' o' m₂.rest)
+module _ {sheet : Bytes} {a b : List ℕ} {at : At} {n : ℕ} {current : Option ℕ} {j aggs k₀ k : ℕ} {c' : LowerCtx} {o' : List ℕ} {m m₁ m₂ : Mem}
+    (g : FirstAsked sheet a b at n current m)
+    (sr : OrSource m.ctx.ops (or_source_all current) k₀ m m₁)
+    (pt : LowersSplit sheet a b n at.left (at.i + 1) j aggs m₁ m₂)
+    (pi : PushedIf (not (eqb aggs 0)) (aggregate_op (at_place 0 at.i at.left) k₀ (n - aggs) aggs) k₀ k m₂.ctx c' m₂.ops o') where
+  first_run : {first : ℕ} (items : Trees projection n) → HeldOf sheet a b items at.left (at.i + 1) → (W : Written) (s : State) → Rep (side sheet a b first) W s m → Blank W (0 + suc (at.i + 1)) (0 + suc j) → Rooted (side sheet a b first) W (first_l n current items) k 0 (suc (at.i + 1)) (suc j) s m (mem c' o' m₂.rest)
   first_run items hd W s r bl =
-      let s₁ : State = (or_source_all (before_of current) s).1 in
+      let s₁ : State = (or_source_all current s).1 in
       let S : Split = parted items s₁ in
       let x₀ = sr.run _ W s r.from r in
       let x₁ = pt.run items hd W s₁ x₀.to.rep bl in
-      let ek : S.keys ≡ of.n - aggs = keys_left S.keys S.aggs of.n aggs (split_total items s₁) x₁.counted in
+      let ek : S.keys ≡ n - aggs = keys_left S.keys S.aggs n aggs (split_total items s₁) x₁.counted in
       let x₂ = pushed_if m₂ (λ z. aggregate_if S.aggs k₀ S z) (aggregated k₀ S) x₁.to.rep pi
-      (λ e. no_aggregate S.aggs k₀ S (split_projections_agg items s₁).1 (x₁.counted ∙ e))
-      (λ h. an_aggregate S.aggs k₀ S (split_projections_agg items s₁).1 (λ e. h (sym x₁.counted ∙ e)))
-      (λ N A f. record {
+      (λ e. no_aggregate S.aggs k₀ S (split_projections_agg items s₁).1 (x₁.counted ∙ none_counted aggs e))
+      (λ h. an_aggregate S.aggs k₀ S (split_projections_agg items s₁).1 (λ e. some_counted aggs h (sym x₁.counted ∙ e)))
+      (λ _ N A f. record {
         bounded = record { shallow = g.depth; near = omega arith; low = g.low; far = λ e. absurd (omega arith); flagged = λ e. absurd (omega arith) };
         shows = shows_aggregate refl (record {
-          count = of.n;
+          count = n;
           items = items;
           counted = g.counted;
           held = hd;
           below = x₁.below N A f;
-          is = aggregate_is k₀ S.keys (of.n - aggs) S.aggs aggs (key_recs (shift N 0) A items) S.key_recs (agg_recs (shift N 0) A items) S.agg_recs ek x₁.counted (x₁.keys N A f) (x₁.aggregates N A f);
+          is = aggregate_is k₀ S.keys (n - aggs) S.aggs aggs (key_recs (shift N 0) A items) S.key_recs (agg_recs (shift N 0) A items) S.agg_recs ek x₁.counted (x₁.keys N A f) (x₁.aggregates N A f);
         });
       }) in
-      let D = first_def (before_of current) items s k₀ x₀.root in
+      let D = first_def current items s k₀ x₀.root in
       record { to = rw D (to_then x₀.to (to_then x₁.to x₂.to)); root = rw D x₂.root; low = left_low pi (let g = x₁.to.grow in let l = sr.low in omega arith) }
 
-  pub first_law : LowersPass sheet a b of.n of.left 0 (of.i + 1) j k (first_l of.n (before_of current)) m (mem c' o' m₂.rest)
+  pub first_law : LowersPass sheet a b n at.left 0 (at.i + 1) j k (first_l n current) m (mem c' o' m₂.rest)
   first_law =
       let x = pt.moved in
       let y = counted pi in
@@ -150,13 +119,13 @@ module _ {sheet : Bytes} {a b : List ℕ} {of : ReturnItems} {current : Before} 
 pub items_some : {a b : List ℕ} {n d i : ℕ} → SomeTrees a b projection n d i → SomeCarried a b n 1 (d - 1) i
 items_some {a} {b} {d = d} {i = i} x = record { sheet = x.sheet; list = items_c x.trees; held = items_held x.sheet a b x.trees d i x.held }
 
-no_distinct : (x input : ℕ) (s : State) → x ≡ 0 → distinct_if (eqb x 1) input s ≡ (input, s)
+no_distinct : (w : Bool) (input : ℕ) (s : State) → w ≡ false → distinct_if w input s ≡ (input, s)
 unfolding distinct_if ret
-no_distinct x input s e = rw e
+no_distinct w input s e = rw e
 
-a_distinct : (x input : ℕ) (s : State) → x ≤ 1 → ((x ≡ 0) → ⊥) → distinct_if (eqb x 1) input s ≡ push (op ReadOp.Distinct (input, tt) ∷ []) s
+a_distinct : (w : Bool) (input : ℕ) (s : State) → w ≡ true → distinct_if w input s ≡ push (op ReadOp.Distinct (input, tt) ∷ []) s
 unfolding distinct_if
-a_distinct x input s l h = let e : x ≡ 1 = omega arith in rw (eq-eqb x 1 e)
+a_distinct w input s e = rw e
 
 abbrev projected : {n : ℕ} → ℕ → Trees projection n → State → Recs
 projected {n} input items s = op ReadOp.Project (input, (n, tt)) ∷ (lower_c (items_c items) s).0
@@ -165,43 +134,43 @@ second_def : {n : ℕ} (distinct : Bool) (input : ℕ) (items : Trees projection
 unfolding ◌>>=◌ push
 second_def distinct input items s k e = rw (items_lower items s, e)
 
-module _ {a b : List ℕ} {of : ReturnItems} {input j x k : ℕ} {c₁ c₂ : LowerCtx} {o₁ o₂ : List ℕ} {m m₁ : Mem}
-    (g : SecondAsked a b of input x m)
-    (it : LowersExprs a b of.n 1 (of.left - 1) second_pass (of.i + 1) j m m₁)
-    (ps : Pushed m₁.ctx c₁ m₁.ops o₁ (project_op (at_place second_pass of.i of.left) input)) (lo : length o₁ ≡ length m₁.ops)
+module _ {a b : List ℕ} {at : At} {n input j k : ℕ} {x : Bool} {c₁ c₂ : LowerCtx} {o₁ o₂ : List ℕ} {m m₁ : Mem}
+    (g : SecondAsked a b at n input m)
+    (it : LowersExprs a b n 1 (at.left - 1) second_pass (at.i + 1) j m m₁)
+    (ps : Pushed m₁.ctx c₁ m₁.ops o₁ (project_op (at_place second_pass at.i at.left) input)) (lo : length o₁ ≡ length m₁.ops)
     (pi : PushedIf x (distinct_op m₁.ctx.ops) m₁.ctx.ops k c₁ c₂ o₁ o₂) where
   pub second_low : k < c₂.ops
   second_low = left_low pi (omega (arith, ps.count))
 
-  second_next : (sheet : Bytes) (items : Trees projection of.n) → HeldOf sheet a b items of.left (of.i + 1) → j ≡ of.i + 1 + size_of items
-  second_next sheet items hd = let y = it.next sheet (items_c items) (items_held sheet a b items of.left (of.i + 1) hd) in let z = items_size items in omega arith
+  second_next : (sheet : Bytes) (items : Trees projection n) → HeldOf sheet a b items at.left (at.i + 1) → j ≡ at.i + 1 + size_of items
+  second_next sheet items hd = let y = it.next sheet (items_c items) (items_held sheet a b items at.left (at.i + 1) hd) in let z = items_size items in omega arith
 
-  second_run : (sheet : Bytes) {first : ℕ} (items : Trees projection of.n) → HeldOf sheet a b items of.left (of.i + 1) → (W : Written) (s : State) → Rep (side sheet a b first) W s m → Blank W (second_pass + suc (of.i + 1)) (second_pass + suc j) → Rooted (side sheet a b first) W (second_l of.n (eqb x 1) input items) k second_pass (suc (of.i + 1)) (suc j) s m (mem c₂ o₂ m₁.rest)
+  second_run : (sheet : Bytes) {first : ℕ} (items : Trees projection n) → HeldOf sheet a b items at.left (at.i + 1) → (W : Written) (s : State) → Rep (side sheet a b first) W s m → Blank W (second_pass + suc (at.i + 1)) (second_pass + suc j) → Rooted (side sheet a b first) W (second_l n x input items) k second_pass (suc (at.i + 1)) (suc j) s m (mem c₂ o₂ m₁.rest)
   second_run sheet {first} items hd W s r bl =
       let k₁ : ℕ = m₁.ctx.ops in
-      let x₁ = it.run sheet (items_c items) (items_held sheet a b items of.left (of.i + 1) hd) W s r bl in
-      let x₂ = push_to m₁ c₁ o₁ (project_op (at_place second_pass of.i of.left) input) (projected input items s) x₁.to.rep ps
+      let x₁ = it.run sheet (items_c items) (items_held sheet a b items at.left (at.i + 1) hd) W s r bl in
+      let x₂ = push_to m₁ c₁ o₁ (project_op (at_place second_pass at.i at.left) input) (projected input items s) x₁.to.rep ps
       (λ N A f. record {
         bounded = record { shallow = g.depth; near = omega arith; low = g.low; far = λ e. absurd (omega arith); flagged = λ e. absurd (omega arith) };
         shows = shows_project refl (record {
-          count = of.n;
+          count = n;
           items = items;
           counted = g.counted;
           held = hd;
           below = items_below (shift N second_pass) first k₁ items (x₁.below N A f);
-          is = ap (λ (z : Recs). op ReadOp.Project (input, (of.n, tt)) ∷ z) (sym (x₁.shown N A f) ∙ sym (items_render (shift N second_pass) A items));
+          is = ap (λ (z : Recs). op ReadOp.Project (input, (n, tt)) ∷ z) (sym (x₁.shown N A f) ∙ sym (items_render (shift N second_pass) A items));
         });
       }) in
       let s₂ : State = (push (projected input items s) (lower_c (items_c items) s).1).1 in
-      let x₃ = pushed_if (mem c₁ o₁ m₁.rest) (λ z. distinct_if (eqb x 1) k₁ z) (op ReadOp.Distinct (k₁, tt) ∷ []) x₂.rep pi (λ e. no_distinct x k₁ s₂ e) (λ h. a_distinct x k₁ s₂ g.flag h)
-      (λ N A f. record {
+      let x₃ = pushed_if (mem c₁ o₁ m₁.rest) (λ z. distinct_if x k₁ z) (op ReadOp.Distinct (k₁, tt) ∷ []) x₂.rep pi (λ e. no_distinct x k₁ s₂ e) (λ e. a_distinct x k₁ s₂ e)
+      (λ _ N A f. record {
         bounded = record { shallow = omega arith; near = omega arith; low = omega arith; far = λ e. absurd (omega arith); flagged = λ e. absurd (omega arith) };
         shows = shows_distinct refl refl;
       }) in
-      let D = second_def (eqb x 1) input items s k₁ x₁.to.rep.count in
+      let D = second_def x input items s k₁ x₁.to.rep.count in
       record { to = rw D (to_then x₁.to (to_then x₂ x₃.to)); root = rw D x₃.root; low = second_low }
 
-  pub second_law : (sheet : Bytes) → LowersPass sheet a b of.n of.left second_pass (of.i + 1) j k (second_l of.n (eqb x 1) input) m (mem c₂ o₂ m₁.rest)
+  pub second_law : (sheet : Bytes) → LowersPass sheet a b n at.left second_pass (at.i + 1) j k (second_l n x input) m (mem c₂ o₂ m₁.rest)
   second_law sheet =
       let v = it.moved in
       let y = counted pi in

@@ -1,197 +1,170 @@
 -- Order, skip and limit: an operator over sort keys or over one expression, or none, and the three one behind the other. Assumes nothing.
-use mathlib.Core.Path.{◌≡◌, refl, sym, ap, subst, ◌∙◌}
-use Prim.Native.Nat.{ℕ, suc, ◌+◌, ◌-◌, ◌≤◌, ◌<◌}
-use native.Mathlib.Nat.{le_refl}
-use native.Mathlib.Omega.{arith}
-use mathlib.Core.List.{List, ◌∷◌}
-use lib.ListN.{length}
+use Rattle.std.proofs.Common.{◌≡◌, refl, sym, ap, subst, ◌∙◌, ℕ, suc, ◌+◌, ◌-◌, ◌≤◌, ◌<◌, Bool, true, false, cond, not, List, ◌∷◌, eqb, le_refl, append-nil, arith}
 use Rattle.model.specs.Text.{Bytes}
 use Rattle.model.specs.Kind.{Sort, ReadOp, expr, order_item}
 use Rattle.model.specs.Record.{Rec}
 use Rattle.model.specs.Tree.{Tree, Trees, []ᵗ, ◌∷ᵗ◌}
 use Rattle.model.specs.Lower.{Recs, Lowering, ◌>>=◌, ret, push, op, lower_expr, order_by, over_expr, lower_trailers}
 use Rattle.words.specs.Words.{cell, max_records}
-use Rattle.words.specs.Held.{Held, HeldOf, size, size_of}
+use Rattle.words.specs.Held.{Held, HeldOf, size_of}
 use Rattle.words.specs.Places.{keys_at, skip_at, limit_at}
-use Rattle.context.specs.Tables.{Pushed, deepest}
-use Rattle.context.specs.Ops.{order_by_op}
+use Rattle.words.specs.Fits.{trees_fits}
+use Rattle.context.specs.Tables.{deepest}
+use Rattle.context.specs.Ops.{order_by_op, skip_op, limit_op}
 use Rattle.context.specs.declared.At.{At}
 use Rattle.context.specs.declared.LowerCtx.{LowerCtx}
+use Rattle.context.specs.declared.op.Op.{Op}
 use Rattle.lower.specs.Side.{side}
 use Rattle.lower.specs.Render.{Notes, Ops, render, Below}
 use Rattle.lower.specs.Shows.{shift, Stored, shows_order, shows_skip, shows_limit}
 use Rattle.lower.specs.Rep.{State, Mem, mem, at_place, Written, Blank, Rep, Rooted}
-use Rattle.lower.specs.Pieces.{Carried, []ᶜ, ◌∷ᶜ◌, lower_c, HeldC, SomeTree, SomeCarried, LowersExpr, LowersExprs}
+use Rattle.lower.specs.Pieces.{Carried, lower_c, render_c, BelowC, size_c, HeldC, SomeCarried, LowersExprs}
 use Rattle.lower.specs.Patterns.{SomeTrees}
-use Rattle.lower.specs.State.{sub_more, sub_within, blank_within, blank_behind, to_refl, to_then, to_wider, push_to}
-use Rattle.words.specs.Fits.{tree_fits, trees_fits, tree_low}
+use Rattle.lower.specs.Carry.{plain_c, plain_size, plain_held}
+use Rattle.lower.specs.State.{sub_more, sub_within, blank_within, blank_behind, to_then, to_wider}
 use Rattle.projections.specs.Items.{keys_c, keys_lower, keys_size, keys_held, keys_render, keys_below}
-use Rattle.projections.specs.Asked.{OverAsked}
-use Rattle.projections.specs.Promises.{LowersOver, order_l, input_of, head_of, trailer_op, over_l, Tail, tail_size, SomeTail, LowersTail}
-use Rattle.lower.specs.Standing.{tree_deep}
-use Rattle.projections.specs.Room.{twice_refl, twice_then, twice_pushed}
-use Rattle.projections.specs.declared.trailers.Trailer.{Trailer}
-use Rattle.projections.specs.declared.trailers.Trailer.TheVariants as trailer
+use Rattle.projections.specs.Ready.{Ready}
+use Rattle.projections.specs.Asked.{TailAsked}
+use Rattle.projections.specs.Promises.{PushedIf, LowersOver, order_l, skip_l, limit_l, Tail, tail_size, SomeTail, LowersTail}
+use Rattle.projections.specs.Room.{twice_then}
+use Rattle.projections.proofs.Pushing.{none_counted, some_counted, left_low, moved_if, pushed_if, pushed_if_as}
 
--- ── none ──
+-- ── trees that an operator stands over, or none ──
 
-none_size : {s : Sort} {n : ℕ} (ts : Trees s n) → n ≡ 0 → size_of ts ≡ 0
-unfolding size
-none_size []ᵗ e = refl
-none_size (t ∷ᵗ ts) e = absurd (omega arith)
+-- The n trees from record i on are lowered as expressions one after another, and then an operator x is pushed that shows them behind a record of its own; where there are none, `input` is left.
+record Trails {s : Sort} {n : ℕ} (a b : List ℕ) (gap deep d i input : ℕ) (head : Rec) (x : Op) (cs : Trees s n → Carried n) (L : Trees s n → Lowering ℕ) : Type 0 where
+  none : n ≡ 0 → (ts : Trees s n) (st : State) → L ts st ≡ (input, (lower_c (cs ts) st).1)
+  over : ((n ≡ 0) → ⊥) → (ts : Trees s n) (st : State) → L ts st ≡ push (head ∷ (lower_c (cs ts) st).0) (lower_c (cs ts) st).1
+  sized : (ts : Trees s n) → size_of ts ≡ size_c gap (cs ts)
+  held : (sheet : Bytes) (ts : Trees s n) → HeldOf sheet a b ts d i → HeldC sheet a b gap (cs ts) deep i
+  shown : ((n ≡ 0) → ⊥) → (sheet : Bytes) {first : ℕ} (ts : Trees s n) → HeldOf sheet a b ts d i → (N : Notes) (A : Ops) (k : ℕ) (rs : Recs) → BelowC (shift N 0) first k (cs ts) → render_c (shift N 0) A (cs ts) ≡ rs → Stored (side sheet a b first) N A k x (head ∷ rs)
 
--- nothing to lower leaves the operator that was there
-nothing_law : {s : Sort} {a b : List ℕ} (n d i input : ℕ) (L : Trees s n → Lowering ℕ) (m : Mem) → n ≡ 0 → i ≤ max_records → input < m.ctx.ops → ((ts : Trees s n) (st : State) → L ts st ≡ (input, st)) → LowersOver a b n d i i input L m m
-nothing_law n d i input L m e l low is = record {
-  moved = twice_refl l;
-  low = low;
-  next = λ sheet ts hd. (let z = none_size ts e in omega arith);
-  run = λ sheet ts hd W s r bl. record { to = rw (is ts s) (to_wider (sub_more (0 + suc i, 0 + suc i) W) (to_refl r)); root = rw (is ts s); low = low };
-}
+module _ {s : Sort} {a b : List ℕ} {n gap deep d i input e e' k : ℕ} {head : Rec} {x : Op} {c : LowerCtx} {os : List ℕ} {m m₁ : Mem} {cs : Trees s n → Carried n} {L : Trees s n → Lowering ℕ}
+    (tr : Trails a b gap deep d i input head x cs L)
+    (g : SomeTrees a b s n d i) (here : i ≤ max_records) (stands : input < m.ctx.ops)
+    (ex : LowersExprs a b n gap deep 0 i e m m₁)
+    (pi : PushedIf (not (eqb n 0)) x input k m₁.ctx c m₁.ops os)
+    (end : e' ≡ e) where
+  trail_next : (sheet : Bytes) (ts : Trees s n) → HeldOf sheet a b ts d i → e ≡ i + size_of ts
+  trail_next sheet ts hd = let x = ex.next sheet (cs ts) (tr.held sheet ts hd) in let y = tr.sized ts in omega arith
 
-no_keys : (n input : ℕ) (ts : Trees order_item n) (s : State) → n ≡ 0 → order_by input ts s ≡ (input, s)
-unfolding order_by ret
-no_keys n input []ᵗ s e = refl
-no_keys n input (t ∷ᵗ ts) s e = absurd (omega arith)
+  trail_up : not (eqb n 0) ≡ true → i + 1 ≤ e
+  trail_up q =
+      let y = trail_next g.sheet g.trees g.held in
+      let f = (trees_fits g.sheet a b g.trees d i here g.held).0 in
+      let z = some_counted n q in
+      omega arith
 
-pub no_order : {a b : List ℕ} (n d i input : ℕ) (m : Mem) → n ≡ 0 → i ≤ max_records → input < m.ctx.ops → LowersOver a b n d i i input (order_l n input) m m
-no_order n d i input m e l low = nothing_law n d i input (order_l n input) m e l low (λ ts s. no_keys n input ts s e)
+  trail_low : k < c.ops
+  trail_low = left_low pi (let g = ex.moved.grow in omega arith)
 
-no_expr : (n input : ℕ) (r : Rec) (ts : Trees expr n) (s : State) → n ≡ 0 → over_expr r input ts s ≡ (input, s)
-unfolding over_expr ret
-no_expr n input r []ᵗ s e = refl
-no_expr n input r (t ∷ᵗ ts) s e = absurd (omega arith)
+  trail_def : (w : Bool) → not (eqb n 0) ≡ w → (ts : Trees s n) (st : State) → L ts st ≡ cond w (push (head ∷ (lower_c (cs ts) st).0) (lower_c (cs ts) st).1) (input, (lower_c (cs ts) st).1)
+  trail_def false q ts st = tr.none (none_counted n q) ts st
+  trail_def true q ts st = tr.over (some_counted n q) ts st
 
-pub no_over : {a b : List ℕ} {k : ℕ} (n d i : ℕ) (x : Trailer) (m : Mem) → k ≡ input_of x → n ≡ 0 → i ≤ max_records → input_of x < m.ctx.ops → LowersOver a b n d i i k (over_l n x) m m
-no_over n d i x m ek e l low = rw ek (nothing_law n d i (input_of x) (over_l n x) m e l low (λ ts s. no_expr n (input_of x) (head_of x) ts s e))
+  trail_run : (sheet : Bytes) {first : ℕ} (ts : Trees s n) → HeldOf sheet a b ts d i → (W : Written) (st : State) → Rep (side sheet a b first) W st m → Blank W (0 + suc i) (0 + suc e) → Rooted (side sheet a b first) W (L ts) k 0 (suc i) (suc e) st m (mem c os m₁.rest)
+  trail_run sheet ts hd W st r bl =
+      let w : Bool = not (eqb n 0) in
+      let rs : Recs = (lower_c (cs ts) st).0 in
+      let y = ex.run sheet (cs ts) (tr.held sheet ts hd) W st r bl in
+      let z = pushed_if m₁ (λ v. cond w (push (head ∷ rs) v) (input, v)) (head ∷ rs) y.to.rep pi (λ q. rw q) (λ q. rw q)
+      (λ q N A f. tr.shown (some_counted n q) sheet ts hd N A m₁.ctx.ops rs (y.below N A f) (y.shown N A f)) in
+      let D = trail_def w refl ts st in
+      record { to = rw D (to_then y.to z.to); root = rw D z.root; low = trail_low }
+
+  trail_law : LowersOver a b n d i e' k L m (mem c os m₁.rest)
+  trail_law = rw end (record { moved = moved_if ex.moved trail_up pi; low = trail_low; next = trail_next; run = trail_run })
 
 -- ── sort keys ──
-
-carried_by : (sheet : Bytes) (a b : List ℕ) {n : ℕ} (cs : Carried n) (d i : ℕ) → ((n ≡ 0) → ⊥) → HeldC sheet a b 1 cs d i → 1 ≤ d
-unfolding HeldC
-carried_by sheet a b []ᶜ d i h hd = absurd (h refl)
-carried_by sheet a b (c ∷ᶜ cs) d i h hd = tree_deep sheet a b c.1 d (i + 1) hd.0
-
-pub carried_deep : {a b : List ℕ} {n d i : ℕ} → SomeCarried a b n 1 d i → ((n ≡ 0) → ⊥) → 1 ≤ d
-carried_deep {a} {b} {d = d} {i = i} x h = carried_by x.sheet a b x.list d i h x.held
 
 pub keys_some : {a b : List ℕ} {n d i : ℕ} → SomeTrees a b order_item n d i → SomeCarried a b n 1 (d - 1) i
 keys_some {a} {b} {d = d} {i = i} x = record { sheet = x.sheet; list = keys_c x.trees; held = keys_held x.sheet a b x.trees d i x.held }
 
-order_def : (n input : ℕ) (ts : Trees order_item n) (s : State) → ((n ≡ 0) → ⊥) → order_by input ts s ≡ push (op ReadOp.OrderBy (input, (n, tt)) ∷ (lower_c (keys_c ts) s).0) (lower_c (keys_c ts) s).1
+no_keys : {n : ℕ} (input : ℕ) (ts : Trees order_item n) (s : State) → n ≡ 0 → order_by input ts s ≡ (input, (lower_c (keys_c ts) s).1)
+unfolding order_by ret lower_c keys_c
+no_keys input []ᵗ s e = refl
+no_keys input (t ∷ᵗ ts) s e = absurd (omega arith)
+
+order_def : {n : ℕ} (input : ℕ) (ts : Trees order_item n) (s : State) → ((n ≡ 0) → ⊥) → order_by input ts s ≡ push (op ReadOp.OrderBy (input, (n, tt)) ∷ (lower_c (keys_c ts) s).0) (lower_c (keys_c ts) s).1
 unfolding order_by ◌>>=◌
-order_def n input []ᵗ s h = absurd (h refl)
-order_def n input (t ∷ᵗ ts) s h = rw (keys_lower (t ∷ᵗ ts) s)
+order_def input []ᵗ s h = absurd (h refl)
+order_def input (t ∷ᵗ ts) s h = rw (keys_lower (t ∷ᵗ ts) s)
 
-module _ {a b : List ℕ} {n input e : ℕ} {at : At} {c : LowerCtx} {os : List ℕ} {m m₁ : Mem}
-    (g : OverAsked order_item a b at n input m) (nz : (n ≡ 0) → ⊥)
-    (ex : LowersExprs a b n 1 (at.left - 1) 0 at.i e m m₁)
-    (ps : Pushed m₁.ctx c m₁.ops os (order_by_op (at_place 0 at.i at.left) input n)) (lo : length os ≡ length m₁.ops) where
-  order_next : (sheet : Bytes) (ts : Trees order_item n) → HeldOf sheet a b ts at.left at.i → e ≡ at.i + size_of ts
-  order_next sheet ts hd = let x = ex.next sheet (keys_c ts) (keys_held sheet a b ts at.left at.i hd) in let y = keys_size ts in omega arith
-
-  order_up : at.i + 1 ≤ e
-  order_up =
-      let some = g.trees in
-      let x = order_next some.sheet some.trees some.held in
-      let f = (trees_fits some.sheet a b some.trees at.left at.i g.ready.here some.held).0 in
-      omega arith
-
-  order_run : (sheet : Bytes) {first : ℕ} (ts : Trees order_item n) → HeldOf sheet a b ts at.left at.i → (W : Written) (s : State) → Rep (side sheet a b first) W s m → Blank W (0 + suc at.i) (0 + suc e) → Rooted (side sheet a b first) W (order_l n input ts) m₁.ctx.ops 0 (suc at.i) (suc e) s m (mem c os m₁.rest)
-  unfolding push
-  order_run sheet {first} ts hd W s r bl =
-      let up = order_up in
-      let here = ex.moved.here in
-      let y = ex.run sheet (keys_c ts) (keys_held sheet a b ts at.left at.i hd) W s r bl in
-      let D = order_def n input ts s nz in
-      let z = push_to m₁ c os (order_by_op (at_place 0 at.i at.left) input n) (op ReadOp.OrderBy (input, (n, tt)) ∷ (lower_c (keys_c ts) s).0) y.to.rep ps
-      (λ N A f. record {
-        bounded = record { shallow = g.depth; near = omega arith; low = omega arith; far = λ e. absurd (omega arith); flagged = λ e. absurd (omega arith) };
-        shows = shows_order refl (record {
-          keys = ts;
-          held = hd;
-          below = keys_below (shift N 0) first m₁.ctx.ops ts (y.below N A f);
-          is = ap (λ (x : Recs). op ReadOp.OrderBy (input, (n, tt)) ∷ x) (sym (y.shown N A f) ∙ sym (keys_render (shift N 0) A ts));
-        });
-      }) in
-      record { to = rw D (to_then y.to z); root = rw D y.to.rep.count; low = let w : c.ops ≡ m₁.ctx.ops + 1 = ps.count in omega arith }
-
-  pub order_law : LowersOver a b n at.left at.i e m₁.ctx.ops (order_l n input) m (mem c os m₁.rest)
-  order_law = record { moved = twice_pushed ex.moved order_up ps lo; low = omega (arith, ps.count); next = order_next; run = order_run }
+order_trails : (a b : List ℕ) (n d i input : ℕ) → d ≤ deepest → i ≤ max_records → Trails a b 1 (d - 1) d i input (op ReadOp.OrderBy (input, (n, tt))) (order_by_op (at_place 0 i d) input n) (λ ts. keys_c ts) (order_l n input)
+order_trails a b n d i input deep here = record {
+  none = λ q ts s. no_keys input ts s q;
+  over = λ q ts s. order_def input ts s q;
+  sized = λ ts. keys_size ts;
+  held = λ sheet ts hd. keys_held sheet a b ts d i hd;
+  shown = λ q sheet {first} ts hd N A k rs below is. (let f = trees_fits sheet a b ts d i here hd in record {
+    bounded = record { shallow = deep; near = omega arith; low = omega arith; far = λ e. absurd (omega arith); flagged = λ e. absurd (omega arith) };
+    shows = shows_order refl (record {
+      keys = ts;
+      held = hd;
+      below = keys_below (shift N 0) first k ts below;
+      is = ap (λ (x : Recs). op ReadOp.OrderBy (input, (n, tt)) ∷ x) (sym is ∙ sym (keys_render (shift N 0) A ts));
+    });
+  });
+}
 
 -- ── one expression ──
+
+pub expr_some : {a b : List ℕ} {n d i : ℕ} → SomeTrees a b expr n d i → SomeCarried a b n 0 d i
+expr_some {a} {b} {d = d} {i = i} x = record { sheet = x.sheet; list = plain_c x.trees; held = plain_held x.sheet a b x.trees d i x.held }
+
+no_expr : {n : ℕ} (input : ℕ) (r : Rec) (ts : Trees expr n) (s : State) → n ≡ 0 → over_expr r input ts s ≡ (input, (lower_c (plain_c ts) s).1)
+unfolding over_expr ret lower_c plain_c
+no_expr input r []ᵗ s e = refl
+no_expr input r (t ∷ᵗ ts) s e = absurd (omega arith)
 
 -- exactly one
 record Single {n : ℕ} (ts : Trees expr n) : Type 0 where
   tree : Tree expr
-  sized : size_of ts ≡ size tree
-  over : (r : Rec) (input : ℕ) (s : State) → over_expr r input ts s ≡ push (r ∷ (lower_expr tree s).0) (lower_expr tree s).1
+  lower : (r : Rec) (input : ℕ) (s : State) → over_expr r input ts s ≡ push (r ∷ (lower_c (plain_c ts) s).0) (lower_c (plain_c ts) s).1
   held : (sheet : Bytes) (a b : List ℕ) (d i : ℕ) → HeldOf sheet a b ts d i → Held sheet a b tree d i
+  below : (N : Notes) (lo k : ℕ) → BelowC N lo k (plain_c ts) → Below N lo k tree
+  shown : (N : Notes) (A : Ops) → render_c N A (plain_c ts) ≡ render N A tree
 
 single : {n : ℕ} (ts : Trees expr n) → n ≤ 1 → ((n ≡ 0) → ⊥) → Single ts
-unfolding size Held over_expr ◌>>=◌
+unfolding Held over_expr ◌>>=◌ ret plain_c lower_c BelowC render_c
 single []ᵗ l h = absurd (h refl)
-single (t ∷ᵗ []ᵗ) l h = record { tree = t; sized = omega arith; over = λ r input s. refl; held = λ sheet a b d i hd. hd.0 }
+single (t ∷ᵗ []ᵗ) l h = record {
+  tree = t;
+  lower = λ r input s. ap (λ (z : Recs). push (r ∷ z) (lower_expr t s).1) (sym (append-nil (lower_expr t s).0));
+  held = λ sheet a b d i hd. hd.0;
+  below = λ N lo k h. h.0;
+  shown = λ N A. append-nil (render N A t);
+}
 single (t ∷ᵗ u ∷ᵗ ts) l h = absurd (omega arith)
 
-pub expr_some : {a b : List ℕ} {n d i : ℕ} → SomeTrees a b expr n d i → n ≤ 1 → ((n ≡ 0) → ⊥) → SomeTree a b expr d i
-expr_some {a} {b} {d = d} {i = i} x l h = let o = single x.trees l h in record { sheet = x.sheet; tree = o.tree; held = o.held x.sheet a b d i x.held }
+module _ (a b : List ℕ) (n d i input : ℕ) (deep : d ≤ deepest) (here : i ≤ max_records) (one : n ≤ 1) where
+  over_trails : (head : Rec) (x : Op) →
+      ((sheet : Bytes) (first : ℕ) (t : Tree expr) → Held sheet a b t d i → i < max_records → (N : Notes) (A : Ops) (k : ℕ) (rs : Recs) → Below (shift N 0) first k t → render (shift N 0) A t ≡ rs → Stored (side sheet a b first) N A k x (head ∷ rs)) →
+      Trails a b 0 d d i input head x (λ (ts : Trees expr n). plain_c ts) (λ ts s. over_expr head input ts s)
+  over_trails head x st = record {
+    none = λ q ts s. no_expr input head ts s q;
+    over = λ q ts s. (single ts one q).lower head input s;
+    sized = λ ts. plain_size ts;
+    held = λ sheet ts hd. plain_held sheet a b ts d i hd;
+    shown = λ q sheet {first} ts hd N A k rs below is. (
+        let f = trees_fits sheet a b ts d i here hd in
+        let o = single ts one q in
+        st sheet first o.tree (o.held sheet a b d i hd) (omega arith) N A k rs (o.below (shift N 0) first k below) (sym (o.shown (shift N 0) A) ∙ is));
+  }
 
--- the operator that it stands over
-pub skip_input : {x : Trailer} {k n : ℕ} → x ≡ trailer.Skip k → input_of x < n → k < n
-skip_input e l = rw e at l
+  skip_trails : Trails a b 0 d d i input (op ReadOp.Skip (input, tt)) (skip_op (at_place 0 i d) input) (λ (ts : Trees expr n). plain_c ts) (skip_l n input)
+  skip_trails = over_trails _ _ (λ sheet first t hd low N A k rs below is. record {
+    bounded = record { shallow = deep; near = omega arith; low = low; far = λ e. absurd (omega arith); flagged = λ e. absurd (omega arith) };
+    shows = shows_skip refl (record { tree = t; held = hd; below = below; is = ap (λ (z : Recs). op ReadOp.Skip (input, tt) ∷ z) (sym is) });
+  })
 
-pub limit_input : {x : Trailer} {k n : ℕ} → x ≡ trailer.Limit k → input_of x < n → k < n
-limit_input e l = rw e at l
-
--- a skip or a limit, as it is stored
-over_stored : {sheet : Bytes} {a b : List ℕ} {first : ℕ} {N : Notes} {A : Ops} {k : ℕ} (x : Trailer) (i d : ℕ) (t : Tree expr) (rs : Recs) → d ≤ deepest → Held sheet a b t d i → Below (shift N 0) first k t → render (shift N 0) A t ≡ rs → Stored (side sheet a b first) N A k (trailer_op (at_place 0 i d) x) (head_of x ∷ rs)
-over_stored {sheet} {a} {b} (trailer.Skip input) i d t rs sh hd bl e = record {
-  bounded = record { shallow = sh; near = omega arith; low = tree_low sheet a b t d i hd; far = λ e. absurd (omega arith); flagged = λ e. absurd (omega arith) };
-  shows = shows_skip refl (record { tree = t; held = hd; below = bl; is = ap (λ (z : Recs). op ReadOp.Skip (input, tt) ∷ z) (sym e) });
-}
-over_stored {sheet} {a} {b} (trailer.Limit input) i d t rs sh hd bl e = record {
-  bounded = record { shallow = sh; near = omega arith; low = tree_low sheet a b t d i hd; far = λ e. absurd (omega arith); flagged = λ e. absurd (omega arith) };
-  shows = shows_limit refl (record { tree = t; held = hd; below = bl; is = ap (λ (z : Recs). op ReadOp.Limit (input, tt) ∷ z) (sym e) });
-}
-
-module _ {a b : List ℕ} {n input e : ℕ} {at : At} {c : LowerCtx} {os : List ℕ} {m m₁ : Mem} (x : Trailer)
-    (g : OverAsked expr a b at n input m) (one : n ≤ 1) (nz : (n ≡ 0) → ⊥)
-    (ex : LowersExpr a b at.left 0 at.i e m m₁)
-    (ps : Pushed m₁.ctx c m₁.ops os (trailer_op (at_place 0 at.i at.left) x)) (lo : length os ≡ length m₁.ops) where
-  over_next : (sheet : Bytes) (ts : Trees expr n) → HeldOf sheet a b ts at.left at.i → e ≡ at.i + size_of ts
-  over_next sheet ts hd = let o = single ts one nz in let y = ex.next sheet o.tree (o.held sheet a b at.left at.i hd) in let z = o.sized in omega arith
-
-  over_up : at.i + 1 ≤ e
-  over_up =
-      let some = g.trees in
-      let o = single some.trees one nz in
-      let hd = o.held some.sheet a b at.left at.i some.held in
-      let y = ex.next some.sheet o.tree hd in
-      let f = (tree_fits some.sheet a b o.tree at.left at.i hd).0 in
-      omega arith
-
-  over_run : (sheet : Bytes) {first : ℕ} (ts : Trees expr n) → HeldOf sheet a b ts at.left at.i → (W : Written) (s : State) → Rep (side sheet a b first) W s m → Blank W (0 + suc at.i) (0 + suc e) → Rooted (side sheet a b first) W (over_l n x ts) m₁.ctx.ops 0 (suc at.i) (suc e) s m (mem c os m₁.rest)
-  unfolding push
-  over_run sheet ts hd W s r bl =
-      let o = single ts one nz in
-      let hd₁ = o.held sheet a b at.left at.i hd in
-      let y = ex.run sheet o.tree hd₁ W s r bl in
-      let D = o.over (head_of x) (input_of x) s in
-      let z = push_to m₁ c os (trailer_op (at_place 0 at.i at.left) x) (head_of x ∷ (lower_expr o.tree s).0) y.to.rep ps (λ N A f. over_stored x at.i at.left o.tree _ g.depth hd₁ (y.below N A f) (y.shown N A f)) in
-      record { to = rw D (to_then y.to z); root = rw D y.to.rep.count; low = let w : c.ops ≡ m₁.ctx.ops + 1 = ps.count in omega arith }
-
-  pub over_law : LowersOver a b n at.left at.i e m₁.ctx.ops (over_l n x) m (mem c os m₁.rest)
-  over_law = record { moved = twice_pushed ex.moved over_up ps lo; low = omega (arith, ps.count); next = over_next; run = over_run }
+  limit_trails : Trails a b 0 d d i input (op ReadOp.Limit (input, tt)) (limit_op (at_place 0 i d) input) (λ (ts : Trees expr n). plain_c ts) (limit_l n input)
+  limit_trails = over_trails _ _ (λ sheet first t hd low N A k rs below is. record {
+    bounded = record { shallow = deep; near = omega arith; low = low; far = λ e. absurd (omega arith); flagged = λ e. absurd (omega arith) };
+    shows = shows_limit refl (record { tree = t; held = hd; below = below; is = ap (λ (z : Recs). op ReadOp.Limit (input, tt) ∷ z) (sym is) });
+  })
 
 -- ── the three ──
-
-trailers_def : {x y z : ℕ} (input k₁ k₂ : ℕ) (keys : Trees order_item x) (skip : Trees expr y) (limit : Trees expr z) (s : State) →
-    k₁ ≡ (order_by input keys s).0 →
-    k₂ ≡ (over_expr (op ReadOp.Skip (k₁, tt)) k₁ skip (order_by input keys s).1).0 →
-    lower_trailers input keys skip limit s ≡ over_expr (op ReadOp.Limit (k₂, tt)) k₂ limit (over_expr (op ReadOp.Skip (k₁, tt)) k₁ skip (order_by input keys s).1).1
-unfolding lower_trailers ◌>>=◌
-trailers_def input k₁ k₂ keys skip limit s e₁ e₂ = rw (e₂, e₁)
 
 module _ {a b : List ℕ} {n d i j : ℕ} where
   pub tail_keys : n ≡ cell a b i keys_at → SomeTail a b d i j → SomeTrees a b order_item n d j
@@ -202,6 +175,24 @@ module _ {a b : List ℕ} {n d i j : ℕ} where
 
   pub limit_one : n ≡ cell a b i limit_at → SomeTail a b d i j → n ≤ 1
   limit_one e x = let t = x.tail in rw (e ∙ sym t.limit_counted) t.limit_one
+
+module _ {a b : List ℕ} {at : At} {i input n j e k : ℕ} {x : Op} {c : LowerCtx} {os : List ℕ} {m m₁ : Mem} where
+  pub keys_law : (g : TailAsked a b at i input m) → n ≡ cell a b i keys_at → LowersExprs a b n 1 (at.left - 1) 0 at.i e m m₁ → x ≡ order_by_op (at_place 0 at.i at.left) input n → (j ≡ e) × PushedIf (not (eqb n 0)) x input k m₁.ctx c m₁.ops os → LowersOver a b n at.left at.i j k (order_l n input) m (mem c os m₁.rest)
+  keys_law g cn it ex pi = trail_law (order_trails a b n at.left at.i input g.depth g.ready.here) (tail_keys cn g.tail) g.ready.here g.stands it (pushed_if_as ex pi.1) pi.0
+
+module _ {a b : List ℕ} {d i input n j e k : ℕ} {x : Op} {c : LowerCtx} {os : List ℕ} {m m₁ : Mem} (deep : d ≤ deepest) (r : Ready i m) (ts : SomeTrees a b expr n d i) (one : n ≤ 1) (stands : input < m.ctx.ops) (it : LowersExprs a b n 0 d 0 i e m m₁) where
+  pub skip_law : x ≡ skip_op (at_place 0 i d) input → (j ≡ e) × PushedIf (not (eqb n 0)) x input k m₁.ctx c m₁.ops os → LowersOver a b n d i j k (skip_l n input) m (mem c os m₁.rest)
+  skip_law ex pi = trail_law (skip_trails a b n d i input deep r.here one) ts r.here stands it (pushed_if_as ex pi.1) pi.0
+
+  pub limit_law : x ≡ limit_op (at_place 0 i d) input → (j ≡ e) × PushedIf (not (eqb n 0)) x input k m₁.ctx c m₁.ops os → LowersOver a b n d i j k (limit_l n input) m (mem c os m₁.rest)
+  limit_law ex pi = trail_law (limit_trails a b n d i input deep r.here one) ts r.here stands it (pushed_if_as ex pi.1) pi.0
+
+trailers_def : {x y z : ℕ} (input k₁ k₂ : ℕ) (keys : Trees order_item x) (skip : Trees expr y) (limit : Trees expr z) (s : State) →
+    k₁ ≡ (order_by input keys s).0 →
+    k₂ ≡ (over_expr (op ReadOp.Skip (k₁, tt)) k₁ skip (order_by input keys s).1).0 →
+    lower_trailers input keys skip limit s ≡ over_expr (op ReadOp.Limit (k₂, tt)) k₂ limit (over_expr (op ReadOp.Skip (k₁, tt)) k₁ skip (order_by input keys s).1).1
+unfolding lower_trailers ◌>>=◌
+trailers_def input k₁ k₂ keys skip limit s e₁ e₂ = rw (e₂, e₁)
 
 module _ {a b : List ℕ} {n₁ e₁ k₁ : ℕ} {m m₁ : Mem} (d input i j : ℕ) (c₁ : n₁ ≡ cell a b i keys_at) (p : LowersOver a b n₁ d j e₁ k₁ (order_l n₁ input) m m₁) where
   keys_as : (n : ℕ) → n ≡ cell a b i keys_at → LowersOver a b n d j e₁ k₁ (order_l n input) m m₁
@@ -223,13 +214,13 @@ module _ {a b : List ℕ} {n₁ e₁ k₁ : ℕ} {m m₁ : Mem} (d input i j : �
     pub limit_some : {n₃ : ℕ} → n₃ ≡ cell a b i limit_at → SomeTail a b d i j → SomeTrees a b expr n₃ d e₂
     limit_some c₃ x = let t = x.tail in rw (c₃ ∙ sym t.limit_counted, skip_end x.sheet t) (record { sheet = x.sheet; trees = t.limit; held = t.held_limit })
 
-  module _ {n₂ e₂ k₂ : ℕ} {m₂ : Mem} (c₂ : n₂ ≡ cell a b i skip_at) (q : LowersOver a b n₂ d e₁ e₂ k₂ (over_l n₂ (trailer.Skip k₁)) m₁ m₂) where
-    skip_as : (n : ℕ) → n ≡ cell a b i skip_at → LowersOver a b n d e₁ e₂ k₂ (over_l n (trailer.Skip k₁)) m₁ m₂
-    skip_as n e = subst (λ (x : ℕ). LowersOver a b x d e₁ e₂ k₂ (over_l x (trailer.Skip k₁)) m₁ m₂) (c₂ ∙ sym e) q
+  module _ {n₂ e₂ k₂ : ℕ} {m₂ : Mem} (c₂ : n₂ ≡ cell a b i skip_at) (q : LowersOver a b n₂ d e₁ e₂ k₂ (skip_l n₂ k₁) m₁ m₂) where
+    skip_as : (n : ℕ) → n ≡ cell a b i skip_at → LowersOver a b n d e₁ e₂ k₂ (skip_l n k₁) m₁ m₂
+    skip_as n e = subst (λ (x : ℕ). LowersOver a b x d e₁ e₂ k₂ (skip_l x k₁) m₁ m₂) (c₂ ∙ sym e) q
 
-    module _ {n₃ e₃ k₃ : ℕ} {m₃ : Mem} (c₃ : n₃ ≡ cell a b i limit_at) (l : LowersOver a b n₃ d e₂ e₃ k₃ (over_l n₃ (trailer.Limit k₂)) m₂ m₃) where
-      limit_as : (n : ℕ) → n ≡ cell a b i limit_at → LowersOver a b n d e₂ e₃ k₃ (over_l n (trailer.Limit k₂)) m₂ m₃
-      limit_as n e = subst (λ (x : ℕ). LowersOver a b x d e₂ e₃ k₃ (over_l x (trailer.Limit k₂)) m₂ m₃) (c₃ ∙ sym e) l
+    module _ {n₃ e₃ k₃ : ℕ} {m₃ : Mem} (c₃ : n₃ ≡ cell a b i limit_at) (l : LowersOver a b n₃ d e₂ e₃ k₃ (limit_l n₃ k₂) m₂ m₃) where
+      limit_as : (n : ℕ) → n ≡ cell a b i limit_at → LowersOver a b n d e₂ e₃ k₃ (limit_l n k₂) m₂ m₃
+      limit_as n e = subst (λ (x : ℕ). LowersOver a b x d e₂ e₃ k₃ (limit_l x k₂) m₂ m₃) (c₃ ∙ sym e) l
 
       held_limit : (sheet : Bytes) (t : Tail sheet a b d i j) → HeldOf sheet a b t.limit d e₂
       held_limit sheet t = rw (skip_end c₂ q.next sheet t) t.held_limit

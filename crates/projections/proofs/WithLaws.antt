@@ -4,20 +4,19 @@ use Prim.Native.Nat.{ℕ, suc, ◌+◌, ◌-◌, ◌≤◌}
 use native.Mathlib.Nat.{le_refl}
 use native.Mathlib.Omega.{arith}
 use mathlib.Core.List.{List, ◌∷◌, ◌++◌}
-use Rattle.std.specs.Prelude.{Some}
+use Rattle.std.specs.Prelude.{Some, Option}
 use lib.ListN.{length}
 use Rattle.model.specs.Text.{Bytes}
 use Rattle.model.specs.Kind.{clause}
 use Rattle.model.specs.Record.{Rec, one}
 use Rattle.model.specs.Tree.{Tree}
 use Rattle.model.specs.Lower.{Recs, or_source_all, lower_clause}
-use Rattle.words.specs.Words.{cell}
+use Rattle.words.specs.Words.{Roomy, cell}
 use Rattle.words.specs.Held.{Held, HeldOf, size, size_of}
 use Rattle.words.specs.Places.{with_kind, items_at, with_filter_at}
 use Rattle.context.specs.Tables.{Pushed}
-use Rattle.context.specs.Ops.{before_of, with_op}
+use Rattle.context.specs.Ops.{with_op}
 use Rattle.context.specs.declared.At.{At}
-use Rattle.context.specs.declared.Before.{Before}
 use Rattle.context.specs.declared.LowerCtx.{LowerCtx}
 use Rattle.lower.specs.Side.{side}
 use Rattle.lower.specs.Shows.{shift, shows_with}
@@ -44,11 +43,11 @@ shown_both head rs rs' ss ss' e e' = rw (e, e')
 with_sub : (i j p q e : ℕ) (W : Written) → i + 1 ≤ j → j ≤ p → p ≡ q → p ≤ e → Sub ((0 + suc q, 0 + suc e) ∷ (0 + suc j, 0 + suc p) ∷ (0 + suc (i + 1), 0 + suc j) ∷ W) (both_passes (suc i) (suc e) W)
 with_sub i j p q e W l₁ l₂ eq l₃ = sub_within (omega arith) (omega arith) (sub_within (omega arith) (omega arith) (sub_within (omega arith) (omega arith) sub_both))
 
-module _ {a b : List ℕ} {at : At} {current : Before} {m : Mem} (g : ClauseAsked with_kind a b at current m) where
+module _ {a b : List ℕ} {at : At} {current : Option ℕ} {m : Mem} (room : Roomy a b) (g : ClauseAsked with_kind a b at current m) where
   -- the items
   pub with_items : {n : ℕ} → n ≡ cell a b at.i items_at → SomeCarried a b n 1 (at.left - 1 - 1) (at.i + 1)
   with_items en =
-      let v = a_with g.words g.tree.tree g.tree.held g.kind in
+      let v = a_with room g.tree.tree g.tree.held g.kind in
       rw (en ∙ sym v.counted) (record { sheet = g.tree.sheet; list = items_c v.items; held = items_held g.tree.sheet a b v.items (at.left - 1) (at.i + 1) v.held_items })
 
   module _ {n j : ℕ} {m₁ m₂ : Mem} (en : n ≡ cell a b at.i items_at) (it : LowersExprs a b n 1 (at.left - 1 - 1) 0 (at.i + 1) j m₁ m₂) where
@@ -67,7 +66,7 @@ module _ {a b : List ℕ} {at : At} {current : Before} {m : Mem} (g : ClauseAske
     -- the predicate
     pub with_predicate : {l : ℕ} → l ≡ cell a b at.i with_filter_at → SomeCarried a b l 0 (at.left - 1) j
     with_predicate el =
-        let v = a_with g.words g.tree.tree g.tree.held g.kind in
+        let v = a_with room g.tree.tree g.tree.held g.kind in
         rw (el ∙ sym v.flagged) (record { sheet = g.tree.sheet; list = plain_c v.predicate; held = plain_held g.tree.sheet a b v.predicate (at.left - 1) j (predicate_held g.tree.sheet g.tree.tree v) })
 
     module _ {l p : ℕ} {m₃ : Mem} (el : l ≡ cell a b at.i with_filter_at) (pr : LowersExprs a b l 0 (at.left - 1) 0 j p m₂ m₃) where
@@ -84,10 +83,10 @@ module _ {a b : List ℕ} {at : At} {current : Before} {m : Mem} (g : ClauseAske
       -- what trails
       pub with_tail : SomeTail a b (at.left - 1) at.i p
       with_tail =
-          let v = a_with g.words g.tree.tree g.tree.held g.kind in
+          let v = a_with room g.tree.tree g.tree.held g.kind in
           rw (predicate_end g.tree.sheet g.tree.tree v) (record { sheet = g.tree.sheet; tail = v.tail })
 
-      module _ {k₀ : ℕ} {c : LowerCtx} {os : List ℕ} (sr : OrSource m.ctx.ops (or_source_all (before_of current)) k₀ m m₁) (ps : Pushed m₃.ctx c m₃.ops os (with_op (at_place 0 at.i (at.left - 1)) k₀)) (lo : length os ≡ length m₃.ops) where
+      module _ {k₀ : ℕ} {c : LowerCtx} {os : List ℕ} (sr : OrSource m.ctx.ops (or_source_all current) k₀ m m₁) (ps : Pushed m₃.ctx c m₃.ops os (with_op (at_place 0 at.i (at.left - 1)) k₀)) (lo : length os ≡ length m₃.ops) where
         pub with_moved : MovedTwice at.i p m (mem c os m₃.rest)
         with_moved =
             let x = it.moved in
@@ -107,22 +106,22 @@ module _ {a b : List ℕ} {at : At} {current : Before} {m : Mem} (g : ClauseAske
         module _ {e k : ℕ} {m₅ : Mem} (tl : LowersTail a b (at.left - 1) m₃.ctx.ops at.i p e k (mem c os m₃.rest) m₅) where
           with_next : (sheet : Bytes) (t : Tree clause) → Held sheet a b t at.left at.i → e ≡ at.i + size t
           with_next sheet t hd =
-              let v = a_with g.words t hd g.kind in
+              let v = a_with room t hd g.kind in
               let tl' : LowersTail a b (at.left - 1) m₃.ctx.ops at.i (at.i + 1 + size_of v.items + size_of v.predicate) e k (mem c os m₃.rest) m₅ = rw (predicate_end sheet t v) at tl in
               let x = tl'.next sheet v.tail in
               let y = v.sized in
               omega arith
 
-          with_run : (sheet : Bytes) {first : ℕ} (t : Tree clause) → Held sheet a b t at.left at.i → (W : Written) (s : State) → Rep (side sheet a b first) W s m → BothBlank W (suc at.i) (suc e) → Leaves (side sheet a b first) W (λ s. lower_clause t (before_of current) s) (Some k) (suc at.i) (suc e) s m m₅
+          with_run : (sheet : Bytes) {first : ℕ} (t : Tree clause) → Held sheet a b t at.left at.i → (W : Written) (s : State) → Rep (side sheet a b first) W s m → BothBlank W (suc at.i) (suc e) → Leaves (side sheet a b first) W (λ s. lower_clause t current s) (Some k) (suc at.i) (suc e) s m m₅
           with_run sheet {first} t hd W s r bl =
-              let v = a_with g.words t hd g.kind in
+              let v = a_with room t hd g.kind in
               let P : ℕ = at.i + 1 + size_of v.items + size_of v.predicate in
               let ep : p ≡ P = predicate_end sheet t v in
               let tl' : LowersTail a b (at.left - 1) m₃.ctx.ops at.i P e k (mem c os m₃.rest) m₅ = rw ep at tl in
               let u₁ = it.moved.up in
               let u₂ = pr.moved.up in
               let u₃ = tl.moved.up in
-              let s₁ : State = (or_source_all (before_of current) s).1 in
+              let s₁ : State = (or_source_all current s).1 in
               let x₀ = sr.run _ W s r.from r in
               let x₁ = (items_as v.n v.counted).run sheet (items_c v.items) (items_held sheet a b v.items (at.left - 1) (at.i + 1) v.held_items) W s₁ x₀.to.rep (blank_within (omega arith) (omega arith) bl.first) in
               let x₂ = (predicate_as (one v.filtered) v.flagged).run sheet (plain_c v.predicate) (plain_held sheet a b v.predicate (at.left - 1) j (predicate_held sheet t v)) _ _ x₁.to.rep (blank_behind (le_refl _) (blank_within (omega arith) (omega arith) bl.first)) in
@@ -144,11 +143,11 @@ module _ {a b : List ℕ} {at : At} {current : Before} {m : Mem} (g : ClauseAske
                 });
               }) in
               let x₄ = tl'.run sheet v.tail _ _ x₃.rep (blank_behind (omega arith) (blank_behind (omega arith) (blank_within (omega arith) (omega arith) bl.first))) in
-              let D = v.def (before_of current) s k₀ m₃.ctx.ops x₀.root x₂.to.rep.count in
+              let D = v.def current s k₀ m₃.ctx.ops x₀.root x₂.to.rep.count in
               record {
                 to = rw D (to_wider (with_sub at.i j p P e W u₁ u₂ ep u₃) (to_then x₀.to (to_then x₁.to (to_then x₂.to (to_then x₃ x₄.to)))));
                 gives = rw D (ap (λ (z : ℕ). Some z) (sym x₄.root));
               }
 
-          pub with_law : (sheet : Bytes) → LowersClause sheet a b at.left at.i e (before_of current) (Some k) m m₅
+          pub with_law : (sheet : Bytes) → LowersClause sheet a b at.left at.i e current (Some k) m m₅
           with_law sheet = record { moved = twice_then with_moved tl.moved; stands = tl.low; next = with_next sheet; run = with_run sheet }

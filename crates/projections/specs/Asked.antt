@@ -1,27 +1,23 @@
 -- What the functions that lower a clause ask, by name. Assumes nothing: these are definitions.
-use Rattle.std.specs.Prelude.{◌≡◌, ℕ, ◌+◌, ◌-◌, ◌≤◌, ◌<◌, List}
+use Rattle.std.specs.Prelude.{◌≡◌, ℕ, ◌+◌, ◌-◌, ◌≤◌, ◌<◌, List, Option}
 use Rattle.model.specs.Text.{Bytes}
-use Rattle.model.specs.Kind.{Sort, clause, projection}
-use Rattle.words.specs.Words.{Roomy, cell, max_records, two32}
+use Rattle.model.specs.Kind.{clause, projection}
+use Rattle.words.specs.Words.{cell, max_records, two32}
 use Rattle.words.specs.Places.{return_kind, kind_at, items_at}
 use Rattle.words.specs.Held.{HeldSome, HeldMany}
-use Rattle.context.specs.Tables.{CanPush, second_pass, deepest}
-use Rattle.context.specs.Ops.{Fits, Under}
+use Rattle.context.specs.Tables.{second_pass, deepest}
+use Rattle.context.specs.Ops.{Under}
 use Rattle.context.specs.declared.At.{At}
-use Rattle.context.specs.declared.Before.{Before}
-use Rattle.context.specs.declared.LowerCtx.{LowerCtx}
 use Rattle.lower.specs.Rep.{Mem, RoomFor}
 use Rattle.lower.specs.Pieces.{SomeTree, SomeCarried}
 use Rattle.lower.specs.Patterns.{SomeTrees}
 use Rattle.projections.specs.Ready.{Ready}
 use Rattle.projections.specs.Promises.{SomeTail}
-use Rattle.projections.specs.declared.passes.ReturnItems.{ReturnItems}
 
 -- ── a clause ──
 
 -- the clause at a place, of kind k, behind the operator that stands before it
-pub record ClauseAsked (k : ℕ) (a b : List ℕ) (at : At) (current : Before) (m : Mem) : Type 0 where
-  pub words : Roomy a b
+pub record ClauseAsked (k : ℕ) (a b : List ℕ) (at : At) (current : Option ℕ) (m : Mem) : Type 0 where
   pub tree : SomeTree a b clause at.left at.i
   pub kind : cell a b at.i kind_at ≡ k
   pub ready : Ready at.i m
@@ -29,7 +25,7 @@ pub record ClauseAsked (k : ℕ) (a b : List ℕ) (at : At) (current : Before) (
   pub stands : Under current m.ctx.ops
 
 -- a `return`, of the sheet that is passed
-pub record ReturnAsked (sheet : Bytes) (a b : List ℕ) (at : At) (current : Before) (m : Mem) : Type 0 where
+pub record ReturnAsked (sheet : Bytes) (a b : List ℕ) (at : At) (current : Option ℕ) (m : Mem) : Type 0 where
   pub asked : ClauseAsked return_kind a b at current m
   pub held : HeldSome sheet a b clause at.left at.i
 
@@ -37,7 +33,6 @@ pub record ReturnAsked (sheet : Bytes) (a b : List ℕ) (at : At) (current : Bef
 
 -- n items or sort keys from a place on, each a record with an expression behind it
 pub record ItemsAsked (a b : List ℕ) (at : At) (n : ℕ) (m : Mem) : Type 0 where
-  pub words : Roomy a b
   pub items : SomeCarried a b n 1 (at.left - 1) at.i
   pub room : RoomFor at.left at.i m
   pub depth : at.left ≤ deepest
@@ -45,53 +40,32 @@ pub record ItemsAsked (a b : List ℕ) (at : At) (n : ℕ) (m : Mem) : Type 0 wh
 
 -- n items from a place on, of the sheet that is passed
 pub record SplitAsked (sheet : Bytes) (a b : List ℕ) (at : At) (n : ℕ) (m : Mem) : Type 0 where
-  pub words : Roomy a b
   pub items : HeldMany sheet a b projection n at.left at.i
   pub room : RoomFor at.left at.i m
   pub depth : at.left ≤ deepest
 
--- an aggregate of the `return` at a place, of so many keys and so many aggregates, over an operator
-pub record AggregateAsked (at : At) (input keys aggs : ℕ) (ctx : LowerCtx) (ops : List ℕ) : Type 0 where
-  pub push : CanPush ctx ops
-  pub fits : Fits at
-  pub small : input < two32
-  pub few_keys : keys < two32
-  pub few_aggs : aggs < two32
-
--- the items of a `return`, before its first lowering
-pub record FirstAsked (sheet : Bytes) (a b : List ℕ) (of : ReturnItems) (current : Before) (m : Mem) : Type 0 where
-  pub words : Roomy a b
-  pub counted : of.n ≡ cell a b of.i items_at
-  pub items : HeldMany sheet a b projection of.n of.left (of.i + 1)
-  pub ready : Ready of.i m
-  pub low : of.i < max_records
-  pub depth : of.left ≤ deepest
+-- the n items of the `return` at a place, before their first lowering
+pub record FirstAsked (sheet : Bytes) (a b : List ℕ) (at : At) (n : ℕ) (current : Option ℕ) (m : Mem) : Type 0 where
+  pub counted : n ≡ cell a b at.i items_at
+  pub items : HeldMany sheet a b projection n at.left (at.i + 1)
+  pub ready : Ready at.i m
+  pub low : at.i < max_records
+  pub depth : at.left ≤ deepest
   pub stands : Under current m.ctx.ops
 
--- so before its second one, over operator `input`
-pub record SecondAsked (a b : List ℕ) (of : ReturnItems) (input distinct : ℕ) (m : Mem) : Type 0 where
-  pub words : Roomy a b
-  pub counted : of.n ≡ cell a b of.i items_at
-  pub items : SomeTrees a b projection of.n of.left (of.i + 1)
-  pub room : RoomFor of.left (of.i + 1) m
-  pub low : of.i < max_records
-  pub depth : of.left ≤ deepest
+-- so before their second one, over operator `input`
+pub record SecondAsked (a b : List ℕ) (at : At) (n input : ℕ) (m : Mem) : Type 0 where
+  pub counted : n ≡ cell a b at.i items_at
+  pub items : SomeTrees a b projection n at.left (at.i + 1)
+  pub room : RoomFor at.left (at.i + 1) m
+  pub low : at.i < max_records
+  pub depth : at.left ≤ deepest
   pub small : input < two32
-  pub flag : distinct ≤ 1
 
 -- ── what trails it ──
 
--- n trees of a sort from a place on, over operator `input`
-pub record OverAsked (s : Sort) (a b : List ℕ) (at : At) (n input : ℕ) (m : Mem) : Type 0 where
-  pub words : Roomy a b
-  pub trees : SomeTrees a b s n at.left at.i
-  pub ready : Ready at.i m
-  pub depth : at.left ≤ deepest
-  pub stands : input < m.ctx.ops
-
 -- the trailers of the clause at record i, from a place on
 pub record TailAsked (a b : List ℕ) (at : At) (i input : ℕ) (m : Mem) : Type 0 where
-  pub words : Roomy a b
   pub low : i < max_records
   pub tail : SomeTail a b at.left i at.i
   pub ready : Ready at.i m

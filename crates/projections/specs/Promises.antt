@@ -1,16 +1,13 @@
 -- What the steps of a `with` or a `return` promise. Assumes nothing: these are definitions.
-use Rattle.std.specs.Prelude.{◌≡◌, ℕ, suc, ◌+◌, ◌*◌, ◌≤◌, ◌<◌, Bool, List, ◌∷◌, length, Option}
+use Rattle.std.specs.Prelude.{◌≡◌, ℕ, suc, ◌+◌, ◌*◌, ◌≤◌, ◌<◌, Bool, true, false, List, ◌∷◌, length, Option}
 use Rattle.model.specs.Text.{Bytes}
 use Rattle.model.specs.Kind.{Sort, ReadOp, expr, order_item, projection}
-use Rattle.model.specs.Record.{Rec}
 use Rattle.model.specs.Tree.{Trees}
 use Rattle.model.specs.Lower.{Lowering, ◌>>=◌, push, op, or_source_all, order_by, over_expr, lower_trailers, lower_projections, split_projections_agg, aggregate_if, distinct_if}
 use Rattle.words.specs.Words.{cell, max_records}
 use Rattle.words.specs.Held.{HeldOf, size_of}
 use Rattle.words.specs.Places.{keys_at, skip_at, limit_at}
 use Rattle.context.specs.Tables.{Pushed}
-use Rattle.context.specs.Ops.{skip_op, limit_op}
-use Rattle.context.specs.declared.At.{At}
 use Rattle.context.specs.declared.op.Op.{Op}
 use Rattle.context.specs.declared.LowerCtx.{LowerCtx}
 use Rattle.lower.specs.Side.{Side, side}
@@ -18,8 +15,6 @@ use Rattle.lower.specs.Render.{Notes, Ops, BelowOf, key_recs, agg_recs}
 use Rattle.lower.specs.Shows.{shift}
 use Rattle.lower.specs.Rep.{State, Mem, Written, Blank, Future, Rep, To, Rooted, Moved, Indexes, pass_operators}
 use Rattle.lower.specs.Clauses.{MovedTwice}
-use Rattle.projections.specs.declared.trailers.Trailer.{Trailer}
-use Rattle.projections.specs.declared.trailers.Trailer.TheVariants as trailer
 
 -- ── order, skip, limit ──
 
@@ -30,24 +25,14 @@ pub record LowersOver {sort : Sort} (a b : List ℕ) (n d i e k : ℕ) (L : Tree
   pub next : (sheet : Bytes) (ts : Trees sort n) → HeldOf sheet a b ts d i → e ≡ i + size_of ts
   pub run : (sheet : Bytes) {first : ℕ} (ts : Trees sort n) → HeldOf sheet a b ts d i → (W : Written) (s : State) → Rep (side sheet a b first) W s m → Blank W (0 + suc i) (0 + suc e) → Rooted (side sheet a b first) W (L ts) k 0 (suc i) (suc e) s m m'
 
--- of a skip or a limit: the operator that it stands over, its own record, and what is stored of it
-abbrev pub input_of : Trailer → ℕ
-input_of (trailer.Skip k) = k
-input_of (trailer.Limit k) = k
-
-abbrev pub head_of : Trailer → Rec
-head_of (trailer.Skip k) = op ReadOp.Skip (k, tt)
-head_of (trailer.Limit k) = op ReadOp.Limit (k, tt)
-
-abbrev pub trailer_op : At → Trailer → Op
-trailer_op at (trailer.Skip k) = skip_op at k
-trailer_op at (trailer.Limit k) = limit_op at k
-
 abbrev pub order_l : (n input : ℕ) → Trees order_item n → Lowering ℕ
 order_l n input ts = λ s. order_by input ts s
 
-abbrev pub over_l : (n : ℕ) → Trailer → Trees expr n → Lowering ℕ
-over_l n x ts = λ s. over_expr (head_of x) (input_of x) ts s
+abbrev pub skip_l : (n input : ℕ) → Trees expr n → Lowering ℕ
+skip_l n input ts = λ s. over_expr (op ReadOp.Skip (input, tt)) input ts s
+
+abbrev pub limit_l : (n input : ℕ) → Trees expr n → Lowering ℕ
+limit_l n input ts = λ s. over_expr (op ReadOp.Limit (input, tt)) input ts s
 
 -- the trailers of the clause at record i stand from record j on
 pub record Tail (sheet : Bytes) (a b : List ℕ) (d i j : ℕ) : Type 0 where
@@ -95,10 +80,10 @@ pub record LowersSplit (sheet : Bytes) (a b : List ℕ) (n d i e aggs : ℕ) (m 
   pub next : (items : Trees projection n) → HeldOf sheet a b items d i → e ≡ i + size_of items
   pub run : {first : ℕ} (items : Trees projection n) → HeldOf sheet a b items d i → (W : Written) (s : State) → Rep (side sheet a b first) W s m → Blank W (0 + suc i) (0 + suc e) → Splits (side sheet a b first) W items aggs (suc i) (suc e) s m m'
 
--- an operator x is pushed unless n is 0, and then the one before is left
-pub data PushedIf (n : ℕ) (x : Op) (input k : ℕ) (c c' : LowerCtx) (o o' : List ℕ) : Type 0 where
-  none_pushed : n ≡ 0 → k ≡ input → c' ≡ c → o' ≡ o → PushedIf n x input k c c' o o'
-  one_pushed : ((n ≡ 0) → ⊥) → k ≡ c.ops → Pushed c c' o o' x → length o' ≡ length o → PushedIf n x input k c c' o o'
+-- an operator x is pushed if it is wanted, and if not the one before is left
+pub data PushedIf (wanted : Bool) (x : Op) (input k : ℕ) (c c' : LowerCtx) (o o' : List ℕ) : Type 0 where
+  none_pushed : wanted ≡ false → k ≡ input → c' ≡ c → o' ≡ o → PushedIf wanted x input k c c' o o'
+  one_pushed : wanted ≡ true → k ≡ c.ops → Pushed c c' o o' x → length o' ≡ length o → PushedIf wanted x input k c c' o o'
 
 -- a lowering of the items has up to so many operators of its own: the source and the aggregate, or the projection and its distinct
 abbrev pub own_operators : ℕ

@@ -1,98 +1,110 @@
-// The lowering of a `with` or a `return` into the tables. a and b hold the records, ops the operators, rest the notes and the variables; a clause's place has no pass of its own.
+// The lowering of a `with` or a `return` into the tables. r holds the records, ops the operators, rest the notes and the variables; a clause's place has no pass of its own.
 #![tactic(auto)]
 
-ghost use Rattle.std.specs.Prelude.{List, ℕ, Some};
+ghost use Rattle.std.specs.Prelude.{◌≡◌, List, ℕ, Some};
 ghost use Rattle.words.specs.Places.{with_kind};
-ghost use Rattle.context.specs.Ops.{before_of};
+ghost use Rattle.context.specs.Tables.{CanPush};
 ghost use Rattle.lower.specs.Rep.{mem};
 ghost use Rattle.lower.specs.Clauses.{LowersClause};
 ghost use Rattle.projections.specs.Asked.{ClauseAsked, ReturnAsked};
+ghost use Rattle.projections.specs.Promises.{PushedIf};
 
-use crate::passes::ReturnItems;
-use context::{At, Before, LowerCtx, op};
-use lower::Root;
-use words::field;
+use context::op::Op;
+use context::{At, LowerCtx, op};
+use lower::{Reached, Root};
+use words::{Records, field};
 
 pub mod items;
 pub mod passes;
 pub mod trailers;
 
+// An operator behind what is reached, if it is wanted; if not, `input`, which it would stand over, is left.
+fn push_if(ops: &mut [u32], s: Reached, wanted: bool, x: Op, input: usize) -> Root
+    requires { CanPush s.ctx ops.old }
+    ensures { (result.next ≡ s.next) × PushedIf wanted x input result.op s.ctx result.ctx ops.old ops.new }
+{
+    if !wanted {
+        return Root {
+            next: s.next,
+            op: input,
+            ctx: s.ctx,
+        };
+    }
+    let k = s.ctx.ops;
+    let z = s.ctx.push(ops, x);
+    Root {
+        next: s.next,
+        op: k,
+        ctx: z,
+    }
+}
+
 // The `with` at a place, behind the operator before it.
 pub fn lower_with(
-    a: &[u32],
-    b: &[u32],
+    r: &Records<'_>,
     ops: &mut [u32],
     rest: &mut [u32],
     ctx: LowerCtx,
-    current: Before,
+    current: Option<usize>,
     at: At,
 ) -> Root
-    requires { ClauseAsked with_kind a.now b.now at current (mem ctx ops.old rest.old) }
-    ensures { (sheet : List ℕ) → LowersClause sheet a.now b.now at.left at.i result.next (before_of current) (Some result.op) (mem ctx ops.old rest.old) (mem result.ctx ops.new rest.new) }
+    requires { ClauseAsked with_kind r.now.a.now r.now.b.now at current (mem ctx ops.old rest.old) }
+    ensures { (sheet : List ℕ) → LowersClause sheet r.now.a.now r.now.b.now at.left at.i result.next current (Some result.op) (mem ctx ops.old rest.old) (mem result.ctx ops.new rest.new) }
 {
     let i = at.i;
-    let items = words::records::count(a, b, i, field::ITEMS);
-    let filter = words::records::count(a, b, i, field::WITH_FILTER);
+    let items = r.count(i, field::ITEMS);
+    let filter = r.count(i, field::WITH_FILTER);
     let first = i + 1;
     let less = at.left - 1;
-    let q = lower::or_source_all(ops, ctx, current, first);
-    let c = q.ctx;
-    let below = At {
-        base: 0,
-        i: first,
-        left: less,
-    };
-    let s = items::lower_items(a, b, ops, rest, c, below, items);
-    let d = s.ctx;
-    let predicate = At {
-        base: 0,
-        i: s.next,
-        left: less,
-    };
-    let t = lower::lower_exprs(a, b, ops, rest, d, predicate, filter, 0);
-    let e = t.ctx;
-    let k = e.ops;
     let clause = At {
         base: 0,
         i,
         left: less,
     };
-    let z = e.push(ops, op::with(clause, q.op));
-    let behind = At {
-        base: 0,
-        i: t.next,
-        left: less,
+    let q = lower::or_source_all(ops, ctx, current, first);
+    let below = At { i: first, ..clause };
+    let s = items::lower_items(r, ops, rest, q.ctx, below, items);
+    let predicate = At {
+        i: s.next,
+        ..clause
     };
-    trailers::lower_trailers(a, b, ops, rest, z, k, i, behind)
+    let t = lower::lower_exprs(r, ops, rest, s.ctx, predicate, filter, 0);
+    let k = t.ctx.ops;
+    let z = t.ctx.push(ops, op::over(op::WITH, clause, q.op));
+    let behind = At {
+        i: t.next,
+        ..clause
+    };
+    trailers::lower_trailers(r, ops, rest, z, k, i, behind)
 }
 
 // The `return` at a place, behind the operator before it.
 pub fn lower_return(
     sheet: &[u8],
-    a: &[u32],
-    b: &[u32],
+    r: &Records<'_>,
     ops: &mut [u32],
     rest: &mut [u32],
     ctx: LowerCtx,
-    current: Before,
+    current: Option<usize>,
     at: At,
 ) -> Root
-    requires { ReturnAsked sheet.now a.now b.now at current (mem ctx ops.old rest.old) }
-    ensures { LowersClause sheet.now a.now b.now at.left at.i result.next (before_of current) (Some result.op) (mem ctx ops.old rest.old) (mem result.ctx ops.new rest.new) }
+    requires { ReturnAsked sheet.now r.now.a.now r.now.b.now at current (mem ctx ops.old rest.old) }
+    ensures { LowersClause sheet.now r.now.a.now r.now.b.now at.left at.i result.next current (Some result.op) (mem ctx ops.old rest.old) (mem result.ctx ops.new rest.new) }
 {
     let i = at.i;
-    let n = words::records::count(a, b, i, field::ITEMS);
-    let distinct = words::records::count(a, b, i, field::RETURN_DISTINCT);
+    let n = r.count(i, field::ITEMS);
+    let distinct = r.word(i, field::RETURN_DISTINCT) == 1;
     let less = at.left - 1;
-    let of = ReturnItems { i, n, left: less };
-    let p = passes::first_pass(sheet, a, b, ops, rest, ctx, current, of);
-    let c = p.ctx;
-    let q = passes::second_pass(a, b, ops, rest, c, p.op, distinct, of);
-    let d = q.ctx;
-    let behind = At {
+    let clause = At {
         base: 0,
-        i: q.next,
+        i,
         left: less,
     };
-    trailers::lower_trailers(a, b, ops, rest, d, q.op, i, behind)
+    let p = passes::first_pass(sheet, r, ops, rest, ctx, current, clause, n);
+    let q = passes::second_pass(r, ops, rest, p.ctx, p.op, distinct, clause, n);
+    let behind = At {
+        i: q.next,
+        ..clause
+    };
+    trailers::lower_trailers(r, ops, rest, q.ctx, q.op, i, behind)
 }

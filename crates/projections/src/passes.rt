@@ -1,134 +1,66 @@
 // The two lowerings of a `return`'s items: the first for its aggregate, the second for its projection.
-ghost use Rattle.std.specs.Prelude.{◌≡◌, List, ℕ, ◌+◌, ◌<◌, eqb};
+ghost use Rattle.std.specs.Prelude.{List, ℕ, ◌+◌, ◌<◌};
 ghost use Rattle.words.specs.Words.{two32};
-ghost use Rattle.context.specs.Tables.{CanPush, second_pass};
-ghost use Rattle.context.specs.Ops.{before_of, aggregate_op, distinct_op};
+ghost use Rattle.context.specs.Tables.{second_pass};
 ghost use Rattle.lower.specs.Rep.{mem};
-ghost use Rattle.projections.specs.Asked.{AggregateAsked, FirstAsked, SecondAsked};
-ghost use Rattle.projections.specs.Promises.{PushedIf, LowersPass, first_l, second_l};
+ghost use Rattle.projections.specs.Asked.{FirstAsked, SecondAsked};
+ghost use Rattle.projections.specs.Promises.{LowersPass, first_l, second_l};
 
-use context::{At, Before, LowerCtx, SECOND_PASS, op};
-use lower::Root;
+use crate::{items, push_if};
+use context::{At, LowerCtx, SECOND_PASS, op};
+use lower::{Reached, Root};
+use words::Records;
 
-// The items of a `return`: the clause's record, how many they are, and how deep their trees may be.
-#[derive(Clone, Copy)]
-pub struct ReturnItems {
-    pub i: usize,
-    pub n: usize,
-    pub left: usize,
-}
-
-// So many keys and so many aggregates of the `return` at a place, over an operator, which is left if there is no aggregate.
-fn aggregate_if(
-    ops: &mut [u32],
-    ctx: LowerCtx,
-    at: At,
-    input: usize,
-    keys: usize,
-    aggs: usize,
-    next: usize,
-) -> Root
-    requires { AggregateAsked at input keys aggs ctx ops.old }
-    ensures { (result.next ≡ next) × PushedIf aggs (aggregate_op at input keys aggs) input result.op ctx result.ctx ops.old ops.new }
-{
-    if aggs == 0 {
-        return Root {
-            next,
-            op: input,
-            ctx,
-        };
-    }
-    let k = ctx.ops;
-    let z = ctx.push(ops, op::aggregate(at, input, keys, aggs));
-    Root {
-        next,
-        op: k,
-        ctx: z,
-    }
-}
-
-// An operator without its duplicates if `distinct` is not 0, and as it is if it is 0.
-fn distinct_if(ops: &mut [u32], ctx: LowerCtx, distinct: usize, input: usize, next: usize) -> Root
-    requires { CanPush ctx ops.old × (input < two32) }
-    ensures { (result.next ≡ next) × PushedIf distinct (distinct_op input) input result.op ctx result.ctx ops.old ops.new }
-{
-    if distinct == 0 {
-        return Root {
-            next,
-            op: input,
-            ctx,
-        };
-    }
-    let k = ctx.ops;
-    let z = ctx.push(ops, op::distinct(input));
-    Root {
-        next,
-        op: k,
-        ctx: z,
-    }
-}
-
-// The first lowering of the items of a `return`, behind the operator before it: an aggregate, if one of them is one.
+// The first lowering of the n items of the `return` at a place, behind the operator before it: an aggregate, if one of them is one. The place has the clause's record and how deep the items' trees may be.
 pub fn first_pass(
     sheet: &[u8],
-    a: &[u32],
-    b: &[u32],
+    r: &Records<'_>,
     ops: &mut [u32],
     rest: &mut [u32],
     ctx: LowerCtx,
-    current: Before,
-    of: ReturnItems,
+    current: Option<usize>,
+    at: At,
+    n: usize,
 ) -> Root
-    requires { FirstAsked sheet.now a.now b.now of current (mem ctx ops.old rest.old) }
-    ensures { LowersPass sheet.now a.now b.now of.n of.left 0 (of.i + 1) result.next result.op (first_l of.n (before_of current)) (mem ctx ops.old rest.old) (mem result.ctx ops.new rest.new) × (result.op < two32) }
+    requires { FirstAsked sheet.now r.now.a.now r.now.b.now at n current (mem ctx ops.old rest.old) }
+    ensures { LowersPass sheet.now r.now.a.now r.now.b.now n at.left 0 (at.i + 1) result.next result.op (first_l n current) (mem ctx ops.old rest.old) (mem result.ctx ops.new rest.new) × (result.op < two32) }
 {
-    let first = of.i + 1;
+    let first = at.i + 1;
+    let clause = At { base: 0, ..at };
     let q = lower::or_source_all(ops, ctx, current, first);
-    let c = q.ctx;
-    let below = At {
-        base: 0,
-        i: first,
-        left: of.left,
-    };
-    let p = crate::items::split_projections_agg(sheet, a, b, ops, rest, c, below, of.n);
-    let d = p.ctx;
-    let keys = of.n - p.aggs;
-    let clause = At {
-        base: 0,
-        i: of.i,
-        left: of.left,
-    };
-    aggregate_if(ops, d, clause, q.op, keys, p.aggs, p.next)
+    let below = At { i: first, ..clause };
+    let p = items::split_projections_agg(sheet, r, ops, rest, q.ctx, below, n);
+    let keys = n - p.aggs;
+    let x = op::aggregate(clause, q.op, keys, p.aggs);
+    push_if(ops, p.reached, p.aggs != 0, x, q.op)
 }
 
-// The second lowering of the items of a `return`, and the projection over an operator; without its duplicates if `distinct` is not 0.
+// Their second lowering, and the projection over an operator, without its duplicates if it is distinct.
 pub fn second_pass(
-    a: &[u32],
-    b: &[u32],
+    r: &Records<'_>,
     ops: &mut [u32],
     rest: &mut [u32],
     ctx: LowerCtx,
     input: usize,
-    distinct: usize,
-    of: ReturnItems,
+    distinct: bool,
+    at: At,
+    n: usize,
 ) -> Root
-    requires { SecondAsked a.now b.now of input distinct (mem ctx ops.old rest.old) }
-    ensures { ((sheet : List ℕ) → LowersPass sheet a.now b.now of.n of.left second_pass (of.i + 1) result.next result.op (second_l of.n (eqb distinct 1) input) (mem ctx ops.old rest.old) (mem result.ctx ops.new rest.new)) × (result.op < result.ctx.ops) }
+    requires { SecondAsked r.now.a.now r.now.b.now at n input (mem ctx ops.old rest.old) }
+    ensures { ((sheet : List ℕ) → LowersPass sheet r.now.a.now r.now.b.now n at.left second_pass (at.i + 1) result.next result.op (second_l n distinct input) (mem ctx ops.old rest.old) (mem result.ctx ops.new rest.new)) × (result.op < result.ctx.ops) }
 {
-    let first = of.i + 1;
-    let below = At {
-        base: SECOND_PASS,
-        i: first,
-        left: of.left,
-    };
-    let s = crate::items::lower_items(a, b, ops, rest, ctx, below, of.n);
-    let c = s.ctx;
-    let k = c.ops;
+    let first = at.i + 1;
     let clause = At {
         base: SECOND_PASS,
-        i: of.i,
-        left: of.left,
+        ..at
     };
-    let z = c.push(ops, op::project(clause, input));
-    distinct_if(ops, z, distinct, k, s.next)
+    let below = At { i: first, ..clause };
+    let s = items::lower_items(r, ops, rest, ctx, below, n);
+    let k = s.ctx.ops;
+    let z = s.ctx.push(ops, op::over(op::PROJECT, clause, input));
+    let pushed = Reached {
+        next: s.next,
+        ctx: z,
+    };
+    push_if(ops, pushed, distinct, op::distinct(k), k)
 }

@@ -8,5 +8,5 @@ pub returns : goal.returns
 returns c = (
   refl,
   λ a b d base rest.
-      Parts.no_law d base _ _ _ _ _ c.requires.2 c.fresh-f.ensures (pushed_as c.source_no_parts.ensures c.push-z.ensures) c.push-z.auto.ops,
+      Parts.no_law d base _ _ _ _ _ c.requires.2 c.fresh-f.ensures (pushed_as c.binding.ensures c.push-c.ensures) c.push-c.auto.ops,
 )

@@ -4,27 +4,11 @@ use Prim.Native.Nat.{◌+◌}
 use mathlib.Core.Path.{ap}
 use Rattle.lower.proofs.read_at.Goals as goal
 
-pub count-names-requires : goal.count-names-requires
-count-names-requires c =
-    record {
-      i_lt_max_records = c.requires.i_lt_max_records.0;
-      c_lt_record_words = omega arith;
-      roomy = c.requires.roomy;
-    }
-
-pub count-props-requires : goal.count-props-requires
-count-props-requires c =
-    record {
-      i_lt_max_records = c.requires.i_lt_max_records.0;
-      c_lt_record_words = c.requires.i_lt_max_records.1;
-      roomy = c.requires.roomy;
-    }
-
 pub overflow_add-first : goal.overflow_add-first
-overflow_add-first c = omega (arith, c.requires.i_lt_max_records.0)
+overflow_add-first c = omega (arith, c.requires.0)
 
 pub overflow_add-first-2 : goal.overflow_add-first-2
-overflow_add-first-2 c = omega (arith, c.requires.i_lt_max_records.0, c.count-names.ensures.1)
+overflow_add-first-2 c = omega (arith, c.requires.0, c.count-names.ensures.1)
 
 pub returns : goal.returns
 returns c = record { bind = c.read_bind-bind.ensures; first = ap (λ z. c.args.i + 1 + z) c.count-names.ensures.0; props = c.count-props.ensures.0 }

@@ -2,8 +2,8 @@
 use Rattle.context.proofs.Laws
 use Rattle.context.proofs.LowerCtx.endpoint_var.Goals as goal
 
-pub returns-in-Var : goal.returns-in-Var
-returns-in-Var c = Laws.named_law _ _ _ _ _ _ _ c.in-Var.is c.number.ensures
+pub returns-in-Some : goal.returns-in-Some
+returns-in-Some c = Laws.named_law _ _ _ _ _ _ _ c.in-Some.is c.number.ensures
 
-pub returns-in-Unnamed : goal.returns-in-Unnamed
-returns-in-Unnamed c = Laws.unnamed_law _ _ _ _ _ _ c.in-Unnamed.is c.fresh-r.ensures c.note.ensures
+pub returns-in-None : goal.returns-in-None
+returns-in-None c = Laws.unnamed_law _ _ _ _ _ _ c.in-None.is c.fresh-r.ensures c.note.ensures

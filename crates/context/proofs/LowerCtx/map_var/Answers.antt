@@ -7,11 +7,11 @@ pub new_var-requires : goal.new_var-requires
 new_var-requires c =
     record {
       can_map = c.requires;
-      id_value = sym c.find.ensures ∙ c.in-Nothing.is;
+      id_value = sym c.find.ensures ∙ c.in-None.is;
     }
 
-pub returns-in-At : goal.returns-in-At
-returns-in-At c = Laws.old_var _ _ _ _ c.find.ensures c.in-At.is
+pub returns-in-Some : goal.returns-in-Some
+returns-in-Some c = Laws.old_var _ _ _ _ c.find.ensures c.in-Some.is
 
-pub returns-in-Nothing : goal.returns-in-Nothing
-returns-in-Nothing c = c.new_var.ensures
+pub returns-in-None : goal.returns-in-None
+returns-in-None c = c.new_var.ensures

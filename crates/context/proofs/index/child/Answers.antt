@@ -1,18 +1,16 @@
--- `child` meets its contract: the half of the word of links that the last bit names. Assumes nothing.
+-- `child` meets its contract: what the half of the word of links names that the last bit chooses. Assumes nothing.
+use mathlib.Core.Path.{◌≡◌, ◌∙◌}
+use Rattle.context.specs.Tables.{child_of}
 use Rattle.context.proofs.Tree
-use native.Mathlib.Omega.{arith}
-use Prim.Native.Nat.{◌+◌}
-use Rattle.context.specs.Tables.{links_at}
 use Rattle.context.proofs.index.child.Goals as goal
+use Rattle.context.proofs.index.child.Goals.{then-bits-eq0, else-bits-eq0}
 
-pub overflow_cast-result : goal.overflow_cast-result
-overflow_cast-result c = omega (arith, c.shared_slice_known-1.given (links_at + c.args.p))
-
-pub returns-then-bits-eq0 : goal.returns-then-bits-eq0
-returns-then-bits-eq0 c = Tree.half_left _ _ c.if-bits-eq0.true
-
-pub overflow_cast-result-2 : goal.overflow_cast-result-2
-overflow_cast-result-2 c = omega (arith, c.shared_slice_known-1.given (links_at + c.args.p))
+pub returns-then-link-eq0 : goal.returns-then-link-eq0
+returns-then-link-eq0 c =
+    let e : c.if-bits-eq0.link ≡ child_of c.args.vars.now c.args.p c.args.bits = elim c.if-bits-eq0.branch [ then-bits-eq0 w ↦ w.link-is ∙ Tree.half_left _ _ w.if-bits-eq0.true | else-bits-eq0 w ↦ w.link-is ∙ Tree.half_right _ _ w.if-bits-eq0.false ] in
+    Tree.names_none e c.if-link-eq0.true
 
 pub returns : goal.returns
-returns c = Tree.half_right _ _ c.if-bits-eq0.false
+returns c =
+    let e : c.if-bits-eq0.link ≡ child_of c.args.vars.now c.args.p c.args.bits = elim c.if-bits-eq0.branch [ then-bits-eq0 w ↦ w.link-is ∙ Tree.half_left _ _ w.if-bits-eq0.true | else-bits-eq0 w ↦ w.link-is ∙ Tree.half_right _ _ w.if-bits-eq0.false ] in
+    Tree.names_some e c.if-link-eq0.false

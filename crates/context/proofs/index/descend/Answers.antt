@@ -7,41 +7,16 @@ use Rattle.context.proofs.index.descend.Goals as goal
 pub loop-p-init : goal.loop-p-init
 loop-p-init c = Tree.descends_start _ _ _ (Tree.all_indexed _ _ c.requires.1 c.requires.2.index) c.requires.0
 
-pub returns-then-link-eq0 : goal.returns-then-link-eq0
-returns-then-link-eq0 c = record { way = c.loop-p.invariant; end = λ _. sym c.child-link.ensures ∙ c.if-link-eq0.true }
-
 pub loop-p-smaller : goal.loop-p-smaller
 loop-p-smaller c =
-    let s =
-    Tree.descends_on
-    _
-    _
-    _
-    (Tree.all_indexed _ _ c.requires.1 c.requires.2.index)
-    _
-    _
-    _
-    c.loop-p.invariant
-    c.loop-p-test.true
-    c.child-link.ensures
-    c.if-link-eq0.false
-    in
+    let s = Tree.descends_on _ _ _ (Tree.all_indexed _ _ c.requires.1 c.requires.2.index) _ _ _ c.loop-p.invariant c.loop-p-test.true (sym c.in-Some.is ∙ c.child.ensures) in
     omega (arith, s.1, s.0.low)
 
 pub loop-p-preserved : goal.loop-p-preserved
-loop-p-preserved c =
-    (Tree.descends_on
-    _
-    _
-    _
-    (Tree.all_indexed _ _ c.requires.1 c.requires.2.index)
-    _
-    _
-    _
-    c.loop-p.invariant
-    c.loop-p-test.true
-    c.child-link.ensures
-    c.if-link-eq0.false).0
+loop-p-preserved c = (Tree.descends_on _ _ _ (Tree.all_indexed _ _ c.requires.1 c.requires.2.index) _ _ _ c.loop-p.invariant c.loop-p-test.true (sym c.in-Some.is ∙ c.child.ensures)).0
 
-pub returns : goal.returns
-returns c = record { way = c.loop-p.invariant; end = λ h. absurd (h c.loop-p-test.false) }
+pub returns-in_default : goal.returns-in_default
+returns-in_default c = record { way = c.loop-p.invariant; end = λ _. Tree.linked_none _ (sym c.in_default.is ∙ c.child.ensures) }
+
+pub returns-after-loop-p : goal.returns-after-loop-p
+returns-after-loop-p c = record { way = c.loop-p.invariant; end = λ h. absurd (h c.loop-p-test.false) }

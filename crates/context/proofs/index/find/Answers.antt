@@ -1,6 +1,7 @@
 -- `find` meets its contract. The loop's invariant: among the first k variables the id is found as among all. Assumes nothing.
 use native.Mathlib.Omega.{arith}
-use mathlib.Core.Path.{◌≡◌, refl, sym, ◌∙◌}
+use mathlib.Core.Path.{◌≡◌, refl, sym, ap, ◌∙◌}
+use Prim.Native.Nat.{ℕ}
 use Rattle.context.proofs.Tree
 use Rattle.context.proofs.Laws
 use Rattle.context.proofs.index.find.Goals as goal
@@ -19,7 +20,9 @@ loop-k-preserved c = (
 )
 
 pub find_indexed-requires : goal.find_indexed-requires
-find_indexed-requires c = (omega (arith, c.loop-k-test.false), record { long = c.requires.1.long; index = Tree.index_late _ _ _ c.loop-k.invariant.1 c.requires.1.index })
+find_indexed-requires c = (omega arith, record { long = c.requires.1.long; index = Tree.index_late c.args.count c.min.result c.args.vars.now (omega arith) c.requires.1.index })
 
 pub returns : goal.returns
-returns c = c.find_indexed.ensures ∙ sym c.loop-k.invariant.2
+returns c =
+    let e : c.min.result ≡ c.loop-k.k = omega arith in
+    c.find_indexed.ensures ∙ ap (λ (k : ℕ). Laws.from c.args.vars.now k c.args.id) e ∙ sym c.loop-k.invariant.2

@@ -1,11 +1,11 @@
 -- `call_input` meets its contract. Assumes nothing.
 use mathlib.Core.Path.{◌≡◌, refl}
 use Prim.Native.Nat.{ℕ, zero, suc}
-use Rattle.context.specs.declared.Before.TheVariants as before
+use Rattle.std.specs.Prelude.{Some}
 use Rattle.context.specs.Ops.{input_if}
 use Rattle.context.proofs.op.call_input.Goals as goal
 
-there : (told input : ℕ) → (told ≡ 0 → ⊥) → before.Op input ≡ input_if told input
+there : (told input : ℕ) → (told ≡ 0 → ⊥) → Some input ≡ input_if told input
 unfolding input_if
 there zero input z = absurd (z refl)
 there (suc n) input z = refl

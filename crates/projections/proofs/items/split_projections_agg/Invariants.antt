@@ -1,11 +1,9 @@
 -- `projections::items::split_projections_agg` meets its contract.
+use Rattle.std.specs.Prelude.{◌-◌}
 use Rattle.lower.specs.Rep.{mem}
 use Rattle.projections.specs.Promises.{LowersSplit}
 use Rattle.projections.proofs.PartLaws
 use Rattle.projections.proofs.items.split_projections_agg.Given as goal
 
-abbrev pub invariant-loop-m : goal.invariant-loop-m
-invariant-loop-m l = PartLaws.Remaining l.sheet l.a l.b l.n l.at.left (λ e g m'. LowersSplit l.sheet l.a l.b l.n l.at.left l.at.i e g (mem l.initial.cur l.initial.ops l.initial.rest) m') l.m l.next l.aggs (mem l.cur l.ops l.rest)
-
-abbrev pub decreases-loop-m : goal.decreases-loop-m
-decreases-loop-m l = l.m
+abbrev pub invariant-loop : goal.invariant-loop
+invariant-loop l = PartLaws.Remaining l.sheet l.r.a.now l.r.b.now l.n l.at.left (λ e g m'. LowersSplit l.sheet l.r.a.now l.r.b.now l.n l.at.left l.at.i e g (mem l.initial.cur.ctx l.initial.ops l.initial.rest) m') (l.n - l.counter) l.cur.next l.aggs (mem l.cur.ctx l.ops l.rest)

@@ -1,58 +1,52 @@
 -- `projections::trailers::lower_trailers` meets its contract.
-use mathlib.Core.Path.{◌∙◌}
-use native.Mathlib.Omega.{arith}
+use Rattle.std.proofs.Common.{le_refl, arith}
 use Rattle.projections.specs.Room
 use Rattle.projections.proofs.TrailerLaws
 use Rattle.projections.proofs.trailers.lower_trailers.Goals as goal
 
-pub count-keys-requires : goal.count-keys-requires
-count-keys-requires c =
+pub lower_items-s-requires : goal.lower_items-s-requires
+lower_items-s-requires c =
     record {
-      i_lt_max_records = c.requires.low;
-      c_lt_record_words = omega arith;
-      roomy = c.requires.words;
+      items = TrailerLaws.keys_some (TrailerLaws.tail_keys c.count-keys.ensures.0 c.requires.tail);
+      room = Room.ready_room c.requires.ready (le_refl _) c.requires.ready.here c.requires.depth;
+      depth = c.requires.depth;
+      pass = omega arith;
     }
 
-pub count-skip-requires : goal.count-skip-requires
-count-skip-requires c =
+pub lower_exprs-t-requires : goal.lower_exprs-t-requires
+lower_exprs-t-requires c =
+    let g = c.requires in
+    let p = TrailerLaws.keys_law g c.count-keys.ensures.0 c.lower_items-s.ensures c.order_by-x.ensures c.push_if-p.ensures in
+    let r = Room.ready_after p.moved g.ready in
     record {
-      i_lt_max_records = c.requires.low;
-      c_lt_record_words = omega arith;
-      roomy = c.requires.words;
+      tree = TrailerLaws.expr_some (TrailerLaws.skip_some _ _ _ _ c.count-keys.ensures.0 p c.count-skip.ensures.0 g.tail);
+      room = Room.ready_room r (le_refl _) r.here g.depth;
+      depth = g.depth;
+      pass = omega arith;
     }
 
-pub count-limit-requires : goal.count-limit-requires
-count-limit-requires c =
+pub lower_exprs-u-requires : goal.lower_exprs-u-requires
+lower_exprs-u-requires c =
+    let g = c.requires in
+    let p = TrailerLaws.keys_law g c.count-keys.ensures.0 c.lower_items-s.ensures c.order_by-x.ensures c.push_if-p.ensures in
+    let r = Room.ready_after p.moved g.ready in
+    let skip = TrailerLaws.skip_some _ _ _ _ c.count-keys.ensures.0 p c.count-skip.ensures.0 g.tail in
+    let q = TrailerLaws.skip_law g.depth r skip (TrailerLaws.skip_one c.count-skip.ensures.0 g.tail) p.low c.lower_exprs-t.ensures c.over-y.ensures c.push_if-q.ensures in
+    let z = Room.ready_after q.moved r in
     record {
-      i_lt_max_records = c.requires.low;
-      c_lt_record_words = omega arith;
-      roomy = c.requires.words;
+      tree = TrailerLaws.expr_some (TrailerLaws.limit_some _ _ _ _ c.count-keys.ensures.0 p c.count-skip.ensures.0 q.next c.count-limit.ensures.0 g.tail);
+      room = Room.ready_room z (le_refl _) z.here g.depth;
+      depth = g.depth;
+      pass = omega arith;
     }
-
-pub order_by-p-requires : goal.order_by-p-requires
-order_by-p-requires c =
-    let trees = TrailerLaws.tail_keys c.count-keys.ensures.0 c.requires.tail in
-    record { words = c.requires.words; trees = trees; ready = c.requires.ready; depth = c.requires.depth; stands = c.requires.stands }
-
-pub over_expr-q-requires : goal.over_expr-q-requires
-over_expr-q-requires c =
-    let ready = Room.ready_after c.order_by-p.ensures.moved c.requires.ready in
-    let trees = TrailerLaws.skip_some _ _ _ _ c.count-keys.ensures.0 c.order_by-p.ensures c.count-skip.ensures.0 c.requires.tail in
-    (record { words = c.requires.words; trees = trees; ready = ready; depth = c.requires.depth; stands = c.order_by-p.ensures.low }, TrailerLaws.skip_one c.count-skip.ensures.0 c.requires.tail)
-
-pub over_expr-requires : goal.over_expr-requires
-over_expr-requires c =
-    let ready = Room.ready_after c.order_by-p.ensures.moved c.requires.ready in
-    let next = c.over_expr-q.ensures.next in
-    let trees = TrailerLaws.limit_some _ _ _ _ c.count-keys.ensures.0 c.order_by-p.ensures c.count-skip.ensures.0 next c.count-limit.ensures.0 c.requires.tail in
-    let behind = Room.ready_after c.over_expr-q.ensures.moved ready in
-    (record { words = c.requires.words; trees = trees; ready = behind; depth = c.requires.depth; stands = c.over_expr-q.ensures.low }, TrailerLaws.limit_one c.count-limit.ensures.0 c.requires.tail)
-
-pub shape_of-ops : goal.shape_of-ops
-shape_of-ops c = c.over_expr.auto.ops ∙ c.over_expr-q.auto.ops ∙ c.order_by-p.auto.ops
-
-pub shape_of-rest : goal.shape_of-rest
-shape_of-rest c = c.over_expr.auto.rest ∙ c.over_expr-q.auto.rest ∙ c.order_by-p.auto.rest
 
 pub returns : goal.returns
-returns c = TrailerLaws.tail_law _ _ _ _ c.count-keys.ensures.0 c.order_by-p.ensures c.count-skip.ensures.0 c.over_expr-q.ensures c.count-limit.ensures.0 c.over_expr.ensures
+returns c =
+    let g = c.requires in
+    let p = TrailerLaws.keys_law g c.count-keys.ensures.0 c.lower_items-s.ensures c.order_by-x.ensures c.push_if-p.ensures in
+    let r = Room.ready_after p.moved g.ready in
+    let skip = TrailerLaws.skip_some _ _ _ _ c.count-keys.ensures.0 p c.count-skip.ensures.0 g.tail in
+    let q = TrailerLaws.skip_law g.depth r skip (TrailerLaws.skip_one c.count-skip.ensures.0 g.tail) p.low c.lower_exprs-t.ensures c.over-y.ensures c.push_if-q.ensures in
+    let limit = TrailerLaws.limit_some _ _ _ _ c.count-keys.ensures.0 p c.count-skip.ensures.0 q.next c.count-limit.ensures.0 g.tail in
+    let l = TrailerLaws.limit_law g.depth (Room.ready_after q.moved r) limit (TrailerLaws.limit_one c.count-limit.ensures.0 g.tail) q.low c.lower_exprs-u.ensures c.over-z.ensures c.push_if.ensures in
+    TrailerLaws.tail_law _ _ _ _ c.count-keys.ensures.0 p c.count-skip.ensures.0 q c.count-limit.ensures.0 l

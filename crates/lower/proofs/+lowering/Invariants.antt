@@ -2,11 +2,11 @@
 use Rattle.lower.specs.Exprs
 use Rattle.lower.proofs.Links
 use Rattle.lower.proofs.Parts
-use Prim.Native.Nat.{◌+◌, ◌*◌}
+use Prim.Native.Nat.{◌+◌, ◌*◌, ◌-◌}
 use Rattle.lower.specs.Chains.{LowersElements}
 use Rattle.lower.specs.Pieces.{LowersExprs}
 use Rattle.lower.specs.Rep.{mem}
-use Rattle.lower.proofs.+expand_to_lower_chain_lower_element_lower_elements_lower_expr_lower_exprs_lower_parts_lower_pattern_part_lower_rel_element_lower_shortest_path_part_start_chain_start_node.Given as goal
+use Rattle.lower.proofs.+lowering.Given as goal
 
 abbrev pub decreases-expand_to : goal.decreases-expand_to
 decreases-expand_to l = 8 * l.left + 2
@@ -44,20 +44,14 @@ decreases-start_chain l = 8 * l.left + 2
 abbrev pub decreases-start_node : goal.decreases-start_node
 decreases-start_node l = 8 * l.at.left + 1
 
-abbrev pub invariant-lower_elements-loop-m : goal.invariant-lower_elements-loop-m
-invariant-lower_elements-loop-m l = Links.Remaining l.a l.b l.at.left l.at.base (λ ch' os' rs'. LowersElements l.a l.b l.n l.at.left l.at.base l.initial.ch ch' l.initial.ops os' l.initial.rest rs') l.m l.ch l.ops l.rest
+abbrev pub invariant-lower_elements-loop : goal.invariant-lower_elements-loop
+invariant-lower_elements-loop l = Links.Remaining l.r.a.now l.r.b.now l.at.left l.at.base (λ ch' os' rs'. LowersElements l.r.a.now l.r.b.now l.n l.at.left l.at.base l.initial.ch ch' l.initial.ops os' l.initial.rest rs') (l.n - l.counter) l.ch l.ops l.rest
 
-abbrev pub decreases-lower_elements-loop-m : goal.decreases-lower_elements-loop-m
-decreases-lower_elements-loop-m l = l.m
+abbrev pub invariant-lower_exprs-loop : goal.invariant-lower_exprs-loop
+invariant-lower_exprs-loop l = Exprs.Remaining l.r.a.now l.r.b.now l.gap l.at.left l.at.base (λ e m'. LowersExprs l.r.a.now l.r.b.now l.n l.gap l.at.left l.at.base l.at.i e (mem l.initial.cur.ctx l.initial.ops l.initial.rest) m') (l.n - l.counter) l.cur.next (mem l.cur.ctx l.ops l.rest)
 
-abbrev pub invariant-lower_exprs-loop-m : goal.invariant-lower_exprs-loop-m
-invariant-lower_exprs-loop-m l = Exprs.Remaining l.a l.b l.gap l.at.left l.at.base (λ e m'. LowersExprs l.a l.b l.n l.gap l.at.left l.at.base l.at.i e (mem l.initial.cur l.initial.ops l.initial.rest) m') l.m l.i (mem l.cur l.ops l.rest)
-
-abbrev pub decreases-lower_exprs-loop-m : goal.decreases-lower_exprs-loop-m
-decreases-lower_exprs-loop-m l = l.m
-
-abbrev pub invariant-lower_parts-loop-m : goal.invariant-lower_parts-loop-m
-invariant-lower_parts-loop-m l = Parts.Remaining l.a l.b l.at.left l.at.base (λ e k m'. Parts.LowersFurther l.a l.b l.initial.m l.at.left l.at.base l.initial.i e l.initial.op k (mem l.initial.cur l.initial.ops l.initial.rest) m') l.m l.i l.op (mem l.cur l.ops l.rest)
-
-abbrev pub decreases-lower_parts-loop-m : goal.decreases-lower_parts-loop-m
-decreases-lower_parts-loop-m l = l.m
+abbrev pub invariant-lower_parts-loop : goal.invariant-lower_parts-loop
+invariant-lower_parts-loop l =
+    Parts.Remaining l.r.a.now l.r.b.now l.at.left l.at.base
+    (λ e k m'. Parts.LowersFurther l.r.a.now l.r.b.now (l.n - 1) l.at.left l.at.base l.initial.cur.next e l.initial.cur.op k (mem l.initial.cur.ctx l.initial.ops l.initial.rest) m')
+    (l.n - l.counter) l.cur.next l.cur.op (mem l.cur.ctx l.ops l.rest)

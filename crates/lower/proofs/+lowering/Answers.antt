@@ -29,7 +29,7 @@ use mathlib.Core.Path.{refl, ◌∙◌, sym}
 use native.Mathlib.Omega.{arith}
 use mathlib.Core.Logic.{inl, inr}
 use native.Mathlib.Nat.{le_refl}
-use Rattle.lower.proofs.+expand_to_lower_chain_lower_element_lower_elements_lower_expr_lower_exprs_lower_parts_lower_pattern_part_lower_rel_element_lower_shortest_path_part_start_chain_start_node.Goals as goal
+use Rattle.lower.proofs.+lowering.Goals as goal
 
 -- ── expand_to ──
 
@@ -49,8 +49,7 @@ expand_to-lower_rel_element-s-requires t c = (
   omega (arith, c.decreases),
   record {
     asked = record {
-      words = c.requires.chain.words;
-      tree = Room.waiting_rel c.requires.chain.words c.requires.waits c.requires.chain.anchored;
+      tree = Room.waiting_rel c.args.r.now.roomy c.requires.waits c.requires.chain.anchored;
       room =
           Room.room_at
           (Room.from_rel c.args.ch c.requires.waits)
@@ -62,7 +61,7 @@ expand_to-lower_rel_element-s-requires t c = (
       depth = c.requires.chain.depth;
       pass = c.requires.chain.pass;
     };
-    read = Room.waiting_read c.requires.chain.words c.requires.waits c.requires.chain.anchored;
+    read = Room.waiting_read c.args.r.now.roomy c.requires.waits c.requires.chain.anchored;
   },
 )
 
@@ -74,22 +73,21 @@ expand_to-lower_exprs-t-requires t c =
     let l₁ = Room.deep c.requires.chain.tree in
     let l₀ =
     Room.waiting_end
-    c.requires.chain.words
+    c.args.r.now.roomy
     c.requires.waits
     c.requires.chain.anchored
     c.lower_rel_element-s.ensures
     in
-    let l₀' = Room.names_low c.requires.chain.words c.requires.chain.tree in
+    let l₀' = Room.names_low c.args.r.now.roomy c.requires.chain.tree in
     let n₀ = c.requires.read.first in
     let l₀'' = Room.low c.requires.chain.tree in
     let l₂ = c.requires.chain.depth in
     let l₃ = c.requires.chain.pass in (
       omega (arith, c.decreases),
       record {
-        words = c.requires.chain.words;
         tree =
             Room.node_some
-            c.requires.chain.words
+            c.args.r.now.roomy
             c.requires.chain.tree
             c.requires.is
             _
@@ -119,19 +117,19 @@ expand_to-expand-requires t c =
     let q = c.requires.chain.bounded.from in
     let fr = Room.from_rel c.args.ch c.requires.waits in
     let g = Room.few_ops c.requires.chain.room in
-    let q' = c.requires.chain.bounded.last.op _ _ c.requires.has in
+    let q' = c.requires.chain.bounded.last.op _ c.requires.has in
     (Room.fits c.requires.chain.pass (omega arith) (omega arith), omega arith, omega arith)
 
 pub expand_to-push-z-requires : goal.expand_to-push-z-requires
 expand_to-push-z-requires t c =
     let l₀ =
     Room.waiting_end
-    c.requires.chain.words
+    c.args.r.now.roomy
     c.requires.waits
     c.requires.chain.anchored
     c.lower_rel_element-s.ensures
     in
-    let l₀' = Room.names_low c.requires.chain.words c.requires.chain.tree in
+    let l₀' = Room.names_low c.args.r.now.roomy c.requires.chain.tree in
     let n₀ = c.requires.read.first in
     Exprs.can_push
     (Exprs.room_after
@@ -168,7 +166,7 @@ expand_to-returns t c =
     _
     _
     _
-    c.requires.chain.words
+    c.args.r.now.roomy
     c.requires.chain.pass
     c.requires.chain.depth
     c.requires.chain.bounded
@@ -195,11 +193,7 @@ expand_to-returns t c =
 
 pub lower_chain-count-n-requires : goal.lower_chain-count-n-requires
 lower_chain-count-n-requires t c =
-    record {
-      i_lt_max_records = Room.low c.requires.tree;
-      c_lt_record_words = omega arith;
-      roomy = c.requires.words;
-    }
+    (Room.low c.requires.tree, omega arith)
 
 pub lower_chain-overflow_sub-less : goal.lower_chain-overflow_sub-less
 lower_chain-overflow_sub-less t c = omega (arith, Room.bounds c.requires)
@@ -209,7 +203,7 @@ lower_chain-lower_elements-ch-requires t c =
     let l = Room.bounds c.requires in (
       omega arith,
       Room.asked_on _ _ _ c.requires (omega arith)
-          (record { low = l.low; trees = Chaining.some_elements c.requires.words c.count-n.ensures.0 c.requires.tree })
+          (record { low = l.low; trees = Chaining.some_elements c.args.r.now.roomy c.count-n.ensures.0 c.requires.tree })
           (Exprs.room_from (omega arith) (omega arith) (omega arith) c.requires.room),
     )
 
@@ -236,11 +230,7 @@ lower_chain-or_source_all-q-requires t c =
 
 pub lower_chain-word-named-requires : goal.lower_chain-word-named-requires
 lower_chain-word-named-requires t c =
-    record {
-      i_lt_max_records = Room.low c.requires.tree;
-      c_lt_record_words = omega arith;
-      roomy = c.requires.words;
-    }
+    (Room.low c.requires.tree, omega arith)
 
 pub lower_chain-shape_of-ops-then-named-eq0 : goal.lower_chain-shape_of-ops-then-named-eq0
 lower_chain-shape_of-ops-then-named-eq0 t c = c.or_source_all-q.auto.ops ∙ c.lower_elements-ch.auto.ops
@@ -255,7 +245,7 @@ lower_chain-returns-then-named-eq0 t c =
     (Chaining.unnamed_law
     _
     _
-    c.requires.words
+    c.args.r.now.roomy
     c.requires.pass
     c.count-n.ensures.0
     c.lower_elements-ch.ensures
@@ -265,11 +255,7 @@ lower_chain-returns-then-named-eq0 t c =
 
 pub lower_chain-word-id-requires : goal.lower_chain-word-id-requires
 lower_chain-word-id-requires t c =
-    record {
-      i_lt_max_records = Room.low c.requires.tree;
-      c_lt_record_words = omega arith;
-      roomy = c.requires.words;
-    }
+    (Room.low c.requires.tree, omega arith)
 
 pub lower_chain-overflow_add-i : goal.lower_chain-overflow_add-i
 lower_chain-overflow_add-i t c = omega (arith, Room.bounds c.requires)
@@ -355,7 +341,7 @@ lower_chain-returns t c =
     (Chaining.named_law
     _
     _
-    c.requires.words
+    c.args.r.now.roomy
     c.requires.pass
     c.count-n.ensures.0
     c.lower_elements-ch.ensures
@@ -372,22 +358,16 @@ lower_chain-returns t c =
 
 pub lower_element-read_element-requires : goal.lower_element-read_element-requires
 lower_element-read_element-requires t c =
-    record {
-      roomy = c.requires.words;
-      i_lt_max_records = Room.low c.requires.tree;
-    }
+    Room.low c.requires.tree
 
 pub lower_element-skip-end-requires : goal.lower_element-skip-end-requires
 lower_element-skip-end-requires t c =
-    record {
-      roomy = c.requires.words;
-      starts = Part.starts c.requires.tree;
-    }
+    Part.starts c.requires.tree
 
 pub lower_element-start_chain-requires : goal.lower_element-start_chain-requires
 lower_element-start_chain-requires t c = (
   omega arith,
-  record { chain = c.requires; is = (Part.node_read c.read_element.ensures c.in-Node.is).is; read = (Part.node_read c.read_element.ensures c.in-Node.is).read; anew = inl c.in_default.is },
+  record { chain = c.requires; is = (Part.node_read c.read_element.ensures c.in-Node.is).is; read = (Part.node_read c.read_element.ensures c.in-Node.is).read; anew = elim c.in_default.branch [ goal.lower_element-in_default-via-in-Some+in_default w ↦ inr w.in_default.is-1 | goal.lower_element-in_default-via-in_default w ↦ inl w.in_default.is-0 ] },
 )
 
 pub lower_element-shape_of-ops-in_default : goal.lower_element-shape_of-ops-in_default
@@ -399,21 +379,6 @@ lower_element-shape_of-rest-in_default t c = c.start_chain.auto.rest
 pub lower_element-returns-in_default : goal.lower_element-returns-in_default
 lower_element-returns-in_default t c = c.start_chain.ensures
 
-pub lower_element-start_chain-requires-in_default-last : goal.lower_element-start_chain-requires-in_default-last
-lower_element-start_chain-requires-in_default-last t c = (
-  omega arith,
-  record { chain = c.requires; is = (Part.node_read c.read_element.ensures c.in-Node.is).is; read = (Part.node_read c.read_element.ensures c.in-Node.is).read; anew = inr c.in_default-last.is },
-)
-
-pub lower_element-shape_of-ops-in_default-last : goal.lower_element-shape_of-ops-in_default-last
-lower_element-shape_of-ops-in_default-last t c = c.start_chain-in_default-last.auto.ops
-
-pub lower_element-shape_of-rest-in_default-last : goal.lower_element-shape_of-rest-in_default-last
-lower_element-shape_of-rest-in_default-last t c = c.start_chain-in_default-last.auto.rest
-
-pub lower_element-returns-in_default-last : goal.lower_element-returns-in_default-last
-lower_element-returns-in_default-last t c = c.start_chain-in_default-last.ensures
-
 pub lower_element-expand_to-requires : goal.lower_element-expand_to-requires
 lower_element-expand_to-requires t c = (
   omega arith,
@@ -421,8 +386,8 @@ lower_element-expand_to-requires t c = (
     chain = c.requires;
     is = (Part.node_read c.read_element.ensures c.in-Node.is).is;
     read = (Part.node_read c.read_element.ensures c.in-Node.is).read;
-    waits = c.in-Rel-pending.is;
-    has = c.in-Op.is;
+    waits = c.in-Some-Some.is-0;
+    has = c.in-Some-Some.is-1;
   },
 )
 
@@ -435,10 +400,10 @@ lower_element-returns-in-Rel t c =
     _
     _
     _
-    c.requires.words
+    c.args.r.now.roomy
     c.requires.bounded
     (Part.other_kind
-    c.requires.words
+    c.args.r.now.roomy
     c.requires.tree
     (Part.rel_read c.read_element.ensures c.in-Rel.is).is)
     c.skip-end.ensures
@@ -451,77 +416,59 @@ lower_element-shape_of-ops t c = c.expand_to.auto.ops
 pub lower_element-shape_of-rest : goal.lower_element-shape_of-rest
 lower_element-shape_of-rest t c = c.expand_to.auto.rest
 
-pub lower_element-returns-in-Op : goal.lower_element-returns-in-Op
-lower_element-returns-in-Op t c = c.expand_to.ensures
+pub lower_element-returns-in-Some-Some : goal.lower_element-returns-in-Some-Some
+lower_element-returns-in-Some-Some t c = c.expand_to.ensures
 
 -- ── lower_elements ──
 
 pub lower_elements-overflow_add-first : goal.lower_elements-overflow_add-first
 lower_elements-overflow_add-first t c = omega (arith, c.requires.tree.low)
 
-pub lower_elements-loop-m-init : goal.lower_elements-loop-m-init
-lower_elements-loop-m-init t c =
+pub lower_elements-loop-init : goal.lower_elements-loop-init
+lower_elements-loop-init t c =
     let l = c.requires.tree.low in
-    record {
+    Links.begun (record {
       some = c.requires.tree.trees;
       room_for = Exprs.room_from (le_refl _) (omega arith) (omega arith) c.requires.room;
       bounded = Chaining.start_bounded _ _ (omega arith);
-      anchored = Chaining.start_anchored c.args.a.now c.args.b.now c.requires.tree.trees.sheet _ _ _;
+      anchored = Chaining.start_anchored c.args.r.now.a.now c.args.r.now.b.now c.requires.tree.trees.sheet _ _ _;
       finish = λ ch' os' rs' q. q;
-    }
+    })
 
-pub lower_elements-lower_element-s-requires : goal.lower_elements-lower_element-s-requires
-lower_elements-lower_element-s-requires t c = (
+pub lower_elements-lower_element-ch-requires : goal.lower_elements-lower_element-ch-requires
+lower_elements-lower_element-ch-requires t c = (
   omega arith,
   record {
-    words = c.requires.words;
-    tree = Links.child c.loop-m-test.true c.loop-m.invariant;
-    room = c.loop-m.invariant.room_for;
+    tree = Links.child c.loop-test.true c.loop.invariant;
+    room = c.loop.invariant.room_for;
     depth = c.requires.depth;
     pass = c.requires.pass;
-    bounded = c.loop-m.invariant.bounded;
-    anchored = c.loop-m.invariant.anchored;
+    bounded = c.loop.invariant.bounded;
+    anchored = c.loop.invariant.anchored;
   },
 )
 
-pub lower_elements-overflow_sub-m : goal.lower_elements-overflow_sub-m
-lower_elements-overflow_sub-m t c =
-    let h = c.loop-m-test.true in
-    omega arith
-
-pub lower_elements-loop-m-smaller : goal.lower_elements-loop-m-smaller
-lower_elements-loop-m-smaller t c =
-    let h = c.loop-m-test.true in
-    omega arith
-
-pub lower_elements-loop-m-preserved : goal.lower_elements-loop-m-preserved
-lower_elements-loop-m-preserved t c = Links.again c.loop-m-test.true c.loop-m.invariant c.lower_element-s.ensures
+pub lower_elements-loop-preserved : goal.lower_elements-loop-preserved
+lower_elements-loop-preserved t c = Links.again c.loop-test.true c.loop.invariant c.lower_element-ch.ensures
 
 pub lower_elements-shape_of-ops : goal.lower_elements-shape_of-ops
-lower_elements-shape_of-ops t c = (Links.done c.loop-m-test.false c.loop-m.invariant).moved.in_ops
+lower_elements-shape_of-ops t c = (Links.done c.loop-test.false c.loop.invariant).moved.in_ops
 
 pub lower_elements-shape_of-rest : goal.lower_elements-shape_of-rest
-lower_elements-shape_of-rest t c = (Links.done c.loop-m-test.false c.loop-m.invariant).moved.in_rest
+lower_elements-shape_of-rest t c = (Links.done c.loop-test.false c.loop.invariant).moved.in_rest
 
 pub lower_elements-returns : goal.lower_elements-returns
-lower_elements-returns t c = Links.done c.loop-m-test.false c.loop-m.invariant
+lower_elements-returns t c = Links.done c.loop-test.false c.loop.invariant
 
 -- ── lower_expr ──
 
 pub lower_expr-word-kind-requires : goal.lower_expr-word-kind-requires
 lower_expr-word-kind-requires t c =
-    record {
-      i_lt_max_records = Room.low c.requires.tree;
-      c_lt_record_words = omega arith;
-      roomy = c.requires.words;
-    }
+    (Room.low c.requires.tree, omega arith)
 
 pub lower_expr-children-n-requires : goal.lower_expr-children-n-requires
 lower_expr-children-n-requires t c =
-    record {
-      i_lt_max_records = Room.low c.requires.tree;
-      roomy = c.requires.words;
-    }
+    Room.low c.requires.tree
 
 pub lower_expr-overflow_add-kid : goal.lower_expr-overflow_add-kid
 lower_expr-overflow_add-kid t c = omega (arith, Room.bounds c.requires)
@@ -534,11 +481,7 @@ lower_expr-overflow_sub-left t c = omega (arith, Room.bounds c.requires)
 
 pub lower_expr-word-id-requires : goal.lower_expr-word-id-requires
 lower_expr-word-id-requires t c =
-    record {
-      i_lt_max_records = Room.low c.requires.tree;
-      c_lt_record_words = omega arith;
-      roomy = c.requires.words;
-    }
+    (Room.low c.requires.tree, omega arith)
 
 pub lower_expr-number-m-requires : goal.lower_expr-number-m-requires
 lower_expr-number-m-requires t c =
@@ -552,14 +495,14 @@ lower_expr-lower_exprs-requires t c =
       Room.asked_on _ _ _ c.requires (omega arith)
           (
           Arms.headed_some
-          (λ sheet t hd. Arms.mapped c.requires.words t hd (sym c.word-kind.ensures ∙ c.in-33.is))
+          (λ sheet t hd. Arms.mapped c.args.r.now.roomy t hd (sym c.word-kind.ensures ∙ c.in-33.is))
           c.children-n.ensures.0
           c.requires.tree)
           (Exprs.room_from (omega arith) (omega arith) (omega arith) c.requires.room),
     )
 
-pub lower_expr-lower_parts-r-requires : goal.lower_expr-lower_parts-r-requires
-lower_expr-lower_parts-r-requires t c =
+pub lower_expr-lower_parts-q-requires : goal.lower_expr-lower_parts-q-requires
+lower_expr-lower_parts-q-requires t c =
     let l = Room.bounds c.requires in
     let k = sym c.word-kind.ensures ∙ c.in-35.is in (
       omega arith,
@@ -568,33 +511,29 @@ lower_expr-lower_parts-r-requires t c =
             low = l.low;
             trees =
                 Named.pattern_some
-                (λ sheet t hd. Named.pattern c.requires.words t hd k)
+                (λ sheet t hd. Named.pattern c.args.r.now.roomy t hd k)
                 c.children-n.ensures.0
                 c.requires.tree;
           })
           (Exprs.room_from (omega arith) (omega arith) (omega arith) c.requires.room),
     )
 
-pub lower_expr-overflow_cast-r : goal.lower_expr-overflow_cast-r
-lower_expr-overflow_cast-r t c =
-    let p = c.lower_parts-r.ensures.low in
-    let v = c.lower_parts-r.ensures.moved.few in
-    let h = c.lower_parts-r.ensures.moved.here in
+pub lower_expr-overflow_cast-q : goal.lower_expr-overflow_cast-q
+lower_expr-overflow_cast-q t c =
+    let p = c.lower_parts-q.ensures.low in
+    let v = c.lower_parts-q.ensures.moved.few in
+    let h = c.lower_parts-q.ensures.moved.here in
     let g = Room.few_ops c.requires.room in
     omega arith
 
 pub lower_expr-note-requires : goal.lower_expr-note-requires
 lower_expr-note-requires t c =
     let l = Room.bounds c.requires in
-    (omega arith, rw c.lower_parts-r.ensures.moved.in_rest c.requires.room.in_rest)
+    (omega arith, rw c.lower_parts-q.ensures.moved.in_rest c.requires.room.in_rest)
 
 pub lower_expr-word-id-requires-in-36 : goal.lower_expr-word-id-requires-in-36
 lower_expr-word-id-requires-in-36 t c =
-    record {
-      i_lt_max_records = Room.low c.requires.tree;
-      c_lt_record_words = omega arith;
-      roomy = c.requires.words;
-    }
+    (Room.low c.requires.tree, omega arith)
 
 pub lower_expr-number-m-requires-in-36 : goal.lower_expr-number-m-requires-in-36
 lower_expr-number-m-requires-in-36 t c =
@@ -608,7 +547,7 @@ lower_expr-lower_exprs-requires-in-36 t c =
       Room.asked_on _ _ _ c.requires (omega arith)
           (
           Named.naming_some
-          (λ sheet t hd. Named.predicate c.requires.words t hd (sym c.word-kind.ensures ∙ c.in-36.is))
+          (λ sheet t hd. Named.predicate c.args.r.now.roomy t hd (sym c.word-kind.ensures ∙ c.in-36.is))
           c.children-n.ensures.0
           c.requires.tree)
           (
@@ -631,7 +570,7 @@ lower_expr-lower_exprs-requires-in_default t c =
           (Arms.headed_some
           (λ sheet t hd.
           Arms.plainly
-          c.requires.words
+          c.args.r.now.roomy
           t
           hd
           (λ e. c.in_default.in_default-own.rest.0.0.0.1 (c.word-kind.ensures ∙ e))
@@ -650,14 +589,14 @@ pub lower_expr-returns-in-32 : goal.lower_expr-returns-in-32
 lower_expr-returns-in-32 t c =
     let l = Room.bounds c.requires in
     Named.naming_law
-    (λ sheet t hd. Named.variable c.requires.words t hd (sym c.word-kind.ensures ∙ c.in-32.is))
-    (Named.count_none c.requires.words c.requires.tree (sym c.word-kind.ensures ∙ c.in-32.is))
+    (λ sheet t hd. Named.variable c.args.r.now.roomy t hd (sym c.word-kind.ensures ∙ c.in-32.is))
+    (Named.count_none c.args.r.now.roomy c.requires.tree (sym c.word-kind.ensures ∙ c.in-32.is))
     c.requires.pass
     (Room.low c.requires.tree)
     refl
     (var_read c.word-id.ensures c.number-m.ensures)
     c.number-m.auto.rest
-    (Exprs.nil_law c.args.a.now c.args.b.now _ _ _ _ _ (omega arith))
+    (Exprs.nil_law c.args.r.now.a.now c.args.r.now.b.now _ _ _ _ _ (omega arith))
 
 pub lower_expr-shape_of-ops-in-33 : goal.lower_expr-shape_of-ops-in-33
 lower_expr-shape_of-ops-in-33 t c = c.lower_exprs.auto.ops
@@ -669,26 +608,26 @@ pub lower_expr-returns-in-33 : goal.lower_expr-returns-in-33
 lower_expr-returns-in-33 t c =
     let l = Room.bounds c.requires in
     Arms.headed_law
-    (λ sheet t hd. Arms.mapped c.requires.words t hd (sym c.word-kind.ensures ∙ c.in-33.is))
+    (λ sheet t hd. Arms.mapped c.args.r.now.roomy t hd (sym c.word-kind.ensures ∙ c.in-33.is))
     c.children-n.ensures.0
     (omega arith)
     c.lower_exprs.ensures
 
 pub lower_expr-shape_of-ops-in-35 : goal.lower_expr-shape_of-ops-in-35
-lower_expr-shape_of-ops-in-35 t c = c.lower_parts-r.auto.ops
+lower_expr-shape_of-ops-in-35 t c = c.lower_parts-q.auto.ops
 
 pub lower_expr-shape_of-rest-in-35 : goal.lower_expr-shape_of-rest-in-35
-lower_expr-shape_of-rest-in-35 t c = c.note.auto.rest ∙ c.lower_parts-r.auto.rest
+lower_expr-shape_of-rest-in-35 t c = c.note.auto.rest ∙ c.lower_parts-q.auto.rest
 
 pub lower_expr-returns-in-35 : goal.lower_expr-returns-in-35
 lower_expr-returns-in-35 t c =
     Named.pattern_law
-    (λ sheet t hd. Named.pattern c.requires.words t hd (sym c.word-kind.ensures ∙ c.in-35.is))
+    (λ sheet t hd. Named.pattern c.args.r.now.roomy t hd (sym c.word-kind.ensures ∙ c.in-35.is))
     c.children-n.ensures.0
     c.requires.pass
     (Room.low c.requires.tree)
     refl
-    c.lower_parts-r.ensures
+    c.lower_parts-q.ensures
     c.note.ensures
     c.note.auto.rest
 
@@ -701,7 +640,7 @@ lower_expr-shape_of-rest-in-36 t c = c.lower_exprs-in-36.auto.rest ∙ c.number-
 pub lower_expr-returns-in-36 : goal.lower_expr-returns-in-36
 lower_expr-returns-in-36 t c =
     Named.naming_law
-    (λ sheet t hd. Named.predicate c.requires.words t hd (sym c.word-kind.ensures ∙ c.in-36.is))
+    (λ sheet t hd. Named.predicate c.args.r.now.roomy t hd (sym c.word-kind.ensures ∙ c.in-36.is))
     c.children-n.ensures.0
     c.requires.pass
     (Room.low c.requires.tree)
@@ -722,7 +661,7 @@ lower_expr-returns-in_default t c =
     Arms.headed_law
     (λ sheet t hd.
     Arms.plainly
-    c.requires.words
+    c.args.r.now.roomy
     t
     hd
     (λ e. c.in_default.in_default-own.rest.0.0.0.1 (c.word-kind.ensures ∙ e))
@@ -735,41 +674,31 @@ lower_expr-returns-in_default t c =
 
 -- ── lower_exprs ──
 
-pub lower_exprs-loop-m-init : goal.lower_exprs-loop-m-init
-lower_exprs-loop-m-init t c = record { some = c.requires.tree; room_for = c.requires.room; finish = λ e m' q. q }
+pub lower_exprs-loop-init : goal.lower_exprs-loop-init
+lower_exprs-loop-init t c = Exprs.begun (record { some = c.requires.tree; room_for = c.requires.room; finish = λ e m' q. q })
 
-pub lower_exprs-overflow_add-j : goal.lower_exprs-overflow_add-j
-lower_exprs-overflow_add-j t c =
-    let l = Room.low (Exprs.child c.loop-m-test.true c.loop-m.invariant) in
+pub lower_exprs-overflow_add-i : goal.lower_exprs-overflow_add-i
+lower_exprs-overflow_add-i t c =
+    let l = Room.low (Exprs.child c.loop-test.true c.loop.invariant) in
     omega arith
 
-pub lower_exprs-lower_expr-s-requires : goal.lower_exprs-lower_expr-s-requires
-lower_exprs-lower_expr-s-requires t c =
-    let x = Exprs.child c.loop-m-test.true c.loop-m.invariant in
+pub lower_exprs-lower_expr-cur-requires : goal.lower_exprs-lower_expr-cur-requires
+lower_exprs-lower_expr-cur-requires t c =
+    let x = Exprs.child c.loop-test.true c.loop.invariant in
     let l = Room.low x in
-    (omega arith, Room.asked_on _ _ _ c.requires (le_refl _) x (Exprs.room_from (le_refl _) (omega arith) (omega arith) c.loop-m.invariant.room_for))
+    (omega arith, Room.asked_on _ _ _ c.requires (le_refl _) x (Exprs.room_from (le_refl _) (omega arith) (omega arith) c.loop.invariant.room_for))
 
-pub lower_exprs-overflow_sub-m : goal.lower_exprs-overflow_sub-m
-lower_exprs-overflow_sub-m t c =
-    let h = c.loop-m-test.true in
-    omega arith
-
-pub lower_exprs-loop-m-smaller : goal.lower_exprs-loop-m-smaller
-lower_exprs-loop-m-smaller t c =
-    let h = c.loop-m-test.true in
-    omega arith
-
-pub lower_exprs-loop-m-preserved : goal.lower_exprs-loop-m-preserved
-lower_exprs-loop-m-preserved t c = Exprs.again c.loop-m-test.true c.loop-m.invariant c.lower_expr-s.ensures
+pub lower_exprs-loop-preserved : goal.lower_exprs-loop-preserved
+lower_exprs-loop-preserved t c = Exprs.again c.loop-test.true c.loop.invariant c.lower_expr-cur.ensures
 
 pub lower_exprs-shape_of-ops : goal.lower_exprs-shape_of-ops
-lower_exprs-shape_of-ops t c = (Exprs.done c.loop-m-test.false c.loop-m.invariant).moved.in_ops
+lower_exprs-shape_of-ops t c = (Exprs.done c.loop-test.false c.loop.invariant).moved.in_ops
 
 pub lower_exprs-shape_of-rest : goal.lower_exprs-shape_of-rest
-lower_exprs-shape_of-rest t c = (Exprs.done c.loop-m-test.false c.loop-m.invariant).moved.in_rest
+lower_exprs-shape_of-rest t c = (Exprs.done c.loop-test.false c.loop.invariant).moved.in_rest
 
 pub lower_exprs-returns : goal.lower_exprs-returns
-lower_exprs-returns t c = Exprs.done c.loop-m-test.false c.loop-m.invariant
+lower_exprs-returns t c = Exprs.done c.loop-test.false c.loop.invariant
 
 -- ── lower_parts ──
 
@@ -783,15 +712,15 @@ pub lower_parts-shape_of-ops-then-n-eq0 : goal.lower_parts-shape_of-ops-then-n-e
 lower_parts-shape_of-ops-then-n-eq0 t c = c.lower_no_parts.auto.ops
 
 pub lower_parts-returns-then-n-eq0 : goal.lower_parts-returns-then-n-eq0
-lower_parts-returns-then-n-eq0 t c = rw c.if-n-eq0.true (c.lower_no_parts.ensures.1 c.args.a.now c.args.b.now _ _ _)
+lower_parts-returns-then-n-eq0 t c = rw c.if-n-eq0.true (c.lower_no_parts.ensures.1 c.args.r.now.a.now c.args.r.now.b.now _ _ _)
 
 pub lower_parts-overflow_add-first : goal.lower_parts-overflow_add-first
 lower_parts-overflow_add-first t c =
     let h = c.requires.tree.low in
     omega arith
 
-pub lower_parts-lower_pattern_part-r-requires : goal.lower_parts-lower_pattern_part-r-requires
-lower_parts-lower_pattern_part-r-requires t c =
+pub lower_parts-lower_pattern_part-cur-requires : goal.lower_parts-lower_pattern_part-cur-requires
+lower_parts-lower_pattern_part-cur-requires t c =
     let h = c.requires.tree.low in (
       omega arith,
       Room.asked_on _ _ _ c.requires (le_refl _)
@@ -799,60 +728,41 @@ lower_parts-lower_pattern_part-r-requires t c =
           (Exprs.room_from (le_refl _) (omega arith) (omega arith) c.requires.room),
     )
 
-pub lower_parts-overflow_sub-m : goal.lower_parts-overflow_sub-m
-lower_parts-overflow_sub-m t c =
-    let h = c.if-n-eq0.false in
-    omega arith
-
-pub lower_parts-loop-m-init : goal.lower_parts-loop-m-init
-lower_parts-loop-m-init t c =
+pub lower_parts-loop-init : goal.lower_parts-loop-init
+lower_parts-loop-init t c =
     let h = c.requires.tree.low in
     Parts.behind_first
     _
     c.if-n-eq0.false
     c.requires.tree.trees
     (Exprs.room_from (le_refl _) (omega arith) (omega arith) c.requires.room)
-    c.lower_pattern_part-r.ensures
+    c.lower_pattern_part-cur.ensures
 
-pub lower_parts-lower_pattern_part-s-requires : goal.lower_parts-lower_pattern_part-s-requires
-lower_parts-lower_pattern_part-s-requires t c = (omega arith, Room.asked_on _ _ _ c.requires (le_refl _) (Parts.some_child c.loop-m-test.true c.loop-m.invariant.some) c.loop-m.invariant.room_for)
+pub lower_parts-lower_pattern_part-cur-requires-in-loop : goal.lower_parts-lower_pattern_part-cur-requires-in-loop
+lower_parts-lower_pattern_part-cur-requires-in-loop t c = (omega arith, Room.asked_on _ _ _ c.requires (le_refl _) (Parts.child c.loop-test.true c.loop.invariant) c.loop.invariant.room_for)
 
-pub lower_parts-overflow_sub-m-in-loop-m : goal.lower_parts-overflow_sub-m-in-loop-m
-lower_parts-overflow_sub-m-in-loop-m t c =
-    let h = c.loop-m-test.true in
-    omega arith
-
-pub lower_parts-loop-m-smaller : goal.lower_parts-loop-m-smaller
-lower_parts-loop-m-smaller t c =
-    let h = c.loop-m-test.true in
-    omega arith
-
-pub lower_parts-loop-m-preserved : goal.lower_parts-loop-m-preserved
-lower_parts-loop-m-preserved t c = Parts.again c.loop-m-test.true c.loop-m.invariant c.lower_pattern_part-s.ensures
+pub lower_parts-loop-preserved : goal.lower_parts-loop-preserved
+lower_parts-loop-preserved t c = Parts.again c.loop-test.true c.loop.invariant c.lower_pattern_part-cur-in-loop.ensures
 
 pub lower_parts-shape_of-ops : goal.lower_parts-shape_of-ops
-lower_parts-shape_of-ops t c = (Parts.done c.loop-m-test.false c.loop-m.invariant).moved.in_ops ∙ c.lower_pattern_part-r.auto.ops
+lower_parts-shape_of-ops t c = (Parts.done c.loop-test.false c.loop.invariant).moved.in_ops ∙ c.lower_pattern_part-cur.auto.ops
 
 pub lower_parts-shape_of-rest : goal.lower_parts-shape_of-rest
-lower_parts-shape_of-rest t c = (Parts.done c.loop-m-test.false c.loop-m.invariant).moved.in_rest ∙ c.lower_pattern_part-r.auto.rest
+lower_parts-shape_of-rest t c = (Parts.done c.loop-test.false c.loop.invariant).moved.in_rest ∙ c.lower_pattern_part-cur.auto.rest
 
 pub lower_parts-returns : goal.lower_parts-returns
 lower_parts-returns t c =
     Parts.first_done
     _
     c.if-n-eq0.false
-    c.lower_pattern_part-r.ensures
-    (Parts.done c.loop-m-test.false c.loop-m.invariant)
+    c.lower_pattern_part-cur.ensures
+    (Parts.done c.loop-test.false c.loop.invariant)
 
 -- ── lower_pattern_part ──
 
 pub lower_pattern_part-word-shortest-requires : goal.lower_pattern_part-word-shortest-requires
 lower_pattern_part-word-shortest-requires t c =
-    record {
-      i_lt_max_records = Room.low c.requires.tree;
-      c_lt_record_words = omega arith;
-      roomy = c.requires.words;
-    }
+    (Room.low c.requires.tree, omega arith)
 
 pub lower_pattern_part-lower_chain-requires : goal.lower_pattern_part-lower_chain-requires
 lower_pattern_part-lower_chain-requires t c = (omega arith, c.requires)
@@ -866,16 +776,12 @@ lower_pattern_part-shape_of-rest-then-shortest-eq0 t c = c.lower_chain.auto.rest
 pub lower_pattern_part-returns-then-shortest-eq0 : goal.lower_pattern_part-returns-then-shortest-eq0
 lower_pattern_part-returns-then-shortest-eq0 t c =
     Part.chain_part
-    (Part.no_shortest _ _ c.requires.words (sym c.word-shortest.ensures ∙ c.if-shortest-eq0.true))
+    (Part.no_shortest _ _ c.args.r.now.roomy (sym c.word-shortest.ensures ∙ c.if-shortest-eq0.true))
     c.lower_chain.ensures
 
 pub lower_pattern_part-word-n-requires : goal.lower_pattern_part-word-n-requires
 lower_pattern_part-word-n-requires t c =
-    record {
-      i_lt_max_records = Room.low c.requires.tree;
-      c_lt_record_words = omega arith;
-      roomy = c.requires.words;
-    }
+    (Room.low c.requires.tree, omega arith)
 
 pub lower_pattern_part-lower_chain-requires-then-n-ne-SPECIAL_ELEMENTS : goal.lower_pattern_part-lower_chain-requires-then-n-ne-SPECIAL_ELEMENTS
 lower_pattern_part-lower_chain-requires-then-n-ne-SPECIAL_ELEMENTS t c = (omega arith, c.requires)
@@ -889,7 +795,7 @@ lower_pattern_part-shape_of-rest-then-n-ne-SPECIAL_ELEMENTS t c = c.lower_chain-
 pub lower_pattern_part-returns-then-n-ne-SPECIAL_ELEMENTS : goal.lower_pattern_part-returns-then-n-ne-SPECIAL_ELEMENTS
 lower_pattern_part-returns-then-n-ne-SPECIAL_ELEMENTS t c =
     Part.chain_part
-    (Part.not_three _ _ c.requires.words (λ e. c.if-n-ne-SPECIAL_ELEMENTS.true (c.word-n.ensures ∙ e)))
+    (Part.not_three _ _ c.args.r.now.roomy (λ e. c.if-n-ne-SPECIAL_ELEMENTS.true (c.word-n.ensures ∙ e)))
     c.lower_chain-then-n-ne-SPECIAL_ELEMENTS.ensures
 
 pub lower_pattern_part-overflow_add-first : goal.lower_pattern_part-overflow_add-first
@@ -897,17 +803,11 @@ lower_pattern_part-overflow_add-first t c = omega (arith, Room.bounds c.requires
 
 pub lower_pattern_part-skip-rel-requires : goal.lower_pattern_part-skip-rel-requires
 lower_pattern_part-skip-rel-requires t c =
-    record {
-      roomy = c.requires.words;
-      starts = Part.starts (Part.first_some _ _ c.requires.words (sym c.word-n.ensures ∙ c.if-n-ne-SPECIAL_ELEMENTS.false) c.requires.tree);
-    }
+    Part.starts (Part.first_some _ _ c.args.r.now.roomy (sym c.word-n.ensures ∙ c.if-n-ne-SPECIAL_ELEMENTS.false) c.requires.tree)
 
 pub lower_pattern_part-read_element-requires : goal.lower_pattern_part-read_element-requires
 lower_pattern_part-read_element-requires t c =
-    record {
-      roomy = c.requires.words;
-      i_lt_max_records = Room.low (Part.first_some _ _ c.requires.words (sym c.word-n.ensures ∙ c.if-n-ne-SPECIAL_ELEMENTS.false) c.requires.tree);
-    }
+    Room.low (Part.first_some _ _ c.args.r.now.roomy (sym c.word-n.ensures ∙ c.if-n-ne-SPECIAL_ELEMENTS.false) c.requires.tree)
 
 pub lower_pattern_part-lower_chain-requires-in_default : goal.lower_pattern_part-lower_chain-requires-in_default
 lower_pattern_part-lower_chain-requires-in_default t c = (omega arith, c.requires)
@@ -924,7 +824,7 @@ lower_pattern_part-returns-in_default t c =
     (Part.not_first
     _
     _
-    c.requires.words
+    c.args.r.now.roomy
     (sym c.word-n.ensures ∙ c.if-n-ne-SPECIAL_ELEMENTS.false)
     c.skip-rel.ensures
     (Part.rel_read c.read_element.ensures c.in_default.is).is)
@@ -932,31 +832,25 @@ lower_pattern_part-returns-in_default t c =
 
 pub lower_pattern_part-skip-far-requires : goal.lower_pattern_part-skip-far-requires
 lower_pattern_part-skip-far-requires t c =
-    record {
-      roomy = c.requires.words;
-      starts = Part.starts
-          (Part.some_second
-          _
-          _
-          c.requires.words
-          (sym c.word-n.ensures ∙ c.if-n-ne-SPECIAL_ELEMENTS.false)
-          c.skip-rel.ensures
-          c.requires.tree);
-    }
+    Part.starts
+    (Part.some_second
+    _
+    _
+    c.args.r.now.roomy
+    (sym c.word-n.ensures ∙ c.if-n-ne-SPECIAL_ELEMENTS.false)
+    c.skip-rel.ensures
+    c.requires.tree)
 
 pub lower_pattern_part-read_element-requires-2 : goal.lower_pattern_part-read_element-requires-2
 lower_pattern_part-read_element-requires-2 t c =
-    record {
-      roomy = c.requires.words;
-      i_lt_max_records = Room.low
-          (Part.some_second
-          _
-          _
-          c.requires.words
-          (sym c.word-n.ensures ∙ c.if-n-ne-SPECIAL_ELEMENTS.false)
-          c.skip-rel.ensures
-          c.requires.tree);
-    }
+    Room.low
+    (Part.some_second
+    _
+    _
+    c.args.r.now.roomy
+    (sym c.word-n.ensures ∙ c.if-n-ne-SPECIAL_ELEMENTS.false)
+    c.skip-rel.ensures
+    c.requires.tree)
 
 pub lower_pattern_part-lower_chain-requires-in_default-read_element : goal.lower_pattern_part-lower_chain-requires-in_default-read_element
 lower_pattern_part-lower_chain-requires-in_default-read_element t c = (omega arith, c.requires)
@@ -973,7 +867,7 @@ lower_pattern_part-returns-in_default-read_element t c =
     (Part.not_second
     _
     _
-    c.requires.words
+    c.args.r.now.roomy
     (sym c.word-n.ensures ∙ c.if-n-ne-SPECIAL_ELEMENTS.false)
     c.skip-rel.ensures
     (Part.node_read c.read_element.ensures c.in-Node.is).is
@@ -982,18 +876,15 @@ lower_pattern_part-returns-in_default-read_element t c =
 
 pub lower_pattern_part-read_element-requires-3 : goal.lower_pattern_part-read_element-requires-3
 lower_pattern_part-read_element-requires-3 t c =
-    record {
-      roomy = c.requires.words;
-      i_lt_max_records = Room.low
-          (Part.some_third
-          _
-          _
-          c.requires.words
-          (sym c.word-n.ensures ∙ c.if-n-ne-SPECIAL_ELEMENTS.false)
-          c.skip-rel.ensures
-          c.skip-far.ensures
-          c.requires.tree);
-    }
+    Room.low
+    (Part.some_third
+    _
+    _
+    c.args.r.now.roomy
+    (sym c.word-n.ensures ∙ c.if-n-ne-SPECIAL_ELEMENTS.false)
+    c.skip-rel.ensures
+    c.skip-far.ensures
+    c.requires.tree)
 
 pub lower_pattern_part-lower_chain-requires-in_default-read_element-2 : goal.lower_pattern_part-lower_chain-requires-in_default-read_element-2
 lower_pattern_part-lower_chain-requires-in_default-read_element-2 t c = (
@@ -1013,7 +904,7 @@ lower_pattern_part-returns-in_default-read_element-2 t c =
     (Part.not_third
     _
     _
-    c.requires.words
+    c.args.r.now.roomy
     (sym c.word-n.ensures ∙ c.if-n-ne-SPECIAL_ELEMENTS.false)
     c.skip-rel.ensures
     c.skip-far.ensures
@@ -1033,11 +924,11 @@ lower_pattern_part-lower_shortest_path_part-requires t c = (
       first = (Part.node_read c.read_element.ensures c.in-Node.is).is;
       second =
           Part.other_kind
-          c.requires.words
+          c.args.r.now.roomy
           (Part.some_second
           _
           _
-          c.requires.words
+          c.args.r.now.roomy
           (sym c.word-n.ensures ∙ c.if-n-ne-SPECIAL_ELEMENTS.false)
           c.skip-rel.ensures
           c.requires.tree)
@@ -1080,12 +971,12 @@ lower_rel_element-overflow_sub-less t c = omega (arith, Room.element_bounds c.re
 pub lower_rel_element-lower_exprs-requires : goal.lower_rel_element-lower_exprs-requires
 lower_rel_element-lower_exprs-requires t c =
     let l = Room.element_bounds c.requires.asked in
-    let l₀' = Room.names_low c.requires.asked.words c.requires.asked.tree.tree in
+    let l₀' = Room.names_low c.args.r.now.roomy c.requires.asked.tree.tree in
     let n₀ = c.requires.read.first in (
       omega arith,
       Room.asked_on _ _ _ c.requires.asked (omega arith)
           (Room.prop_some
-          c.requires.asked.words
+          c.args.r.now.roomy
           c.requires.asked.tree.tree
           c.requires.asked.tree.is
           _
@@ -1125,35 +1016,35 @@ lower_rel_element-returns t c =
 pub lower_shortest_path_part-overflow_add-first : goal.lower_shortest_path_part-overflow_add-first
 lower_shortest_path_part-overflow_add-first t c =
     let l = Room.bounds c.requires.part in
-    let l₄ = Room.low (Asking.first_of_law c.requires).tree in
+    let l₄ = Room.low (Asking.first_of_law c.args.r.now.roomy c.requires).tree in
     omega arith
 
 pub lower_shortest_path_part-overflow_sub-left : goal.lower_shortest_path_part-overflow_sub-left
 lower_shortest_path_part-overflow_sub-left t c =
     let l = Room.bounds c.requires.part in
-    let l₄ = Room.low (Asking.first_of_law c.requires).tree in
+    let l₄ = Room.low (Asking.first_of_law c.args.r.now.roomy c.requires).tree in
     omega arith
 
 pub lower_shortest_path_part-overflow_add-first-2 : goal.lower_shortest_path_part-overflow_add-first-2
 lower_shortest_path_part-overflow_add-first-2 t c =
     let l = Room.bounds c.requires.part in
-    let l₄ = Room.low (Asking.first_of_law c.requires).tree in
+    let l₄ = Room.low (Asking.first_of_law c.args.r.now.roomy c.requires).tree in
     omega arith
 
 pub lower_shortest_path_part-overflow_add-base : goal.lower_shortest_path_part-overflow_add-base
 lower_shortest_path_part-overflow_add-base t c =
     let l = Room.bounds c.requires.part in
-    let l₄ = Room.low (Asking.first_of_law c.requires).tree in
+    let l₄ = Room.low (Asking.first_of_law c.args.r.now.roomy c.requires).tree in
     omega arith
 
 pub lower_shortest_path_part-endpoint_var-from-requires : goal.lower_shortest_path_part-endpoint_var-from-requires
 lower_shortest_path_part-endpoint_var-from-requires t c =
     let l = Room.bounds c.requires.part in
-    let l₄ = Room.low (Asking.first_of_law c.requires).tree in
+    let l₄ = Room.low (Asking.first_of_law c.args.r.now.roomy c.requires).tree in
     Room.can_number c.requires.part.room _ _ _ c.requires.part.pass (omega arith) refl
 
-pub lower_shortest_path_part-start_node-r-requires : goal.lower_shortest_path_part-start_node-r-requires
-lower_shortest_path_part-start_node-r-requires t c = (
+pub lower_shortest_path_part-start_node-q-requires : goal.lower_shortest_path_part-start_node-q-requires
+lower_shortest_path_part-start_node-q-requires t c = (
   omega (arith, c.decreases, Room.bounds c.requires.part),
   record {
     asked =
@@ -1163,8 +1054,8 @@ lower_shortest_path_part-start_node-r-requires t c = (
         _
         c.requires.part
         (omega (arith, Room.bounds c.requires.part))
-        (Asking.first_of_law c.requires)
-        (Asking.near_room c.requires c.endpoint_var-from.ensures c.endpoint_var-from.auto.rest);
+        (Asking.first_of_law c.args.r.now.roomy c.requires)
+        (Asking.near_room c.args.r.now.roomy c.requires c.endpoint_var-from.ensures c.endpoint_var-from.auto.rest);
     read = c.requires.near;
   },
 )
@@ -1180,12 +1071,12 @@ lower_shortest_path_part-lower_rel_element-s-requires t c = (
         _
         c.requires.part
         (omega (arith, Room.bounds c.requires.part))
-        (Asking.rel_of c.requires)
-        (Asking.rel_room
+        (Asking.rel_of c.args.r.now.roomy c.requires)
+        (Asking.rel_room c.args.r.now.roomy
         c.requires
         c.endpoint_var-from.ensures
         c.endpoint_var-from.auto.rest
-        c.start_node-r.ensures);
+        c.start_node-q.ensures);
     read = c.requires.rel;
   },
 )
@@ -1195,7 +1086,7 @@ lower_shortest_path_part-overflow_add-far t c =
     let l₃ = c.requires.part.pass in
     let l₄ =
     Room.low
-    (Asking.far_of c.requires).tree
+    (Asking.far_of c.args.r.now.roomy c.requires).tree
     in
     omega arith
 
@@ -1204,34 +1095,34 @@ lower_shortest_path_part-overflow_add-base-2 t c =
     let l₃ = c.requires.part.pass in
     let l₄ =
     Room.low
-    (Asking.far_of c.requires).tree
+    (Asking.far_of c.args.r.now.roomy c.requires).tree
     in
     omega arith
 
 pub lower_shortest_path_part-endpoint_var-to-requires : goal.lower_shortest_path_part-endpoint_var-to-requires
 lower_shortest_path_part-endpoint_var-to-requires t c =
     let l = Room.bounds c.requires.part in
-    let l₄ = Room.low (Asking.first_of_law c.requires).tree in
+    let l₄ = Room.low (Asking.first_of_law c.args.r.now.roomy c.requires).tree in
     let l₅ =
     Room.rel_ends
-    c.requires.part.words
+    c.args.r.now.roomy
     c.requires.special.second
-    (Asking.rel_of c.requires).tree
+    (Asking.rel_of c.args.r.now.roomy c.requires).tree
     c.lower_rel_element-s.ensures
     c.requires.special.second_end
     in
     let l₄' =
     Room.low
-    (Asking.far_of c.requires).tree
+    (Asking.far_of c.args.r.now.roomy c.requires).tree
     in
     Room.can_number
-    (Asking.far_room
+    (Asking.far_room c.args.r.now.roomy
     c.requires
-    (Asking.rel_room
+    (Asking.rel_room c.args.r.now.roomy
     c.requires
     c.endpoint_var-from.ensures
     c.endpoint_var-from.auto.rest
-    c.start_node-r.ensures)
+    c.start_node-q.ensures)
     c.lower_rel_element-s.ensures)
     _
     _
@@ -1242,41 +1133,38 @@ lower_shortest_path_part-endpoint_var-to-requires t c =
 
 pub lower_shortest_path_part-read_bind-bind-requires : goal.lower_shortest_path_part-read_bind-bind-requires
 lower_shortest_path_part-read_bind-bind-requires t c =
-    record {
-      roomy = c.requires.part.words;
-      i_lt_max_records = Room.low c.requires.part.tree;
-    }
+    Room.low c.requires.part.tree
 
 pub lower_shortest_path_part-overflow_add-base-3 : goal.lower_shortest_path_part-overflow_add-base-3
 lower_shortest_path_part-overflow_add-base-3 t c =
     let l = Room.bounds c.requires.part in
-    let l₄ = Room.low (Asking.first_of_law c.requires).tree in
+    let l₄ = Room.low (Asking.first_of_law c.args.r.now.roomy c.requires).tree in
     omega arith
 
 pub lower_shortest_path_part-endpoint_var-path-requires : goal.lower_shortest_path_part-endpoint_var-path-requires
 lower_shortest_path_part-endpoint_var-path-requires t c =
     let l = Room.bounds c.requires.part in
-    let l₄ = Room.low (Asking.first_of_law c.requires).tree in
+    let l₄ = Room.low (Asking.first_of_law c.args.r.now.roomy c.requires).tree in
     let l₅ =
     Room.rel_ends
-    c.requires.part.words
+    c.args.r.now.roomy
     c.requires.special.second
-    (Asking.rel_of c.requires).tree
+    (Asking.rel_of c.args.r.now.roomy c.requires).tree
     c.lower_rel_element-s.ensures
     c.requires.special.second_end
     in
     let l₄' =
     Room.low
-    (Asking.far_of c.requires).tree
+    (Asking.far_of c.args.r.now.roomy c.requires).tree
     in
     Room.can_again
-    (Asking.far_room
+    (Asking.far_room c.args.r.now.roomy
     c.requires
-    (Asking.rel_room
+    (Asking.rel_room c.args.r.now.roomy
     c.requires
     c.endpoint_var-from.ensures
     c.endpoint_var-from.auto.rest
-    c.start_node-r.ensures)
+    c.start_node-q.ensures)
     c.lower_rel_element-s.ensures)
     c.endpoint_var-to.ensures.issued
     l₄'
@@ -1291,70 +1179,67 @@ lower_shortest_path_part-endpoint_var-path-requires t c =
 pub lower_shortest_path_part-shortest_path-requires : goal.lower_shortest_path_part-shortest_path-requires
 lower_shortest_path_part-shortest_path-requires t c =
     let l = Room.bounds c.requires.part in
-    let l₄ = Room.low (Asking.first_of_law c.requires).tree in
+    let l₄ = Room.low (Asking.first_of_law c.args.r.now.roomy c.requires).tree in
     let x =
     Room.few_ops
-    (Asking.rel_room
+    (Asking.rel_room c.args.r.now.roomy
     c.requires
     c.endpoint_var-from.ensures
     c.endpoint_var-from.auto.rest
-    c.start_node-r.ensures)
+    c.start_node-q.ensures)
     in
-    let y = c.start_node-r.ensures.low in
+    let y = c.start_node-q.ensures.low in
     let l₅ =
-    Room.low (Asking.rel_of c.requires).tree
+    Room.low (Asking.rel_of c.args.r.now.roomy c.requires).tree
     in
     let l₆ =
     Room.low
-    (Asking.far_of c.requires).tree
+    (Asking.far_of c.args.r.now.roomy c.requires).tree
     in
     (Room.fits c.requires.part.pass (omega arith) (omega arith), omega arith, omega arith, omega arith)
 
 pub lower_shortest_path_part-push-z-requires : goal.lower_shortest_path_part-push-z-requires
 lower_shortest_path_part-push-z-requires t c =
     let l = Room.bounds c.requires.part in
-    let l₄ = Room.low (Asking.first_of_law c.requires).tree in
+    let l₄ = Room.low (Asking.first_of_law c.args.r.now.roomy c.requires).tree in
     let l₅ =
     Room.rel_ends
-    c.requires.part.words
+    c.args.r.now.roomy
     c.requires.special.second
-    (Asking.rel_of c.requires).tree
+    (Asking.rel_of c.args.r.now.roomy c.requires).tree
     c.lower_rel_element-s.ensures
     c.requires.special.second_end
     in
     let l₄' =
     Room.low
-    (Asking.far_of c.requires).tree
+    (Asking.far_of c.args.r.now.roomy c.requires).tree
     in
     Room.push_again
-    (Asking.far_room
+    (Asking.far_room c.args.r.now.roomy
     c.requires
-    (Asking.rel_room
+    (Asking.rel_room c.args.r.now.roomy
     c.requires
     c.endpoint_var-from.ensures
     c.endpoint_var-from.auto.rest
-    c.start_node-r.ensures)
+    c.start_node-q.ensures)
     c.lower_rel_element-s.ensures)
     c.endpoint_var-to.ensures.issued
     c.endpoint_var-path.ensures.issued
 
 pub lower_shortest_path_part-skip-end-requires : goal.lower_shortest_path_part-skip-end-requires
 lower_shortest_path_part-skip-end-requires t c =
-    record {
-      roomy = c.requires.part.words;
-      starts = Part.starts
-          (Asking.far_of c.requires).tree;
-    }
+    Part.starts
+    (Asking.far_of c.args.r.now.roomy c.requires).tree
 
 pub lower_shortest_path_part-shape_of-ops : goal.lower_shortest_path_part-shape_of-ops
-lower_shortest_path_part-shape_of-ops t c = c.push-z.auto.ops ∙ c.lower_rel_element-s.auto.ops ∙ c.start_node-r.auto.ops
+lower_shortest_path_part-shape_of-ops t c = c.push-z.auto.ops ∙ c.lower_rel_element-s.auto.ops ∙ c.start_node-q.auto.ops
 
 pub lower_shortest_path_part-shape_of-rest : goal.lower_shortest_path_part-shape_of-rest
 lower_shortest_path_part-shape_of-rest t c =
     c.endpoint_var-path.auto.rest ∙
     c.endpoint_var-to.auto.rest ∙
     c.lower_rel_element-s.auto.rest ∙
-    c.start_node-r.auto.rest ∙
+    c.start_node-q.auto.rest ∙
     c.endpoint_var-from.auto.rest
 
 pub lower_shortest_path_part-returns : goal.lower_shortest_path_part-returns
@@ -1366,7 +1251,7 @@ lower_shortest_path_part-returns t c =
     _
     _
     _
-    c.requires.part.words
+    c.args.r.now.roomy
     c.requires.part.pass
     c.requires.part.depth
     c.requires.special.shortest
@@ -1380,7 +1265,7 @@ lower_shortest_path_part-returns t c =
     refl
     (endpoint_read c.requires.near.bind c.endpoint_var-from.ensures)
     c.endpoint_var-from.auto.rest
-    c.start_node-r.ensures
+    c.start_node-q.ensures
     c.lower_rel_element-s.ensures
     refl
     (endpoint_read c.requires.to.bind c.endpoint_var-to.ensures)
@@ -1405,12 +1290,11 @@ start_chain-endpoint_var-m-requires t c =
     let l = Room.chain_bounds c.requires.chain in
     Room.can_number c.requires.chain.room _ _ _ c.requires.chain.pass (omega arith) refl
 
-pub start_chain-start_node-r-requires : goal.start_chain-start_node-r-requires
-start_chain-start_node-r-requires t c = (
+pub start_chain-start_node-q-requires : goal.start_chain-start_node-q-requires
+start_chain-start_node-q-requires t c = (
   omega arith,
   record {
     asked = record {
-      words = c.requires.chain.words;
       tree = record { tree = c.requires.chain.tree; is = c.requires.is };
       room =
           Exprs.room_from
@@ -1436,10 +1320,10 @@ start_chain-overflow_add-kept t c =
     omega arith
 
 pub start_chain-shape_of-ops : goal.start_chain-shape_of-ops
-start_chain-shape_of-ops t c = c.start_node-r.auto.ops
+start_chain-shape_of-ops t c = c.start_node-q.auto.ops
 
 pub start_chain-shape_of-rest : goal.start_chain-shape_of-rest
-start_chain-shape_of-rest t c = c.start_node-r.auto.rest ∙ c.endpoint_var-m.auto.rest
+start_chain-shape_of-rest t c = c.start_node-q.auto.rest ∙ c.endpoint_var-m.auto.rest
 
 pub start_chain-returns : goal.start_chain-returns
 start_chain-returns t c =
@@ -1447,7 +1331,7 @@ start_chain-returns t c =
     _
     _
     _
-    c.requires.chain.words
+    c.args.r.now.roomy
     c.requires.chain.pass
     c.requires.chain.bounded
     c.requires.is
@@ -1455,7 +1339,7 @@ start_chain-returns t c =
     refl
     (endpoint_read c.requires.read.bind c.endpoint_var-m.ensures)
     c.endpoint_var-m.auto.rest
-    c.start_node-r.ensures
+    c.start_node-q.ensures
     c.requires.chain.tree
 
 -- ── start_node ──
@@ -1481,7 +1365,7 @@ start_node-returns-then-node-eq0 t c =
     _
     _
     _
-    c.requires.asked.words
+    c.args.r.now.roomy
     c.requires.asked.tree.is
     (c.requires.asked.depth, c.requires.asked.pass)
     c.requires.read.first
@@ -1493,7 +1377,7 @@ start_node-returns-then-node-eq0 t c =
 pub start_node-lower_expr-s-requires : goal.start_node-lower_expr-s-requires
 start_node-lower_expr-s-requires t c =
     let l = Room.element_bounds c.requires.asked in
-    let l₀' = Room.names_low c.requires.asked.words c.requires.asked.tree.tree in
+    let l₀' = Room.names_low c.args.r.now.roomy c.requires.asked.tree.tree in
     let n₀ = c.requires.read.first in (
       omega arith,
       Room.asked_on _ _ _ c.requires.asked (omega arith)
@@ -1501,7 +1385,7 @@ start_node-lower_expr-s-requires t c =
           _
           _
           _
-          c.requires.asked.words
+          c.args.r.now.roomy
           c.requires.asked.tree.is
           c.requires.read.first
           c.requires.asked.tree.tree
@@ -1517,9 +1401,9 @@ start_node-lower_expr-s-requires t c =
           (omega arith)),
     )
 
-pub start_node-filter-requires : goal.start_node-filter-requires
-start_node-filter-requires t c =
-    let l₀ = Room.names_low c.requires.asked.words c.requires.asked.tree.tree in
+pub start_node-over-requires : goal.start_node-over-requires
+start_node-over-requires t c =
+    let l₀ = Room.names_low c.args.r.now.roomy c.requires.asked.tree.tree in
     let l₂ = c.requires.asked.depth in
     let n₀ = c.requires.read.first in
     let g = Room.few_ops c.requires.asked.room in
@@ -1527,7 +1411,7 @@ start_node-filter-requires t c =
 
 pub start_node-push-z-requires : goal.start_node-push-z-requires
 start_node-push-z-requires t c =
-    let l₀ = Room.names_low c.requires.asked.words c.requires.asked.tree.tree in
+    let l₀ = Room.names_low c.args.r.now.roomy c.requires.asked.tree.tree in
     let l = Room.element_bounds c.requires.asked in
     let n₀ = c.requires.read.first in
     Exprs.can_push
@@ -1547,7 +1431,7 @@ start_node-returns t c =
     _
     _
     _
-    c.requires.asked.words
+    c.args.r.now.roomy
     c.requires.asked.tree.is
     (c.requires.asked.depth, c.requires.asked.pass)
     c.requires.read.first
@@ -1555,5 +1439,5 @@ start_node-returns t c =
     c.push-p.auto.ops
     (λ e. c.if-node-eq0.false (c.requires.read.props ∙ e))
     c.lower_expr-s.ensures
-    (pushed_as c.filter.ensures c.push-z.ensures)
+    (pushed_as c.over.ensures c.push-z.ensures)
     c.push-z.auto.ops

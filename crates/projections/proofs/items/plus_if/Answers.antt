@@ -1,8 +1,0 @@
--- `plus_if` meets its contract. Assumes nothing.
-use Rattle.projections.proofs.items.plus_if.Goals as goal
-
-pub returns-then-more : goal.returns-then-more
-returns-then-more c = rw (c.if-more.true)
-
-pub returns : goal.returns
-returns c = rw (c.if-more.false)
