@@ -1,73 +1,40 @@
--- What the loops that store leave, turn by turn: bytes from the first on, and digits from the last on. Assumes nothing: every law is proved.
-use mathlib.Core.Path.{◌≡◌, refl, sym, ◌∙◌}
-use mathlib.Core.List.{[], ◌∷◌, ◌++◌, append-nil, append_assoc}
-use Prim.Native.Nat.{ℕ, zero, suc, ◌+◌, ◌-◌, ◌/◌, ◌%◌, ◌<◌, ◌≤◌}
-use native.Mathlib.Omega.{arith}
-use native.Mathlib.Numerals.{add-one}
-use lib.ListN.{length, set, get_or, take, length-set}
-use lib.Seq.{sets, set_comm, take-suc, take_all}
-use Rattle.model.specs.Text.{Bytes, digit0}
-use Rattle.output.specs.Wide.{tens}
-use Rattle.output.specs.Writes.{sets_append}
+-- Digits that are stored from the last on, and what stands then in the part of the slice that is for them. Assumes nothing: every law is proved.
+use Rattle.std.proofs.Common.{◌≡◌, sym, ◌∙◌, [], ◌∷◌, ◌++◌, ℕ, zero, suc, ◌+◌, ◌-◌, ◌/◌, ◌%◌, ◌<◌, ◌≤◌, ap, arith, add-one, append-nil, append_assoc, length, set, take, drop, length-drop}
+use Rattle.std.proofs.lemmas.List.{drop-set}
+use Rattle.std.proofs.Math.Seq.{drop-length, take-length, length-take-le}
+use Rattle.model.specs.Text.{Bytes, tab, digit0, decimal}
+use Rattle.output.specs.Wide.{Counted, tens, spelled}
 
--- ── from the first on ──
+-- ── the loop: k digits of v are left, before those that stand behind them in q ──
 
-pub record Copying (s p : Bytes) (at i : ℕ) (q : Bytes) : Type 0 where
-  pub low : i ≤ length s
-  pub long : length q ≡ length p
-  pub page : q ≡ sets p at (take i s)
+pub fill_start : (p : Bytes) (n : ℕ) → tens (length p) n ++ drop (length p) p ≡ tens (length p) n
+fill_start p n = rw (drop-length p) (append-nil (tens (length p) n))
 
-module _ {s p : Bytes} {at : ℕ} where
-  pub copy_start : Copying s p at 0 p
-  copy_start = record { low = omega arith; long = refl; page = refl }
+pub fill_more : (k v : ℕ) (q : Bytes) {t : Bytes} → 0 < k → k ≤ length q → tens k v ++ drop k q ≡ t → tens (k - 1) (v / 10) ++ drop (k - 1) (set q (k - 1) (digit0 + v % 10)) ≡ t
+unfolding tens
+fill_more zero v q some low is = absurd (omega arith)
+fill_more (suc k) v q some low is =
+    let less : suc k - 1 ≡ k = omega arith in
+    let x : ℕ = digit0 + v % 10 in
+    rw (less, drop-set q k x (omega arith), add-one k) (sym (append_assoc (tens k (v / 10)) (x ∷ []) (drop (suc k) q)) ∙ is)
 
-  pub copy_more : {i : ℕ} {q : Bytes} → i < length s → Copying s p at i q → Copying s p at (i + 1) (set q (at + i) (get_or s i 0))
-  copy_more {i} {q} h c =
-      let n : length (take i s) ≡ i = lib.Seq.length-take-le i s c.low in
-      rw (add-one i) (record {
-        low = h;
-        long = length-set q (at + i) (get_or s i 0) ∙ c.long;
-        page = rw (take-suc s i 0 h, sets_append (take i s) (get_or s i 0 ∷ []) p at, n, c.page);
-      })
+pub fill_all : (k v : ℕ) {q t : Bytes} → k ≤ 0 → tens k v ++ drop k q ≡ t → q ≡ t
+unfolding tens
+fill_all k v z is = let none : k ≡ 0 = omega arith in rw none at is
 
-  pub copy_all : {i : ℕ} {q : Bytes} → length s ≤ i → Copying s p at i q → q ≡ sets p at s
-  copy_all {i} h c = rw (take_all i s h) at c.page
+-- ── the d bytes of a slice from `at` on, for as many digits ──
 
--- ── from the last on ──
+pub part_long : (p : Bytes) (at d : ℕ) → at + d ≤ length p → length (take (at + d - at) (drop at p)) ≡ d
+part_long p at d f = let behind = length-drop at p in length-take-le (at + d - at) (drop at p) (omega arith) ∙ omega arith
 
-set_before : (t p : Bytes) (i j x : ℕ) → i < j → set (sets p j t) i x ≡ sets (set p i x) j t
-set_before [] p i j x h = refl
-set_before (b ∷ t) p i j x h = set_before t (set p j b) i (suc j) x (omega arith) ∙ rw (set_comm p j i b x (λ e. omega arith))
+pub all_digits : (n : ℕ) (p : Bytes) (at : ℕ) {d : ℕ} {t : Bytes} → Counted n d → at + d ≤ length p → t ≡ tens (length (take (at + d - at) (drop at p))) n → t ≡ decimal n
+all_digits n p at {d} c f is = is ∙ rw (part_long p at d f, spelled c)
 
--- k digits of v are left, before those of the tail
-pub record Filling (d n : ℕ) (p : Bytes) (at k v : ℕ) (q : Bytes) : Type 0 where
-  pub low : k ≤ d
-  pub long : length q ≡ length p
-  pub tail : Bytes
-  pub text : tens k v ++ tail ≡ tens d n
-  pub page : q ≡ sets p (at + k) tail
-
-module _ {d n : ℕ} {p : Bytes} {at : ℕ} where
-  pub fill_start : Filling d n p at d n p
-  fill_start = record { low = omega arith; long = refl; tail = []; text = append-nil (tens d n); page = refl }
-
-  pub fill_more : (k : ℕ) {v x : ℕ} {q : Bytes} → (k ≡ 0 → ⊥) → Filling d n p at k v q → x ≡ digit0 + v % 10 → Filling d n p at (k - 1) (v / 10) (set q (at + (k - 1)) x)
-  unfolding tens
-  fill_more zero some c e = absurd (some refl)
-  fill_more (suc k) {v} {x} {q} some c e =
-      let less : suc k - 1 ≡ k = omega arith in
-      let behind : at + suc k ≡ suc (at + k) = omega arith in
-      rw less (record {
-        low = omega (arith, c.low);
-        long = length-set q (at + k) x ∙ c.long;
-        tail = x ∷ c.tail;
-        text = rw e (sym (append_assoc (tens k (v / 10)) ((digit0 + v % 10) ∷ []) c.tail) ∙ c.text);
-        page = rw (c.page, behind) (set_before c.tail p (at + k) (suc (at + k)) x (omega arith));
-      })
-
-  pub fill_all : {k v : ℕ} {q : Bytes} → k ≡ 0 → Filling d n p at k v q → q ≡ sets p at (tens d n)
-  unfolding tens
-  fill_all {k} {v} {q} z c =
-      let c' : Filling d n p at 0 v q = rw z at c in
-      let e : at + 0 ≡ at = omega arith in
-      c'.page ∙ rw (e, c'.text)
+-- the first is a tab, and the digits stand behind it
+pub behind_tab : (n d : ℕ) (part : Bytes) {t : Bytes} → Counted n d → length part ≡ d + 1 → t ≡ tens (length (take (length (set part 0 tab) - 1) (drop 1 (set part 0 tab)))) n → take 1 (set part 0 tab) ++ (t ++ drop (length (set part 0 tab) - 1) (drop 1 (set part 0 tab))) ≡ tab ∷ decimal n
+behind_tab n d [] c l is = absurd (omega arith)
+behind_tab n d (x ∷ part) {t} c l is =
+    let less : suc (length part) - 1 ≡ length part = omega arith in
+    let long : length part ≡ d = omega arith in
+    let digits : t ≡ decimal n = rw (less, take-length part, long) at is ∙ rw (spelled c) in
+    rw (less, drop-length part, digits) (ap (λ (s : Bytes). tab ∷ s) (append-nil (decimal n)))

@@ -1,13 +1,13 @@
--- What a whole text does from the start: from `Puts` to plain lists, and to the call's definition of a written plan. Assumes nothing: every law is proved.
-use Rattle.std.specs.Prelude.{◌≡◌, refl, cond, [], ◌∷◌, ◌++◌, ℕ, ◌<◌, ◌≤◌, ltb, take, drop}
-use Rattle.std.proofs.Common.{◌∙◌, arith, zero-add}
-use Rattle.std.proofs.Math.ListN.{length}
+-- What a whole text does from the start: from `Puts` to the lent slice, and to the call's definition of a written plan. Assumes nothing: every law is proved.
+use Rattle.std.specs.Prelude.{◌≡◌, Bool, cond, true, false, [], ◌∷◌, ◌++◌, ℕ, ◌<◌, ◌≤◌, ltb, length, take, drop}
+use Rattle.std.specs.Borrow.{MutBor}
+use Rattle.std.proofs.Common.{refl, sym, ap, ◌∙◌, arith, zero-add, lt-ltb, le-ltb, ltb-true, ltb-false}
 use Rattle.std.proofs.lemmas.List.Edits.{sets-eq}
 use Rattle.std.proofs.Math.Seq.{take-append_seam}
-use borrow.Author.Tests.{lt-ltb, le-ltb}
 use Rattle.model.specs.Text.{Bytes}
 use Rattle.model.specs.Refusal.{Refusal, accepted, values_of}
 use Rattle.model.specs.Call.{written}
+use Rattle.output.specs.declared.Page.{Page}
 use Rattle.output.specs.Page.{on, most, Puts}
 
 -- what a text that fits leaves of the slice p: the slice q and the cursor o
@@ -15,49 +15,65 @@ pub record Written (t p q : Bytes) (o : ℕ) : Type 0 where
   pub slice : q ≡ t ++ drop (length t) p
   pub at : o ≡ length t
 
--- a slice is shorter than the largest cursor
-module _ {t p q : Bytes} {o : ℕ} (e : Puts t (on p 0) (on q o)) (small : length p < most) where
-  pub wrote : length t ≤ length p → Written t p q o
+-- a text that is written from the start of a slice p, which ends as q: its first n bytes are the text, or n is 0 and it does not fit
+pub record Begins (t p q : Bytes) (n : ℕ) : Type 0 where
+  pub upper_bound : n ≤ length p
+  pub page_after : take n q ≡ cond (ltb (length p) (length t)) [] t
+
+-- the slice p, which is shorter than the largest cursor, was lent to a page and ends as q, what that page left under p's name
+module _ {t : Bytes} {p : MutBor Bytes} {g : Page} {q : Bytes} (e : Puts t (on p 0) g) (small : length p.now < most) (back : p.ghost_name ≡ g.bytes.ghost_name → q ≡ g.bytes.now) where
+  pub ended : q ≡ g.bytes.now
+  ended = back (sym e.same)
+
+  pub wrote : length t ≤ length p.now → Written t p.now q g.out
   wrote fits =
       let moved = e.moved in
       record {
-        slice = e.stored (record { inside = omega arith; small = omega arith }) ∙ sets-eq t p 0 (omega arith) ∙ rw zero-add;
+        slice = ended ∙ e.stored (record { inside = omega arith; small = omega arith }) ∙ sets-eq t p.now 0 (omega arith) ∙ rw zero-add;
         at = omega arith;
       }
 
--- a text that is written from the start of a page, and nothing where it does not fit
-module _ (t p q : Bytes) (o : ℕ) (e : Puts t (on p 0) (on q o)) (small : length p < most) where
-  pub too_long : length p < o → take 0 q ≡ cond (ltb (length p) (length t)) [] t
-  too_long h = let moved = e.moved in rw (lt-ltb (length p) (length t) (omega arith))
+  -- as `Page::used` tells it
+  pub begins : {n : ℕ} → n ≡ cond (ltb (length g.bytes.now) g.out) 0 g.out → Begins t p.now q n
+  begins {n} is = go (ltb (length g.bytes.now) g.out) refl
+    where
+      go : (b : Bool) → ltb (length g.bytes.now) g.out ≡ b → Begins t p.now q n
+      go true l =
+          let moved = e.moved in
+          let long = e.long in
+          let far = ltb-true (length g.bytes.now) g.out l in
+          let zero : n ≡ 0 = is ∙ rw l in
+          record { upper_bound = omega arith; page_after = rw (zero, lt-ltb (length p.now) (length t) (omega arith)) }
+      go false l =
+          let moved = e.moved in
+          let long = e.long in
+          let near = ltb-false (length g.bytes.now) g.out l in
+          let w = wrote (omega arith) in
+          let all : n ≡ length t = is ∙ rw l w.at in
+          record { upper_bound = omega arith; page_after = rw (all, w.slice, le-ltb (length p.now) (length t) (omega arith)) (take-append_seam t (drop (length t) p.now)) }
 
-  pub long_enough : o ≤ length p → take o q ≡ cond (ltb (length p) (length t)) [] t
-  long_enough h =
-      let moved = e.moved in
-      let fits : length t ≤ length p = omega arith in
-      let w = wrote e small fits in
-      rw (le-ltb (length p) (length t) fits, w.slice, w.at) (take-append_seam t (drop (length t) p))
+-- ── the call: measure on an empty part at the slice's start, which is x behind the measuring; then refuse with 10 or write ──
 
--- ── the call: measure on an empty part at the slice's start, which is q behind the measuring; then refuse with 10 or write ──
-
-none : (q : Bytes) → length q ≡ 0 → q ≡ []
+none : (x : Bytes) → length x ≡ 0 → x ≡ []
 none [] e = refl
-none (b ∷ q) e = absurd (omega arith)
+none (b ∷ x) e = absurd (omega arith)
 
-module _ (p : Bytes) (small : length p < most) {t q : Bytes} {o : ℕ} (first : Puts t (on [] 0) (on q o)) where
+module _ (p x : Bytes) (small : length p < most) {t : Bytes} {e : MutBor Bytes} {g : Page} (bare : length x ≡ 0) (first : Puts t (on e 0) g) where
   -- the measured text is longer than the slice, and the slice is as it was
-  pub refuses : length (q ++ p) < o → record { answer = values_of Refusal.NoRoom; slice = q ++ p } ≡ written t p
+  pub refuses : length (x ++ p) < g.out → record { answer = values_of Refusal.NoRoom; slice = x ++ p } ≡ written t p
   unfolding written
   refuses h =
       let moved = first.moved in
-      let l : length p < o = rw (none q first.long) at h in
-      rw (none q first.long, lt-ltb (length p) (length t) (omega arith))
+      let l : length p < g.out = rw (none x bare) at h in
+      rw (none x bare, lt-ltb (length p) (length t) (omega arith))
 
   -- it fits, and is written from the start
-  pub accepts : {q' : Bytes} {o' : ℕ} → o ≤ length (q ++ p) → Puts t (on (q ++ p) 0) (on q' o') → record { answer = accepted o'; slice = q' } ≡ written t p
+  pub accepts : g.out ≤ length (x ++ p) → {w : MutBor Bytes} {g' : Page} {q : Bytes} → w.now ≡ x ++ p → Puts t (on w 0) g' → (w.ghost_name ≡ g'.bytes.ghost_name → q ≡ g'.bytes.now) → record { answer = accepted g'.out; slice = q } ≡ written t p
   unfolding written
-  accepts {q'} {o'} h second =
+  accepts h {w} {g'} {q} is second back =
       let moved = first.moved in
-      let l : o ≤ length p = rw (none q first.long) at h in
-      let s : Puts t (on p 0) (on q' o') = rw (none q first.long) at second in
-      let w = wrote s small (omega arith) in
-      rw (le-ltb (length p) (length t) (omega arith), w.slice, w.at)
+      let same : w.now ≡ p = is ∙ rw (none x bare) in
+      let long = ap length same in
+      let l : g.out ≤ length p = rw (none x bare) at h in
+      let done : Written t p q g'.out = rw same at (wrote second (omega arith) back (omega arith)) in
+      rw (le-ltb (length p) (length t) (omega arith), done.slice, done.at)

@@ -1,8 +1,8 @@
 -- Numbers in so many digits, and how many a decimal number has. Assumes nothing: every law is proved.
 use Rattle.std.specs.Prelude.{◌≡◌, refl, Bool, true, false, [], ◌∷◌, ◌++◌, ℕ, zero, suc, ◌+◌, ◌-◌, ◌*◌, ◌/◌, ◌%◌, ◌<◌, ◌≤◌, ltb, length}
 use Rattle.std.proofs.Common.{arith, length-append, lt-ltb, le-ltb, ltb-true, ltb-false}
-use Rattle.model.specs.Text.{Bytes, tab, digit0, digits, max_digits, decimal}
-use Rattle.output.specs.Page.{Page, most, Puts}
+use Rattle.model.specs.Text.{Bytes, digit0, digits, max_digits, decimal}
+use Rattle.output.specs.Page.{most}
 
 -- the last k decimal digits of n
 unfoldable pub tens : ℕ → ℕ → Bytes
@@ -50,7 +50,8 @@ pub record Counted (n r : ℕ) : Type 0 where
   pub low : least before ≤ n
   pub high : n < power 10 (suc before)
 
-spelled : {n r : ℕ} → Counted n r → decimal n ≡ tens r n
+-- so many digits are the number's spelling
+pub spelled : {n r : ℕ} → Counted n r → decimal n ≡ tens r n
 unfolding decimal
 spelled {n} c = rw c.is (digits_tens max_digits c.before n c.few c.low c.high)
 
@@ -74,17 +75,6 @@ power_below k d h = go (ltb d k) refl
 abbrev pub step : ℕ
 step = 4
 
--- n has r digits, or r is 0 and n has more than `step`
-pub record Short (n r : ℕ) : Type 0 where
-  pub counted : (r ≡ 0 → ⊥) → Counted n r
-  pub wide : r ≡ 0 → least step ≤ n
-
-pub short_by : (d : ℕ) {n : ℕ} → d < max_digits → least d ≤ n → n < power 10 (suc d) → Short n (suc d)
-short_by d few low high = record { counted = λ z. record { before = d; is = refl; few = few; low = low; high = high }; wide = λ e. absurd (omega arith) }
-
-pub short_none : {n : ℕ} → least step ≤ n → Short n 0
-short_none h = record { counted = λ z. absurd (z refl); wide = λ e. h }
-
 -- the first digits of a number of 64 bits, and `step` behind them
 pub counted_more : {n r : ℕ} → least step ≤ n → n ≤ most → Counted (n / least step) r → Counted n (r + step)
 counted_more {n} {r} l m c = go c.before c.is c.few c.low c.high
@@ -99,11 +89,3 @@ counted_more {n} {r} l m c = go c.before c.is c.few c.low c.high
           low = omega arith;
           high = omega arith;
         }
-
--- a text of so many digits put is the number put
-module _ (n : ℕ) {g g' : Page} where
-  pub spell_decimal : {r : ℕ} → Counted n r → Puts (tens r n) g g' → Puts (decimal n) g g'
-  spell_decimal c a = rw (spelled c) a
-
-  pub spell_tabbed : {r : ℕ} → Counted n r → Puts (tab ∷ tens r n) g g' → Puts (tab ∷ decimal n) g g'
-  spell_tabbed c a = rw (spelled c) a

@@ -1,59 +1,101 @@
 // Bytes into a lent slice. A text that does not fit is only counted, so that the same code measures, on an empty part of a slice, and writes.
 #![tactic(auto)]
 
-ghost use Rattle.std.specs.Prelude.{◌≡◌, [], ◌∷◌, ◌+◌, ◌<◌, ◌≤◌, min, nat_abs, length};
-ghost use Rattle.std.proofs.lemmas.List.Edits.{sets};
-ghost use Rattle.model.specs.Text.{tab, decimal, signed};
-ghost use Rattle.output.specs.Page.{most, on, Puts};
-ghost use Rattle.output.specs.Wide.{Counted, Short, least, step, tens};
+ghost use Rattle.std.specs.Prelude.{◌≡◌, cond, [], ◌∷◌, ◌+◌, ◌<◌, ◌≤◌, ltb, length, MatchOption};
+ghost use Rattle.model.specs.Text.{Bytes, tab, decimal, signed};
+ghost use Rattle.output.specs.Page.{Puts};
+ghost use Rattle.output.specs.Wide.{Counted, least, step, tens};
 
-// The largest cursor.
-const MOST: usize = 18446744073709551615;
-
-// The cursor behind n bytes more. It stays at the largest number, so that no count overflows.
-pub fn more(at: usize, n: usize) -> usize
-    ensures { result ≡ min (at + n) most }
-{
-    if MOST - at < n {
-        return MOST;
-    }
-    at + n
+// A lent slice and the place of the next byte. The place goes on behind the slice's end, and stays at the largest number, so that no count overflows.
+#[derive(Drop)]
+pub struct Page<'a> {
+    pub bytes: &'a mut [u8],
+    pub out: usize,
 }
 
-// One byte.
-pub fn put_byte(plan: &mut [u8], out: usize, b: u8) -> usize
-    ensures { Puts (b ∷ []) (on plan.old out) (on plan.new result) }
-{
-    let end = more(out, 1);
-    if plan.len() < end {
-        return end;
+impl Page<'_> {
+    // One byte.
+    pub fn put_byte(&mut self, b: u8)
+        ensures { Puts (b ∷ []) self.old self.new }
+    {
+        let at = self.out;
+        let end = at.saturating_add(1);
+        if end <= self.bytes.len() {
+            self.bytes[at] = b;
+        }
+        self.out = end;
     }
-    plan[out] = b;
-    end
-}
 
-// A whole slice, inside the other.
-fn store_part(plan: &mut [u8], at: usize, s: &[u8])
-    requires { at + length s.now ≤ length plan.old }
-    ensures { plan.new ≡ sets plan.old at s.now }
-{
-    let mut i = 0;
-    while i < s.len() {
-        plan[at + i] = s[i];
-        i += 1;
+    // A whole byte slice: a part of the sheet, or a byte string.
+    pub fn put_part(&mut self, s: &[u8])
+        ensures { Puts s.now self.old self.new }
+    {
+        let at = self.out;
+        let n = s.len();
+        let end = at.saturating_add(n);
+        if end <= self.bytes.len() {
+            store_part(&mut self.bytes[at..at + n], s);
+        }
+        self.out = end;
     }
-}
 
-// A whole byte slice: a part of the sheet, or a byte string.
-pub fn put_part(plan: &mut [u8], out: usize, s: &[u8]) -> usize
-    ensures { Puts s.now (on plan.old out) (on plan.new result) }
-{
-    let end = more(out, s.len());
-    if plan.len() < end {
-        return end;
+    // So many bytes of whatever text, on an empty part of a slice.
+    pub fn measure(&mut self, n: usize)
+        requires { length self.old.bytes.now ≡ 0 }
+        ensures { (t : Bytes) → n ≡ length t → Puts t self.old self.new }
+    {
+        self.out = self.out.saturating_add(n);
     }
-    store_part(plan, out, s);
-    end
+
+    // How many bytes were put from the slice's start on, or 0 if they did not fit.
+    pub fn used(&self) -> usize
+        ensures { result ≡ cond (ltb (length self.now.bytes.now) self.now.out) 0 self.now.out }
+    {
+        if self.out > self.bytes.len() {
+            0
+        } else {
+            self.out
+        }
+    }
+
+    // A number.
+    pub fn put_decimal(&mut self, n: u64)
+        ensures { Puts (decimal n) self.old self.new }
+    {
+        let at = self.out;
+        let d = digit_count(n);
+        let end = at.saturating_add(d);
+        if end <= self.bytes.len() {
+            store_digits(&mut self.bytes[at..at + d], n);
+        }
+        self.out = end;
+    }
+
+    // A number behind a tab: with one test for both, since each field of a line is put so.
+    pub fn put_tabbed(&mut self, n: u64)
+        ensures { Puts (tab ∷ decimal n) self.old self.new }
+    {
+        let at = self.out;
+        let width = digit_count(n) + 1;
+        let end = at.saturating_add(width);
+        if end <= self.bytes.len() {
+            let field = &mut self.bytes[at..at + width];
+            field[0] = b'\t';
+            store_digits(&mut field[1..], n);
+        }
+        self.out = end;
+    }
+
+    // A signed number: a minus sign before the magnitude of one that is less than 0.
+    pub fn put_signed(&mut self, n: i64)
+        ensures { Puts (signed n) self.old self.new }
+    {
+        let m = n.unsigned_abs();
+        if n < 0 {
+            self.put_byte(b'-');
+        }
+        self.put_decimal(m);
+    }
 }
 
 // The least numbers of two, three, four and five digits.
@@ -68,20 +110,20 @@ const FIVE_DIGITS: u64 = 10000;
 // The digits that a number loses if it is divided by the least of five.
 const STEP: usize = 4;
 
-// How many decimal digits a number has, if they are at most four; else 0.
-fn count_short(n: u64) -> usize
-    ensures { Short n result }
+// How many decimal digits a number has, if they are at most four. Tests and no `checked_ilog10`, since most numbers of a plan have one digit or two, and the library's way costs more instructions for those.
+fn count_short(n: u64) -> Option<usize>
+    ensures { MatchOption result (least step ≤ n) (λ r. Counted n r) }
 {
     if n < TWO_DIGITS {
-        return 1;
+        return Some(1);
     }
     if n < THREE_DIGITS {
-        return 2;
+        return Some(2);
     }
     if n < FOUR_DIGITS {
-        return 3;
+        return Some(3);
     }
-    if n < FIVE_DIGITS { STEP } else { 0 }
+    if n < FIVE_DIGITS { Some(STEP) } else { None }
 }
 
 // The same of a number of more than four: apart from `digit_count`, so that small numbers go no way through a loop.
@@ -90,86 +132,39 @@ fn count_wide(n: u64) -> usize
     ensures { Counted n result }
 {
     let first = n / FIVE_DIGITS;
-    let few = count_short(first);
-    if few != 0 {
-        return few + STEP;
+    match count_short(first) {
+        Some(few) => few + STEP,
+        None => count_wide(first) + STEP,
     }
-    count_wide(first) + STEP
 }
 
 // How many decimal digits a number has.
 pub fn digit_count(n: u64) -> usize
     ensures { Counted n result }
 {
-    let few = count_short(n);
-    if few != 0 {
-        return few;
+    match count_short(n) {
+        Some(few) => few,
+        None => count_wide(n),
     }
-    count_wide(n)
 }
 
-// The last d decimal digits of n, inside the slice.
-fn store_digits(plan: &mut [u8], at: usize, n: u64, d: usize)
-    requires { at + d ≤ length plan.old }
-    ensures { plan.new ≡ sets plan.old at (tens d n) }
+// A text into as many bytes. A loop and no `copy_from_slice`, which calls `memmove`: the archive calls no function outside itself (docs/RUNNING.md).
+fn store_part(part: &mut [u8], s: &[u8])
+    requires { length part.old ≡ length s.now }
+    ensures { part.new ≡ s.now }
+{
+    for (i, b) in s.iter().enumerate() {
+        part[i] = *b;
+    }
+}
+
+// The decimal digits of n into as many bytes.
+fn store_digits(digits: &mut [u8], n: u64)
+    ensures { digits.new ≡ tens (length digits.old) n }
 {
     let mut v = n;
-    let mut k = d;
-    while k != 0 {
-        k -= 1;
-        let last = (v % 10) as u8;
-        plan[at + k] = b'0' + last;
-        v = v / 10;
+    for k in (0..digits.len()).rev() {
+        digits[k] = b'0' + (v % 10) as u8;
+        v /= 10;
     }
-}
-
-// A number.
-pub fn put_decimal(plan: &mut [u8], out: usize, n: u64) -> usize
-    ensures { Puts (decimal n) (on plan.old out) (on plan.new result) }
-{
-    let d = digit_count(n);
-    let end = more(out, d);
-    if plan.len() < end {
-        return end;
-    }
-    store_digits(plan, out, n, d);
-    end
-}
-
-// A number behind a tab.
-pub fn put_tabbed(plan: &mut [u8], out: usize, n: u64) -> usize
-    ensures { Puts (tab ∷ decimal n) (on plan.old out) (on plan.new result) }
-{
-    let d = digit_count(n);
-    let end = more(out, d + 1);
-    if plan.len() < end {
-        return end;
-    }
-    plan[out] = b'\t';
-    store_digits(plan, out + 1, n, d);
-    end
-}
-
-// How far n is from 0; the least number, too, since one is added only behind the cast.
-fn magnitude(n: i64) -> u64
-    ensures { result ≡ nat_abs n }
-{
-    if n < 0 {
-        let below = -1 - n;
-        let m = below as u64;
-        return m + 1;
-    }
-    n as u64
-}
-
-// A signed number: a minus sign before the magnitude of one that is less than 0.
-pub fn put_signed(plan: &mut [u8], out: usize, n: i64) -> usize
-    ensures { Puts (signed n) (on plan.old out) (on plan.new result) }
-{
-    let m = magnitude(n);
-    if n < 0 {
-        let o = put_byte(plan, out, b'-');
-        return put_decimal(plan, o, m);
-    }
-    put_decimal(plan, out, m)
 }

@@ -7,7 +7,8 @@ use lib.ListN.{length, get_or}
 use lib.Seq.{slice, length-slice}
 use Rattle.model.specs.Text.{Bytes}
 use Rattle.model.specs.Record.{rec, spell_rec}
-use Rattle.output.specs.Page.{Page, Puts}
+use Rattle.output.specs.declared.Page.{Page}
+use Rattle.output.specs.Page.{Puts}
 use Rattle.words.specs.Words.{cell, part, two32}
 use Rattle.words.proofs.GroupLaws.{part_cell}
 use Rattle.words.specs.Places.{line_start_at, line_end_at}

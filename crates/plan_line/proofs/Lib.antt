@@ -1,4 +1,3 @@
-pub mod KeywordLaws
 pub mod CopyLaws
 pub mod SignedLaws
 pub mod RowLaws

@@ -1,20 +1,25 @@
 -- Records as lines of numbers and names. Assumes nothing: every law is proved.
 use mathlib.Core.Path.{◌≡◌, refl, sym, ap, ◌∙◌}
-use Prim.Native.Nat.{ℕ, zero, suc, ◌+◌, ◌≤◌}
+use Prim.Native.Nat.{ℕ, zero, suc, ◌+◌, ◌<◌, ◌≤◌}
 use native.Mathlib.Omega.{arith}
+use native.Mathlib.Numerals.{add-one}
 use mathlib.Core.List.{List, [], ◌∷◌, ◌++◌, map, tail, append-nil, append_assoc}
 use lib.Dec.{eqb}
 use lib.IntN.{ℤ}
-use lib.ListN.{length, length-append}
-use lib.Seq.{slice}
+use lib.ListN.{length, get_or, take, length-append}
+use lib.Seq.{slice, take-suc}
+use Rattle.std.proofs.lemmas.List.{map-append}
 use Rattle.model.specs.Text.{Bytes, tab, line_feed, behind, join, decimal, digits, signed, escape, unescape}
 use Rattle.model.specs.Field.{Form, text, spell, spell_flag, spell_fields}
 use Rattle.model.specs.Record.{Rec, forms, keyword, spell_rec}
-use Rattle.output.specs.Page.{Page, Puts}
+use Rattle.output.specs.declared.Page.{Page}
+use Rattle.output.specs.Page.{Puts}
+use Rattle.output.specs.Writes.{◌⨾◌, stay}
 use Rattle.laws.specs.TextLaws.{join_split}
 use Rattle.words.specs.Words.{field_of, pieces_of}
 use Rattle.words.specs.Held.{PlaceAt}
-use Rattle.plan_line.specs.Keywords.{word, int_word}
+use Rattle.plan_line.specs.declared.keyword.Keyword.{Keyword}
+use Rattle.plan_line.specs.Keywords.{word}
 use Rattle.plan_line.specs.Row.{numbers_text, row_text, named_text, int_text, numbers_length}
 
 -- ── a field ──
@@ -55,16 +60,17 @@ unfolding numbers_text behind
 pieces_are [] = refl
 pieces_are (n ∷ ns) = ap (λ (t : Bytes). (tab ∷ decimal n) ++ t) (pieces_are ns) ∙ sym (append_assoc (tab ∷ decimal n) (numbers_text ns) (line_feed ∷ []))
 
-pub ended : (ns : List ℕ) {g g' : Page} → Puts (pieces ns) g g' → Puts (numbers_text ns ++ (line_feed ∷ [])) g g'
-ended ns p = rw (← pieces_are ns) p
+-- no number
+pub no_numbers : {g : Page} → Puts (numbers_text []) g g
+unfolding numbers_text behind
+no_numbers = stay
 
-pub row : (k : ℕ) (ns : List ℕ) {g g' : Page} → Puts (word k ++ pieces ns) g g' → Puts (row_text k ns) g g'
-unfolding row_text
-row k ns p = rw (← pieces_are ns) p
-
-pub named : (k : ℕ) (name : Bytes) (ns : List ℕ) {g g' : Page} → Puts (word k ++ ((tab ∷ name) ++ pieces ns)) g g' → Puts (named_text k name ns) g g'
-unfolding named_text
-named k name ns p = rw (← pieces_are ns) p
+-- one number more
+pub one_more : (ns : List ℕ) (i : ℕ) {g g' g'' : Page} → i < length ns → Puts (numbers_text (take i ns)) g g' → Puts (tab ∷ decimal (get_or ns i 0)) g' g'' → Puts (numbers_text (take (i + 1) ns)) g g''
+unfolding numbers_text
+one_more ns i h a b =
+    let n : ℕ = get_or ns i 0 in
+    rw (add-one i, take-suc ns i 0 h, map-append (λ n. decimal n) (take i ns) (n ∷ []), behind_append tab (map (λ n. decimal n) (take i ns)) (decimal n ∷ []), one_piece (decimal n)) (a ⨾ b)
 
 -- ── how many bytes a line has ──
 
@@ -72,11 +78,11 @@ pieces_long : (ns : List ℕ) → length (pieces ns) ≡ numbers_length ns
 pieces_long [] = refl
 pieces_long (n ∷ ns) = length-append (tab ∷ decimal n) (pieces ns) ∙ ap (λ (m : ℕ). suc (length (decimal n)) + m) (pieces_long ns)
 
-pub row_long : (k : ℕ) (ns : List ℕ) → length (row_text k ns) ≡ length (word k) + numbers_length ns
+pub row_long : (k : Keyword) (ns : List ℕ) → length (row_text k ns) ≡ length (word k) + numbers_length ns
 unfolding row_text
 row_long k ns = rw (← pieces_are ns) (length-append (word k) (pieces ns) ∙ ap (λ (m : ℕ). length (word k) + m) (pieces_long ns))
 
-pub named_long : (k : ℕ) (name : Bytes) (ns : List ℕ) → length (named_text k name ns) ≡ length (word k) + (suc (length name) + numbers_length ns)
+pub named_long : (k : Keyword) (name : Bytes) (ns : List ℕ) → length (named_text k name ns) ≡ length (word k) + (suc (length name) + numbers_length ns)
 unfolding named_text
 named_long k name ns =
     rw (← pieces_are ns) (length-append (word k) ((tab ∷ name) ++ pieces ns) ∙ ap (λ (m : ℕ). length (word k) + m) (length-append (tab ∷ name) (pieces ns) ∙ ap (λ (m : ℕ). suc (length name) + m) (pieces_long ns)))
@@ -87,15 +93,15 @@ pub record_line : (w : Bytes) (ps : List Bytes) → join tab (record { first = w
 unfolding join
 record_line w ps = append_assoc w (behind tab ps) (line_feed ∷ [])
 
-pub row_rec : (r : Rec) (k : ℕ) (ns : List ℕ) → keyword r.sort r.kind ≡ word k → spell_fields (forms r.sort r.kind) r.fields ≡ map (λ n. decimal n) ns → spell_rec r ≡ row_text k ns
+pub row_rec : (r : Rec) (k : Keyword) (ns : List ℕ) → keyword r.sort r.kind ≡ word k → spell_fields (forms r.sort r.kind) r.fields ≡ map (λ n. decimal n) ns → spell_rec r ≡ row_text k ns
 unfolding spell_rec row_text numbers_text
 row_rec r k ns e p = record_line (keyword r.sort r.kind) (spell_fields (forms r.sort r.kind) r.fields) ∙ rw (e, p)
 
-pub named_rec_law : (r : Rec) (k : ℕ) (name : Bytes) (ns : List ℕ) → keyword r.sort r.kind ≡ word k → spell_fields (forms r.sort r.kind) r.fields ≡ name ∷ map (λ n. decimal n) ns → spell_rec r ≡ named_text k name ns
+pub named_rec_law : (r : Rec) (k : Keyword) (name : Bytes) (ns : List ℕ) → keyword r.sort r.kind ≡ word k → spell_fields (forms r.sort r.kind) r.fields ≡ name ∷ map (λ n. decimal n) ns → spell_rec r ≡ named_text k name ns
 unfolding spell_rec named_text numbers_text behind
 named_rec_law r k name ns e p = record_line (keyword r.sort r.kind) (spell_fields (forms r.sort r.kind) r.fields) ∙ rw (e, p) (ap (λ (s : Bytes). word k ++ (tab ∷ s)) (append_assoc name (behind tab (map (λ n. decimal n) ns)) (line_feed ∷ [])))
 
-pub int_rec : (r : Rec) (z : ℤ) → keyword r.sort r.kind ≡ word int_word → spell_fields (forms r.sort r.kind) r.fields ≡ signed z ∷ [] → spell_rec r ≡ int_text z
+pub int_rec : (r : Rec) (z : ℤ) → keyword r.sort r.kind ≡ word Keyword.Int → spell_fields (forms r.sort r.kind) r.fields ≡ signed z ∷ [] → spell_rec r ≡ int_text z
 unfolding spell_rec int_text
 int_rec r z e p = record_line (keyword r.sort r.kind) (spell_fields (forms r.sort r.kind) r.fields) ∙ rw (e, p, one_piece (signed z))
 

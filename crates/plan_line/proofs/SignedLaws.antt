@@ -1,25 +1,21 @@
 -- The signed number of two words, from the arithmetic that the code makes on 64 bits. Assumes nothing: every law is proved.
-use mathlib.Core.Path.{◌≡◌, refl, ◌∙◌}
-use Prim.Native.Nat.{ℕ, zero, suc, ◌+◌, ◌*◌, ◌-◌, ◌<◌, ◌≤◌}
-use native.Mathlib.Nat.{zero-add}
+use mathlib.Core.Path.{◌≡◌, ◌∙◌}
+use Prim.Native.Nat.{ℕ, suc, ◌+◌, ◌*◌, ◌-◌, ◌<◌, ◌≤◌}
 use native.Mathlib.Omega.{arith}
 use borrow.Author.Tests.{lt-ltb, le-ltb}
-use lib.IntN.{ℤ, pos, negsuc, ◌-ℤ◌}
+use lib.IntN.{ℤ, pos}
 use lib.Signed.{mag}
 use mir.Syntax.{w64}
 use mir.Val.{SFits, to_z, of_z}
-use mir.Facts.{to_z-of_z, to_z_pos}
+use mir.Facts.{to_z-of_z, to_z_pos, to_z-neg}
 use Rattle.model.specs.Text.{signed}
-use Rattle.output.specs.Page.{Page, Puts}
+use Rattle.output.specs.declared.Page.{Page}
+use Rattle.output.specs.Page.{Puts}
 use Rattle.words.specs.Words.{int_of, two31, two32}
 
 -- a signed number of 64 bits is smaller
 abbrev two63 : ℕ
 two63 = 9223372036854775808
-
-minus_one : (n : ℕ) → negsuc 0 -ℤ pos n ≡ negsuc n
-minus_one zero = refl
-minus_one (suc n) = rw zero-add
 
 -- the code's number: 64 bits, read again
 pub put_held : (z v : ℤ) {g g' : Page} → mag z < two63 → z ≡ v → Puts (signed (to_z w64 (of_z w64 z))) g g' → Puts (signed v) g g'
@@ -50,12 +46,9 @@ module _ (low high n : ℕ) (l : low < two32) where
     pub rest_fits : SFits w64 (pos n)
     rest_fits = record { sfits = less }
 
-    down : negsuc 0 -ℤ to_z w64 n ≡ negsuc n
-    down = rw (to_z_pos w64 {n = n} less) (minus_one n)
-
-    pub below_fits : SFits w64 (negsuc 0 -ℤ to_z w64 n)
-    below_fits = rw down (record { sfits = less })
-
-    pub below_is : to_z w64 (of_z w64 (negsuc 0 -ℤ to_z w64 n)) ≡ int_of low high
+    -- what is one less than the size, with each bit turned round
+    pub below_is : to_z w64 (18446744073709551615 - n) ≡ int_of low high
     unfolding int_of
-    below_is = to_z-of_z below_fits ∙ down ∙ rw (le-ltb high two31 h, e)
+    below_is =
+        let turned : 18446744073709551615 - n ≡ 18446744073709551616 - suc n = omega arith in
+        rw (turned, to_z-neg w64 n less, le-ltb high two31 h, e)

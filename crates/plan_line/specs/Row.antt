@@ -1,36 +1,31 @@
 -- The text of a line of numbers, of one with a name before them, and of a signed number's. Assumes nothing: these are definitions.
-use Rattle.std.specs.Prelude.{◌≡◌, ℕ, suc, ◌+◌, ◌≤◌, ◌<◌, List, [], ◌∷◌, ◌++◌, map, ℤ, length, Option}
+use Rattle.std.specs.Prelude.{◌≡◌, ℕ, suc, ◌+◌, ◌≤◌, List, [], ◌∷◌, ◌++◌, map, ℤ, length, Option}
 use Rattle.model.specs.Text.{Bytes, tab, line_feed, behind, decimal, signed, max_digits}
 use Rattle.model.specs.Field.{spell_option}
-use Rattle.plan_line.specs.Keywords.{word, word_count, int_word, rel_word, call_word}
+use Rattle.plan_line.specs.declared.keyword.Keyword.{Keyword}
+use Rattle.plan_line.specs.Keywords.{word}
 
 unfoldable pub numbers_text : List ℕ → Bytes
 numbers_text ns = behind tab (map (λ n. decimal n) ns)
 
-unfoldable pub row_text : ℕ → List ℕ → Bytes
+unfoldable pub row_text : Keyword → List ℕ → Bytes
 row_text k ns = word k ++ (numbers_text ns ++ (line_feed ∷ []))
 
 -- the name as a sheet spells it
-unfoldable pub named_text : ℕ → Bytes → List ℕ → Bytes
+unfoldable pub named_text : Keyword → Bytes → List ℕ → Bytes
 named_text k name ns = word k ++ ((tab ∷ name) ++ (numbers_text ns ++ (line_feed ∷ [])))
 
 -- a signed number
 unfoldable pub int_text : ℤ → Bytes
-int_text z = word int_word ++ ((tab ∷ signed z) ++ (line_feed ∷ []))
+int_text z = word Keyword.Int ++ ((tab ∷ signed z) ++ (line_feed ∷ []))
 
 -- a rel's types, direction, length (as a sheet spells it) and props
 unfoldable pub rel_text : ℕ → ℕ → Bytes → ℕ → Bytes
-rel_text types direction length props = word rel_word ++ ((tab ∷ decimal types) ++ ((tab ∷ decimal direction) ++ ((tab ∷ length) ++ ((tab ∷ decimal props) ++ (line_feed ∷ [])))))
+rel_text types direction length props = word Keyword.Rel ++ ((tab ∷ decimal types) ++ ((tab ∷ decimal direction) ++ ((tab ∷ length) ++ ((tab ∷ decimal props) ++ (line_feed ∷ [])))))
 
 -- a procedure's input or none, its name (as a sheet spells it), arguments, yields and whether it is optional
 unfoldable pub call_text : Option ℕ → Bytes → ℕ → ℕ → ℕ → Bytes
-call_text input name args yields optional = word call_word ++ ((tab ∷ spell_option input) ++ ((tab ∷ name) ++ (numbers_text (args ∷ yields ∷ optional ∷ []) ++ (line_feed ∷ []))))
-
--- what a line of a keyword and a part of the sheet asks
-pub record NamedAsked (k : ℕ) (sheet : Bytes) (s e : ℕ) : Type 0 where
-  pub keyword : k < word_count
-  pub from : s ≤ e
-  pub to : e ≤ length sheet
+call_text input name args yields optional = word Keyword.Call ++ ((tab ∷ spell_option input) ++ ((tab ∷ name) ++ (numbers_text (args ∷ yields ∷ optional ∷ []) ++ (line_feed ∷ []))))
 
 -- ── how many bytes they have ──
 

@@ -5,4 +5,3 @@ pub mod copy;
 pub mod field;
 pub mod keyword;
 pub mod row;
-pub mod word;

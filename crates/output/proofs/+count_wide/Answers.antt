@@ -1,10 +1,10 @@
--- `count_wide` meets its contract: the number falls. Assumes nothing.
-use native.Mathlib.Omega.{arith}
+-- `count_wide` meets its contract. Assumes nothing.
+use Rattle.std.proofs.Common.{arith}
 use Rattle.output.specs.Wide.{counted_more}
 use Rattle.output.proofs.+count_wide.Goals as goal
 
-pub returns-then-few-ne0 : goal.returns-then-few-ne0
-returns-then-few-ne0 t c = counted_more c.requires (omega (arith, c.ranges.n.fits)) (c.count_short-few.ensures.counted c.if-few-ne0.true)
+pub returns-in-Some : goal.returns-in-Some
+returns-in-Some t c = counted_more c.requires (omega (arith, c.ranges.n.fits)) c.in-Some.ensures
 
-pub returns : goal.returns
-returns t c = counted_more c.requires (omega (arith, c.ranges.n.fits)) c.count_wide.ensures
+pub returns-in-None : goal.returns-in-None
+returns-in-None t c = counted_more c.requires (omega (arith, c.ranges.n.fits)) c.count_wide.ensures

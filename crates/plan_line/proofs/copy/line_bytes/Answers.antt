@@ -5,7 +5,7 @@ use Rattle.plan_line.proofs.copy.line_bytes.Goals as goal
 
 pub overflow_sub-bytes : goal.overflow_sub-bytes
 overflow_sub-bytes c =
-    let inside = line_in _ _ _ c.word-start.ensures c.word-end.ensures c.requires.some_record.1 in
+    let inside = line_in _ _ _ c.word-start.ensures c.word-end.ensures c.requires.1 in
     omega (arith, inside.0)
 
 pub returns : goal.returns

@@ -5,5 +5,5 @@ use Rattle.plan_line.proofs.field.number_bytes.Goals as goal
 
 pub returns : goal.returns
 returns c =
-    let digits = c.digit_count.ensures in
+    let digits = rw c.from.ensures at c.digit_count.ensures in
     record { long = omega (arith, counted_long digits); few = omega (arith, digits.is, digits.few) }

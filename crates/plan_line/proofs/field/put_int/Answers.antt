@@ -8,6 +8,6 @@ pub returns : goal.returns
 unfolding int_text
 returns c =
     let is = read_from c.signed_of-n.ensures c.word-low.ensures c.word-high.ensures in
-    c.put_keyword-o.ensures
-    ⨾ (c.put_byte-p.ensures ⨾ put_held _ _ c.signed_of-n.type_inv is c.put_signed-q.ensures)
-    ⨾ c.put_byte.ensures
+    c.put_keyword.ensures
+    ⨾ (c.put_byte.ensures ⨾ put_held _ _ c.signed_of-n.type_inv is c.put_signed.ensures)
+    ⨾ c.put_byte-2.ensures

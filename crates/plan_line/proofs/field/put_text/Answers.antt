@@ -3,4 +3,4 @@ use Rattle.output.specs.Writes.{◌⨾◌}
 use Rattle.plan_line.proofs.field.put_text.Goals as goal
 
 pub returns : goal.returns
-returns c = c.put_byte-o.ensures ⨾ c.put_within.ensures
+returns c = c.put_byte.ensures ⨾ c.put_part.ensures

@@ -1,7 +1,0 @@
--- `put_row2` meets its contract. Assumes nothing.
-use Rattle.output.specs.Writes.{◌⨾◌}
-use Rattle.plan_line.proofs.RowLaws.{row}
-use Rattle.plan_line.proofs.row.put_row2.Goals as goal
-
-pub returns : goal.returns
-returns c = row _ _ (c.put_keyword-o.ensures ⨾ c.put_number-p.ensures ⨾ c.put_number-q.ensures ⨾ c.put_byte.ensures)
