@@ -2,25 +2,28 @@
 use mathlib.Core.Path.{◌≡◌, refl, sym, subst, ◌∙◌}
 use Prim.Native.Nat.{ℕ, ◌+◌, ◌≤◌, ◌<◌}
 use native.Mathlib.Omega.{arith}
-use mathlib.Core.Bool.{Bool, true, false, cond}
+use mathlib.Core.Bool.{Bool, true, false, cond, false≢true}
+use mathlib.Core.Logic.{◌⊎◌, inl, inr}
 use mathlib.Core.List.{List, [], ◌∷◌, append-nil}
 use Rattle.std.specs.Prelude.{Option, None, Some}
 use Rattle.std.proofs.lemmas.Option.{same_Some}
-use borrow.Author.Tests.{ltb-false}
-use lib.Dec.{ltb}
+use borrow.Author.Tests.{eq-eqb, eqb-true, eqb-false, ltb-false}
+use lib.Dec.{eqb, ltb}
 use Rattle.model.specs.Text.{Bytes, bytes, bytes_from}
 use Rattle.model.specs.Field.{Fields, text, spell, spell_fields}
 use Rattle.model.specs.Kind.{Sort, Kind, Same, Expr, projection, order_item, entry, expr}
 use Rattle.model.specs.Record.{rec, forms, expr_forms, kinds, sames, keyword, expr_keyword, plan_keyword, plan_expr_keyword, same_keyword, spell_rec, spell_recs}
 use Rattle.model.specs.Lower.{Recs, expr_head}
-use Rattle.output.specs.Page.{Page, Puts}
+use Rattle.output.specs.declared.Page.{Page}
+use Rattle.output.specs.Page.{Puts}
 use Rattle.output.specs.Writes.{stay}
 use Rattle.words.specs.Words.{Roomy, cell, kind_of, first_kind, nth, field_of, fields_of, int_of, max_records}
 use Rattle.words.specs.Held.{RecordAt, Texts, PlaceAt}
 use Rattle.words.specs.Places.{kind_at, item_kind, key_kind, entry_kind, null_kind, int_kind, var_kind, fn_kind, pat_kind, list_predicate_kind, unres_kind, undes_kind, name_at, int_low_at, int_high_at, fn_args_at, list_predicate_kind_at, list_predicate_pred_at}
 use Rattle.words.specs.Cells.{cells, part_cells, shown, numbered, number_of}
-use Rattle.words.specs.Numbers.{Others, other_than, expr_number, expr_number_law}
-use Rattle.plan_line.specs.Keywords.{word, letters, var_word, exists_word, null_word, list_predicate_word, fn_word}
+use Rattle.words.specs.Numbers.{Others, among, other_than, expr_number, expr_number_law}
+use Rattle.plan_line.specs.Keywords.{word}
+use Rattle.plan_line.specs.declared.keyword.Keyword.{Keyword}
 use Rattle.plan_line.specs.Copy.{SomeRecord, Copied}
 use Rattle.plan_line.specs.Row.{row_text, named_text, int_text}
 use Rattle.plan_sheet.specs.Due.{ExprAt, ItemAt, named_rec, item_name, Line, TextAsked, text_at}
@@ -35,6 +38,22 @@ renamed = undes_kind ∷ unres_kind ∷ list_predicate_kind ∷ pat_kind ∷ fn_
 -- with them the kind whose number is written anew
 abbrev pub rewritten : List ℕ
 rewritten = undes_kind ∷ unres_kind ∷ list_predicate_kind ∷ pat_kind ∷ fn_kind ∷ int_kind ∷ var_kind ∷ []
+
+pub two : (n k : ℕ) → k ≤ n → n ≤ k + 1 → (n ≡ k) ⊎ (n ≡ k + 1)
+two n k l m = go (eqb n k) refl
+  where
+    go : (t : Bool) → eqb n k ≡ t → (n ≡ k) ⊎ (n ≡ k + 1)
+    go true p = inl (eqb-true n k p)
+    go false p = inr (omega (arith, eqb-false n k p))
+
+-- what a match leaves for its last arm, from the test on all that it has arms for
+pub others : (c : ℕ) (ks : List ℕ) → among c ks ≡ false → Others c ks
+others c [] e = tt
+others c (k ∷ ks) e = go (λ r. others c ks r) (eqb c k) refl e
+  where
+    go : (among c ks ≡ false → Others c ks) → (t : Bool) → eqb c k ≡ t → cond t true (among c ks) ≡ false → Others c ks × (c ≡ k → ⊥)
+    go f true p r = absurd (false≢true (sym r))
+    go f false p r = (f r, λ q. false≢true (sym p ∙ eq-eqb c k q))
 
 not_renamed : (c : ℕ) → Others c rewritten → Others c renamed
 not_renamed c z =
@@ -89,49 +108,53 @@ module _ {sheet : Bytes} {a b : List ℕ} {i : ℕ} (room : Roomy a b) where
   kind_is h n k e q = same_Some _ _ (sym q ∙ rw e at (shown room h.at).kind)
 
   module _ (n : ℕ) (h : ExprAt sheet a b i) where
-    pub var_head : cell a b i kind_at ≡ var_kind → spell_rec (expr_head n h.kind h.fields) ≡ row_text var_word (n ∷ [])
-    unfolding kind_of first_kind nth kinds sames keyword plan_keyword plan_expr_keyword word letters bytes bytes_from spell_fields spell
-    var_head e = at_kind Expr.Var h.kind (λ k f. spell_rec (expr_head n k f) ≡ row_text var_word (n ∷ [])) (kind_is h var_kind Expr.Var e refl) (λ f. row_rec _ var_word (n ∷ []) refl refl) h.fields
+    pub var_head : cell a b i kind_at ≡ var_kind → spell_rec (expr_head n h.kind h.fields) ≡ row_text Keyword.Var (n ∷ [])
+    unfolding kind_of first_kind nth kinds sames keyword plan_keyword plan_expr_keyword word bytes bytes_from spell_fields spell
+    var_head e = at_kind Expr.Var h.kind (λ k f. spell_rec (expr_head n k f) ≡ row_text Keyword.Var (n ∷ [])) (kind_is h var_kind Expr.Var e refl) (λ f. row_rec _ Keyword.Var (n ∷ []) refl refl) h.fields
 
-    pub exists_head : cell a b i kind_at ≡ pat_kind → spell_rec (expr_head n h.kind h.fields) ≡ row_text exists_word []
-    unfolding kind_of first_kind nth kinds sames keyword plan_keyword plan_expr_keyword word letters bytes bytes_from spell_fields spell
-    exists_head e = at_kind Expr.PatternPredicate h.kind (λ k f. spell_rec (expr_head n k f) ≡ row_text exists_word []) (kind_is h pat_kind Expr.PatternPredicate e refl) (λ f. row_rec _ exists_word [] refl refl) h.fields
+    pub exists_head : cell a b i kind_at ≡ pat_kind → spell_rec (expr_head n h.kind h.fields) ≡ row_text Keyword.Exists []
+    unfolding kind_of first_kind nth kinds sames keyword plan_keyword plan_expr_keyword word bytes bytes_from spell_fields spell
+    exists_head e = at_kind Expr.PatternPredicate h.kind (λ k f. spell_rec (expr_head n k f) ≡ row_text Keyword.Exists []) (kind_is h pat_kind Expr.PatternPredicate e refl) (λ f. row_rec _ Keyword.Exists [] refl refl) h.fields
 
-    pub unresolved_head : cell a b i kind_at ≡ unres_kind → spell_rec (expr_head n h.kind h.fields) ≡ row_text null_word []
-    unfolding kind_of first_kind nth kinds sames keyword plan_keyword plan_expr_keyword same_keyword word letters bytes bytes_from spell_fields spell
-    unresolved_head e = at_kind Expr.Unresolved h.kind (λ k f. spell_rec (expr_head n k f) ≡ row_text null_word []) (kind_is h unres_kind Expr.Unresolved e refl) (λ f. row_rec _ null_word [] refl refl) h.fields
+    unresolved_head : cell a b i kind_at ≡ unres_kind → spell_rec (expr_head n h.kind h.fields) ≡ row_text Keyword.Null []
+    unfolding kind_of first_kind nth kinds sames keyword plan_keyword plan_expr_keyword same_keyword word bytes bytes_from spell_fields spell
+    unresolved_head e = at_kind Expr.Unresolved h.kind (λ k f. spell_rec (expr_head n k f) ≡ row_text Keyword.Null []) (kind_is h unres_kind Expr.Unresolved e refl) (λ f. row_rec _ Keyword.Null [] refl refl) h.fields
 
-    pub undesugared_head : cell a b i kind_at ≡ undes_kind → spell_rec (expr_head n h.kind h.fields) ≡ row_text null_word []
-    unfolding kind_of first_kind nth kinds sames keyword plan_keyword plan_expr_keyword same_keyword word letters bytes bytes_from spell_fields spell
-    undesugared_head e = at_kind Expr.Undesugared h.kind (λ k f. spell_rec (expr_head n k f) ≡ row_text null_word []) (kind_is h undes_kind Expr.Undesugared e refl) (λ f. row_rec _ null_word [] refl refl) h.fields
+    undesugared_head : cell a b i kind_at ≡ undes_kind → spell_rec (expr_head n h.kind h.fields) ≡ row_text Keyword.Null []
+    unfolding kind_of first_kind nth kinds sames keyword plan_keyword plan_expr_keyword same_keyword word bytes bytes_from spell_fields spell
+    undesugared_head e = at_kind Expr.Undesugared h.kind (λ k f. spell_rec (expr_head n k f) ≡ row_text Keyword.Null []) (kind_is h undes_kind Expr.Undesugared e refl) (λ f. row_rec _ Keyword.Null [] refl refl) h.fields
 
-    any_fields : (f : Fields (expr_forms Expr.ListPredicate)) → RecordAt sheet a b i expr Expr.ListPredicate f → spell_rec (expr_head n Expr.ListPredicate f) ≡ row_text list_predicate_word (cell a b i list_predicate_kind_at ∷ n ∷ cell a b i list_predicate_pred_at ∷ [])
-    unfolding keyword plan_keyword plan_expr_keyword word letters bytes bytes_from spell_fields spell fields_of field_of
+    -- the two kinds that are printed as a null have the last numbers
+    pub null_head : unres_kind ≤ cell a b i kind_at → cell a b i kind_at ≤ undes_kind → spell_rec (expr_head n h.kind h.fields) ≡ row_text Keyword.Null []
+    null_head l m = elim (two (cell a b i kind_at) unres_kind l m) [ inl e ↦ unresolved_head e | inr e ↦ undesugared_head e ]
+
+    any_fields : (f : Fields (expr_forms Expr.ListPredicate)) → RecordAt sheet a b i expr Expr.ListPredicate f → spell_rec (expr_head n Expr.ListPredicate f) ≡ row_text Keyword.ListPredicate (cell a b i list_predicate_kind_at ∷ n ∷ cell a b i list_predicate_pred_at ∷ [])
+    unfolding keyword plan_keyword plan_expr_keyword word bytes bytes_from spell_fields spell fields_of field_of
     any_fields f at =
         let s = shown room at in
-        row_rec _ list_predicate_word (cell a b i list_predicate_kind_at ∷ n ∷ cell a b i list_predicate_pred_at ∷ []) refl (rw s.fields (rw (flag_decimal (cell a b i list_predicate_pred_at) s.flags.1.1.0)))
+        row_rec _ Keyword.ListPredicate (cell a b i list_predicate_kind_at ∷ n ∷ cell a b i list_predicate_pred_at ∷ []) refl (rw s.fields (rw (flag_decimal (cell a b i list_predicate_pred_at) s.flags.1.1.0)))
 
-    pub any_head : cell a b i kind_at ≡ list_predicate_kind → spell_rec (expr_head n h.kind h.fields) ≡ row_text list_predicate_word (cell a b i list_predicate_kind_at ∷ n ∷ cell a b i list_predicate_pred_at ∷ [])
+    pub any_head : cell a b i kind_at ≡ list_predicate_kind → spell_rec (expr_head n h.kind h.fields) ≡ row_text Keyword.ListPredicate (cell a b i list_predicate_kind_at ∷ n ∷ cell a b i list_predicate_pred_at ∷ [])
     unfolding kind_of first_kind nth kinds sames
-    any_head e = at_kind Expr.ListPredicate h.kind (λ k f. RecordAt sheet a b i expr k f → spell_rec (expr_head n k f) ≡ row_text list_predicate_word (cell a b i list_predicate_kind_at ∷ n ∷ cell a b i list_predicate_pred_at ∷ [])) (kind_is h list_predicate_kind Expr.ListPredicate e refl) any_fields h.fields h.at
+    any_head e = at_kind Expr.ListPredicate h.kind (λ k f. RecordAt sheet a b i expr k f → spell_rec (expr_head n k f) ≡ row_text Keyword.ListPredicate (cell a b i list_predicate_kind_at ∷ n ∷ cell a b i list_predicate_pred_at ∷ [])) (kind_is h list_predicate_kind Expr.ListPredicate e refl) any_fields h.fields h.at
 
     pub call_place : cell a b i kind_at ≡ fn_kind → PlaceAt text sheet (cell a b i name_at) (cell a b i (name_at + 1))
     unfolding kind_of first_kind nth kinds sames
     call_place e = at_kind Expr.Call h.kind (λ k f. RecordAt sheet a b i expr k f → PlaceAt text sheet (cell a b i name_at) (cell a b i (name_at + 1))) (kind_is h fn_kind Expr.Call e refl) (λ f at. (texts_at at).0) h.fields h.at
 
     pub call_in : cell a b i kind_at ≡ fn_kind → TextAsked sheet a b i name_at
-    call_in e = let p = call_place e in record { words = room; low = h.at.low; from = p.from; to = p.to }
+    call_in e = let p = call_place e in record { low = h.at.low; from = p.from; to = p.to }
 
-    call_fields : PlaceAt text sheet (cell a b i name_at) (cell a b i (name_at + 1)) → (f : Fields (expr_forms Expr.Call)) → RecordAt sheet a b i expr Expr.Call f → spell_rec (expr_head n Expr.Call f) ≡ named_text fn_word (text_at sheet a b i name_at) (cell a b i fn_args_at ∷ [])
-    unfolding keyword plan_keyword plan_expr_keyword word letters bytes bytes_from spell_fields spell fields_of field_of
-    call_fields p f at = named_rec_law _ fn_word (text_at sheet a b i name_at) (cell a b i fn_args_at ∷ []) refl (rw (shown room at).fields (rw (place_escape p)))
+    call_fields : PlaceAt text sheet (cell a b i name_at) (cell a b i (name_at + 1)) → (f : Fields (expr_forms Expr.Call)) → RecordAt sheet a b i expr Expr.Call f → spell_rec (expr_head n Expr.Call f) ≡ named_text Keyword.Fn (text_at sheet a b i name_at) (cell a b i fn_args_at ∷ [])
+    unfolding keyword plan_keyword plan_expr_keyword word bytes bytes_from spell_fields spell fields_of field_of
+    call_fields p f at = named_rec_law _ Keyword.Fn (text_at sheet a b i name_at) (cell a b i fn_args_at ∷ []) refl (rw (shown room at).fields (rw (place_escape p)))
 
-    pub call_head : cell a b i kind_at ≡ fn_kind → spell_rec (expr_head n h.kind h.fields) ≡ named_text fn_word (text_at sheet a b i name_at) (cell a b i fn_args_at ∷ [])
+    pub call_head : cell a b i kind_at ≡ fn_kind → spell_rec (expr_head n h.kind h.fields) ≡ named_text Keyword.Fn (text_at sheet a b i name_at) (cell a b i fn_args_at ∷ [])
     unfolding kind_of first_kind nth kinds sames
-    call_head e = at_kind Expr.Call h.kind (λ k f. RecordAt sheet a b i expr k f → spell_rec (expr_head n k f) ≡ named_text fn_word (text_at sheet a b i name_at) (cell a b i fn_args_at ∷ [])) (kind_is h fn_kind Expr.Call e refl) (call_fields (call_place e)) h.fields h.at
+    call_head e = at_kind Expr.Call h.kind (λ k f. RecordAt sheet a b i expr k f → spell_rec (expr_head n k f) ≡ named_text Keyword.Fn (text_at sheet a b i name_at) (cell a b i fn_args_at ∷ [])) (kind_is h fn_kind Expr.Call e refl) (call_fields (call_place e)) h.fields h.at
 
     int_fields : (f : Fields (expr_forms (Expr.Over Same.Int))) → RecordAt sheet a b i expr (Expr.Over Same.Int) f → spell_rec (expr_head n (Expr.Over Same.Int) f) ≡ int_text (int_of (cell a b i int_low_at) (cell a b i int_high_at))
-    unfolding keyword plan_keyword plan_expr_keyword same_keyword word letters bytes bytes_from spell_fields spell fields_of field_of
+    unfolding keyword plan_keyword plan_expr_keyword same_keyword word bytes bytes_from spell_fields spell fields_of field_of
     int_fields f at = int_rec _ (int_of (cell a b i int_low_at) (cell a b i int_high_at)) refl (rw (shown room at).fields)
 
     pub int_head : cell a b i kind_at ≡ int_kind → spell_rec (expr_head n h.kind h.fields) ≡ int_text (int_of (cell a b i int_low_at) (cell a b i int_high_at))
@@ -168,19 +191,12 @@ module _ {sheet : Bytes} {a b : List ℕ} {i : ℕ} (room : Roomy a b) where
 
   module _ {g g' : Page} where
     -- a map's name and a sort key are the same in both sheets
-    pub named_put : {recs : Recs} {j : ℕ} → cell a b i kind_at ≡ entry_kind → Line sheet a b i recs j → Copied sheet a b i g g' → (i + 1 ≡ j) × Puts (spell_recs recs) g g'
+    pub same_put : {recs : Recs} {j : ℕ} → (cell a b i kind_at ≡ key_kind) ⊎ (cell a b i kind_at ≡ entry_kind) → Line sheet a b i recs j → Copied sheet a b i g g' → (i + 1 ≡ j) × Puts (spell_recs recs) g g'
     unfolding spell_recs spell_rec keyword plan_keyword
-    named_put e (Line.bare h) p = absurd (omega (arith, expr_high h))
-    named_put e (Line.named h) p = (refl, rw append-nil (p.line entry tt _ h))
-    named_put e (Line.keyed h) p = absurd (omega (arith, key_number h))
-    named_put e (Line.aliased h) p = absurd (omega (arith, item_number h.at))
-
-    pub keyed_put : {recs : Recs} {j : ℕ} → cell a b i kind_at ≡ key_kind → Line sheet a b i recs j → Copied sheet a b i g g' → (i + 1 ≡ j) × Puts (spell_recs recs) g g'
-    unfolding spell_recs spell_rec keyword plan_keyword
-    keyed_put e (Line.bare h) p = absurd (omega (arith, expr_high h))
-    keyed_put e (Line.named h) p = absurd (omega (arith, entry_number h))
-    keyed_put e (Line.keyed h) p = (refl, rw append-nil (p.line order_item tt _ h))
-    keyed_put e (Line.aliased h) p = absurd (omega (arith, item_number h.at))
+    same_put e (Line.bare h) p = absurd (omega (arith, e, expr_high h))
+    same_put e (Line.named h) p = (refl, rw append-nil (p.line entry tt _ h))
+    same_put e (Line.keyed h) p = (refl, rw append-nil (p.line order_item tt _ h))
+    same_put e (Line.aliased h) p = absurd (omega (arith, e, item_number h.at))
 
     pub aliased_put : {recs : Recs} {j : ℕ} → cell a b i kind_at ≡ item_kind → Line sheet a b i recs j → ((h : ItemAt sheet a b i) → Puts (spell_rec (named_rec (item_name h))) g g') → (i + 1 ≡ j) × Puts (spell_recs recs) g g'
     unfolding spell_recs

@@ -7,7 +7,8 @@ use Rattle.model.specs.Kind.{Expr, PatternElement, projection, order_item, patte
 use Rattle.model.specs.Record.{Rec, rec, forms, expr_forms, element_forms, spell_recs}
 use Rattle.model.specs.Tree.{Tree}
 use Rattle.model.specs.Lower.{Recs, expr_alias, alias_or}
-use Rattle.output.specs.Page.{Page, Puts}
+use Rattle.output.specs.declared.Page.{Page}
+use Rattle.output.specs.Page.{Puts}
 use Rattle.words.specs.Words.{Roomy, cell, max_records}
 use Rattle.words.specs.Places.{kind_at}
 use Rattle.words.specs.Held.{Held, RecordAt, size}
@@ -34,8 +35,7 @@ pub record Near (base left : ℕ) : Type 0 where
   pub shallow : left ≤ deepest
 
 -- the notes of an operator's pass are inside the fourth slice, and its record is one of the first
-pub record NotesIn (rest : List ℕ) (o : Op) : Type 0 where
-  pub in_rest : work_words ≤ length rest
+pub record NotesIn (o : Op) : Type 0 where
   pub near : o.base ≤ second_pass
   pub low : o.idx < max_records
 
@@ -50,21 +50,18 @@ text_at sheet a b i c = slice (cell a b i c) (cell a b i (c + 1)) sheet
 
 -- what a line with such a text asks
 pub record TextAsked (sheet : Bytes) (a b : List ℕ) (i c : ℕ) : Type 0 where
-  pub words : Roomy a b
   pub low : i < max_records
   pub from : cell a b i c ≤ cell a b i (c + 1)
   pub to : cell a b i (c + 1) ≤ length sheet
 
 -- what the line of a record asks whose kind was read, X being what stands there
 pub record KindAsked (a b : List ℕ) (i kind : ℕ) (X : Type 0) : Type 0 where
-  pub words : Roomy a b
   pub at : X
   pub told : kind ≡ cell a b i kind_at
 
 -- what a part of an operator asks whose notes are read, X being what is due
-pub record NotedAsked (a b rest : List ℕ) (o : Op) (X : Type 0) : Type 0 where
-  pub words : Roomy a b
-  pub notes : NotesIn rest o
+pub record NotedAsked (o : Op) (X : Type 0) : Type 0 where
+  pub notes : NotesIn o
   pub due : X
 
 -- some expression begins at record i
@@ -172,12 +169,7 @@ pub record OpShown (sheet : Bytes) (a b rest : List ℕ) (o : Op) : Type 0 where
   pub recs : Recs
   pub stored : Stored (side sheet a b first) (noted rest) ops number o recs
 
--- what its first line asks, and that it is written
-pub record FirstAsked (sheet : Bytes) (a b rest : List ℕ) (o : Op) : Type 0 where
-  pub words : Roomy a b
-  pub in_rest : work_words ≤ length rest
-  pub shown : OpShown sheet a b rest o
-
+-- its first line is written
 abbrev pub WroteFirst : (sheet : Bytes) (a b rest : List ℕ) → Op → Page → Page → Type 0
 WroteFirst sheet a b rest o p q = (h : OpShown sheet a b rest o) → Puts (spell_recs (take 1 h.recs)) p q
 

@@ -9,4 +9,5 @@ pub mod measure;
 pub mod names;
 pub mod op;
 pub mod path;
+pub mod source;
 pub mod write;

@@ -2,7 +2,7 @@
 ghost use Rattle.std.specs.Prelude.{◌<◌};
 ghost use Rattle.model.specs.Record.{spell_recs};
 ghost use Rattle.model.specs.Lower.{path_elements};
-ghost use Rattle.output.specs.Page.{on, Puts};
+ghost use Rattle.output.specs.Page.{Puts};
 ghost use Rattle.words.specs.Words.{cell, max_records};
 ghost use Rattle.words.specs.Places.{part_elements_at};
 ghost use Rattle.lower.specs.Render.{kept_rel};
@@ -10,94 +10,78 @@ ghost use Rattle.lower.specs.Shows.{shift};
 ghost use Rattle.plan_sheet.specs.Due.{noted, NotedAsked};
 ghost use Rattle.plan_sheet.specs.Path.{waits_of, StepAsked, Stepped, Elements, WrotePath};
 
+use crate::source::Source;
 use context::op::Op;
 use context::read::note_of;
-use plan_line::row::put_row1;
-use plan_line::word;
+use output::Page;
+use plan_line::keyword::Keyword;
+use plan_line::row::put_row;
 use words::{field, kind};
 
-// The record of the rel that waits for its far node, if one does.
-#[derive(Clone, Copy)]
-pub enum Waits {
-    Nothing,
-    Rel(usize),
-}
-
-// So far: whether there was a node, the rel that waits, and the cursor.
+// So far: whether there was a node, and the record of the rel that waits for its far node, if one does.
 #[derive(Clone, Copy)]
 pub struct Path {
     pub seen: bool,
-    pub waits: Waits,
-    pub out: usize,
+    pub waits: Option<usize>,
 }
 
 // The number of the rel that waits, if it is kept.
-fn put_kept(plan: &mut [u8], rest: &[u32], base: usize, path: Path) -> usize
-    requires { StepAsked rest.now base path.waits }
-    ensures { Puts (spell_recs (path_elements (kept_rel (shift (noted rest.now) base) path.seen (waits_of path.waits)))) (on plan.old path.out) (on plan.new result) }
+fn put_kept(page: &mut Page<'_>, s: &Source<'_>, base: usize, path: Path)
+    requires { StepAsked base path.waits }
+    ensures { Puts (spell_recs (path_elements (kept_rel (shift (noted s.now.rest.now) base) path.seen (waits_of path.waits)))) page.old page.new }
 {
-    let out = path.out;
-    let waits = path.waits;
-    let Waits::Rel(i) = waits else {
-        return out;
+    let Some(i) = path.waits else {
+        return;
     };
     if path.seen {
-        let n = note_of(rest, base, i);
-        return put_row1(plan, out, word::ELEMENT, n);
+        let n = note_of(s.rest, base, i);
+        put_row(page, Keyword::Element, &[n]);
     }
-    out
 }
 
 // The element at record i: a node, or else a rel.
-fn put_step(plan: &mut [u8], rest: &[u32], base: usize, i: usize, kind: u32, path: Path) -> Path
-    requires step_asked { StepAsked rest.now base path.waits }
+fn put_step(
+    page: &mut Page<'_>,
+    s: &Source<'_>,
+    base: usize,
+    i: usize,
+    kind: u32,
+    path: Path,
+) -> Path
+    requires step_asked { StepAsked base path.waits }
     requires i_lt_max_records { i < max_records }
-    ensures { Stepped rest.now base i kind path result (on plan.old path.out) (on plan.new result.out) }
+    ensures { Stepped s.now.rest.now base i kind path result page.old page.new }
 {
     if kind == kind::NODE {
-        let o = put_kept(plan, rest, base, path);
-        let n = note_of(rest, base, i);
-        let p = put_row1(plan, o, word::ELEMENT, n);
+        put_kept(page, s, base, path);
+        let n = note_of(s.rest, base, i);
+        put_row(page, Keyword::Element, &[n]);
         return Path {
             seen: true,
-            waits: Waits::Nothing,
-            out: p,
+            waits: None,
         };
     }
     Path {
         seen: path.seen,
-        waits: Waits::Rel(i),
-        out: path.out,
+        waits: Some(i),
     }
 }
 
 // The elements of a part, from record i on.
-pub fn put_path(
-    plan: &mut [u8],
-    out: usize,
-    sheet: &[u8],
-    a: &[u32],
-    b: &[u32],
-    rest: &[u32],
-    w: Op,
-    i: usize,
-) -> usize
-    requires { NotedAsked a.now b.now rest.now w (Elements sheet.now a.now b.now (cell a.now b.now w.idx part_elements_at) i) }
-    ensures { WrotePath sheet.now a.now b.now rest.now w.base (cell a.now b.now w.idx part_elements_at) i (on plan.old out) (on plan.new result) }
+pub fn put_path(page: &mut Page<'_>, s: &Source<'_>, w: Op, i: usize)
+    requires { NotedAsked w (Elements s.now.sheet.now s.now.records.a.now s.now.records.b.now (cell s.now.records.a.now s.now.records.b.now w.idx part_elements_at) i) }
+    ensures { WrotePath s.now.sheet.now s.now.records.a.now s.now.records.b.now s.now.rest.now w.base (cell s.now.records.a.now s.now.records.b.now w.idx part_elements_at) i page.old page.new }
 {
     let base = w.base as usize;
     let mut at = i;
-    let mut due = words::word(a, b, w.idx as usize, field::PART_ELEMENTS);
+    let n = s.records.word(w.idx as usize, field::PART_ELEMENTS);
     let mut path = Path {
         seen: false,
-        waits: Waits::Nothing,
-        out,
+        waits: None,
     };
-    while due != 0 {
-        let kind = words::word(a, b, at, field::KIND);
-        path = put_step(plan, rest, base, at, kind, path);
-        at = words::records::skip(a, b, at);
-        due -= 1;
+    for _ in 0..n {
+        let kind = s.records.word(at, field::KIND);
+        path = put_step(page, s, base, at, kind, path);
+        at = s.records.skip(at);
     }
-    path.out
 }

@@ -1,16 +1,15 @@
 // Expressions, elements of patterns and operators, with the operators that they copy.
 ghost use Rattle.std.specs.Prelude.{◌≡◌, ◌+◌, length};
-ghost use Rattle.output.specs.Page.{on};
-ghost use Rattle.plan_sheet.specs.Due.{Room, SomePlan, WroteOp};
+ghost use Rattle.plan_sheet.specs.Due.{SomePlan, WroteOp};
 ghost use Rattle.plan_sheet.specs.Asked.{ExprAsked, ExprWrote, ExprsAsked, ExprsWrote, ElementAsked, ElementWrote, PartAsked, PartWrote, PartsAsked, PartsWrote, ItemsAsked, ItemsWrote};
 
-use crate::behind::{element_of, exprs_of, items_of, put_tail};
-use crate::head::Wrote;
+use crate::behind::{at_record, exprs_of, items_of, put_tail};
 use crate::measure::{expr_bytes, measure_before};
+use crate::source::Source;
 use aggregate::is_aggregate;
 use context::op;
 use context::read::note_of;
-use words::records::{count, skip};
+use output::Page;
 use words::{field, kind};
 
 // What is at record i: its tree is at most `left` deep, the notes of its pass begin at `base`, and it copies operators below `below`.
@@ -22,360 +21,204 @@ pub struct At {
     pub below: usize,
 }
 
-// The same of n things one behind another.
+// The same of n things one behind another, the first of them there.
 #[derive(Clone, Copy)]
 pub struct Run {
-    pub base: usize,
-    pub i: usize,
-    pub left: usize,
-    pub below: usize,
+    pub at: At,
     pub n: usize,
-}
-
-// The same of an item's expression, with the part of the items that is asked for: the aggregates, or else the keys.
-#[derive(Clone, Copy)]
-pub struct Part {
-    pub base: usize,
-    pub i: usize,
-    pub left: usize,
-    pub below: usize,
-    pub aggregates: bool,
-}
-
-// The same of n items.
-#[derive(Clone, Copy)]
-pub struct Parts {
-    pub base: usize,
-    pub i: usize,
-    pub left: usize,
-    pub below: usize,
-    pub n: usize,
-    pub aggregates: bool,
 }
 
 // The expression at a record, behind its line if it has one.
-#[cycle(measure_exprs_put_exprs_write_element_write_expr_write_exprs_write_items_write_op_write_part_write_parts)]
-fn write_expr(
-    plan: &mut [u8],
-    out: usize,
-    sheet: &[u8],
-    a: &[u32],
-    b: &[u32],
-    ops: &[u32],
-    rest: &[u32],
-    at: At,
-) -> Wrote
-    requires { ExprAsked sheet.now a.now b.now ops.now rest.now at }
-    ensures { ExprWrote sheet.now a.now b.now ops.now rest.now at (on plan.old out) result.next (on plan.new result.out) }
+#[cycle(writer)]
+fn write_expr(page: &mut Page<'_>, s: &Source<'_>, at: At) -> usize
+    requires { ExprAsked s.now at }
+    ensures { ExprWrote s.now at page.old result page.new }
 {
-    let line = crate::head::put_before(plan, out, sheet, a, b, at.i);
-    let i = line.next;
-    let kind = words::word(a, b, i, field::KIND);
-    let n = note_of(rest, at.base, i);
-    let o = crate::head::put_expr(plan, line.out, sheet, a, b, i, kind, n);
+    let i = crate::head::put_before(page, s, at.i);
+    let kind = s.records.word(i, field::KIND);
+    let n = note_of(s.rest, at.base, i);
+    crate::head::put_expr(page, s, i, kind, n);
     if kind::is_leaf(kind) {
-        let next = i + 1;
-        return Wrote { next, out: o };
+        return i + 1;
     }
     if kind == kind::PAT {
-        let p = write_op(plan, o, sheet, a, b, ops, rest, n as usize);
-        let next = skip(a, b, i);
-        return Wrote { next, out: p };
+        write_op(page, s, n as usize);
+        let behind = s.records.skip(i);
+        return behind;
     }
     let first = i + 1;
     let left = at.left - 1;
     let run = Run {
-        base: at.base,
-        i: first,
-        left,
-        below: at.below,
-        n: words::records::children(a, b, i),
+        at: At {
+            i: first,
+            left,
+            ..at
+        },
+        n: s.records.children(i),
     };
-    write_exprs(plan, o, sheet, a, b, ops, rest, run)
+    write_exprs(page, s, run)
 }
 
 // Expressions, each behind its line if it has one.
-#[cycle(measure_exprs_put_exprs_write_element_write_expr_write_exprs_write_items_write_op_write_part_write_parts)]
-fn write_exprs(
-    plan: &mut [u8],
-    out: usize,
-    sheet: &[u8],
-    a: &[u32],
-    b: &[u32],
-    ops: &[u32],
-    rest: &[u32],
-    run: Run,
-) -> Wrote
-    requires { ExprsAsked sheet.now a.now b.now ops.now rest.now run }
-    ensures { ExprsWrote sheet.now a.now b.now ops.now rest.now run (on plan.old out) result.next (on plan.new result.out) }
+#[cycle(writer)]
+fn write_exprs(page: &mut Page<'_>, s: &Source<'_>, run: Run) -> usize
+    requires { ExprsAsked s.now run }
+    ensures { ExprsWrote s.now run page.old result page.new }
 {
-    let mut i = run.i;
-    let mut due = run.n;
-    let mut o = out;
-    while due != 0 {
-        let at = At {
-            base: run.base,
-            i,
-            left: run.left,
-            below: run.below,
-        };
-        let w = write_expr(plan, o, sheet, a, b, ops, rest, at);
-        o = w.out;
-        i = w.next;
-        due -= 1;
+    let mut i = run.at.i;
+    for _ in 0..run.n {
+        i = write_expr(page, s, At { i, ..run.at });
     }
-    Wrote { next: i, out: o }
+    i
 }
 
 // Expressions, each behind its line if it has one, on an empty part of the slice: counted from record to record, what is below one before those behind it.
-#[cycle(measure_exprs_put_exprs_write_element_write_expr_write_exprs_write_items_write_op_write_part_write_parts)]
-fn measure_exprs(
-    plan: &mut [u8],
-    out: usize,
-    sheet: &[u8],
-    a: &[u32],
-    b: &[u32],
-    ops: &[u32],
-    rest: &[u32],
-    run: Run,
-) -> Wrote
-    requires plan_len { length plan.old ≡ 0 }
-    requires exprs_asked { ExprsAsked sheet.now a.now b.now ops.now rest.now run }
-    ensures { ExprsWrote sheet.now a.now b.now ops.now rest.now run (on plan.old out) result.next (on plan.new result.out) }
+#[cycle(writer)]
+fn measure_exprs(page: &mut Page<'_>, s: &Source<'_>, run: Run) -> usize
+    requires bytes_len { length page.old.bytes.now ≡ 0 }
+    requires exprs_asked { ExprsAsked s.now run }
+    ensures { ExprsWrote s.now run page.old result page.new }
 {
-    let mut i = run.i;
+    let mut i = run.at.i;
     let mut due = run.n;
-    let mut o = out;
     while due != 0 {
-        let line = measure_before(plan, o, sheet, a, b, i);
-        let at = line.next;
-        let kind = words::word(a, b, at, field::KIND);
-        let n = note_of(rest, run.base, at);
-        let bytes = expr_bytes(a, b, at, kind, n);
-        let head = output::more(line.out, bytes);
+        let at = measure_before(page, s, i);
+        let kind = s.records.word(at, field::KIND);
+        let n = note_of(s.rest, run.at.base, at);
+        page.measure(expr_bytes(&s.records, at, kind, n));
         if kind == kind::PAT {
-            o = write_op(plan, head, sheet, a, b, ops, rest, n as usize);
-            i = skip(a, b, at);
+            write_op(page, s, n as usize);
+            i = s.records.skip(at);
             due -= 1;
         } else {
-            let below = words::records::children(a, b, at);
+            let below = s.records.children(at);
             due = due - 1 + below;
-            o = head;
             i = at + 1;
         }
     }
-    Wrote { next: i, out: o }
+    i
 }
 
 // Expressions, each behind its line if it has one: written, or on an empty part of the slice only counted.
-#[cycle(measure_exprs_put_exprs_write_element_write_expr_write_exprs_write_items_write_op_write_part_write_parts)]
-fn put_exprs(
-    plan: &mut [u8],
-    out: usize,
-    sheet: &[u8],
-    a: &[u32],
-    b: &[u32],
-    ops: &[u32],
-    rest: &[u32],
-    run: Run,
-) -> Wrote
-    requires { ExprsAsked sheet.now a.now b.now ops.now rest.now run }
-    ensures { ExprsWrote sheet.now a.now b.now ops.now rest.now run (on plan.old out) result.next (on plan.new result.out) }
+#[cycle(writer)]
+fn put_exprs(page: &mut Page<'_>, s: &Source<'_>, run: Run) -> usize
+    requires { ExprsAsked s.now run }
+    ensures { ExprsWrote s.now run page.old result page.new }
 {
     if run.n == 0 {
-        return Wrote { next: run.i, out };
+        return run.at.i;
     }
-    if plan.len() == 0 {
-        return measure_exprs(plan, out, sheet, a, b, ops, rest, run);
+    if page.bytes.len() == 0 {
+        return measure_exprs(page, s, run);
     }
-    write_exprs(plan, out, sheet, a, b, ops, rest, run)
+    write_exprs(page, s, run)
 }
 
 // The element of a pattern at a record: its line, its names and its props.
-#[cycle(measure_exprs_put_exprs_write_element_write_expr_write_exprs_write_items_write_op_write_part_write_parts)]
-fn write_element(
-    plan: &mut [u8],
-    out: usize,
-    sheet: &[u8],
-    a: &[u32],
-    b: &[u32],
-    ops: &[u32],
-    rest: &[u32],
-    at: At,
-) -> usize
-    requires { ElementAsked sheet.now a.now b.now ops.now rest.now at }
-    ensures { ElementWrote sheet.now a.now b.now ops.now rest.now at (on plan.old out) (on plan.new result) }
+#[cycle(writer)]
+fn write_element(page: &mut Page<'_>, s: &Source<'_>, at: At)
+    requires { ElementAsked s.now at }
+    ensures { ElementWrote s.now at page.old page.new }
 {
     let i = at.i;
-    let kind = words::word(a, b, i, field::KIND);
+    let kind = s.records.word(i, field::KIND);
     // a rel's types stand where a node's labels do
-    let names = count(a, b, i, field::NODE_LABELS);
-    let props = crate::op::props_of(a, b, i, kind);
-    let o = crate::names::put_element(plan, out, sheet, a, b, i, kind);
-    let w = crate::names::put_names(plan, o, sheet, a, b, i + 1, names);
+    let names = s.records.count(i, field::NODE_LABELS);
+    let props = crate::op::props_of(&s.records, i, kind);
+    crate::names::put_element(page, s, i, kind);
+    let first = crate::names::put_names(page, s, i + 1, names);
+    let left = at.left - 1;
     let run = Run {
-        base: at.base,
-        i: w.next,
-        left: at.left - 1,
-        below: at.below,
-        n: props,
-    };
-    let v = put_exprs(plan, w.out, sheet, a, b, ops, rest, run);
-    v.out
-}
-
-// An item's expression, if it is of the part that is asked for. Of an aggregate the arguments alone are expressions.
-#[cycle(measure_exprs_put_exprs_write_element_write_expr_write_exprs_write_items_write_op_write_part_write_parts)]
-fn write_part(
-    plan: &mut [u8],
-    out: usize,
-    sheet: &[u8],
-    a: &[u32],
-    b: &[u32],
-    ops: &[u32],
-    rest: &[u32],
-    part: Part,
-) -> Wrote
-    requires { PartAsked sheet.now a.now b.now ops.now rest.now part }
-    ensures { PartWrote sheet.now a.now b.now ops.now rest.now part (on plan.old out) result.next (on plan.new result.out) }
-{
-    let i = part.i;
-    let is = is_aggregate(sheet, a, b, i);
-    if is != part.aggregates {
-        let next = skip(a, b, i);
-        return Wrote { next, out };
-    }
-    if is {
-        let o = crate::item::put_agg(plan, out, sheet, a, b, i);
-        let first = i + 1;
-        let left = part.left - 1;
-        let args = Run {
-            base: part.base,
+        at: At {
             i: first,
             left,
-            below: part.below,
-            n: count(a, b, i, field::FN_ARGS),
-        };
-        return put_exprs(plan, o, sheet, a, b, ops, rest, args);
-    }
-    let key = At {
-        base: part.base,
-        i,
-        left: part.left,
-        below: part.below,
+            ..at
+        },
+        n: props,
     };
-    write_expr(plan, out, sheet, a, b, ops, rest, key)
+    put_exprs(page, s, run);
+}
+
+// An item's expression, if it is of the part of the items that is asked for, the aggregates or else the keys. Of an aggregate the arguments alone are expressions.
+#[cycle(writer)]
+fn write_part(page: &mut Page<'_>, s: &Source<'_>, at: At, aggregates: bool) -> usize
+    requires { PartAsked s.now at }
+    ensures { PartWrote s.now at aggregates page.old result page.new }
+{
+    let i = at.i;
+    let is = is_aggregate(s.sheet, &s.records, i);
+    if is != aggregates {
+        return s.records.skip(i);
+    }
+    if is {
+        crate::item::put_agg(page, s, i);
+        let first = i + 1;
+        let left = at.left - 1;
+        let args = Run {
+            at: At {
+                i: first,
+                left,
+                ..at
+            },
+            n: s.records.count(i, field::FN_ARGS),
+        };
+        return put_exprs(page, s, args);
+    }
+    write_expr(page, s, at)
 }
 
 // The keys or the aggregates among items.
-#[cycle(measure_exprs_put_exprs_write_element_write_expr_write_exprs_write_items_write_op_write_part_write_parts)]
-fn write_parts(
-    plan: &mut [u8],
-    out: usize,
-    sheet: &[u8],
-    a: &[u32],
-    b: &[u32],
-    ops: &[u32],
-    rest: &[u32],
-    parts: Parts,
-) -> usize
-    requires { PartsAsked sheet.now a.now b.now ops.now rest.now parts }
-    ensures { PartsWrote sheet.now a.now b.now ops.now rest.now parts (on plan.old out) (on plan.new result) }
+#[cycle(writer)]
+fn write_parts(page: &mut Page<'_>, s: &Source<'_>, run: Run, aggregates: bool)
+    requires { PartsAsked s.now run }
+    ensures { PartsWrote s.now run aggregates page.old page.new }
 {
-    let mut i = parts.i;
-    let mut due = parts.n;
-    let mut o = out;
-    while due != 0 {
+    let mut i = run.at.i;
+    for _ in 0..run.n {
         let expr = i + 1;
-        let part = Part {
-            base: parts.base,
-            i: expr,
-            left: parts.left,
-            below: parts.below,
-            aggregates: parts.aggregates,
-        };
-        let w = write_part(plan, o, sheet, a, b, ops, rest, part);
-        o = w.out;
-        i = w.next;
-        due -= 1;
+        i = write_part(page, s, At { i: expr, ..run.at }, aggregates);
     }
-    o
 }
 
 // The items of a `return` that aggregates: all keys, and behind them all aggregates.
-#[cycle(measure_exprs_put_exprs_write_element_write_expr_write_exprs_write_items_write_op_write_part_write_parts)]
-fn write_items(
-    plan: &mut [u8],
-    out: usize,
-    sheet: &[u8],
-    a: &[u32],
-    b: &[u32],
-    ops: &[u32],
-    rest: &[u32],
-    run: Run,
-) -> usize
-    requires { ItemsAsked sheet.now a.now b.now ops.now rest.now run }
-    ensures { ItemsWrote sheet.now a.now b.now ops.now rest.now run (on plan.old out) (on plan.new result) }
+#[cycle(writer)]
+fn write_items(page: &mut Page<'_>, s: &Source<'_>, run: Run)
+    requires { ItemsAsked s.now run }
+    ensures { ItemsWrote s.now run page.old page.new }
 {
-    let keys = Parts {
-        base: run.base,
-        i: run.i,
-        left: run.left,
-        below: run.below,
-        n: run.n,
-        aggregates: false,
-    };
-    let aggregates = Parts {
-        base: run.base,
-        i: run.i,
-        left: run.left,
-        below: run.below,
-        n: run.n,
-        aggregates: true,
-    };
-    let o = write_parts(plan, out, sheet, a, b, ops, rest, keys);
-    write_parts(plan, o, sheet, a, b, ops, rest, aggregates)
+    write_parts(page, s, run, false);
+    write_parts(page, s, run, true);
 }
 
 // Operator k.
-#[cycle(measure_exprs_put_exprs_write_element_write_expr_write_exprs_write_items_write_op_write_part_write_parts)]
-pub fn write_op(
-    plan: &mut [u8],
-    out: usize,
-    sheet: &[u8],
-    a: &[u32],
-    b: &[u32],
-    ops: &[u32],
-    rest: &[u32],
-    k: usize,
-) -> usize
-    requires room { Room a.now b.now ops.now rest.now }
-    requires some_plan { SomePlan sheet.now a.now b.now ops.now rest.now k (k + 1) }
-    ensures { WroteOp sheet.now a.now b.now ops.now rest.now k (on plan.old out) (on plan.new result) }
+#[cycle(writer)]
+pub fn write_op(page: &mut Page<'_>, s: &Source<'_>, k: usize)
+    requires { SomePlan s.now.sheet.now s.now.records.a.now s.now.records.b.now s.now.ops.now s.now.rest.now k (k + 1) }
+    ensures { WroteOp s.now.sheet.now s.now.records.a.now s.now.records.b.now s.now.ops.now s.now.rest.now k page.old page.new }
 {
-    let w = op::read_op(ops, k);
-    let o = crate::op::put_op(plan, out, sheet, a, b, rest, w);
+    let w = op::read_op(s.ops, k);
+    crate::op::put_op(page, s, w);
     let kind = w.kind;
     match kind {
         op::EXPAND => {
-            let rel = element_of(w, w.idx, k);
-            let p = write_element(plan, o, sheet, a, b, ops, rest, rel);
-            let far = element_of(w, w.y, k);
-            write_element(plan, p, sheet, a, b, ops, rest, far)
+            let rel = at_record(w, w.idx as usize, k);
+            write_element(page, s, rel);
+            let far = at_record(w, w.y as usize, k);
+            write_element(page, s, far);
         }
         op::SHORTEST_PATH => {
-            let rel = element_of(w, w.x, k);
-            write_element(plan, o, sheet, a, b, ops, rest, rel)
+            let rel = at_record(w, w.x as usize, k);
+            write_element(page, s, rel);
         }
-        op::OPTIONAL_JOIN => write_op(plan, o, sheet, a, b, ops, rest, w.x as usize),
+        op::OPTIONAL_JOIN => write_op(page, s, w.x as usize),
         op::AGGREGATE => {
-            let items = items_of(a, b, w, k);
-            write_items(plan, o, sheet, a, b, ops, rest, items)
+            let items = items_of(&s.records, w, k);
+            write_items(page, s, items);
         }
         _ => {
-            let run = exprs_of(a, b, w, k);
-            let v = put_exprs(plan, o, sheet, a, b, ops, rest, run);
-            put_tail(plan, v.out, sheet, a, b, rest, w, v.next)
+            let run = exprs_of(&s.records, w, k);
+            let next = put_exprs(page, s, run);
+            put_tail(page, s, w, next);
         }
     }
 }

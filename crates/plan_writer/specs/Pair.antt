@@ -1,13 +1,14 @@
 -- The tables of two sheets, the state that they stand for, and what writing its plan sheet comes to. Assumes nothing: these are definitions.
-use Rattle.std.specs.Prelude.{◌≡◌, ℕ, ◌≤◌, List, length, drop}
+use Rattle.std.specs.Prelude.{◌≡◌, ℕ, ◌≤◌, List, length, drop, Option}
 use Rattle.model.specs.Text.{Bytes}
 use Rattle.model.specs.Lower.{LowerCtx, at}
 use Rattle.model.specs.Plan.{plan_sheet}
 use Rattle.model.specs.Call.{written}
-use Rattle.output.specs.Page.{Page, Puts}
+use Rattle.output.specs.declared.Page.{Page}
+use Rattle.output.specs.Page.{Puts}
 use Rattle.context.specs.Tables.{vars_of, vars_at, max_vars}
 use Rattle.plan_sheet.specs.Due.{Tabled, Room}
-use Rattle.plan_writer.specs.declared.Plan.{Plan}
+use Rattle.plan_sheet.specs.declared.source.Source.{Source}
 use Rattle.plan_writer.specs.declared.pair.Counts.{Counts}
 use Rattle.plan_writer.specs.Whole.{answer_of}
 
@@ -21,6 +22,10 @@ pub record SideTables : Type 0 where
 
 abbrev pub side_tables : Bytes → (a b ops rest : List ℕ) → SideTables
 side_tables sheet a b ops rest = record { sheet = sheet; a = a; b = b; ops = ops; rest = rest }
+
+-- those that the writer reads
+abbrev pub tables_in : Source → SideTables
+tables_in s = side_tables s.sheet.now s.records.a.now s.records.b.now s.ops.now s.rest.now
 
 -- the slices of both are long enough
 pub record BothRoom (L R : SideTables) : Type 0 where
@@ -36,9 +41,8 @@ pub record PairTables (L R : SideTables) (n : Counts) (s : LowerCtx) : Type 0 wh
   pub vars : vars_of n.mapped (drop vars_at R.rest) ≡ s.scope.vars
   pub few : n.mapped ≤ max_vars
 
--- what writing asks: room, and tables that stand for some state
+-- what writing asks: tables that stand for some state
 pub record PairAsked (L R : SideTables) (n : Counts) : Type 0 where
-  pub room : BothRoom L R
   pub state : LowerCtx
   pub tables : PairTables L R n state
 
@@ -46,5 +50,5 @@ abbrev pub WrotePairSheet : (L R : SideTables) (n : Counts) → Page → Page �
 WrotePairSheet L R n p q = (s : LowerCtx) → PairTables L R n s → Puts (plan_sheet s) p q
 
 -- the answer and the slice, for every state that the tables stand for
-abbrev pub WrotePair : (L R : SideTables) (n : Counts) → Bytes → Bytes → Plan → Type 0
+abbrev pub WrotePair : (L R : SideTables) (n : Counts) → Bytes → Bytes → Option ℕ → Type 0
 WrotePair L R n slice slice' r = (s : LowerCtx) → PairTables L R n s → record { answer = answer_of r; slice = slice' } ≡ written (plan_sheet s) slice

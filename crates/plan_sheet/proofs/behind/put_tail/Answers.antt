@@ -5,27 +5,20 @@ use Rattle.plan_sheet.proofs.behind.put_tail.Goals as goal
 
 pub count-labels-requires : goal.count-labels-requires
 count-labels-requires c =
-    record {
-      i_lt_max_records = c.requires.notes.low;
-      c_lt_record_words = omega arith;
-      roomy = c.requires.words;
-    }
+    (c.requires.notes.low, omega arith)
 
-pub put_names-v-requires : goal.put_names-v-requires
-put_names-v-requires c =
-    record {
-      roomy = c.requires.words;
-      names = BehindLaws.labels_there c.in-2.is c.count-labels.ensures.0 c.requires.due;
-    }
+pub put_names-requires : goal.put_names-requires
+put_names-requires c =
+    BehindLaws.labels_there c.in-2.is c.count-labels.ensures.0 c.requires.due
 
 pub put_path-requires : goal.put_path-requires
-put_path-requires c = record { words = c.requires.words; notes = c.requires.notes; due = BehindLaws.path_there c.in-6.is c.requires.due }
+put_path-requires c = record { notes = c.requires.notes; due = BehindLaws.path_there c.in-6.is c.requires.due }
 
 pub put_yields-requires : goal.put_yields-requires
-put_yields-requires c = record { words = c.requires.words; notes = c.requires.notes; due = BehindLaws.yields_there c.in-17.is c.requires.due }
+put_yields-requires c = record { notes = c.requires.notes; due = BehindLaws.yields_there c.in-17.is c.requires.due }
 
 pub returns-in-2 : goal.returns-in-2
-returns-in-2 c = BehindLaws.labels_wrote c.in-2.is c.count-labels.ensures.0 c.put_names-v.ensures
+returns-in-2 c = BehindLaws.labels_wrote c.in-2.is c.count-labels.ensures.0 c.put_names.ensures
 
 pub returns-in-6 : goal.returns-in-6
 returns-in-6 c = BehindLaws.path_wrote c.in-6.is c.put_path.ensures

@@ -1,59 +1,43 @@
 -- `put_yields` meets its contract. Assumes nothing.
 use Rattle.plan_sheet.proofs.BehindLaws
-use Rattle.output.specs.Writes.{same}
+use Rattle.plan_sheet.proofs.DueLaws.{due_yet}
+use Rattle.std.proofs.Math.Nat.{add-sub_cancel_left, sub-add-eq}
 use native.Mathlib.Omega.{arith}
 use Rattle.plan_sheet.proofs.behind.put_yields.Goals as goal
 
-pub word-due-requires : goal.word-due-requires
-word-due-requires c =
-    record {
-      i_lt_max_records = c.requires.notes.low;
-      c_lt_record_words = omega arith;
-      roomy = c.requires.words;
-    }
+pub count-n-requires : goal.count-n-requires
+count-n-requires c = (c.requires.notes.low, omega arith)
 
-pub loop-due-init : goal.loop-due-init
-loop-due-init c = BehindLaws.yields_going (rw c.word-due.ensures c.requires.due)
+pub overflow_add-end : goal.overflow_add-end
+overflow_add-end c = omega (arith, BehindLaws.yields_end c.requires.due, c.count-n.ensures.0)
 
-pub word-s-requires : goal.word-s-requires
-word-s-requires c =
-    record {
-      i_lt_max_records = (BehindLaws.yield_low c.loop-due-test.true c.loop-due.invariant.some);
-      c_lt_record_words = omega arith;
-      roomy = c.requires.words;
-    }
+pub loop-at-init : goal.loop-at-init
+loop-at-init c = rw (add-sub_cancel_left c.args.i c.count-n.result) (BehindLaws.yields_going (rw c.count-n.ensures.0 c.requires.due))
 
-pub word-e-requires : goal.word-e-requires
-word-e-requires c =
-    record {
-      i_lt_max_records = (BehindLaws.yield_low c.loop-due-test.true c.loop-due.invariant.some);
-      c_lt_record_words = omega arith;
-      roomy = c.requires.words;
-    }
+pub word-from-requires : goal.word-from-requires
+word-from-requires c = (BehindLaws.yield_low (due_yet c.loop-at-test.true) c.loop-at.invariant.some, omega arith)
+
+pub word-to-requires : goal.word-to-requires
+word-to-requires c = (BehindLaws.yield_low (due_yet c.loop-at-test.true) c.loop-at.invariant.some, omega arith)
 
 pub note_of-number-requires : goal.note_of-number-requires
-note_of-number-requires c = (c.requires.notes.near, omega (arith, (BehindLaws.yield_low c.loop-due-test.true c.loop-due.invariant.some)), c.requires.notes.in_rest)
+note_of-number-requires c = (c.requires.notes.near, omega (arith, BehindLaws.yield_low (due_yet c.loop-at-test.true) c.loop-at.invariant.some), c.args.s.now.room.in_rest)
 
-pub put_named1-o-requires : goal.put_named1-o-requires
-put_named1-o-requires c = BehindLaws.yield_in c.requires.words c.word-s.ensures c.word-e.ensures c.loop-due-test.true c.loop-due.invariant.some
+pub part-requires : goal.part-requires
+part-requires c = BehindLaws.yield_in c.args.s.now.records.roomy c.word-from.ensures c.word-to.ensures (due_yet c.loop-at-test.true) c.loop-at.invariant.some
 
-pub overflow_add-at : goal.overflow_add-at
-overflow_add-at c = omega (arith, (BehindLaws.yield_low c.loop-due-test.true c.loop-due.invariant.some))
-
-pub loop-due-preserved : goal.loop-due-preserved
-loop-due-preserved c =
-    BehindLaws.yields_again
-    c.requires.words
-    c.loop-due-test.true
-    c.loop-due.invariant
-    c.word-s.ensures
-    c.word-e.ensures
+pub loop-at-preserved : goal.loop-at-preserved
+loop-at-preserved c =
+    rw
+    (sub-add-eq _ c.loop-at.at 1)
+    (BehindLaws.yields_again
+    c.args.s.now.records.roomy
+    (due_yet c.loop-at-test.true)
+    c.loop-at.invariant
+    c.word-from.ensures
+    c.word-to.ensures
     c.note_of-number.ensures
-    c.put_named1-o.ensures
-    (same c.put_named1-o.ensures)
-
-pub shape_of-plan : goal.shape_of-plan
-shape_of-plan c = c.loop-due.invariant.long
+    (rw c.part.ensures at c.put_named.ensures))
 
 pub returns : goal.returns
-returns c = rw c.word-due.ensures at (BehindLaws.yields_done c.loop-due-test.false c.loop-due.invariant)
+returns c = rw c.count-n.ensures.0 at (BehindLaws.yields_done (omega arith) c.loop-at.invariant)

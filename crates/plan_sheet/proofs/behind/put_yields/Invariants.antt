@@ -1,10 +1,7 @@
 -- `put_yields` meets its contract. Assumes nothing.
+use Prim.Native.Nat.{◌-◌}
 use Rattle.plan_sheet.proofs.BehindLaws
-use Rattle.output.specs.Page.{on}
 use Rattle.plan_sheet.proofs.behind.put_yields.Given as goal
 
-abbrev pub invariant-loop-due : goal.invariant-loop-due
-invariant-loop-due l = BehindLaws.YieldsGoing l.sheet l.a l.b l.rest l.base l.initial.due l.i (on l.initial.plan l.initial.o) l.due l.at (on l.plan l.o)
-
-abbrev pub decreases-loop-due : goal.decreases-loop-due
-decreases-loop-due l = l.due
+abbrev pub invariant-loop-at : goal.invariant-loop-at
+invariant-loop-at l = BehindLaws.YieldsGoing l.s.sheet.now l.s.records.a.now l.s.records.b.now l.s.rest.now l.base l.n l.i l.initial.page (l.end - l.at) l.at l.page

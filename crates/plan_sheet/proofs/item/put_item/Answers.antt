@@ -6,35 +6,28 @@ use Rattle.plan_sheet.proofs.item.put_item.Goals as goal
 
 pub word-alias-requires : goal.word-alias-requires
 word-alias-requires c =
-    record {
-      i_lt_max_records = c.requires.item_at.at.low;
-      c_lt_record_words = omega arith;
-      roomy = c.requires.roomy;
-    }
+    (c.requires.at.low, omega arith)
 
 pub put_own_name-requires : goal.put_own_name-requires
-put_own_name-requires c = ItemLaws.alias_in_law c.requires.roomy c.requires.item_at (λ e. c.if-alias-ne0.true (c.word-alias.ensures ∙ e))
+put_own_name-requires c = ItemLaws.alias_in_law c.args.s.now.records.roomy c.requires (λ e. c.if-alias-ne0.true (c.word-alias.ensures ∙ e))
 
 pub returns-then-alias-ne0 : goal.returns-then-alias-ne0
 returns-then-alias-ne0 c =
     λ h.
     rw
-    (ItemLaws.alias_named c.requires.roomy h (λ e. c.if-alias-ne0.true (c.word-alias.ensures ∙ e)))
+    (ItemLaws.alias_named c.args.s.now.records.roomy h (λ e. c.if-alias-ne0.true (c.word-alias.ensures ∙ e)))
     c.put_own_name.ensures
 
 pub overflow_add-i : goal.overflow_add-i
-overflow_add-i c = omega (arith, c.requires.item_at.at.low)
+overflow_add-i c = omega (arith, c.requires.at.low)
 
 pub put_synthesised-requires : goal.put_synthesised-requires
 put_synthesised-requires c =
-    record {
-      roomy = c.requires.roomy;
-      expr_at = c.requires.item_at.expr;
-    }
+    c.requires.expr
 
 pub returns : goal.returns
 returns c =
     λ h.
     rw
-    (ItemLaws.plain_named c.requires.roomy h (sym c.word-alias.ensures ∙ c.if-alias-ne0.false))
+    (ItemLaws.plain_named c.args.s.now.records.roomy h (sym c.word-alias.ensures ∙ c.if-alias-ne0.false))
     (c.put_synthesised.ensures h.expr)

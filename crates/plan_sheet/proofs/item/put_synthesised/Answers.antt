@@ -3,59 +3,42 @@ use Rattle.plan_sheet.proofs.HeadLaws
 use Rattle.plan_sheet.proofs.ItemLaws
 use mathlib.Core.Path.{sym, ◌∙◌}
 use native.Mathlib.Omega.{arith}
+use Rattle.std.proofs.lemmas.Bool.Decides.{nat_tests}
 use Rattle.plan_sheet.proofs.item.put_synthesised.Goals as goal
 
 pub word-kind-requires : goal.word-kind-requires
 word-kind-requires c =
-    record {
-      i_lt_max_records = c.requires.expr_at.at.low;
-      c_lt_record_words = omega arith;
-      roomy = c.requires.roomy;
-    }
+    (c.requires.at.low, omega arith)
 
 pub word-id-requires : goal.word-id-requires
 word-id-requires c =
-    record {
-      i_lt_max_records = c.requires.expr_at.at.low;
-      c_lt_record_words = omega arith;
-      roomy = c.requires.roomy;
-    }
+    (c.requires.at.low, omega arith)
 
 pub put_own_name-requires : goal.put_own_name-requires
-put_own_name-requires c = ItemLaws.prop_in c.requires.roomy c.requires.expr_at (sym c.word-kind.ensures ∙ c.in-23.is)
-
-pub put_own_name-requires-in-34 : goal.put_own_name-requires-in-34
-put_own_name-requires-in-34 c = HeadLaws.call_in c.requires.roomy 0 c.requires.expr_at (sym c.word-kind.ensures ∙ c.in-34.is)
+put_own_name-requires c = ItemLaws.own_in c.args.s.now.records.roomy c.requires (rw c.word-kind.ensures at c.in-23.is)
 
 pub returns-in-23 : goal.returns-in-23
 returns-in-23 c =
     λ h.
     rw
-    (ItemLaws.prop_named c.requires.roomy h (sym c.word-kind.ensures ∙ c.in-23.is))
+    (ItemLaws.own_named c.args.s.now.records.roomy h (rw c.word-kind.ensures at c.in-23.is))
     c.put_own_name.ensures
 
 pub returns-in-32 : goal.returns-in-32
 returns-in-32 c =
     λ h.
     rw
-    (ItemLaws.id_named c.requires.roomy h (sym c.word-kind.ensures ∙ c.in-32.is))
+    (ItemLaws.id_named c.args.s.now.records.roomy h (sym c.word-kind.ensures ∙ c.in-32.is))
     (rw c.word-id.ensures at c.put_id_name.ensures)
-
-pub returns-in-34 : goal.returns-in-34
-returns-in-34 c =
-    λ h.
-    rw
-    (ItemLaws.call_named c.requires.roomy h (sym c.word-kind.ensures ∙ c.in-34.is))
-    c.put_own_name-in-34.ensures
 
 pub returns-in_default : goal.returns-in_default
 returns-in_default c =
     λ h.
     rw
     (ItemLaws.none_named
-    c.requires.roomy
+    c.args.s.now.records.roomy
     h
     _
     c.word-kind.ensures
-    c.in_default.in_default-own.rest)
+    (HeadLaws.others c.word-kind.result ItemLaws.named (grind (arith, nat_tests))))
     c.put_no_name.ensures

@@ -3,54 +3,32 @@ use Rattle.plan_sheet.proofs.HeadLaws
 use Rattle.plan_sheet.proofs.MeasureLaws
 use mathlib.Core.Path.{sym, ◌∙◌}
 use native.Mathlib.Omega.{arith}
+use Rattle.std.proofs.lemmas.Bool.Decides.{nat_tests}
 use Rattle.plan_sheet.proofs.measure.measure_before.Goals as goal
 
 pub word-kind-requires : goal.word-kind-requires
 word-kind-requires c =
-    record {
-      i_lt_max_records = HeadLaws.line_low c.requires.some_line.line;
-      c_lt_record_words = omega arith;
-      roomy = c.requires.roomy;
-    }
+    (HeadLaws.line_low c.requires.some_line.line, omega arith)
 
-pub overflow_add-next : goal.overflow_add-next
-overflow_add-next c = omega (arith, HeadLaws.line_low c.requires.some_line.line)
+pub overflow_add-result : goal.overflow_add-result
+overflow_add-result c = omega (arith, HeadLaws.line_low c.requires.some_line.line)
 
-pub line_bytes-bytes-requires : goal.line_bytes-bytes-requires
-line_bytes-bytes-requires c =
-    record {
-      roomy = c.requires.roomy;
-      some_record = (_, HeadLaws.line_record c.requires.some_line.line);
-    }
+pub line_bytes-requires : goal.line_bytes-requires
+line_bytes-requires c =
+    (_, HeadLaws.line_record c.requires.some_line.line)
 
-pub overflow_add-next-in-10 : goal.overflow_add-next-in-10
-overflow_add-next-in-10 c = omega (arith, HeadLaws.line_low c.requires.some_line.line)
+pub overflow_add-result-in-9 : goal.overflow_add-result-in-9
+overflow_add-result-in-9 c = omega (arith, HeadLaws.line_low c.requires.some_line.line)
 
-pub line_bytes-bytes-requires-in-10 : goal.line_bytes-bytes-requires-in-10
-line_bytes-bytes-requires-in-10 c =
-    record {
-      roomy = c.requires.roomy;
-      some_record = (_, HeadLaws.line_record c.requires.some_line.line);
-    }
-
-pub overflow_add-next-in-9 : goal.overflow_add-next-in-9
-overflow_add-next-in-9 c = omega (arith, HeadLaws.line_low c.requires.some_line.line)
-
-pub put_item-o-requires : goal.put_item-o-requires
-put_item-o-requires c =
-    record {
-      roomy = c.requires.roomy;
-      item_at = HeadLaws.item_there c.requires.roomy (sym c.word-kind.ensures ∙ c.in-9.is) c.requires.some_line.line;
-    }
+pub put_item-requires : goal.put_item-requires
+put_item-requires c =
+    HeadLaws.item_there c.args.s.now.records.roomy (sym c.word-kind.ensures ∙ c.in-9.is) c.requires.some_line.line
 
 pub returns-in-16 : goal.returns-in-16
-returns-in-16 c = λ recs j l. HeadLaws.named_put c.requires.roomy (sym c.word-kind.ensures ∙ c.in-16.is) l (MeasureLaws.counted_line c.requires.plan_len c.more-o.ensures c.line_bytes-bytes.ensures)
-
-pub returns-in-10 : goal.returns-in-10
-returns-in-10 c = λ recs j l. HeadLaws.keyed_put c.requires.roomy (sym c.word-kind.ensures ∙ c.in-10.is) l (MeasureLaws.counted_line c.requires.plan_len c.more-o-in-10.ensures c.line_bytes-bytes-in-10.ensures)
+returns-in-16 c = λ recs j l. HeadLaws.same_put c.args.s.now.records.roomy (rw c.word-kind.ensures at c.in-16.is) l (MeasureLaws.counted_line c.line_bytes.ensures c.measure.ensures)
 
 pub returns-in-9 : goal.returns-in-9
-returns-in-9 c = λ recs j l. HeadLaws.aliased_put c.requires.roomy (sym c.word-kind.ensures ∙ c.in-9.is) l c.put_item-o.ensures
+returns-in-9 c = λ recs j l. HeadLaws.aliased_put c.args.s.now.records.roomy (sym c.word-kind.ensures ∙ c.in-9.is) l c.put_item.ensures
 
 pub returns-in_default : goal.returns-in_default
-returns-in_default c = λ recs j l. HeadLaws.bare_put c.requires.roomy _ c.word-kind.ensures c.in_default.in_default-own.rest l
+returns-in_default c = λ recs j l. HeadLaws.bare_put c.args.s.now.records.roomy _ c.word-kind.ensures (HeadLaws.others c.word-kind.result HeadLaws.lines (grind (arith, nat_tests))) l

@@ -1,10 +1,7 @@
 -- `put_names` meets its contract. Assumes nothing.
+use Prim.Native.Nat.{◌-◌}
 use Rattle.plan_sheet.proofs.NameLaws
-use Rattle.output.specs.Page.{on}
 use Rattle.plan_sheet.proofs.names.put_names.Given as goal
 
-abbrev pub invariant-loop-due : goal.invariant-loop-due
-invariant-loop-due l = NameLaws.NamesGoing l.sheet l.a l.b l.n l.i (on l.initial.plan l.initial.o) l.due l.at (on l.plan l.o)
-
-abbrev pub decreases-loop-due : goal.decreases-loop-due
-decreases-loop-due l = l.due
+abbrev pub invariant-loop-at : goal.invariant-loop-at
+invariant-loop-at l = NameLaws.NamesGoing l.s.sheet.now l.s.records.a.now l.s.records.b.now l.n l.i l.initial.page (l.next - l.at) l.at l.page

@@ -1,42 +1,37 @@
 -- `put_op` meets its contract. Assumes nothing.
+use native.Mathlib.Omega.{arith}
 use Rattle.plan_sheet.proofs.OpLaws
 use Rattle.plan_sheet.proofs.op.put_op.Goals as goal
 
 pub put_source-requires : goal.put_source-requires
 put_source-requires c =
-    record {
-      roomy = c.requires.words;
-      i_lt_max_records = c.requires.shown.stored.bounded.low;
-    }
+    c.requires.stored.bounded.low
 
 pub put_expand-requires : goal.put_expand-requires
 put_expand-requires c =
     record {
       notes_in = OpLaws.notes_in c.requires;
-      y_lt_max_records = OpLaws.far_low c.requires.shown c.in-4.is;
+      y_lt_max_records = OpLaws.far_low c.requires c.in-4.is;
     }
 
 pub put_short-requires : goal.put_short-requires
-put_short-requires c = record { words = c.requires.words; notes = OpLaws.notes_in c.requires; due = c.requires.shown.stored.bounded.far c.in-5.is }
+put_short-requires c = record { notes = OpLaws.notes_in c.requires; due = c.requires.stored.bounded.far c.in-5.is }
 
 pub put_clause_op-requires : goal.put_clause_op-requires
 put_clause_op-requires c =
     record {
-      first_asked = c.requires;
-      bind_path_kind_lt_kind = OpLaws.of_clause _ c.in_default.in_default-own.rest;
+      op_shown = c.requires;
+      bind_path_kind_lt_kind = omega arith;
     }
 
 pub returns-in-0 : goal.returns-in-0
-returns-in-0 c = λ h. rw (OpLaws.all_line h c.in-0.is) c.put_row2.ensures
-
-pub returns-in-1 : goal.returns-in-1
-returns-in-1 c = λ h. rw (OpLaws.no_parts_line h c.in-1.is) c.put_row2-in-1.ensures
+returns-in-0 c = λ h. rw (OpLaws.bare_line h (omega arith)) c.put_row-in-0.ensures
 
 pub returns-in-2 : goal.returns-in-2
 returns-in-2 c = λ h. rw (OpLaws.source_line h c.in-2.is) c.put_source.ensures
 
 pub returns-in-3 : goal.returns-in-3
-returns-in-3 c = λ h. rw (OpLaws.filter_line h c.in-3.is) c.put_row1.ensures
+returns-in-3 c = λ h. rw (OpLaws.filter_line h c.in-3.is) c.put_row.ensures
 
 pub returns-in-4 : goal.returns-in-4
 returns-in-4 c = λ h. rw (OpLaws.expand_line h c.in-4.is) c.put_expand.ensures
@@ -45,7 +40,7 @@ pub returns-in-5 : goal.returns-in-5
 returns-in-5 c = λ h. rw (OpLaws.short_line h c.in-5.is) c.put_short.ensures
 
 pub returns-in-6 : goal.returns-in-6
-returns-in-6 c = λ h. rw (OpLaws.path_line h c.in-6.is) c.put_row3.ensures
+returns-in-6 c = λ h. rw (OpLaws.path_line h c.in-6.is) c.put_row-in-6.ensures
 
 pub returns-in_default : goal.returns-in_default
 returns-in_default c = c.put_clause_op.ensures

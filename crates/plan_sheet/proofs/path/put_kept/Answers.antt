@@ -6,23 +6,23 @@ use native.Mathlib.Omega.{arith}
 use Rattle.plan_sheet.proofs.path.put_kept.Goals as goal
 
 pub returns-in_default : goal.returns-in_default
-returns-in_default c = PathLaws.none_waits c.args.rest.now c.args.base c.args.path c.in_default.is
+returns-in_default c = PathLaws.none_waits c.args.s.now.rest.now c.args.base c.args.path c.in_default.is
 
 pub note_of-n-requires : goal.note_of-n-requires
 note_of-n-requires c =
-    let low = subst WaitsLow c.in-Rel.is c.requires.low in
-    (c.requires.near, omega (arith, low), c.requires.in_rest)
+    let low = subst WaitsLow c.in-Some.is c.requires.low in
+    (c.requires.near, omega (arith, low), c.args.s.now.room.in_rest)
 
 pub returns-then-path : goal.returns-then-path
 returns-then-path c =
     PathLaws.kept
-    c.args.rest.now
+    c.args.s.now.rest.now
     c.args.base
     c.args.path
-    c.in-Rel.is
+    c.in-Some.is
     c.if-path.true
     c.note_of-n.ensures
-    c.put_row1.ensures
+    c.put_row.ensures
 
-pub returns : goal.returns
-returns c = PathLaws.not_kept c.args.rest.now c.args.base c.args.path c.in-Rel.is c.if-path.false
+pub returns-else-path : goal.returns-else-path
+returns-else-path c = PathLaws.not_kept c.args.s.now.rest.now c.args.base c.args.path c.in-Some.is c.if-path.false

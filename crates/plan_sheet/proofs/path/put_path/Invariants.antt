@@ -1,10 +1,7 @@
 -- `put_path` meets its contract. Assumes nothing.
+use Prim.Native.Nat.{◌-◌}
 use Rattle.plan_sheet.proofs.PathLaws
-use Rattle.output.specs.Page.{on}
 use Rattle.plan_sheet.proofs.path.put_path.Given as goal
 
-abbrev pub invariant-loop-due : goal.invariant-loop-due
-invariant-loop-due l = PathLaws.Walking l.sheet l.a l.b l.rest l.base l.initial.due l.i (on l.initial.plan l.out) l.due l.at l.path (on l.plan l.path.out)
-
-abbrev pub decreases-loop-due : goal.decreases-loop-due
-decreases-loop-due l = l.due
+abbrev pub invariant-loop : goal.invariant-loop
+invariant-loop l = PathLaws.Walking l.s.sheet.now l.s.records.a.now l.s.records.b.now l.s.rest.now l.base l.n l.i l.initial.page (l.n - l.counter) l.at l.path l.page

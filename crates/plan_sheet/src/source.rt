@@ -1,0 +1,14 @@
+// What the writer reads.
+ghost use Rattle.plan_sheet.specs.Due.{Room};
+
+use words::records::Records;
+
+// The statement sheet, its records, and the operators and notes that the lowering left. That all slices are long enough goes with them.
+#[derive(Clone, Copy)]
+pub struct Source<'a> {
+    pub sheet: &'a [u8],
+    pub records: Records<'a>,
+    pub ops: &'a [u32],
+    pub rest: &'a [u32],
+    ghost room: { Room records.a.now records.b.now ops.now rest.now },
+}
