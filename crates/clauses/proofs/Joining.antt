@@ -29,7 +29,10 @@ pub some_clauses : {sheet : Bytes} {a b : List ℕ} {n d i : ℕ} → Roomy a b 
 some_clauses room en x = let v = an_arm room x.tree x.is in rw (en ∙ sym v.many) (record { trees = v.clauses; are = v.held })
 
 -- the definition, step by step
-arm_def : {n : ℕ} (cs : Trees clause n) (o below : Option ℕ) (all : Bool) {k : ℕ} (s s₁ : State) → lower_clauses cs None s ≡ (below, s₁) → k ≡ (union_of o below all s₁).0 → ◌≡◌ {A = Option ℕ × State} ((lower_clauses cs None >>= λ below. or_source_all o >>= λ left. or_source_all below >>= λ right. push (op ReadOp.Union (left, (right, (all, tt))) ∷ []) >>= λ both. ret (Some both)) s) (Some k, (union_of o below all s₁).1)
+arm_def : {n : ℕ} (cs : Trees clause n) (o below : Option ℕ) (all : Bool) {k : ℕ} (s s₁ : State) →
+    lower_clauses cs None s ≡ (below, s₁) →
+    k ≡ (union_of o below all s₁).0 →
+    ◌≡◌ {A = Option ℕ × State} ((lower_clauses cs None >>= λ below. or_source_all o >>= λ left. or_source_all below >>= λ right. push (op ReadOp.Union (left, (right, (all, tt))) ∷ []) >>= λ both. ret (Some both)) s) (Some k, (union_of o below all s₁).1)
 unfolding union_of ◌>>=◌ push ret
 arm_def cs o below all s s₁ e is = rw (e, is)
 
