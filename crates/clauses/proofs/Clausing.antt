@@ -4,7 +4,7 @@ use Prim.Native.Nat.{ℕ, suc, ◌+◌, ◌<◌}
 use native.Mathlib.Nat.{le_refl}
 use native.Mathlib.Omega.{arith}
 use mathlib.Core.List.{List, [], ◌∷◌}
-use Rattle.std.specs.Prelude.{Option, Some}
+use Rattle.std.specs.Prelude.{Option}
 use Rattle.model.specs.Text.{Bytes}
 use Rattle.model.specs.Kind.{clause}
 use Rattle.model.specs.Tree.{Tree}
@@ -12,10 +12,7 @@ use Rattle.model.specs.Lower.{lower_clause}
 use Rattle.words.specs.Words.{Roomy, cell, max_records}
 use Rattle.words.specs.Held.{Held}
 use Rattle.words.specs.Numbers.{Others}
-use Rattle.context.specs.Ops.{before_of}
 use Rattle.context.specs.declared.At.{At}
-use Rattle.context.specs.declared.Before.{Before}
-use Rattle.context.specs.declared.Before.TheVariants as before
 use Rattle.words.specs.Places.{match_kind, where_kind, with_kind, return_kind, unwind_kind, call_kind, write_kind, kind_at}
 use Rattle.lower.specs.Side.{side}
 use Rattle.lower.specs.Rep.{State, Mem, Written, Rep}
@@ -28,17 +25,12 @@ use Rattle.clauses.specs.Asked.{ReadingAsked}
 use Rattle.clauses.proofs.Opened.{a_write, call_kind_law}
 
 -- what the function of one kind asks
-pub asked : {sheet : Bytes} {a b : List ℕ} {k : ℕ} {at : At} {current : Before} {m : Mem} → ReadingAsked sheet a b at current m → cell a b at.i kind_at ≡ k → ClauseAsked k a b at current m
-asked g e = record { words = g.words; tree = some_tree g.held; kind = e; ready = g.ready; depth = g.depth; stands = g.stands }
+pub asked : {sheet : Bytes} {a b : List ℕ} {k : ℕ} {at : At} {current : Option ℕ} {m : Mem} → ReadingAsked sheet a b at current m → cell a b at.i kind_at ≡ k → ClauseAsked k a b at current m
+asked g e = record { tree = some_tree g.held; kind = e; ready = g.ready; depth = g.depth; stands = g.stands }
 
 -- the one kind that is left
-pub a_call_left : {sheet : Bytes} {a b : List ℕ} {at : At} {current : Before} {m : Mem} {n : ℕ} → ReadingAsked sheet a b at current m → n ≡ cell a b at.i kind_at → Others n (unwind_kind ∷ return_kind ∷ with_kind ∷ where_kind ∷ match_kind ∷ []) → cell a b at.i kind_at ≡ call_kind
-a_call_left {sheet} {at = at} g e o = call_kind_law sheet at.left at.i g.words g.held.tree g.held.is (rw e at o) g.reads
-
--- an operator that is left, as the code has it
-pub left_one : {sheet : Bytes} {a b : List ℕ} {d i e k : ℕ} {o : Option ℕ} {m m' : Mem} → LowersClause sheet a b d i e o (Some k) m m' → LowersClause sheet a b d i e o (before_of (before.Op k)) m m'
-unfolding before_of
-left_one p = p
+pub a_call_left : {sheet : Bytes} {a b : List ℕ} {at : At} {current : Option ℕ} {m : Mem} {n : ℕ} → Roomy a b → ReadingAsked sheet a b at current m → n ≡ cell a b at.i kind_at → Others n (unwind_kind ∷ return_kind ∷ with_kind ∷ where_kind ∷ match_kind ∷ []) → cell a b at.i kind_at ≡ call_kind
+a_call_left {sheet} {at = at} room g e o = call_kind_law sheet at.left at.i room g.held.tree g.held.is (rw e at o) g.reads
 
 module _ (sheet : Bytes) {a b : List ℕ} (d i : ℕ) (o : Option ℕ) (m : Mem) (room : Roomy a b) (k8 : cell a b i kind_at ≡ write_kind) (li : i < max_records) (st : Stands o m) where
   write_run : {first : ℕ} (t : Tree clause) → Held sheet a b t d i → (W : Written) (s : State) → Rep (side sheet a b first) W s m → Leaves (side sheet a b first) W (λ s. lower_clause t o s) o (suc i) (suc (i + 1)) s m m

@@ -1,3 +1,4 @@
+pub mod Uniting
 pub mod Room
 pub mod Opened
 pub mod Yields

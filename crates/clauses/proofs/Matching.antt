@@ -1,5 +1,5 @@
 -- A `match`: the root of its parts, and how it goes with the operator before it. Assumes nothing.
-use mathlib.Core.Path.{◌≡◌, refl, sym, ap, ◌∙◌}
+use mathlib.Core.Path.{◌≡◌, refl, sym, ap, subst, ◌∙◌}
 use Prim.Native.Nat.{ℕ, suc, ◌+◌, ◌-◌, ◌≤◌, ◌<◌}
 use native.Mathlib.Nat.{le_refl, le_trans}
 use native.Mathlib.Omega.{arith}
@@ -14,15 +14,13 @@ use Rattle.model.specs.Kind.{ReadOp, clause, pattern_part}
 use Rattle.model.specs.Tree.{Tree}
 use Rattle.model.specs.Lower.{Recs, Lowering, ◌>>=◌, ret, push, op, copy, optional_join, lower_clause}
 use Rattle.model.specs.Lower
-use Rattle.words.specs.Words.{cell, max_records}
+use Rattle.words.specs.Words.{Roomy, cell, max_records}
 use Rattle.words.specs.Places.{match_kind, match_optional_at, match_parts_at}
 use Rattle.words.specs.Held.{Held, size}
 use Rattle.words.specs.Fits.{tree_fits}
 use Rattle.context.specs.Tables.{Pushed}
-use Rattle.context.specs.Ops.{before_of, optional_join_op}
+use Rattle.context.specs.Ops.{optional_join_op}
 use Rattle.context.specs.declared.At.{At}
-use Rattle.context.specs.declared.Before.{Before}
-use Rattle.context.specs.declared.Before.TheVariants as before
 use Rattle.context.specs.declared.LowerCtx.{LowerCtx}
 use Rattle.lower.specs.Side.{Side, side}
 use Rattle.lower.specs.Shows.{shows_optional}
@@ -46,21 +44,25 @@ ends_at q p = rw q p
 -- ── with the operator before ──
 
 -- how a match of which the parts have their root goes with the operator before it
-abbrev pub join_l : (optional : ℕ) → Before → (root : ℕ) → Lowering ℕ
-join_l optional current root = λ s. optional_join (eqb optional 1) (before_of current) root s
+abbrev pub join_l : (optional : Bool) → Option ℕ → (root : ℕ) → Lowering ℕ
+join_l optional current root = λ s. optional_join optional current root s
 
-join_none : (t : Bool) (k : ℕ) (s : State) → optional_join t None k s ≡ (k, s)
+-- no join
+join_not : (o : Option ℕ) (k : ℕ) (s : State) → optional_join false o k s ≡ (k, s)
+unfolding optional_join ret
+join_not None k s = refl
+join_not (Some l) k s = refl
+
+join_none : (q : Bool) (k : ℕ) (s : State) → optional_join q None k s ≡ (k, s)
 unfolding optional_join ret
 join_none true k s = refl
 join_none false k s = refl
 
--- no join
-plain_join : (q k : ℕ) (o : Before) (s : State) → (q ≡ 0) ⊎ (o ≡ before.Nothing) → optional_join (eqb q 1) (before_of o) k s ≡ (k, s)
-unfolding optional_join ret before_of
-plain_join q k o s (inl e) = rw e
-plain_join q k o s (inr e) = rw e (join_none (eqb q 1) k s)
+plain_join : (q : Bool) (k : ℕ) (o : Option ℕ) (s : State) → (q ≡ false) ⊎ (o ≡ None) → optional_join q o k s ≡ (k, s)
+plain_join q k o s (inl e) = let P : Bool → Type 0 = λ x. optional_join x o k s ≡ (k, s) in subst P (sym e) (join_not o k s)
+plain_join q k o s (inr e) = let P : Option ℕ → Type 0 = λ x. optional_join q x k s ≡ (k, s) in subst P (sym e) (join_none q k s)
 
-pub plain_law : {k : ℕ} {o : Before} {m : Mem} (q : ℕ) → (q ≡ 0) ⊎ (o ≡ before.Nothing) → k < m.ctx.ops → OrSource k (join_l q o k) k m m
+pub plain_law : {k : ℕ} {o : Option ℕ} {m : Mem} (q : Bool) → (q ≡ false) ⊎ (o ≡ None) → k < m.ctx.ops → OrSource k (join_l q o k) k m m
 plain_law {k} {o} {m} q nj l = record {
   grow = le_refl _;
   few = omega arith;
@@ -73,14 +75,14 @@ plain_law {k} {o} {m} q nj l = record {
 }
 
 -- a join
-joined : (q k l : ℕ) (o : Before) (s : State) → q ≡ 1 → o ≡ before.Op l → optional_join (eqb q 1) (before_of o) k s ≡ (length s.ops, (push (op ReadOp.OptionalJoin (l, tt) ∷ Lower.at s.ops k) s).1)
-unfolding optional_join ◌>>=◌ copy push before_of
+joined : (q : Bool) (k l : ℕ) (o : Option ℕ) (s : State) → q ≡ true → o ≡ Some l → optional_join q o k s ≡ (length s.ops, (push (op ReadOp.OptionalJoin (l, tt) ∷ Lower.at s.ops k) s).1)
+unfolding optional_join ◌>>=◌ copy push
 joined q k l o s e n = rw (e, n)
 
-module _ {q k l i : ℕ} {o : Before} {c c' : LowerCtx} {os os' : List ℕ} (rest : List ℕ) (q1 : q ≤ 1) (qn : (q ≡ 0) → ⊥) (is : o ≡ before.Op l) (li : i < max_records) (lk : k < c.ops) (pj : Pushed c c' os os' (optional_join_op i l k)) (lo : length os' ≡ length os) where
+module _ {q : Bool} {k l i : ℕ} {o : Option ℕ} {c c' : LowerCtx} {os os' : List ℕ} (rest : List ℕ) (wanted : q ≡ true) (is : o ≡ Some l) (li : i < max_records) (lk : k < c.ops) (pj : Pushed c c' os os' (optional_join_op i l k)) (lo : length os' ≡ length os) where
   joined_run : (S : Side) (W : Written) (s : State) → S.first ≤ k → Rep S W s (mem c os rest) → Sourced S (join_l q o k) c.ops W s (mem c os rest) (mem c' os' rest)
   joined_run S W s h r =
-      let D = joined q k l o s (omega arith) is in
+      let D = joined q k l o s wanted is in
       let recs : Recs = op ReadOp.OptionalJoin (l, tt) ∷ Lower.at s.ops k in
       let z = push_to (mem c os rest) c' os' (optional_join_op i l k) recs r pj
       (λ N A f. record {
@@ -94,47 +96,43 @@ module _ {q k l i : ℕ} {o : Before} {c c' : LowerCtx} {os os' : List ℕ} (res
 
 -- ── the clause ──
 
-module _ {a b : List ℕ} {at : At} {current : Before} {m : Mem} (g : ClauseAsked match_kind a b at current m) where
+module _ {a b : List ℕ} {at : At} {current : Option ℕ} {m : Mem} (room : Roomy a b) (g : ClauseAsked match_kind a b at current m) where
   pub some_parts : {n : ℕ} → n ≡ cell a b at.i match_parts_at → SomeTrees a b pattern_part n (at.left - 1) (at.i + 1)
-  some_parts en = let v = a_match g.words g.tree.tree g.tree.held g.kind in rw (en ∙ sym v.many) (record { sheet = g.tree.sheet; trees = v.parts; held = v.held })
-
-  -- whether it is optional is a flag
-  pub optional_flag : {q : ℕ} → q ≡ cell a b at.i match_optional_at → q ≤ 1
-  optional_flag eq = rw eq (a_match g.words g.tree.tree g.tree.held g.kind).low
+  some_parts en = let v = a_match room g.tree.tree g.tree.held g.kind in rw (en ∙ sym v.many) (record { sheet = g.tree.sheet; trees = v.parts; held = v.held })
 
   module _ {n q k k' e : ℕ} {m₁ m₂ : Mem}
       (en : n ≡ cell a b at.i match_parts_at) (eq : q ≡ cell a b at.i match_optional_at)
-      (p : LowersParts a b n (at.left - 1) 0 at.i e k m m₁) (j : OrSource k (join_l q current k) k' m₁ m₂) where
+      (p : LowersParts a b n (at.left - 1) 0 at.i e k m m₁) (j : OrSource k (join_l (eqb q 1) current k) k' m₁ m₂) where
     match_next : (sheet : Bytes) (t : Tree clause) → Held sheet a b t at.left at.i → e ≡ at.i + size t
     match_next sheet t hd =
-        let v = a_match g.words t hd g.kind in
+        let v = a_match room t hd g.kind in
         let p' : LowersParts a b v.n (at.left - 1) 0 at.i e k m m₁ = rw (en ∙ sym v.many) at p in
         let x = p'.next sheet v.parts v.held in
         let y = v.sized in
         omega arith
 
     -- its parts
-    parts_run : (sheet : Bytes) {first : ℕ} (t : Tree clause) (hd : Held sheet a b t at.left at.i) (W : Written) (s : State) → Rep (side sheet a b first) W s m → BothBlank W (suc at.i) (suc e) → Rooted (side sheet a b first) W (parts_l (a_match g.words t hd g.kind).parts) k 0 (suc (at.i + 1)) (suc e) s m m₁
+    parts_run : (sheet : Bytes) {first : ℕ} (t : Tree clause) (hd : Held sheet a b t at.left at.i) (W : Written) (s : State) → Rep (side sheet a b first) W s m → BothBlank W (suc at.i) (suc e) → Rooted (side sheet a b first) W (parts_l (a_match room t hd g.kind).parts) k 0 (suc (at.i + 1)) (suc e) s m m₁
     parts_run sheet t hd W s r bl =
-        let v = a_match g.words t hd g.kind in
+        let v = a_match room t hd g.kind in
         let p' : LowersParts a b v.n (at.left - 1) 0 at.i e k m m₁ = rw (en ∙ sym v.many) at p in
         p'.run sheet v.parts v.held W s r (blank_within (omega arith) (omega arith) bl.first)
 
-    match_run : (sheet : Bytes) {first : ℕ} (t : Tree clause) → Held sheet a b t at.left at.i → (W : Written) (s : State) → Rep (side sheet a b first) W s m → BothBlank W (suc at.i) (suc e) → Leaves (side sheet a b first) W (λ s. lower_clause t (before_of current) s) (Some k') (suc at.i) (suc e) s m m₂
+    match_run : (sheet : Bytes) {first : ℕ} (t : Tree clause) → Held sheet a b t at.left at.i → (W : Written) (s : State) → Rep (side sheet a b first) W s m → BothBlank W (suc at.i) (suc e) → Leaves (side sheet a b first) W (λ s. lower_clause t current s) (Some k') (suc at.i) (suc e) s m m₂
     match_run sheet t hd W s r bl =
-        let v = a_match g.words t hd g.kind in
+        let v = a_match room t hd g.kind in
         let x = parts_run sheet t hd W s r bl in
         let s₁ : State = (parts_l v.parts s).1 in
         let y = j.run _ _ s₁ (le_trans r.from p.since) x.to.rep in
         let D =
-        v.lower (before_of current) s
-        ∙ ap (λ (z : ℕ). (Some (join_l (cell a b at.i match_optional_at) current z s₁).0, (join_l (cell a b at.i match_optional_at) current z s₁).1)) (sym x.root)
-        ∙ ap (λ (z : ℕ). (Some (join_l z current k s₁).0, (join_l z current k s₁).1)) (sym eq)
-        ∙ ap (λ (z : ℕ). (Some z, (join_l q current k s₁).1)) (sym y.root)
+        v.lower current s
+        ∙ ap (λ (z : ℕ). (Some (join_l (eqb (cell a b at.i match_optional_at) 1) current z s₁).0, (join_l (eqb (cell a b at.i match_optional_at) 1) current z s₁).1)) (sym x.root)
+        ∙ ap (λ (z : ℕ). (Some (join_l (eqb z 1) current k s₁).0, (join_l (eqb z 1) current k s₁).1)) (sym eq)
+        ∙ ap (λ (z : ℕ). (Some z, (join_l (eqb q 1) current k s₁).1)) (sym y.root)
         in
-        leaves t (before_of current) k' s (join_l q current k s₁).1 D (to_then x.to y.to) (sub_first (omega arith) (omega arith))
+        leaves t current k' s (join_l (eqb q 1) current k s₁).1 D (to_then x.to y.to) (sub_first (omega arith) (omega arith))
 
-    pub match_law : (sheet : Bytes) → LowersClause sheet a b at.left at.i e (before_of current) (Some k') m m₂
+    pub match_law : (sheet : Bytes) → LowersClause sheet a b at.left at.i e current (Some k') m m₂
     match_law sheet =
         let v = p.moved in
         let some = g.tree in

@@ -38,7 +38,6 @@ pub record IsMatch (sheet : Bytes) (a b : List ℕ) (d i : ℕ) (t : Tree clause
   pub n : ℕ
   pub parts : Trees pattern_part n
   pub many : n ≡ cell a b i match_parts_at
-  pub low : cell a b i match_optional_at ≤ 1
   pub held : HeldOf sheet a b parts (d - 1) (i + 1)
   pub sized : size t ≡ suc (size_of parts)
   pub lower : (o : Option ℕ) (s : State) → lower_clause t o s ≡ (Some (optional_join (eqb (cell a b i match_optional_at) 1) o (parts_l parts s).0 (parts_l parts s).1).0, (optional_join (eqb (cell a b i match_optional_at) 1) o (parts_l parts s).0 (parts_l parts s).1).1)
@@ -75,7 +74,7 @@ module _ {sheet : Bytes} {a b : List ℕ} {d i : ℕ} (room : Roomy a b) where
       let v = shown room hd.1 in
       let e₁ : optional ≡ eqb (cell a b i match_optional_at) 1 = ap (λ (x : Fields (forms clause Clause.Match)). x.0) v.fields in
       let e₂ : n ≡ cell a b i match_parts_at = ap (λ (x : Fields (forms clause Clause.Match)). x.1.0) v.fields in
-      record { n = n; parts = ts; many = e₂; low = v.flags.0; held = hd.3.0; sized = omega arith; lower = λ o s. rw (e₁, pattern_parts ts) }
+      record { n = n; parts = ts; many = e₂; held = hd.3.0; sized = omega arith; lower = λ o s. rw (e₁, pattern_parts ts) }
 
   pub a_match : (t : Tree clause) → Held sheet a b t d i → cell a b i kind_at ≡ match_kind → IsMatch sheet a b d i t
   unfolding clause_number
@@ -151,7 +150,6 @@ pub record IsArm (sheet : Bytes) (a b : List ℕ) (d i : ℕ) (t : Tree union_ar
   pub n : ℕ
   pub clauses : Trees clause n
   pub many : n ≡ cell a b i arm_clauses_at
-  pub low : cell a b i arm_all_at ≤ 1
   pub held : HeldOf sheet a b clauses (d - 1) (i + 1)
   pub sized : size t ≡ suc (size_of clauses)
   pub lower : (o : Option ℕ) (s : State) → lower_arm t o s ≡ (lower_clauses clauses None >>= λ below. or_source_all o >>= λ left. or_source_all below >>= λ right. push (op ReadOp.Union (left, (right, (eqb (cell a b i arm_all_at) 1, tt))) ∷ []) >>= λ both. ret (Some both)) s
@@ -176,7 +174,7 @@ module _ {sheet : Bytes} {a b : List ℕ} (room : Roomy a b) where
       let v = shown room hd.1 in
       let e₁ : all ≡ eqb (cell a b i arm_all_at) 1 = ap (λ (x : Fields (forms union_arm tt)). x.0) v.fields in
       let e₂ : n ≡ cell a b i arm_clauses_at = ap (λ (x : Fields (forms union_arm tt)). x.1.0) v.fields in
-      record { n = n; clauses = cs; many = e₂; low = v.flags.0; held = hd.3.0; sized = omega arith; lower = λ o s. rw e₁ }
+      record { n = n; clauses = cs; many = e₂; held = hd.3.0; sized = omega arith; lower = λ o s. rw e₁ }
 
   pub a_statement : {d : ℕ} (t : Tree statement) → Held sheet a b t d 0 → IsStatement sheet a b d t
   unfolding Held size fields_of field_of Lower.lower ◌>>=◌

@@ -1,4 +1,5 @@
 -- What the room that there is allows: the operator before a clause, and the numbers of its variables. Assumes nothing.
+use Rattle.std.specs.Prelude.{Option, Some, None}
 use mathlib.Core.Path.{◌≡◌, refl, ap, ◌∙◌}
 use Prim.Native.Nat.{ℕ, ◌+◌, ◌≤◌}
 use native.Mathlib.Omega.{arith}
@@ -6,10 +7,8 @@ use lib.ListN.{length}
 use Rattle.model.specs.Lower.{Lowering}
 use Rattle.words.specs.Words.{max_records}
 use Rattle.context.specs.Tables.{CanNumber}
-use Rattle.context.specs.Ops.{before_of, Under}
-use Rattle.context.specs.OpLaws.{under_nothing, under_op}
-use Rattle.context.specs.declared.Before.{Before}
-use Rattle.context.specs.declared.Before.TheVariants as before
+use Rattle.context.specs.Ops.{Under}
+use Rattle.context.specs.OpLaws.{under_none, under_some}
 use Rattle.lower.specs.Rep.{Mem, Moved}
 use Rattle.lower.specs.Chains.{OrSource}
 use Rattle.lower.specs.Clauses.{Stands}
@@ -17,20 +16,14 @@ use Rattle.projections.specs.Ready.{Ready, max_passed}
 
 -- ── the operator before ──
 
--- it is below a larger number too
-pub under_more : {o : Before} {n n' : ℕ} → n ≤ n' → Under o n → Under o n'
-under_more l h = record { op = λ k e. (let z = h.op k e in omega arith) }
-
 -- an operator that is left is below the count
-pub stands_under : (m : Mem) (o : Before) → Stands (before_of o) m → Under o m.ctx.ops
-unfolding before_of
-stands_under m before.Nothing h = under_nothing
-stands_under m (before.Op k) h = under_op h
+pub stands_under : (m : Mem) (o : Option ℕ) → Stands o m → Under o m.ctx.ops
+stands_under m None h = under_none
+stands_under m (Some k) h = under_some h
 
-pub under_stands : (m : Mem) (o : Before) → Under o m.ctx.ops → Stands (before_of o) m
-unfolding before_of
-under_stands m before.Nothing h = tt
-under_stands m (before.Op k) h = h.op k refl
+pub under_stands : (m : Mem) (o : Option ℕ) → Under o m.ctx.ops → Stands o m
+under_stands m None h = tt
+under_stands m (Some k) h = h.op k refl
 
 -- ── behind the operator before, or a source of everything, and then one pass ──
 

@@ -1,10 +1,10 @@
 -- Trees lowered in turn, and the loop over them. Assumes nothing.
 use mathlib.Core.Path.{◌≡◌, refl, ap, ◌∙◌}
-use Prim.Native.Nat.{ℕ, zero, suc, ◌+◌, ◌-◌, ◌≤◌}
-use native.Mathlib.Nat.{le_refl}
+use Prim.Native.Nat.{ℕ, zero, suc, ◌+◌, ◌-◌, ◌≤◌, ◌<◌}
+use native.Mathlib.Nat.{le_refl, sub-zero}
 use native.Mathlib.Omega.{arith}
 use mathlib.Core.List.{List}
-use Rattle.std.specs.Prelude.{Option, None}
+use Rattle.std.specs.Prelude.{Option}
 use Rattle.model.specs.Text.{Bytes}
 use Rattle.model.specs.Kind.{Sort, clause, union_arm}
 use Rattle.model.specs.Tree.{Tree, Trees, node, []ᵗ, ◌∷ᵗ◌, end, ◌▸◌}
@@ -13,8 +13,6 @@ use Rattle.words.specs.Held.{Held, HeldOf, HeldSome, HeldMany, size, size_of}
 use Rattle.words.specs.Words.{max_records}
 use Rattle.lower.specs.Side.{side}
 use Rattle.lower.specs.Rep.{State, Mem, Written, Rep}
-use Rattle.context.specs.Ops.{before_of}
-use Rattle.context.specs.declared.Before.TheVariants as before
 use Rattle.lower.specs.Clauses.{BothBlank, both_passes, Stands, Leaves, LowersClause}
 use Rattle.projections.specs.Ready.{Ready}
 use Rattle.lower.specs.State.{to_refl, to_then, to_wider}
@@ -64,7 +62,8 @@ module _ (S : Sort) (turn : Turn S) (sheet : Bytes) (a b : List ℕ) (d : ℕ) w
         let y = q.next ts (rw x h.1) in
         omega arith
 
-    both_run : {first : ℕ} (t : Tree S) (ts : Trees S n) (W : Written) (s : State) → Leaves (side sheet a b first) W (λ s. turn t o s) o₁ (suc i) (suc j) s m m₁ → Leaves (side sheet a b first) (both_passes (suc i) (suc j) W) (λ s. in_turn turn ts o₁ s) o₂ (suc j) (suc e) (turn t o s).1 m₁ m₂ → Leaves (side sheet a b first) W (λ s. in_turn turn (t ∷ᵗ ts) o s) o₂ (suc i) (suc e) s m m₂
+    both_run : {first : ℕ} (t : Tree S) (ts : Trees S n) (W : Written) (s : State) → Leaves (side sheet a b first) W (λ s. turn t o s) o₁ (suc i) (suc j) s m m₁ → Leaves (side sheet a b first) (both_passes (suc i) (suc j) W) (λ s. in_turn turn ts o₁ s) o₂ (suc j) (suc e) (turn t o s).1 m₁ m₂ →
+        Leaves (side sheet a b first) W (λ s. in_turn turn (t ∷ᵗ ts) o s) o₂ (suc i) (suc e) s m m₂
     both_run t ts W s x y = let D = one_turn turn t ts o o₁ s x.gives in record { to = rw D (to_wider (sub_turns i j e p.moved.up q.moved.up) (to_then x.to y.to)); gives = ap (λ (z : Option ℕ × State). z.0) D ∙ y.gives }
 
     cons_run : {first : ℕ} (ts : Trees S (suc n)) → HeldOf sheet a b ts d i → (W : Written) (s : State) → Rep (side sheet a b first) W s m → BothBlank W (suc i) (suc e) → Leaves (side sheet a b first) W (λ s. in_turn turn ts o s) o₂ (suc i) (suc e) s m m₂
@@ -98,24 +97,22 @@ module _ {S : Sort} {sheet : Bytes} {a b : List ℕ} {d : ℕ} where
   behind i (t ∷ᵗ ts) p hd = record { trees = ts; are = rw (p t hd.0) hd.1 }
 
 module _ {S : Sort} {turn : Turn S} {sheet : Bytes} {a b : List ℕ} {d : ℕ} {Done : ℕ → Option ℕ → Mem → Type 0} where
-  pub child : {k i : ℕ} {o : Option ℕ} {m : Mem} → ((k ≡ 0) → ⊥) → Remaining S turn sheet a b d Done k i o m → HeldSome sheet a b S d i
-  child h p = first_of_law p.some.trees h p.some.are
+  pub child : {x n i : ℕ} {o : Option ℕ} {m : Mem} → x < n → Remaining S turn sheet a b d Done (n - x) i o m → HeldSome sheet a b S d i
+  child l p = first_of_law p.some.trees (λ e. absurd (omega arith)) p.some.are
 
   less : {k i : ℕ} {o : Option ℕ} {m : Mem} → Remaining S turn sheet a b d Done k i o m → Remaining S turn sheet a b d Done (suc k - 1) i o m
   less {k} p = let e : suc k - 1 ≡ k = omega arith in rw e p
 
-  pub again : {k i j : ℕ} {o o₁ : Option ℕ} {m m₁ : Mem} → ((k ≡ 0) → ⊥) → Remaining S turn sheet a b d Done k i o m → LowersTurn S turn sheet a b d i j o o₁ m m₁ → Remaining S turn sheet a b d Done (k - 1) j o₁ m₁
-  again {k = zero} h p q = absurd (h refl)
-  again {k = suc k} {i} h p q = less (record { some = behind i p.some.trees q.next p.some.are; ready = ready_after q.moved p.ready; stands = q.stands; finish = λ e o' m' r. p.finish e o' m' (cons_law S turn sheet a b d q r) })
+  next_one : {k i j : ℕ} {o o₁ : Option ℕ} {m m₁ : Mem} → ((k ≡ 0) → ⊥) → Remaining S turn sheet a b d Done k i o m → LowersTurn S turn sheet a b d i j o o₁ m m₁ → Remaining S turn sheet a b d Done (k - 1) j o₁ m₁
+  next_one {k = zero} h p q = absurd (h refl)
+  next_one {k = suc k} {i} h p q = less (record { some = behind i p.some.trees q.next p.some.are; ready = ready_after q.moved p.ready; stands = q.stands; finish = λ e o' m' r. p.finish e o' m' (cons_law S turn sheet a b d q r) })
 
-  pub done : {k i : ℕ} {o : Option ℕ} {m : Mem} → k ≡ 0 → Remaining S turn sheet a b d Done k i o m → Done i o m
-  done {k} {i} {o} {m} h p = p.finish i o m (rw h (nil_law S turn sheet a b d i o m p.ready.here p.stands))
+  pub again : {x n i j : ℕ} {o o₁ : Option ℕ} {m m₁ : Mem} → x < n → Remaining S turn sheet a b d Done (n - x) i o m → LowersTurn S turn sheet a b d i j o o₁ m m₁ → Remaining S turn sheet a b d Done (n - (x + 1)) j o₁ m₁
+  again {x} {n} l p q = let e : n - (x + 1) ≡ n - x - 1 = omega arith in rw e (next_one (λ z. absurd (omega arith)) p q)
 
--- before the first round, from nothing
-pub from_nothing : {S : Sort} {turn : Turn S} {sheet : Bytes} {a b : List ℕ} {d n i : ℕ} {m : Mem} → HeldMany sheet a b S n d i → Ready i m → Remaining S turn sheet a b d (λ e o m'. LowersTurns S turn sheet a b n d i e None o m m') n i (before_of before.Nothing) m
-unfolding before_of
-from_nothing x g = record { some = x; ready = g; stands = tt; finish = λ e o m' q. q }
+  pub done : {x n i : ℕ} {o : Option ℕ} {m : Mem} → n ≤ x → Remaining S turn sheet a b d Done (n - x) i o m → Done i o m
+  done {x} {n} {i} {o} {m} l p = let h : n - x ≡ 0 = omega arith in p.finish i o m (rw h (nil_law S turn sheet a b d i o m p.ready.here p.stands))
 
--- behind an operator
-pub from_one : {S : Sort} {turn : Turn S} {sheet : Bytes} {a b : List ℕ} {d n i : ℕ} {o₀ : Option ℕ} {m : Mem} → HeldMany sheet a b S n d i → Ready i m → Stands o₀ m → Remaining S turn sheet a b d (λ e o m'. LowersTurns S turn sheet a b n d i e o₀ o m m') n i o₀ m
-from_one x g st = record { some = x; ready = g; stands = st; finish = λ e o m' q. q }
+-- before the first round, behind an operator or none
+pub begun : {S : Sort} {turn : Turn S} {sheet : Bytes} {a b : List ℕ} {d n i : ℕ} {o₀ : Option ℕ} {m : Mem} → HeldMany sheet a b S n d i → Ready i m → Stands o₀ m → Remaining S turn sheet a b d (λ e o m'. LowersTurns S turn sheet a b n d i e o₀ o m m') (n - 0) i o₀ m
+begun {n = n} x g st = rw (sub-zero n) (record { some = x; ready = g; stands = st; finish = λ e o m' q. q })

@@ -10,13 +10,12 @@ use Rattle.model.specs.Text.{Bytes}
 use Rattle.model.specs.Kind.{ReadOp, clause, expr}
 use Rattle.model.specs.Tree.{Tree}
 use Rattle.model.specs.Lower.{Recs, ◌>>=◌, ret, push, op, or_source_all, map_var, lower_expr, lower_clause}
-use Rattle.words.specs.Words.{cell}
+use Rattle.words.specs.Words.{Roomy, cell}
 use Rattle.words.specs.Held.{Held}
 use Rattle.words.specs.Places.{unwind_kind, unwind_var_at}
 use Rattle.context.specs.Tables.{Pushed, Numbers}
-use Rattle.context.specs.Ops.{before_of, unwind_op}
+use Rattle.context.specs.Ops.{unwind_op}
 use Rattle.context.specs.declared.At.{At}
-use Rattle.context.specs.declared.Before.{Before}
 use Rattle.context.specs.declared.LowerCtx.{LowerCtx}
 use Rattle.context.specs.declared.Numbered.{Numbered}
 use Rattle.lower.specs.Side.{side}
@@ -33,8 +32,8 @@ use Rattle.projections.specs.Passes.{sub_first}
 use Rattle.clauses.proofs.Opened.{an_unwind}
 use Rattle.clauses.proofs.Matching.{leaves}
 
-pub some_list : {a b : List ℕ} {at : At} {current : Before} {m : Mem} → ClauseAsked unwind_kind a b at current m → SomeTree a b expr (at.left - 1) (at.i + 1)
-some_list g = let v = an_unwind g.words g.tree.tree g.tree.held g.kind in record { sheet = g.tree.sheet; tree = v.tree; held = v.held }
+pub some_list : {a b : List ℕ} {at : At} {current : Option ℕ} {m : Mem} → Roomy a b → ClauseAsked unwind_kind a b at current m → SomeTree a b expr (at.left - 1) (at.i + 1)
+some_list room g = let v = an_unwind room g.tree.tree g.tree.held g.kind in record { sheet = g.tree.sheet; tree = v.tree; held = v.held }
 
 unwind_is : (k k' x x' : ℕ) (rs rs' : Recs) → k ≡ k' → x ≡ x' → rs ≡ rs' → ◌≡◌ {A = Recs} (op ReadOp.Unwind (k', (x', tt)) ∷ rs') (op ReadOp.Unwind (k, (x, tt)) ∷ rs)
 unwind_is k k' x x' rs rs' e e' e'' = rw (e, e', e'')
@@ -57,17 +56,17 @@ module _ (id : ℕ) (tree : Tree expr) (o : Option ℕ) (s : State) where
   unfolding ◌>>=◌ push ret
   unwind_def = refl
 
-module _ {a b : List ℕ} {at : At} {current : Before} {k e : ℕ} {c : LowerCtx} {os rest₃ : List ℕ} {r₃ : Numbered} {m m₁ m₂ : Mem}
-    (asked : ClauseAsked unwind_kind a b at current m)
-    (sr : OrSource m.ctx.ops (or_source_all (before_of current)) k m m₁)
+module _ {a b : List ℕ} {at : At} {current : Option ℕ} {k e : ℕ} {c : LowerCtx} {os rest₃ : List ℕ} {r₃ : Numbered} {m m₁ m₂ : Mem}
+    (room : Roomy a b) (asked : ClauseAsked unwind_kind a b at current m)
+    (sr : OrSource m.ctx.ops (or_source_all current) k m m₁)
     (x : LowersExpr a b (at.left - 1) 0 (at.i + 1) e m₁ m₂)
     (nm : Numbers (map_var (cell a b at.i unwind_var_at)) (at.i + 1) m₂.ctx m₂.rest rest₃ r₃) (lr : length rest₃ ≡ length m₂.rest)
     (pu : Pushed r₃.ctx c m₂.ops os (unwind_op (at_place 0 (at.i + 1) (at.left - 1)) k r₃.number)) (lo : length os ≡ length m₂.ops) where
-  unwind_run : (sheet : Bytes) {first : ℕ} (t : Tree clause) → Held sheet a b t at.left at.i → (W : Written) (s : State) → Rep (side sheet a b first) W s m → BothBlank W (suc at.i) (suc e) → Leaves (side sheet a b first) W (λ s. lower_clause t (before_of current) s) (Some r₃.ctx.ops) (suc at.i) (suc e) s m (mem c os rest₃)
+  unwind_run : (sheet : Bytes) {first : ℕ} (t : Tree clause) → Held sheet a b t at.left at.i → (W : Written) (s : State) → Rep (side sheet a b first) W s m → BothBlank W (suc at.i) (suc e) → Leaves (side sheet a b first) W (λ s. lower_clause t current s) (Some r₃.ctx.ops) (suc at.i) (suc e) s m (mem c os rest₃)
   unwind_run sheet {first} t hd W s r bl =
-      let v = an_unwind asked.words t hd asked.kind in
+      let v = an_unwind room t hd asked.kind in
       let sh = asked.depth in
-      let o : Option ℕ = before_of current in
+      let o : Option ℕ = current in
       let id : ℕ = cell a b at.i unwind_var_at in
       let up = x.moved.up in
       let ep : at.i + 1 ≡ suc at.i = omega arith in
@@ -90,7 +89,7 @@ module _ {a b : List ℕ} {at : At} {current : Before} {k e : ℕ} {c : LowerCtx
       let u : Sub ((suc at.i, suc at.i + 1) ∷ W₂) (both_passes (suc at.i) (suc e) W) = sub_within (le_refl _) (omega arith) (sub_first (omega arith) (omega arith)) in
       leaves t o r₃.ctx.ops s (push recs s₃).1 (v.lower o s ∙ unwind_def id v.tree o s ∙ ap (λ (q : ℕ). (Some q, (push recs s₃).1)) (sym g.to.rep.count)) (to_then z.to (to_then y.to (to_then g.to w))) u
 
-  pub unwind_law : (sheet : Bytes) → LowersClause sheet a b at.left at.i e (before_of current) (Some r₃.ctx.ops) m (mem c os rest₃)
+  pub unwind_law : (sheet : Bytes) → LowersClause sheet a b at.left at.i e current (Some r₃.ctx.ops) m (mem c os rest₃)
   unwind_law sheet =
       let v = x.moved in
       let n = nm.issued in
@@ -107,6 +106,6 @@ module _ {a b : List ℕ} {at : At} {current : Before} {k e : ℕ} {c : LowerCtx
           index = λ z. rw pu.mapped (n.index (v.index (rw (sr.mapped, sr.rest) z)));
         };
         stands = omega (arith, pu.count);
-        next = λ t hd. (let w = an_unwind asked.words t hd asked.kind in let y = x.next sheet w.tree w.held in let z = w.sized in omega arith);
+        next = λ t hd. (let w = an_unwind room t hd asked.kind in let y = x.next sheet w.tree w.held in let z = w.sized in omega arith);
         run = unwind_run sheet;
       }

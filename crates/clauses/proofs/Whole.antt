@@ -12,7 +12,7 @@ use Rattle.model.specs.Kind.{statement, clause, union_arm}
 use Rattle.model.specs.Tree.{Tree, Trees}
 use Rattle.model.specs.Lower.{lower_clauses, lower_arms, empty, lower_statement}
 use Rattle.model.specs.Lower
-use Rattle.words.specs.Words.{cell}
+use Rattle.words.specs.Words.{Roomy, cell}
 use Rattle.words.specs.Places.{stmt_clauses_at, stmt_arms_at}
 use Rattle.words.specs.Held.{Held, HeldMany, size}
 use Rattle.context.specs.Tables.{vars_of, vars_at}
@@ -36,12 +36,12 @@ use Rattle.clauses.proofs.Turning.{clauses_turns, arms_turns}
 whole_def : {n n' : ℕ} (cs : Trees clause n) (arms : Trees union_arm n') (o : Option ℕ) (s : State) → (in_turn clause_turn cs None s).0 ≡ o → lower_arms arms (lower_clauses cs None s).0 (lower_clauses cs None s).1 ≡ in_turn arm_turn arms o (in_turn clause_turn cs None s).1
 whole_def cs arms o s e = rw (clauses_turns cs None s, e, arms_turns arms o (in_turn clause_turn cs None s).1)
 
-module _ {sheet : Bytes} {a b : List ℕ} {d : ℕ} {m : Mem} (g : StatementAsked sheet a b d m) where
+module _ {sheet : Bytes} {a b : List ℕ} {d : ℕ} {m : Mem} (room : Roomy a b) (g : StatementAsked sheet a b d m) where
   pub some_clauses : {n : ℕ} → n ≡ cell a b 0 stmt_clauses_at → HeldMany sheet a b clause n (d - 1) 1
-  some_clauses en = let v = a_statement g.words g.held.tree g.held.is in rw (en ∙ sym v.many) (record { trees = v.clauses; are = v.held_clauses })
+  some_clauses en = let v = a_statement room g.held.tree g.held.is in rw (en ∙ sym v.many) (record { trees = v.clauses; are = v.held_clauses })
 
   pub deep : 1 ≤ d
-  deep = (a_statement g.words g.held.tree g.held.is).deep
+  deep = (a_statement room g.held.tree g.held.is).deep
 
   module _ {n j : ℕ} {o : Option ℕ} {m₁ : Mem} (en : n ≡ cell a b 0 stmt_clauses_at) (cl : LowersClauses sheet a b n (d - 1) 1 j None o m m₁) where
     clauses_as : (t : Tree statement) (v : IsStatement sheet a b d t) → LowersClauses sheet a b v.n (d - 1) 1 j None o m m₁
@@ -49,7 +49,7 @@ module _ {sheet : Bytes} {a b : List ℕ} {d : ℕ} {m : Mem} (g : StatementAske
 
     pub some_arms : {n' : ℕ} → n' ≡ cell a b 0 stmt_arms_at → HeldMany sheet a b union_arm n' (d - 1) j
     some_arms en' =
-        let v = a_statement g.words g.held.tree g.held.is in
+        let v = a_statement room g.held.tree g.held.is in
         rw (en' ∙ sym v.armed, (clauses_as g.held.tree v).next v.clauses v.held_clauses) (record { trees = v.arms; are = v.held_arms })
 
     module _ {n' e : ℕ} {o' : Option ℕ} {m₂ : Mem} (en' : n' ≡ cell a b 0 stmt_arms_at) (ar : LowersArms sheet a b n' (d - 1) j e o o' m₁ m₂) where
@@ -58,7 +58,7 @@ module _ {sheet : Bytes} {a b : List ℕ} {d : ℕ} {m : Mem} (g : StatementAske
 
       from_next : (t : Tree statement) → Held sheet a b t d 0 → e ≡ size t
       from_next t hd =
-          let v = a_statement g.words t hd in
+          let v = a_statement room t hd in
           let x = (clauses_as t v).next v.clauses v.held_clauses in
           let y = (arms_as t v).next v.arms (rw x v.held_arms) in
           let z = v.sized in
@@ -66,7 +66,7 @@ module _ {sheet : Bytes} {a b : List ℕ} {d : ℕ} {m : Mem} (g : StatementAske
 
       from_run : {first : ℕ} (t : Tree statement) → Held sheet a b t d 0 → (W : Written) (s : State) → Rep (side sheet a b first) W s m → BothBlank W (suc 1) (suc e) → Leaves (side sheet a b first) W (λ s. Lower.lower t s) o' (suc 1) (suc e) s m m₂
       from_run t hd W s r bl =
-          let v = a_statement g.words t hd in
+          let v = a_statement room t hd in
           let u = cl.moved.up in
           let u' = ar.moved.up in
           let x = (clauses_as t v).run v.clauses v.held_clauses W s r (both_within (omega arith) (omega arith) bl) in
@@ -92,10 +92,6 @@ start = record { ops = 0; numbers = 0; mapped = 0 }
 -- with no variables there is room for a statement, also behind another one
 pub start_ready : (c : LowerCtx) (os rs : List ℕ) → c.ops ≤ max_start → c.numbers ≤ max_start → work_words ≤ length os → work_words ≤ length rs → Ready 1 (mem (forgetting c) os rs)
 start_ready c os rs lc ln lo lr = record { few = omega arith; low = omega arith; met = omega arith; here = omega arith; in_ops = lo; in_rest = lr; index = none_indexed (drop vars_at rs) }
-
--- so behind one statement from nothing, over tables of its own
-pub ready_behind : {sheet : Bytes} {a b : List ℕ} {d e : ℕ} {o : Option ℕ} {os rs : List ℕ} {m : Mem} (os' rs' : List ℕ) → LowersFrom sheet a b d e o (mem start os rs) m → work_words ≤ length os' → work_words ≤ length rs' → Ready 1 (mem (forgetting m.ctx) os' rs')
-ready_behind {m = m} os' rs' p lo lr = let v = p.moved in start_ready m.ctx os' rs' (omega (arith, v.few, v.here)) (omega (arith, v.low, v.here)) lo lr
 
 -- Tables of another sheet, whatever they hold, stand for a state without its variables: the operators that they hold begin behind those that there are.
 pub begins : (sheet : Bytes) (a b os rs : List ℕ) {S : Side} {W : Written} {s : State} {m : Mem} → Rep S W s m → Rep (side sheet a b m.ctx.ops) [] (forget s) (mem (forgetting m.ctx) os rs)

@@ -25,6 +25,7 @@ use Rattle.lower.specs.Render.{render, recs_over}
 use Rattle.lower.specs.Rep.{State, Mem, mem, Written, Sub, Blank, Rep, Ran}
 use Rattle.lower.specs.State.{sub_more, sub_within, blank_within, blank_behind, back, to_refl, to_then, to_wider, Given, number_to}
 use Rattle.lower.specs.Exprs.{narrow, moved_refl}
+use Rattle.clauses.specs.Asked.{YieldsAsked}
 use Rattle.clauses.specs.Steps.{yields_piece, SomeYields, LowersYields}
 
 pub yields_size : {n : ℕ} (ts : Trees yield_item n) → size_of ts ≡ n
@@ -100,9 +101,9 @@ module _ {a b : List ℕ} {Done : ℕ → LowerCtx → List ℕ → Type 0} wher
   less : {k i : ℕ} {c : LowerCtx} {rest : List ℕ} → Remaining a b Done k i c rest → Remaining a b Done (suc k - 1) i c rest
   less {k} p = let e : suc k - 1 ≡ k = omega arith in rw e p
 
-  pub again : {k i : ℕ} {c : LowerCtx} {rest rest₁ : List ℕ} {r : Numbered} → Roomy a b → ((k ≡ 0) → ⊥) → Remaining a b Done k i c rest → Numbers (map_var (cell a b i yield_var_at)) (i + 1) c rest rest₁ r → length rest₁ ≡ length rest → Remaining a b Done (k - 1) (i + 1) r.ctx rest₁
-  again {k = zero} room h p nm lr = absurd (h refl)
-  again {k = suc k} {i} room h p nm lr =
+  next_one : {k i : ℕ} {c : LowerCtx} {rest rest₁ : List ℕ} {r : Numbered} → Roomy a b → ((k ≡ 0) → ⊥) → Remaining a b Done k i c rest → Numbers (map_var (cell a b i yield_var_at)) (i + 1) c rest rest₁ r → length rest₁ ≡ length rest → Remaining a b Done (k - 1) (i + 1) r.ctx rest₁
+  next_one {k = zero} room h p nm lr = absurd (h refl)
+  next_one {k = suc k} {i} room h p nm lr =
       let f = p.fits in
       less (record {
         some = behind i p.some.sheet p.some.depth p.some.trees p.some.held;
@@ -114,5 +115,16 @@ module _ {a b : List ℕ} {Done : ℕ → LowerCtx → List ℕ → Type 0} wher
         finish = λ e c' rest' q. p.finish e c' rest' (λ os. cons_law room nm lr (q os) (omega arith));
       })
 
-  pub done : {k i : ℕ} {c : LowerCtx} {rest : List ℕ} → k ≡ 0 → Remaining a b Done k i c rest → Done i c rest
-  done {k} {i} {c} {rest} h p = let f = p.fits in p.finish i c rest (λ os. rw h (nil_law a b i (mem c os rest) (omega arith)))
+  pub again : {n i : ℕ} {c : LowerCtx} {rest rest₁ : List ℕ} {r : Numbered} → Roomy a b → i < n → Remaining a b Done (n - i) i c rest → Numbers (map_var (cell a b i yield_var_at)) (i + 1) c rest rest₁ r → length rest₁ ≡ length rest → Remaining a b Done (n - (i + 1)) (i + 1) r.ctx rest₁
+  again {n} {i} room l p nm lr = let e : n - (i + 1) ≡ n - i - 1 = omega arith in rw e (next_one room (λ z. absurd (omega arith)) p nm lr)
+
+  pub done : {n i : ℕ} {c : LowerCtx} {rest : List ℕ} → i ≤ n → n ≤ i → Remaining a b Done (n - i) i c rest → Done n c rest
+  done {n} {i} {c} {rest} l h p =
+      let f = p.fits in
+      let z : n - i ≡ 0 = omega arith in
+      let e : n ≡ i = omega arith in
+      rw e (p.finish i c rest (λ os. rw z (nil_law a b i (mem c os rest) (omega arith))))
+
+-- before the first one
+pub begun : {a b : List ℕ} {n i : ℕ} {c : LowerCtx} {rest : List ℕ} → YieldsAsked a b n i c rest → Remaining a b (λ e c' rest'. (os : List ℕ) → LowersYields a b n i e (mem c os rest) (mem c' os rest')) (i + n - i) i c rest
+begun {n = n} {i} g = let e : i + n - i ≡ n = omega arith in rw e (record { some = g.some; fits = g.fits; met = g.met; low = g.low; in_rest = g.in_rest; index = g.index; finish = λ e c' rest' q. q })

@@ -1,24 +1,22 @@
 -- What the functions that lower clauses, arms and statements ask, by name. Assumes nothing: these are definitions.
-use Rattle.std.specs.Prelude.{◌≡◌, ℕ, ◌+◌, ◌≤◌, ◌<◌, List, length, drop}
+use Rattle.std.specs.Prelude.{◌≡◌, ℕ, ◌+◌, ◌≤◌, ◌<◌, List, length, drop, Option}
 use Rattle.model.specs.Call.{work_words}
 use Rattle.model.specs.Text.{Bytes}
 use Rattle.model.specs.Kind.{Sort, clause}
-use Rattle.words.specs.Words.{Roomy, cell, max_records, two32}
+use Rattle.words.specs.Words.{cell, max_records, two32}
 use Rattle.words.specs.Places.{write_kind, kind_at}
 use Rattle.words.specs.Held.{HeldSome, HeldMany}
 use Rattle.context.specs.Tables.{vars_at, max_vars, max_count, Indexed, CanPush, deepest}
 use Rattle.context.specs.Ops.{Under}
 use Rattle.context.specs.declared.At.{At}
-use Rattle.context.specs.declared.Before.{Before}
 use Rattle.context.specs.declared.LowerCtx.{LowerCtx}
 use Rattle.lower.specs.Rep.{Mem}
-use Rattle.lower.specs.declared.Root.{Root}
+use Rattle.lower.specs.declared.Lowered.{Lowered}
 use Rattle.projections.specs.Ready.{Ready}
 use Rattle.clauses.specs.Steps.{SomeYields}
 
 -- the clause at a place, which reads, of any kind
-pub record ReadingAsked (sheet : Bytes) (a b : List ℕ) (at : At) (current : Before) (m : Mem) : Type 0 where
-  pub words : Roomy a b
+pub record ReadingAsked (sheet : Bytes) (a b : List ℕ) (at : At) (current : Option ℕ) (m : Mem) : Type 0 where
   pub held : HeldSome sheet a b clause at.left at.i
   pub reads : (cell a b at.i kind_at ≡ write_kind) → ⊥
   pub ready : Ready at.i m
@@ -26,24 +24,21 @@ pub record ReadingAsked (sheet : Bytes) (a b : List ℕ) (at : At) (current : Be
   pub stands : Under current m.ctx.ops
 
 -- the `match` at record i, whose parts have their root, and an operator or none to join it with
-pub record JoinAsked (root : Root) (current : Before) (optional i : ℕ) (ops : List ℕ) : Type 0 where
+pub record JoinAsked (root : Lowered ℕ) (current : Option ℕ) (i : ℕ) (ops : List ℕ) : Type 0 where
   pub push : CanPush root.ctx ops
   pub low : root.op < root.ctx.ops
   pub stands : Under current two32
   pub here : i < max_records
-  pub flag : optional ≤ 1
 
 -- the tree of a sort at record i, behind an operator or none
-pub record TurnAsked (s : Sort) (sheet : Bytes) (a b : List ℕ) (d i : ℕ) (current : Before) (m : Mem) : Type 0 where
-  pub words : Roomy a b
+pub record TurnAsked (s : Sort) (sheet : Bytes) (a b : List ℕ) (d i : ℕ) (current : Option ℕ) (m : Mem) : Type 0 where
   pub held : HeldSome sheet a b s d i
   pub ready : Ready i m
   pub depth : d ≤ deepest
   pub stands : Under current m.ctx.ops
 
 -- so n trees from record i on
-pub record TurnsAsked (s : Sort) (sheet : Bytes) (a b : List ℕ) (n d i : ℕ) (current : Before) (m : Mem) : Type 0 where
-  pub words : Roomy a b
+pub record TurnsAsked (s : Sort) (sheet : Bytes) (a b : List ℕ) (n d i : ℕ) (current : Option ℕ) (m : Mem) : Type 0 where
   pub held : HeldMany sheet a b s n d i
   pub ready : Ready i m
   pub depth : d ≤ deepest
@@ -51,7 +46,6 @@ pub record TurnsAsked (s : Sort) (sheet : Bytes) (a b : List ℕ) (n d i : ℕ) 
 
 -- n yields from record i on
 pub record YieldsAsked (a b : List ℕ) (n i : ℕ) (c : LowerCtx) (rest : List ℕ) : Type 0 where
-  pub words : Roomy a b
   pub some : SomeYields a b n i
   pub fits : i + n ≤ max_records
   pub met : c.mapped + n ≤ max_vars

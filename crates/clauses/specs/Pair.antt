@@ -1,5 +1,5 @@
 -- What the lowering of two statements into one plan asks and promises. Assumes nothing: these are definitions.
-use Rattle.std.specs.Prelude.{◌≡◌, ℕ, ◌+◌, ◌≤◌, ◌<◌, Bool, List, [], ◌∷◌, eqb, length, Option}
+use Rattle.std.specs.Prelude.{◌≡◌, ℕ, ◌+◌, ◌≤◌, ◌<◌, Bool, List, [], ◌∷◌, length, Option}
 use Rattle.model.specs.Call.{work_words, max_depth}
 use Rattle.model.specs.Text.{Bytes}
 use Rattle.model.specs.Kind.{ReadOp, statement}
@@ -33,7 +33,6 @@ pub record UniteAsked (both : Operands) (i : ℕ) (c : LowerCtx) (ops : List ℕ
   pub left : Under both.left c.ops
   pub right : Under both.right c.ops
   pub here : i < max_records
-  pub flag : both.all ≤ 1
 
 -- L leaves operator k, the last one, with at most three more than there were, and no number and no variable more
 pub record Unites (L : Lowering ℕ) (k : ℕ) (m m' : Mem) : Type 0 where
@@ -49,10 +48,9 @@ pub record Unites (L : Lowering ℕ) (k : ℕ) (m m' : Mem) : Type 0 where
 -- ── two statements ──
 
 -- a statement on each side, and tables for each
-pub record PairAsked (left : Bytes) (la lb lops lrest : List ℕ) (right : Bytes) (ra rb rops rrest : List ℕ) (all : ℕ) : Type 0 where
+pub record PairAsked (left : Bytes) (la lb lops lrest : List ℕ) (right : Bytes) (ra rb rops rrest : List ℕ) : Type 0 where
   pub on_left : WholeAsked left la lb lops lrest
   pub on_right : WholeAsked right ra rb rops rrest
-  pub flag : all ≤ 1
 
 -- The tables of two sheets stand for the state s: those of the left for its operators before the right's first, as they were when the left was lowered, and those of the right for the others, the counts and the variables.
 pub record TwoTables (left : Bytes) (la lb lops lrest : List ℕ) (right : Bytes) (ra rb : List ℕ) (first : ℕ) (s : State) (m : Mem) : Type 0 where
@@ -66,10 +64,10 @@ pub record TwoTables (left : Bytes) (la lb lops lrest : List ℕ) (right : Bytes
   pub on_right : Rep (side right ra rb first) right_written s m
 
 -- the statements that are held are lowered, the left one from nothing, and the counts stay within the tables' bounds
-pub record LowersPair (left : Bytes) (la lb lops lrest : List ℕ) (right : Bytes) (ra rb : List ℕ) (all first : ℕ) (m : Mem) : Type 0 where
+pub record LowersPair (left : Bytes) (la lb lops lrest : List ℕ) (right : Bytes) (ra rb : List ℕ) (all : Bool) (first : ℕ) (m : Mem) : Type 0 where
   pub met : m.ctx.mapped ≤ max_vars
   pub left_ops : work_words ≤ length lops
   pub left_rest : work_words ≤ length lrest
   pub in_ops : work_words ≤ length m.ops
   pub in_rest : work_words ≤ length m.rest
-  pub run : (t u : Tree statement) → Held left la lb t max_depth 0 → Held right ra rb u max_depth 0 → TwoTables left la lb lops lrest right ra rb first (lower_pair t u (eqb all 1)) m
+  pub run : (t u : Tree statement) → Held left la lb t max_depth 0 → Held right ra rb u max_depth 0 → TwoTables left la lb lops lrest right ra rb first (lower_pair t u all) m

@@ -5,7 +5,7 @@ use Rattle.model.specs.Text.{Bytes}
 use Rattle.model.specs.Kind.{statement}
 use Rattle.model.specs.Tree.{Tree}
 use Rattle.model.specs.Lower.{lower, lower_statement}
-use Rattle.words.specs.Words.{Roomy, max_records}
+use Rattle.words.specs.Words.{max_records}
 use Rattle.words.specs.Held.{Held, HeldSome, size}
 use Rattle.context.specs.Tables.{max_vars, deepest}
 use Rattle.context.specs.declared.LowerCtx.{LowerCtx}
@@ -28,7 +28,6 @@ forgetting c = record { ops = c.ops; numbers = c.numbers; mapped = 0 }
 
 -- a statement is held, at most d deep, and there is room
 pub record StatementAsked (sheet : Bytes) (a b : List ℕ) (d : ℕ) (m : Mem) : Type 0 where
-  pub words : Roomy a b
   pub held : HeldSome sheet a b statement d 0
   pub ready : Ready 1 m
   pub depth : d ≤ deepest
@@ -44,7 +43,6 @@ pub record LowersFrom (sheet : Bytes) (a b : List ℕ) (d e : ℕ) (after : Opti
 
 -- a statement is held, and the tables' slices are long enough
 pub record WholeAsked (sheet : Bytes) (a b ops rest : List ℕ) : Type 0 where
-  pub words : Roomy a b
   pub held : HeldSome sheet a b statement max_depth 0
   pub in_ops : work_words ≤ length ops
   pub in_rest : work_words ≤ length rest

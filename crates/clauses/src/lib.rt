@@ -1,87 +1,78 @@
 // The lowering of a whole statement: its clauses one after another, then its union arms, over the tables of crate context.
+//
+// The sheet, its records and the tables are lent one by one, as the crates below take them. In one struct, lent to be written, they would be no plainer: each function would have to promise that the struct's references stay what they were, as `pair::lower_union_pair` does.
 #![tactic(auto)]
 
 ghost use Rattle.std.specs.Prelude.{◌-◌, None};
 ghost use Rattle.model.specs.Kind.{union_arm, clause};
-ghost use Rattle.context.specs.Ops.{before_of};
 ghost use Rattle.lower.specs.Rep.{mem};
 ghost use Rattle.lower.specs.Clauses.{LowersClause};
 ghost use Rattle.clauses.specs.Asked.{TurnAsked, TurnsAsked};
 ghost use Rattle.clauses.specs.Steps.{LowersClauses, LowersArm, LowersArms};
 ghost use Rattle.clauses.specs.Statement.{StatementAsked, LowersFrom, WholeAsked, LowersStatement};
 
-use context::{At, Before, LowerCtx, op};
-use words::{field, kind};
+use crate::pair::Operands;
+use context::{At, LowerCtx};
+use lower::Current;
+use words::{Records, field, kind};
 
 pub mod pair;
 pub mod reading;
 
-// The record behind what is lowered, the operator that it leaves, if it leaves one, and the state.
-#[derive(Clone, Copy)]
-pub struct Current {
-    pub next: usize,
-    pub op: Before,
-    pub ctx: LowerCtx,
-}
+// No operators, no numbers and no variables.
+const EMPTY: LowerCtx = LowerCtx {
+    ops: 0,
+    numbers: 0,
+    mapped: 0,
+};
 
 // The next clause, behind the operator that cur has; a clause that writes leaves that one.
 fn lower_clause(
     sheet: &[u8],
-    a: &[u32],
-    b: &[u32],
+    r: &Records<'_>,
     ops: &mut [u32],
     rest: &mut [u32],
     cur: Current,
     left: usize,
 ) -> Current
-    requires { TurnAsked clause sheet.now a.now b.now left cur.next cur.op (mem cur.ctx ops.old rest.old) }
-    ensures { LowersClause sheet.now a.now b.now left cur.next result.next (before_of cur.op) (before_of result.op) (mem cur.ctx ops.old rest.old) (mem result.ctx ops.new rest.new) }
+    requires { TurnAsked clause sheet.now r.now.a.now r.now.b.now left cur.next cur.op (mem cur.ctx ops.old rest.old) }
+    ensures { LowersClause sheet.now r.now.a.now r.now.b.now left cur.next result.next cur.op result.op (mem cur.ctx ops.old rest.old) (mem result.ctx ops.new rest.new) }
 {
     let i = cur.next;
-    let c = cur.ctx;
-    let current = cur.op;
-    let kind = words::word(a, b, i, field::KIND);
+    let kind = r.word(i, field::KIND);
     if kind == kind::WRITE {
-        return Current {
-            next: i + 1,
-            op: current,
-            ctx: c,
-        };
+        let next = i + 1;
+        return Current { next, ..cur };
     }
     let at = At { base: 0, i, left };
-    let r = reading::lower_reading_clause(sheet, a, b, ops, rest, c, current, at);
-    let d = r.ctx;
+    let s = reading::lower_reading_clause(sheet, r, ops, rest, cur.ctx, cur.op, at);
     Current {
-        next: r.next,
-        op: Before::Op(r.op),
-        ctx: d,
+        next: s.next,
+        op: Some(s.op),
+        ctx: s.ctx,
     }
 }
 
 // The n clauses from a place on, from no operator.
 fn lower_clauses(
     sheet: &[u8],
-    a: &[u32],
-    b: &[u32],
+    r: &Records<'_>,
     ops: &mut [u32],
     rest: &mut [u32],
     ctx: LowerCtx,
     at: At,
     n: usize,
 ) -> Current
-    requires { TurnsAsked clause sheet.now a.now b.now n at.left at.i Before.Nothing (mem ctx ops.old rest.old) }
-    ensures { LowersClauses sheet.now a.now b.now n at.left at.i result.next None (before_of result.op) (mem ctx ops.old rest.old) (mem result.ctx ops.new rest.new) }
+    requires { TurnsAsked clause sheet.now r.now.a.now r.now.b.now n at.left at.i None (mem ctx ops.old rest.old) }
+    ensures { LowersClauses sheet.now r.now.a.now r.now.b.now n at.left at.i result.next None result.op (mem ctx ops.old rest.old) (mem result.ctx ops.new rest.new) }
 {
     let mut cur = Current {
         next: at.i,
-        op: Before::Nothing,
+        op: None,
         ctx,
     };
-    let mut m = n;
-    while m != 0 {
-        let s = lower_clause(sheet, a, b, ops, rest, cur, at.left);
-        cur = s;
-        m -= 1;
+    for _ in 0..n {
+        cur = lower_clause(sheet, r, ops, rest, cur, at.left);
     }
     cur
 }
@@ -89,104 +80,85 @@ fn lower_clauses(
 // The arm behind root, which is the union's left operand: what its clauses leave is the right one.
 fn lower_arm(
     sheet: &[u8],
-    a: &[u32],
-    b: &[u32],
+    r: &Records<'_>,
     ops: &mut [u32],
     rest: &mut [u32],
     root: Current,
     left: usize,
 ) -> Current
-    requires { TurnAsked union_arm sheet.now a.now b.now left root.next root.op (mem root.ctx ops.old rest.old) }
-    ensures { LowersArm sheet.now a.now b.now left root.next result.next (before_of root.op) (before_of result.op) (mem root.ctx ops.old rest.old) (mem result.ctx ops.new rest.new) }
+    requires { TurnAsked union_arm sheet.now r.now.a.now r.now.b.now left root.next root.op (mem root.ctx ops.old rest.old) }
+    ensures { LowersArm sheet.now r.now.a.now r.now.b.now left root.next result.next root.op result.op (mem root.ctx ops.old rest.old) (mem result.ctx ops.new rest.new) }
 {
     let i = root.next;
-    let all = words::word(a, b, i, field::ARM_ALL);
-    let n = words::records::count(a, b, i, field::ARM_CLAUSES);
-    let c = root.ctx;
-    let left_op = root.op;
-    let first = i + 1;
-    let less = left - 1;
-    let at = At {
+    let all = r.word(i, field::ARM_ALL) == 1;
+    let n = r.count(i, field::ARM_CLAUSES);
+    let first = At {
         base: 0,
-        i: first,
-        left: less,
+        i: i + 1,
+        left: left - 1,
     };
-    let below = lower_clauses(sheet, a, b, ops, rest, c, at, n);
-    let d = below.ctx;
-    let q = lower::or_source_all(ops, d, left_op, below.next);
-    let e = q.ctx;
-    let right_op = below.op;
-    let r = lower::or_source_all(ops, e, right_op, below.next);
-    let f = r.ctx;
-    let k = f.ops;
-    let z = f.push(ops, op::union(i, q.op, r.op, all));
+    let below = lower_clauses(sheet, r, ops, rest, root.ctx, first, n);
+    let both = Operands {
+        left: root.op,
+        right: below.op,
+        all,
+    };
+    let z = pair::unite(ops, below.ctx, both, i);
     Current {
         next: below.next,
-        op: Before::Op(k),
-        ctx: z,
+        op: Some(z.op),
+        ctx: z.ctx,
     }
 }
 
-// The n arms behind head.
+// So many arms behind head. The loop is `lower_clauses`'s over another step; one function for both would take the step as a closure with a contract of its own, and be longer than the two.
 fn lower_arms(
     sheet: &[u8],
-    a: &[u32],
-    b: &[u32],
+    r: &Records<'_>,
     ops: &mut [u32],
     rest: &mut [u32],
     head: Current,
-    n: usize,
+    arms: usize,
     left: usize,
 ) -> Current
-    requires { TurnsAsked union_arm sheet.now a.now b.now n left head.next head.op (mem head.ctx ops.old rest.old) }
-    ensures { LowersArms sheet.now a.now b.now n left head.next result.next (before_of head.op) (before_of result.op) (mem head.ctx ops.old rest.old) (mem result.ctx ops.new rest.new) }
+    requires { TurnsAsked union_arm sheet.now r.now.a.now r.now.b.now arms left head.next head.op (mem head.ctx ops.old rest.old) }
+    ensures { LowersArms sheet.now r.now.a.now r.now.b.now arms left head.next result.next head.op result.op (mem head.ctx ops.old rest.old) (mem result.ctx ops.new rest.new) }
 {
     let mut root = head;
-    let mut arms = n;
-    while arms != 0 {
-        let s = lower_arm(sheet, a, b, ops, rest, root, left);
-        root = s;
-        arms -= 1;
+    for _ in 0..arms {
+        root = lower_arm(sheet, r, ops, rest, root, left);
     }
     root
 }
 
-// The statement that a and b hold, of at most a depth, from any state on.
+// The statement that r holds, of at most a depth, from any state on.
 pub fn lower_from(
     sheet: &[u8],
-    a: &[u32],
-    b: &[u32],
+    r: &Records<'_>,
     ops: &mut [u32],
     rest: &mut [u32],
     ctx: LowerCtx,
     depth: usize,
 ) -> Current
-    requires { StatementAsked sheet.now a.now b.now depth (mem ctx ops.old rest.old) }
-    ensures { LowersFrom sheet.now a.now b.now depth result.next (before_of result.op) (mem ctx ops.old rest.old) (mem result.ctx ops.new rest.new) }
+    requires { StatementAsked sheet.now r.now.a.now r.now.b.now depth (mem ctx ops.old rest.old) }
+    ensures { LowersFrom sheet.now r.now.a.now r.now.b.now depth result.next result.op (mem ctx ops.old rest.old) (mem result.ctx ops.new rest.new) }
 {
-    let clauses = words::records::count(a, b, 0, field::STMT_CLAUSES);
-    let arms = words::records::count(a, b, 0, field::STMT_ARMS);
+    let clauses = r.count(0, field::STMT_CLAUSES);
+    let arms = r.count(0, field::STMT_ARMS);
     let less = depth - 1;
     let at = At {
         base: 0,
         i: 1,
         left: less,
     };
-    let head = lower_clauses(sheet, a, b, ops, rest, ctx, at, clauses);
-    lower_arms(sheet, a, b, ops, rest, head, arms, less)
+    let head = lower_clauses(sheet, r, ops, rest, ctx, at, clauses);
+    lower_arms(sheet, r, ops, rest, head, arms, less)
 }
 
-// The statement that a and b hold, into empty tables.
-pub fn lower(sheet: &[u8], a: &[u32], b: &[u32], ops: &mut [u32], rest: &mut [u32]) -> LowerCtx
-    requires { WholeAsked sheet.now a.now b.now ops.old rest.old }
-    ensures { LowersStatement sheet.now a.now b.now (mem result ops.new rest.new) }
+// The statement that r holds, into empty tables.
+pub fn lower(sheet: &[u8], r: &Records<'_>, ops: &mut [u32], rest: &mut [u32]) -> LowerCtx
+    requires { WholeAsked sheet.now r.now.a.now r.now.b.now ops.old rest.old }
+    ensures { LowersStatement sheet.now r.now.a.now r.now.b.now (mem result ops.new rest.new) }
 {
-    let start = LowerCtx {
-        ops: 0,
-        numbers: 0,
-        mapped: 0,
-    };
-    let r = lower_from(sheet, a, b, ops, rest, start, words::MAX_DEPTH);
-    let c = r.ctx;
-    c
+    lower_from(sheet, r, ops, rest, EMPTY, words::MAX_DEPTH).ctx
 }

@@ -3,27 +3,9 @@ use Rattle.std.specs.Prelude.{◌≡◌, Bool, true, false, List, ◌∷◌, ℕ
 use Rattle.model.specs.Refusal.{Answer}
 use Rattle.model.specs.Call.{Outcome}
 
--- an answer has so many words, and each value its place among them
+-- an answer has so many words
 abbrev pub answer_words : ℕ
 answer_words = 6
-
-abbrev pub number_at : ℕ
-number_at = 0
-
-abbrev pub line_at : ℕ
-line_at = 1
-
-abbrev pub start_at : ℕ
-start_at = 2
-
-abbrev pub end_at : ℕ
-end_at = 3
-
-abbrev pub kind_at : ℕ
-kind_at = 4
-
-abbrev pub length_at : ℕ
-length_at = 5
 
 -- number, line, start, end, kind and length, and behind them what stood there
 abbrev pub noted : Answer → List ℕ → List ℕ

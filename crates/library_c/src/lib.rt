@@ -7,6 +7,8 @@ ghost use Rattle.model.specs.Pair.{pair_call};
 ghost use Rattle.union_pair.specs.PairCall.{works};
 ghost use Rattle.library.specs.Told.{Told, Lowers};
 
+use statement::Work;
+
 // The sizing call. False, with nothing written, if the answer has no room for six words.
 #[unsafe(no_mangle)]
 pub extern "C" fn dresserhawk_size(
@@ -19,7 +21,8 @@ pub extern "C" fn dresserhawk_size(
 ) -> bool
     ensures { Told (SizeCall (length a.old ∷ length b.old ∷ length c.old ∷ length d.old ∷ []) sheet.now) answer.old answer.new result }
 {
-    library::dresserhawk_size(sheet, a, b, c, d, answer)
+    let mut work = Work { a, b, c, d };
+    library::dresserhawk_size(sheet, &mut work, answer)
 }
 
 // The lowering call, with the plan in its slice. False, with nothing written, if the answer has no room for six words.
@@ -35,7 +38,8 @@ pub extern "C" fn dresserhawk_lower(
 ) -> bool
     ensures { Lowers (lower_call (length a.old ∷ length b.old ∷ length c.old ∷ length d.old ∷ []) sheet.now plan.old) plan.old plan.new answer.old answer.new result }
 {
-    library::dresserhawk_lower(sheet, a, b, c, d, plan, answer)
+    let mut work = Work { a, b, c, d };
+    library::dresserhawk_lower(sheet, &mut work, plan, answer)
 }
 
 // The lowering call with two sheets, with the plan in its slice. False, with nothing written, if the answer has no room for six words.
@@ -57,8 +61,17 @@ pub extern "C" fn dresserhawk_lower_pair(
 ) -> bool
     ensures { Lowers (pair_call (works left_a.old left_b.old left_c.old left_d.old right_a.old right_b.old right_c.old right_d.old) left.now right.now all plan.old) plan.old plan.new answer.old answer.new result }
 {
-    library::dresserhawk_lower_pair(
-        left, right, all, left_a, left_b, left_c, left_d, right_a, right_b, right_c, right_d, plan,
-        answer,
-    )
+    let mut l = Work {
+        a: left_a,
+        b: left_b,
+        c: left_c,
+        d: left_d,
+    };
+    let mut r = Work {
+        a: right_a,
+        b: right_b,
+        c: right_c,
+        d: right_d,
+    };
+    library::dresserhawk_lower_pair(left, right, all, &mut l, &mut r, plan, answer)
 }

@@ -1,6 +1,6 @@
 -- The form of a code, arm by arm. Assumes nothing.
 use mathlib.Core.Path.{◌≡◌, refl, ◌∙◌}
-use Prim.Native.Nat.{ℕ, zero, suc, ◌-◌, ◌<◌, ◌≤◌}
+use Prim.Native.Nat.{ℕ, suc, ◌-◌, ◌<◌, ◌≤◌}
 use mathlib.Core.List.{List}
 use native.Mathlib.Omega.{arith}
 use borrow.Author.Tests.{le-ltb}
@@ -12,47 +12,39 @@ use Rattle.model.specs.Field.{Form, u32, num, flag, var, var_or_absent, int, flo
 use Rattle.model.specs.Field
 use Rattle.record.specs.AnswerLaws.{var_is}
 use Rattle.words.specs.Words.{field_of}
-use Rattle.words.specs.Table.{limits, other_forms, form_of, limit_count}
-use Rattle.line.specs.FieldRead.{WordsOf, WordsAt, FieldHere, field_words}
+use Rattle.words.specs.Table.{limits, other_forms, form_of}
+use Rattle.std.specs.Prelude.{Option, None, Some}
+use Rattle.record.specs.declared.piece.Piece.{Piece}
+use Rattle.record.specs.InPlace.{value_in}
+use Rattle.line.specs.FieldRead.{WordsOf, WordsAt, FieldHere}
 use Rattle.line.specs.declared.field.Words.{Words}
-use Rattle.line.specs.declared.field.FieldRead.{FieldRead}
 use Rattle.line.proofs.WordLaws.{flag_words}
 use Rattle.line.proofs.FormLaws.{one_here}
-
--- ── numbers with a limit ──
-
-limit_low : (k : ℕ) → k < limit_count → get_or limits k 0 ≤ u32
-limit_low zero h = omega arith
-limit_low (suc zero) h = omega arith
-limit_low (suc (suc zero)) h = omega arith
-limit_low (suc (suc (suc zero))) h = omega arith
-limit_low (suc (suc (suc (suc zero)))) h = omega arith
-limit_low (suc (suc (suc (suc (suc k))))) h = absurd (omega arith)
 
 number_code : (c : ℕ) → number_form ≤ c → form_of c ≡ num (get_or limits (c - number_form) 0)
 unfolding form_of
 number_code c h = rw (le-ltb c number_form h)
 
 -- an id is a number of 32 bits
-var_words_law : (sheet : Bytes) (ps : List Bytes) (w : Words) → WordsOf (num u32) sheet ps w → WordsOf var sheet ps w
+var_words_law : (sheet : Bytes) (ps : List Bytes) (w : Option Words) → WordsOf (num u32) sheet ps w → WordsOf var sheet ps w
 unfolding field_of
-var_words_law sheet ps (Words.Is x y) k = record { is = var_is ps ∙ k.is; fit = (tt, tt) }
-var_words_law sheet ps Words.Not k = record { is = var_is ps ∙ k.is; fit = tt }
+var_words_law sheet ps (Some w) k = record { is = var_is ps ∙ k.is; fit = (tt, tt) }
+var_words_law sheet ps None k = record { is = var_is ps ∙ k.is; fit = tt }
 
 -- ── the arms ──
 
-module _ (sheet : Bytes) (p c : ℕ) (w : FieldRead) where
+module _ (sheet : Bytes) (p c : ℕ) (w : Option (Piece Words)) where
   -- a form of one piece
   arm : (f : Form) → form_of c ≡ f → width f ≡ 1 → WordsAt f sheet p w → FieldHere (form_of c) sheet p w
   arm f e one k = rw e (one_here f one sheet p w k)
 
   pub arm_flag : c ≡ flag_form → WordsAt (num 1) sheet p w → FieldHere (form_of c) sheet p w
   unfolding form_of other_forms width
-  arm_flag e k = arm flag (rw e) refl (record { is = λ q h. flag_words sheet (slice p q sheet) (field_words w) (k.is q h); ends = k.ends })
+  arm_flag e k = arm flag (rw e) refl (record { is = λ q h. flag_words sheet (slice p q sheet) (value_in w) (k.is q h); ends = k.ends })
 
   pub arm_var : c ≡ var_form → WordsAt (num u32) sheet p w → FieldHere (form_of c) sheet p w
   unfolding form_of other_forms width
-  arm_var e k = arm var (rw e) refl (record { is = λ q h. var_words_law sheet _ (field_words w) (k.is q h); ends = k.ends })
+  arm_var e k = arm var (rw e) refl (record { is = λ q h. var_words_law sheet _ (value_in w) (k.is q h); ends = k.ends })
 
   pub arm_var_or_absent : c ≡ var_or_absent_form → WordsAt var_or_absent sheet p w → FieldHere (form_of c) sheet p w
   unfolding form_of other_forms width
@@ -90,14 +82,7 @@ pub record Number (c : ℕ) : Type 0 where
 past : (k c : ℕ) → k ≤ c → (c ≡ k → ⊥) → suc k ≤ c
 past k c h n = omega arith
 
-pub behind_length : (c : ℕ) → 0 < c → (c ≡ flag_form → ⊥) → (c ≡ var_form → ⊥) → (c ≡ var_or_absent_form → ⊥) → (c ≡ int_form → ⊥) → (c ≡ float_form → ⊥) → (c ≡ text_form → ⊥) → (c ≡ alias_form → ⊥) → (c ≡ span_form → ⊥) → (c ≡ length_form → ⊥) → number_form ≤ c
-behind_length c h a b d e f g i j k =
-    past length_form c (past span_form c (past alias_form c (past text_form c (past float_form c (past int_form c (past var_or_absent_form c (past var_form c (past flag_form c h a) b) d) e) f) g) i) j) k
-
 module _ (c : ℕ) (n : Number c) where
-  pub code_low : get_or limits (c - number_form) 0 ≤ u32
-  code_low = let low : c - number_form < limit_count = omega (arith, n.from, n.to) in limit_low (c - number_form) low
-
-  pub arm_number : (m : ℕ) → m ≡ get_or limits (c - number_form) 0 → (sheet : Bytes) (p : ℕ) (w : FieldRead) → WordsAt (num m) sheet p w → FieldHere (form_of c) sheet p w
+  pub arm_number : (m : ℕ) → m ≡ get_or limits (c - number_form) 0 → (sheet : Bytes) (p : ℕ) (w : Option (Piece Words)) → WordsAt (num m) sheet p w → FieldHere (form_of c) sheet p w
   unfolding width
   arm_number m q sheet p w k = arm sheet p c w (num m) (rw q (number_code c n.from)) refl k

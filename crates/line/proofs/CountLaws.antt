@@ -5,7 +5,7 @@ use mathlib.Core.Bool.{Bool, true, false, cond}
 use mathlib.Core.List.{List}
 use native.Mathlib.Numerals.{add-one}
 use native.Mathlib.Omega.{arith}
-use borrow.Author.Tests.{lt-ltb, le-ltb}
+use borrow.Author.Tests.{le-ltb}
 use lib.Dec.{ltb}
 use lib.ListN.{get_or}
 use Rattle.words.specs.Words.{part, cell, record_words, two32}
@@ -19,17 +19,11 @@ use Rattle.line.specs.declared.group.Counted.{Counted}
 
 -- the source of group g says where its count stands
 module _ (n g c : ℕ) (e : c ≡ group_source n g) where
-  pub count_fixed : c < fixed_sources → CountedAt n g (Counted.Fixed c)
-  count_fixed h = record { is = λ ws. rw (← e, lt-ltb c fixed_sources h); among = tt }
-
   pub count_word : fixed_sources ≤ c → c < source_count → CountedAt n g (Counted.InWord (c + c - source_shift))
   count_word h k = record { is = λ ws. rw (← e, le-ltb c fixed_sources h); among = omega arith }
 
 -- what stands there is the group's count, of a record by its words and of one of two slices
 module _ {n g : ℕ} {r : Counted} (p : CountedAt n g r) where
-  pub fixed_is : {m : ℕ} → r ≡ Counted.Fixed m → (ws : List ℕ) → m ≡ count_of ws (group_source n g)
-  fixed_is e ws = rw e at (p.is ws)
-
   pub word_among : {c : ℕ} → r ≡ Counted.InWord c → c < record_words
   word_among e = rw e at p.among
 

@@ -3,7 +3,7 @@ use mathlib.Core.Path.{◌≡◌, refl, sym, ap, ◌∙◌}
 use Prim.Native.Nat.{ℕ, zero, suc, ◌+◌, ◌<◌, ◌≤◌}
 use mathlib.Core.Bool.{Bool, true, false}
 use mathlib.Core.List.{List, [], ◌∷◌}
-use Rattle.std.specs.Prelude.{None, Some}
+use Rattle.std.specs.Prelude.{Option, None, Some}
 use native.Mathlib.Numerals.{add-one}
 use native.Mathlib.Omega.{arith}
 use lib.ListN.{length, take, drop, get_or, set, length-set}
@@ -23,8 +23,8 @@ use Rattle.record.proofs.PlaceLaws.{separates_is}
 use Rattle.line.specs.Place.{pieces_at}
 use Rattle.line.specs.FieldRead.{FieldAt}
 use Rattle.line.specs.LineRead.{FieldsRead, Kept, first_word, fields_end}
-use Rattle.line.specs.declared.read.FieldsTo.{FieldsTo}
-use Rattle.line.specs.declared.field.FieldRead.{FieldRead}
+use Rattle.record.specs.declared.piece.Piece.{Piece}
+use Rattle.line.specs.declared.field.Words.{Words}
 use Rattle.line.proofs.PlaceLaws.{none_left, some_left}
 use Rattle.line.proofs.SpanLaws.{too_few}
 
@@ -149,9 +149,6 @@ module _ (n : ℕ) (sheet : Bytes) (p e : ℕ) (line : LineEnd sheet p e) (ws₀
   pub fill_code : form < form_count
   fill_code = rw f.code ((code_row n f.low).low g (omega (arith, f.room)))
 
-  pub fill_in : at < length sheet
-  fill_in = omega (arith, f.to, line.to)
-
   -- ── a form is left ──
 
   module _ (h : form ≡ none_form → ⊥) where
@@ -171,7 +168,7 @@ module _ (n : ℕ) (sheet : Bytes) (p e : ℕ) (line : LineEnd sheet p e) (ws₀
     form_going = rw rest_is at f.going
 
     -- no tab: the line ends, and the field has no piece
-    pub fill_few : (get_or sheet at 0 ≡ tab → ⊥) → FieldsRead n sheet p e ws₀ ws FieldsTo.Not
+    pub fill_few : (get_or sheet at 0 ≡ tab → ⊥) → FieldsRead n sheet p e ws₀ ws None
     fill_few z = record { answer = go_none sheet _ _ _ _ _ ws g form_going (too_few (form_of form) _ few); kept = f.kept; long = f.long }
       where
         done : at ≡ e
@@ -191,12 +188,12 @@ module _ (n : ℕ) (sheet : Bytes) (p e : ℕ) (line : LineEnd sheet p e) (ws₀
           let other : at ≡ e → ⊥ = λ q. omega (arith, z, rw (← q) at line.feed) in
           record { from = omega (arith, f.to, other); to = line.to; feed = line.feed; free = λ i a b. line.free i (omega (arith, f.from)) b }
 
-      module _ (w : FieldRead) (k : FieldAt (form_of form) sheet (at + 1) e w) where
-        pub fill_not : w ≡ FieldRead.Not → FieldsRead n sheet p e ws₀ ws FieldsTo.Not
+      module _ (w : Option (Piece Words)) (k : FieldAt (form_of form) sheet (at + 1) e w) where
+        pub fill_not : w ≡ None → FieldsRead n sheet p e ws₀ ws None
         fill_not q = record { answer = go_none sheet _ _ _ _ _ ws g form_going (rw q at k.words.is); kept = f.kept; long = f.long }
 
-        pub fill_more : (x y at₁ : ℕ) → w ≡ FieldRead.Is x y at₁ → (form₁ : ℕ) → form₁ ≡ code_at n (g + 1) → Filling n sheet p e ws₀ (put ws g x y) at₁ (g + 1) form₁
-        fill_more x y at₁ q form₁ c =
+        pub fill_more : (r : Piece Words) → w ≡ Some r → (form₁ : ℕ) → form₁ ≡ code_at n (g + 1) → Filling n sheet p e ws₀ (put ws g r.value.first r.value.second) r.end (g + 1) form₁
+        fill_more r q form₁ c =
             let is = rw q at k.words in
             let behind = rw q at k.behind in
             let fits : second_at g < length ws = omega (arith, f.long, fill_room) in
@@ -206,11 +203,11 @@ module _ (n : ℕ) (sheet : Bytes) (p e : ℕ) (line : LineEnd sheet p e) (ws₀
               code = c;
               long = rw (length-set, length-set) f.long;
               room = rw (add-one g) (omega (arith, f.room, ap length rest_is));
-              kept = λ c z. put_other ws g x y fits c (λ q. outside c z (first_at g) (omega arith) (omega arith) q) (λ q. outside c z (second_at g) (omega arith) (omega arith) q) ∙ f.kept c z;
+              kept = λ c z. put_other ws g r.value.first r.value.second fits c (λ q. outside c z (first_at g) (omega arith) (omega arith) q) (λ q. outside c z (second_at g) (omega arith) (omega arith) q) ∙ f.kept c z;
               from = omega (arith, f.from, behind.from);
               to = behind.to;
               stop = behind.stop;
-              going = rw (add-one g, behind.pieces) (go_more sheet _ _ _ _ _ ws g form_going x y fits is.is is.fit.0 is.fit.1);
+              going = rw (add-one g, behind.pieces) (go_more sheet _ _ _ _ _ ws g form_going r.value.first r.value.second fits is.is is.fit.0 is.fit.1);
             }
 
   -- ── no form is left ──
@@ -223,7 +220,7 @@ module _ (n : ℕ) (sheet : Bytes) (p e : ℕ) (line : LineEnd sheet p e) (ws₀
     last_going : Going sheet (forms_at n) (pieces_at sheet (p + 1) e) [] (pieces_at sheet (at + 1) e) ws g
     last_going = rw rest_none at f.going
 
-    pub fill_yes : get_or sheet at 0 ≡ line_feed → FieldsRead n sheet p e ws₀ ws (FieldsTo.End at)
+    pub fill_yes : get_or sheet at 0 ≡ line_feed → FieldsRead n sheet p e ws₀ ws (Some at)
     unfolding read_fields fields_of
     fill_yes z =
         record {
@@ -239,7 +236,7 @@ module _ (n : ℕ) (sheet : Bytes) (p e : ℕ) (line : LineEnd sheet p e) (ws₀
             go true q = absurd (line.free at f.from (ltb-true at e q) z)
             go false q = let up = ltb-false at e q in omega (arith, f.to)
 
-    pub fill_no : (get_or sheet at 0 ≡ line_feed → ⊥) → FieldsRead n sheet p e ws₀ ws FieldsTo.Not
+    pub fill_no : (get_or sheet at 0 ≡ line_feed → ⊥) → FieldsRead n sheet p e ws₀ ws None
     unfolding read_fields pieces_of
     fill_no z =
         let other : at ≡ e → ⊥ = λ q. z (rw (← q) at line.feed) in

@@ -3,7 +3,7 @@ use mathlib.Core.Path.{◌≡◌, refl, sym, ap, ◌∙◌}
 use Prim.Native.Nat.{ℕ, ◌+◌, ◌-◌, ◌<◌, ◌≤◌}
 use mathlib.Core.Bool.{Bool, true, false}
 use mathlib.Core.List.{[], ◌∷◌}
-use Rattle.std.specs.Prelude.{Some}
+use Rattle.std.specs.Prelude.{Option, None, Some}
 use native.Mathlib.Omega.{arith}
 use borrow.Author.Tests.{ltb-true, ltb-false}
 use lib.Dec.{ltb}
@@ -20,14 +20,15 @@ use Rattle.laws.specs.FieldLaws.{read_spell}
 use Rattle.words.specs.Words.{field_of, pieces_of}
 use Rattle.words.specs.Held.{PlaceAt}
 use Rattle.line.specs.Place.{pieces_at, PieceAt}
-use Rattle.line.specs.FieldRead.{words_value, WordsAt, BehindAt, FieldAt, FieldHere, field_words}
-use Rattle.line.specs.declared.field.FieldRead.{FieldRead}
+use Rattle.record.specs.declared.piece.Piece.{Piece}
+use Rattle.line.specs.FieldRead.{words_value, WordsAt, BehindAt, FieldAt, FieldHere}
+use Rattle.line.specs.declared.field.Words.{Words}
 use Rattle.laws.specs.PartLaws.{part_is}
 use Rattle.line.proofs.PlaceLaws.{piece_at, line_behind, line_done, pieces_from, none_left, some_left}
 use Rattle.line.proofs.SpanLaws.{too_few, span_none, span_other, span_some, span_back}
 
 -- no field where the pieces are too few
-few : (f : Form) (sheet : Bytes) (p e : ℕ) → length (pieces_at sheet p e) < width f → FieldAt f sheet p e FieldRead.Not
+few : (f : Form) (sheet : Bytes) (p e : ℕ) → length (pieces_at sheet p e) < width f → FieldAt f sheet p e None
 few f sheet p e h =
     record {
       words = record { is = too_few f _ (simp length-take (omega arith)); fit = tt };
@@ -52,7 +53,7 @@ module _ (sheet : Bytes) (p e : ℕ) (l : LineEnd sheet p e) (r : ℕ) (h : Ends
 
   -- ── the last piece ──
 
-  last_few : (g : Form) → 1 < width g → r ≡ e → FieldAt g sheet p e FieldRead.Not
+  last_few : (g : Form) → 1 < width g → r ≡ e → FieldAt g sheet p e None
   last_few g k q = few g sheet p e (rw (all, none_left sheet (r + 1) e (omega arith)) k)
 
   -- ── a second piece ──
@@ -65,7 +66,7 @@ module _ (sheet : Bytes) (p e : ℕ) (l : LineEnd sheet p e) (r : ℕ) (h : Ends
     unfolding width
     two_behind = record { from = omega (arith, f.from, g.from); to = g.to; stop = g.stop; pieces = rw two refl }
 
-    second_few : t ≡ e → FieldAt Field.length sheet p e FieldRead.Not
+    second_few : t ≡ e → FieldAt Field.length sheet p e None
     unfolding width
     second_few q = few Field.length sheet p e (rw (two, none_left sheet (t + 1) e (omega arith)) (omega arith))
 
@@ -85,7 +86,7 @@ module _ (sheet : Bytes) (p e : ℕ) (l : LineEnd sheet p e) (r : ℕ) (h : Ends
         is_read_law : o ≡ is_read (read Field.length (slice p r sheet ∷ slice (r + 1) t sheet ∷ slice (t + 1) v sheet ∷ []))
         is_read_law = rw (part_is p r sheet, part_is (r + 1) t sheet, part_is (t + 1) v sheet) at q
 
-        three_is : o ≡ true → FieldAt Field.length sheet p e (FieldRead.Is p v v)
+        three_is : o ≡ true → FieldAt Field.length sheet p e (Some (record { value = record { first = p; second = v }; end = v }))
         unfolding width field_of
         three_is s =
             let is = read_meaning Field.length _ (sym is_read_law ∙ s) in
@@ -100,76 +101,76 @@ module _ (sheet : Bytes) (p e : ℕ) (l : LineEnd sheet p e) (r : ℕ) (h : Ends
               behind = record { from = omega (arith, f.from, g.from, k.from); to = k.to; stop = k.stop; pieces = rw (three e k.to (omega arith)) refl };
             }
 
-        three_not : o ≡ false → FieldAt Field.length sheet p e FieldRead.Not
+        three_not : o ≡ false → FieldAt Field.length sheet p e None
         unfolding width
         three_not s = record { words = rw (three e k.to (omega arith)) (record { is = read_none Field.length _ (sym is_read_law ∙ s); fit = tt }); behind = tt }
 
 -- ── a field of one piece ──
 
-pub one_here : (g : Form) → width g ≡ 1 → (sheet : Bytes) (p : ℕ) (w : FieldRead) → WordsAt g sheet p w → FieldHere g sheet p w
-one_here g one sheet p (FieldRead.Is x y r) k e l = record { words = rw (one, all sheet p e l r k.ends) (k.is r k.ends); behind = one_behind sheet p e l r k.ends g one }
-one_here g one sheet p FieldRead.Not k e l = let r = there sheet p e l in record { words = rw (one, all sheet p e l r.0 r.1) (k.is r.0 r.1); behind = tt }
+pub one_here : (g : Form) → width g ≡ 1 → (sheet : Bytes) (p : ℕ) (w : Option (Piece Words)) → WordsAt g sheet p w → FieldHere g sheet p w
+one_here g one sheet p (Some r) k e l = record { words = rw (one, all sheet p e l r.end k.ends) (k.is r.end k.ends); behind = one_behind sheet p e l r.end k.ends g one }
+one_here g one sheet p None k e l = let r = there sheet p e l in record { words = rw (one, all sheet p e l r.0 r.1) (k.is r.0 r.1); behind = tt }
 
 -- ── a span ──
 
-module _ (sheet : Bytes) (p : ℕ) (w : FieldRead) (k : WordsAt (num u32) sheet p w) where
-  pub span_start_not : w ≡ FieldRead.Not → FieldHere span sheet p FieldRead.Not
+module _ (sheet : Bytes) (p : ℕ) (w : Option (Piece Words)) (k : WordsAt (num u32) sheet p w) where
+  pub span_start_not : w ≡ None → FieldHere span sheet p None
   unfolding width
   span_start_not q e l = go (there sheet p e l).0 (there sheet p e l).1 (ltb (there sheet p e l).0 e) refl
     where
-      none : (r : ℕ) → Ends sheet p r → read (num u32) (slice p r sheet ∷ []) ≡ words_value (num u32) sheet (field_words FieldRead.Not)
+      none : (r : ℕ) → Ends sheet p r → read (num u32) (slice p r sheet ∷ []) ≡ words_value (num u32) sheet None
       none r h = ((rw q at k).is r h).is
 
-      go : (r : ℕ) → Ends sheet p r → (t : Bool) → ltb r e ≡ t → FieldAt span sheet p e FieldRead.Not
+      go : (r : ℕ) → Ends sheet p r → (t : Bool) → ltb r e ≡ t → FieldAt span sheet p e None
       go r h true b =
           let on = line_behind sheet p e l r h ((piece_at sheet p e l r h).stop (ltb-true r e b)) in
           let t = there sheet (r + 1) e on in
           record { words = rw (two sheet p e l r h t.0 (piece_at sheet (r + 1) e on t.0 t.1)) (record { is = span_none _ _ (none r h); fit = tt }); behind = tt }
       go r h false b = last_few sheet p e l r h span (omega arith) (let up = ltb-false r e b in omega (arith, (piece_at sheet p e l r h).to))
 
-  module _ (x x₁ r : ℕ) (q : w ≡ FieldRead.Is x x₁ r) where
-    pub ends : Ends sheet p r
+  module _ (b : Piece Words) (q : w ≡ Some b) where
+    pub ends : Ends sheet p b.end
     ends = (rw q at k).ends
 
-    start : read (num u32) (slice p r sheet ∷ []) ≡ Some x
+    start : read (num u32) (slice p b.end sheet ∷ []) ≡ Some b.value.first
     unfolding field_of
-    start = ((rw q at k).is r ends).is
+    start = ((rw q at k).is b.end ends).is
 
-    pub span_few : (get_or sheet r 0 ≡ tab → ⊥) → FieldHere span sheet p FieldRead.Not
+    pub span_few : (get_or sheet b.end 0 ≡ tab → ⊥) → FieldHere span sheet p None
     unfolding width
-    span_few z e l = last_few sheet p e l r ends span (omega arith) (line_done sheet p e l r ends z)
+    span_few z e l = last_few sheet p e l b.end ends span (omega arith) (line_done sheet p e l b.end ends z)
 
-    module _ (z : get_or sheet r 0 ≡ tab) (v : FieldRead) (m : WordsAt (num u32) sheet (r + 1) v) where
-      pub span_end_not : v ≡ FieldRead.Not → FieldHere span sheet p FieldRead.Not
+    module _ (z : get_or sheet b.end 0 ≡ tab) (v : Option (Piece Words)) (m : WordsAt (num u32) sheet (b.end + 1) v) where
+      pub span_end_not : v ≡ None → FieldHere span sheet p None
       unfolding width
       span_end_not s e l =
-          let on = line_behind sheet p e l r ends z in
-          let t = there sheet (r + 1) e on in
-          record { words = rw (two sheet p e l r ends t.0 (piece_at sheet (r + 1) e on t.0 t.1)) (record { is = span_other _ _ ((rw s at m).is t.0 t.1).is; fit = tt }); behind = tt }
+          let on = line_behind sheet p e l b.end ends z in
+          let t = there sheet (b.end + 1) e on in
+          record { words = rw (two sheet p e l b.end ends t.0 (piece_at sheet (b.end + 1) e on t.0 t.1)) (record { is = span_other _ _ ((rw s at m).is t.0 t.1).is; fit = tt }); behind = tt }
 
-      module _ (y y₁ t : ℕ) (s : v ≡ FieldRead.Is y y₁ t) where
-        ends₂ : Ends sheet (r + 1) t
+      module _ (d : Piece Words) (s : v ≡ Some d) where
+        ends₂ : Ends sheet (b.end + 1) d.end
         ends₂ = (rw s at m).ends
 
-        finish : read (num u32) (slice (r + 1) t sheet ∷ []) ≡ Some y
+        finish : read (num u32) (slice (b.end + 1) d.end sheet ∷ []) ≡ Some d.value.first
         unfolding field_of
-        finish = ((rw s at m).is t ends₂).is
+        finish = ((rw s at m).is d.end ends₂).is
 
-        second : (e : ℕ) → LineEnd sheet p e → PieceAt sheet (r + 1) e t
-        second e l = piece_at sheet (r + 1) e (line_behind sheet p e l r ends z) t ends₂
+        second : (e : ℕ) → LineEnd sheet p e → PieceAt sheet (b.end + 1) e d.end
+        second e l = piece_at sheet (b.end + 1) e (line_behind sheet p e l b.end ends z) d.end ends₂
 
-        pub span_is : x ≤ y → FieldHere span sheet p (FieldRead.Is x y t)
+        pub span_is : b.value.first ≤ d.value.first → FieldHere span sheet p (Some (record { value = record { first = b.value.first; second = d.value.first }; end = d.end }))
         unfolding width field_of
-        span_is u e l = record { words = rw (two sheet p e l r ends t (second e l)) (record { is = span_some _ _ x y start finish u; fit = (tt, tt) }); behind = two_behind sheet p e l r ends t (second e l) }
+        span_is u e l = record { words = rw (two sheet p e l b.end ends d.end (second e l)) (record { is = span_some _ _ b.value.first d.value.first start finish u; fit = (tt, tt) }); behind = two_behind sheet p e l b.end ends d.end (second e l) }
 
-        pub span_not : y < x → FieldHere span sheet p FieldRead.Not
+        pub span_not : d.value.first < b.value.first → FieldHere span sheet p None
         unfolding width
-        span_not u e l = record { words = rw (two sheet p e l r ends t (second e l)) (record { is = span_back _ _ x y start finish u; fit = tt }); behind = tt }
+        span_not u e l = record { words = rw (two sheet p e l b.end ends d.end (second e l)) (record { is = span_back _ _ b.value.first d.value.first start finish u; fit = tt }); behind = tt }
 
 -- ── a length ──
 
 module _ (sheet : Bytes) (p r : ℕ) (h : Ends sheet p r) where
-  pub hops_first : (get_or sheet r 0 ≡ tab → ⊥) → FieldHere Field.length sheet p FieldRead.Not
+  pub hops_first : (get_or sheet r 0 ≡ tab → ⊥) → FieldHere Field.length sheet p None
   unfolding width
   hops_first z e l = last_few sheet p e l r h Field.length (omega arith) (line_done sheet p e l r h z)
 
@@ -180,7 +181,7 @@ module _ (sheet : Bytes) (p r : ℕ) (h : Ends sheet p r) where
     second_piece : (e : ℕ) → LineEnd sheet p e → PieceAt sheet (r + 1) e t
     second_piece e l = piece_at sheet (r + 1) e (behind_first e l) t g
 
-    pub hops_second : (get_or sheet t 0 ≡ tab → ⊥) → FieldHere Field.length sheet p FieldRead.Not
+    pub hops_second : (get_or sheet t 0 ≡ tab → ⊥) → FieldHere Field.length sheet p None
     hops_second y e l = second_few sheet p e l r h t (second_piece e l) (line_done sheet (r + 1) e (behind_first e l) t g y)
 
     module _ (y : get_or sheet t 0 ≡ tab) (v : ℕ) (k : Ends sheet (t + 1) v) where
@@ -188,8 +189,8 @@ module _ (sheet : Bytes) (p r : ℕ) (h : Ends sheet p r) where
       third_piece e l = piece_at sheet (t + 1) e (line_behind sheet (r + 1) e (behind_first e l) t g y) v k
 
       module _ (o : Bool) (q : o ≡ is_read (read Field.length (take (r - p) (drop p sheet) ∷ take (t - (r + 1)) (drop (r + 1) sheet) ∷ take (v - (t + 1)) (drop (t + 1) sheet) ∷ []))) where
-        pub hops_is : o ≡ true → FieldHere Field.length sheet p (FieldRead.Is p v v)
+        pub hops_is : o ≡ true → FieldHere Field.length sheet p (Some (record { value = record { first = p; second = v }; end = v }))
         hops_is s e l = three_is sheet p e l r h t (second_piece e l) v (third_piece e l) o q s
 
-        pub hops_not : o ≡ false → FieldHere Field.length sheet p FieldRead.Not
+        pub hops_not : o ≡ false → FieldHere Field.length sheet p None
         hops_not s e l = three_not sheet p e l r h t (second_piece e l) v (third_piece e l) o q s

@@ -13,7 +13,8 @@ use Rattle.model.specs.Text.{Bytes}
 use Rattle.model.specs.Kind.{Sort}
 use Rattle.words.specs.Words.{Roomy, part, max_records, record_words, first_records}
 use Rattle.line.specs.LineRead.{LineRead, IntoRead}
-use Rattle.line.specs.declared.read.Line.{Line}
+use Rattle.std.specs.Prelude.{Option}
+use Rattle.record.specs.declared.piece.Piece.{Piece}
 use Rattle.laws.specs.PartLaws.{part_is}
 
 -- ── sixteen words in a list ──
@@ -66,7 +67,7 @@ part_high : (a b : List ℕ) (i : ℕ) → first_records ≤ i → part a b i �
 unfolding part
 part_high a b i h = rw (le-ltb i first_records h)
 
-module _ (s : Sort) (sheet : Bytes) (p e i : ℕ) (a b ys : List ℕ) (r : Line) (room : Roomy a b) (l : LineRead s sheet p e ys r) where
+module _ (s : Sort) (sheet : Bytes) (p e i : ℕ) (a b ys : List ℕ) (r : Option (Piece ℕ)) (room : Roomy a b) (l : LineRead s sheet p e ys r) where
   module _ (low : i < first_records) where
     fits : i * record_words + record_words ≤ length a
     fits = omega (arith, room.first)

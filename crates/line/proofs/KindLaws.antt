@@ -2,7 +2,7 @@
 use mathlib.Core.Path.{◌≡◌, refl, sym, ◌∙◌}
 use Prim.Native.Nat.{ℕ, zero, suc, ◌+◌, ◌-◌, ◌<◌, ◌≤◌}
 use mathlib.Core.Bool.{Bool, true, false, cond}
-use Rattle.std.specs.Prelude.{Some}
+use Rattle.std.specs.Prelude.{Option, None, Some}
 use native.Mathlib.Omega.{arith}
 use native.Mathlib.Nat.{add-zero}
 use borrow.Author.Tests.{eq-eqb, ne_eqb, eqb-true, eqb-false, le-ltb}
@@ -15,8 +15,7 @@ use Rattle.words.specs.Places.{sort_count}
 use Rattle.words.specs.Table.{sort_of, first, keys}
 use Rattle.words.specs.TableLaws.{Row, Nth, nth_row, tabled}
 use Rattle.line.specs.Kinds.{Packed, Named, keyed, keyed_from}
-use Rattle.line.specs.declared.kind.KindFound.{KindFound}
-use Rattle.line.specs.declared.kind.KindFound.TheVariants.{Is, Not}
+use Rattle.line.proofs.PackLaws.{packed_up}
 
 -- the kinds before number k do not have the keyword w
 record Looking (n : ℕ) (w : Bytes) (x end k : ℕ) : Type 0 where
@@ -55,7 +54,7 @@ module _ (n : ℕ) (w : Bytes) (x end k : ℕ) where
     unfolding kind_named
     step h = rw (at h).onward at l.remains
 
-    look_here : k < end → get_or keys k 0 ≡ x → Named (sort_of n) w (Is k)
+    look_here : k < end → get_or keys k 0 ≡ x → Named (sort_of n) w (Some k)
     look_here h e =
         let found : same w (keyword (sort_of n) (at h).kind) ≡ true = sym (test h) ∙ eq-eqb x _ (sym e) in
         record { is = sym (rw found at (step h)) ∙ sym (number h); known = ((at h).kind, number h) }
@@ -66,7 +65,7 @@ module _ (n : ℕ) (w : Bytes) (x end k : ℕ) where
         let later : k + 1 - first_kind (sort_of n) ≡ suc (k - first_kind (sort_of n)) = omega (arith, l.low) in
         record { known = l.known; tells = l.tells; low = omega (arith, l.low); high = omega arith; ends = l.ends; remains = rw later (rw other at (step h)) }
 
-    look_none : end ≤ k → Named (sort_of n) w Not
+    look_none : end ≤ k → Named (sort_of n) w None
     unfolding kind_named
     look_none h =
         let past : length (kinds (sort_of n)) ≤ k - first_kind (sort_of n) = omega (arith, l.ends) in
@@ -79,16 +78,26 @@ unfolding keyed_from
 looked n w x end zero k e l = look_none n w x end k l (omega arith)
 looked n w x end (suc d) k e l = go (λ m. looked n w x end d (k + 1) (omega arith) m) (eqb (get_or keys k 0) x) refl
   where
-    go : (Looking n w x end (k + 1) → Named (sort_of n) w (keyed_from x (k + 1) d)) → (t : Bool) → eqb (get_or keys k 0) x ≡ t → Named (sort_of n) w (cond t (Is k) (keyed_from x (k + 1) d))
+    go : (Looking n w x end (k + 1) → Named (sort_of n) w (keyed_from x (k + 1) d)) → (t : Bool) → eqb (get_or keys k 0) x ≡ t → Named (sort_of n) w (cond t (Some k) (keyed_from x (k + 1) d))
     go more true q = look_here n w x end k l (omega arith) (eqb-true (get_or keys k 0) x q)
     go more false q = more (look_past n w x end k l (omega arith) (eqb-false (get_or keys k 0) x q))
 
 -- the kind that is found by the number is the one that the keyword names
-pub keyed_named : {n x : ℕ} {w : Bytes} {r : KindFound} (m : ℕ) → n ≡ m → m < sort_count → Packed w x → r ≡ keyed m x → Named (sort_of n) w r
+pub keyed_named : {n x : ℕ} {w : Bytes} {r : Option ℕ} (m : ℕ) → n ≡ m → m < sort_count → Packed w x → r ≡ keyed m x → Named (sort_of n) w r
 unfolding keyed
 keyed_named {n} {x} {w} {r} m e low p q =
     let begin = look_first m w x (get_or first (m + 1) 0) (get_or first m 0) low p refl refl in
     rw (e, q) (looked m w x (get_or first (m + 1) 0) (get_or first (m + 1) 0 - get_or first m 0) (get_or first m 0) (omega (arith, begin.high)) begin)
+
+-- no keyword has the number 0
+untold_from : (n : ℕ) (w : Bytes) (end d k : ℕ) → k + d ≡ end → Looking n w 0 end k → Named (sort_of n) w None
+untold_from n w end zero k e l = look_none n w 0 end k l (omega arith)
+untold_from n w end (suc d) k e l = untold_from n w end d (k + 1) (omega arith) (look_past n w 0 end k l (omega arith) (λ q. omega (arith, q, (here n w 0 end k l (omega arith)).key, packed_up (keyword (sort_of n) (at n w 0 end k l (omega arith)).kind))))
+
+pub untold : (n : ℕ) (w : Bytes) → n < sort_count → Packed w 0 → Named (sort_of n) w None
+untold n w low p =
+    let begin = look_first n w 0 (get_or first (n + 1) 0) (get_or first n 0) low p refl refl in
+    untold_from n w (get_or first (n + 1) 0) (get_or first (n + 1) 0 - get_or first n 0) (get_or first n 0) (omega (arith, begin.high)) begin
 
 -- none of the keywords of n kinds from kind k on, as a `match` leaves it behind its arms
 abbrev pub NoKey : (x k n : ℕ) → Type 0
@@ -103,7 +112,7 @@ no_key_at x k (suc n) h j l q = go (λ m. no_key_at x k n h.0 j m q) (eqb j n) r
     go before true e = h.1 (rw (eqb-true j n e) at q)
     go before false e = before (omega (arith, eqb-false j n e))
 
-none_from : (x n k : ℕ) → ((j : ℕ) → j < n → x ≡ get_or keys (k + j) 0 → ⊥) → Not ≡ keyed_from x k n
+none_from : (x n k : ℕ) → ((j : ℕ) → j < n → x ≡ get_or keys (k + j) 0 → ⊥) → None ≡ keyed_from x k n
 unfolding keyed_from
 none_from x zero k h = refl
 none_from x (suc n) k h =
@@ -113,5 +122,5 @@ none_from x (suc n) k h =
     behind : (j : ℕ) → k + suc j ≡ k + 1 + j
     behind j = omega arith
 
-pub none_keyed : (x k n : ℕ) → NoKey x k n → Not ≡ keyed_from x k n
+pub none_keyed : (x k n : ℕ) → NoKey x k n → None ≡ keyed_from x k n
 none_keyed x k n h = none_from x n k (no_key_at x k n h)

@@ -1,8 +1,8 @@
 -- A line from its keyword and its fields. Assumes nothing.
-use mathlib.Core.Path.{◌≡◌, sym, ap, ◌∙◌}
+use mathlib.Core.Path.{◌≡◌, refl, sym, ap, ◌∙◌}
 use Prim.Native.Nat.{ℕ, ◌+◌, ◌%◌, ◌<◌}
 use mathlib.Core.List.{List, ◌∷◌}
-use Rattle.std.specs.Prelude.{Some}
+use Rattle.std.specs.Prelude.{Option, None, Some}
 use native.Mathlib.Omega.{arith}
 use borrow.Author.Tests.{ltb-true}
 use lib.ListN.{length, get_or, set, length-set}
@@ -16,12 +16,11 @@ use Rattle.words.specs.Held.{total}
 use Rattle.words.specs.Table.{sort_of, groups_of}
 use Rattle.words.specs.TableLaws.{Row, tabled, kind_row}
 use Rattle.record.specs.Place.{LineEnd, Fed, Ends}
-use Rattle.line.specs.Kinds.{Packed, KeywordAt, kind_found, Named}
+use Rattle.line.specs.Kinds.{KeywordAt, kind_found, Named}
 use Rattle.line.specs.Place.{pieces_at}
 use Rattle.line.specs.LineRead.{Alike, FieldsRead, FieldsHere, Got, LineHere}
-use Rattle.line.specs.declared.kind.KindFound.{KindFound}
-use Rattle.line.specs.declared.read.FieldsTo.{FieldsTo}
-use Rattle.line.specs.declared.read.Line.{Line}
+use Rattle.record.proofs.PlaceLaws.{there}
+use Rattle.line.proofs.KindLaws.{untold}
 use Rattle.line.proofs.CountLaws.{same_total}
 use Rattle.line.proofs.PlaceLaws.{piece_at, line_at, pieces_from, some_left}
 
@@ -34,31 +33,25 @@ by_pieces s l a ms e =
     rw (first, more)
 
 -- what the fields leave, and where they end
-module _ (n : ℕ) (sheet : Bytes) (p r : ℕ) (f : Fed sheet p) (h : Ends sheet p r) (ws ws₁ : List ℕ) (t : FieldsTo) (z : FieldsHere n sheet r ws ws₁ t) where
+module _ (n : ℕ) (sheet : Bytes) (p r : ℕ) (f : Fed sheet p) (h : Ends sheet p r) (ws ws₁ : List ℕ) (t : Option ℕ) (z : FieldsHere n sheet r ws ws₁ t) where
   fields_there : FieldsRead n sheet r f.end ws ws₁ t
   fields_there = z f.end (line_at sheet p f.end f.line r h)
 
   pub fields_long : length ws₁ ≡ record_words
   fields_long = fields_there.long
 
-  pub fields_end_law : (e₁ : ℕ) → t ≡ FieldsTo.End e₁ → e₁ < length sheet
-  fields_end_law e₁ o = let at_end_law = (rw o at fields_there).answer.0 in omega (arith, at_end_law, f.line.to)
-
-module _ (sheet : Bytes) (p m r : ℕ) (low : m < sort_count) (word : ℕ) (key : KeywordAt sheet p word r) (w : KindFound) (k : (s : Bytes) → Packed s word → Named (sort_of m) s w) where
-  named : Named (sort_of m) (slice p r sheet) w
-  named = k (slice p r sheet) key.packed
-
+module _ (sheet : Bytes) (p m r : ℕ) (low : m < sort_count) (ends : Ends sheet p r) (w : Option ℕ) (named : Named (sort_of m) (slice p r sheet) w) where
   line_is : (e : ℕ) → LineEnd sheet p e → read_rec (sort_of m) (slice p e sheet) ≡ read_as (sort_of m) (pieces_at sheet (r + 1) e) (kind_found (sort_of m) w)
   line_is e l =
-      let f = piece_at sheet p e l r key.ends in
+      let f = piece_at sheet p e l r ends in
       by_pieces (sort_of m) _ _ _ (sym (some_left sheet p e l.from) ∙ pieces_from sheet p e r (omega (arith, l.to)) f e f.to (omega arith))
       ∙ ap (read_as (sort_of m) (pieces_at sheet (r + 1) e)) named.is
 
-  pub line_unnamed : w ≡ KindFound.Not → (ws : List ℕ) → length ws ≡ record_words → LineHere (sort_of m) sheet p ws Line.Not
+  pub line_unnamed : w ≡ None → (ws : List ℕ) → length ws ≡ record_words → LineHere (sort_of m) sheet p ws None
   unfolding read_as
   line_unnamed q ws n e l = record { answer = line_is e l ∙ ap (λ x. read_as (sort_of m) (pieces_at sheet (r + 1) e) (kind_found (sort_of m) x)) q; long = n }
 
-  module _ (n : ℕ) (q : w ≡ KindFound.Is n) where
+  module _ (n : ℕ) (q : w ≡ Some n) where
     kind : Kind (sort_of m)
     kind = (rw q at named.known).0
 
@@ -75,11 +68,11 @@ module _ (sheet : Bytes) (p m r : ℕ) (low : m < sort_count) (word : ℕ) (key 
     fields_is : (e : ℕ) → LineEnd sheet p e → read_rec (sort_of m) (slice p e sheet) ≡ read_as (sort_of m) (pieces_at sheet (r + 1) e) (Some kind)
     fields_is e l = line_is e l ∙ ap (λ x. read_as (sort_of m) (pieces_at sheet (r + 1) e) (kind_found (sort_of m) x)) q ∙ ap (read_as (sort_of m) (pieces_at sheet (r + 1) e)) known
 
-    module _ (ws ws₁ : List ℕ) (long : length ws ≡ record_words) (t : FieldsTo) (z : FieldsHere n sheet r (set (set ws line_start_at p) kind_at n) ws₁ t) where
+    module _ (ws ws₁ : List ℕ) (long : length ws ≡ record_words) (t : Option ℕ) (z : FieldsHere n sheet r (set (set ws line_start_at p) kind_at n) ws₁ t) where
       fields_here : (e : ℕ) → LineEnd sheet p e → FieldsRead n sheet r e (set (set ws line_start_at p) kind_at n) ws₁ t
-      fields_here e l = z e (line_at sheet p e l r key.ends)
+      fields_here e l = z e (line_at sheet p e l r ends)
 
-      pub line_not : t ≡ FieldsTo.Not → LineHere (sort_of m) sheet p ws₁ Line.Not
+      pub line_not : t ≡ None → LineHere (sort_of m) sheet p ws₁ None
       unfolding read_as with_fields
       line_not o e l =
           let none = rw table.fields at (rw o at (fields_here e l).answer) in
@@ -87,8 +80,8 @@ module _ (sheet : Bytes) (p m r : ℕ) (low : m < sort_count) (word : ℕ) (key 
 
       -- ── a record ──
 
-      module _ (e₁ : ℕ) (o : t ≡ FieldsTo.End e₁) (many : ℕ) (counts : many ≡ total (groups_of n ws₁) % two32) (e : ℕ) (l : LineEnd sheet p e) where
-        read : FieldsRead n sheet r e (set (set ws line_start_at p) kind_at n) ws₁ (FieldsTo.End e₁)
+      module _ (e₁ : ℕ) (o : t ≡ Some e₁) (many : ℕ) (counts : many ≡ total (groups_of n ws₁) % two32) (e : ℕ) (l : LineEnd sheet p e) where
+        read : FieldsRead n sheet r e (set (set ws line_start_at p) kind_at n) ws₁ (Some e₁)
         read = rw o at (fields_here e l)
 
         at_end_law : e₁ ≡ e
@@ -145,9 +138,13 @@ module _ (sheet : Bytes) (p m r : ℕ) (low : m < sort_count) (word : ℕ) (key 
               low = line_low;
             }
 
-      pub line_got : (e₁ : ℕ) → t ≡ FieldsTo.End e₁ → (many : ℕ) → many ≡ total (groups_of n ws₁) % two32 → LineHere (sort_of m) sheet p (set (set ws₁ children_at many) line_end_at (e₁ + 1)) (Line.Kind n (e₁ + 1))
+      pub line_got : (e₁ : ℕ) → t ≡ Some e₁ → (many : ℕ) → many ≡ total (groups_of n ws₁) % two32 → LineHere (sort_of m) sheet p (set (set ws₁ children_at many) line_end_at (e₁ + 1)) (Some (record { value = n; end = e₁ + 1 }))
       line_got e₁ o many counts e l =
           record {
             answer = (ap (λ x. x + 1) (at_end_law e₁ o many counts e l), got e₁ o many counts e l);
             long = length-set (set ws₁ children_at many) line_end_at (e₁ + 1) ∙ length-set ws₁ children_at many ∙ (read e₁ o many counts e l).long;
           }
+
+-- a keyword longer than all others
+pub line_keyless : (sheet : Bytes) (p m : ℕ) → m < sort_count → KeywordAt sheet p None → (ws : List ℕ) → length ws ≡ record_words → LineHere (sort_of m) sheet p ws None
+line_keyless sheet p m low key ws n e l = let r = there sheet p e l in line_unnamed sheet p m r.0 low r.1 None (untold m (slice p r.0 sheet) low (key.is r.0 r.1)) refl ws n e l

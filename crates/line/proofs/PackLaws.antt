@@ -9,13 +9,13 @@ use borrow.Author.Tests.{lt-ltb, le-ltb, ltb-true, leb-true, le-leb, eqb-true, e
 use lib.Dec.{ltb, leb, eqb}
 use lib.ListN.{length, get_or}
 use lib.Seq.{slice, slice_empty, length-slice}
-use Rattle.std.proofs.lemmas.Bool.{not_from_true, not_from_false}
+use Rattle.std.specs.Prelude.{None, Some}
 use Rattle.model.specs.Text.{Bytes, same}
 use Rattle.laws.specs.TextLaws.{and_left, and_right, same_sound, same_refl}
 use Rattle.words.specs.Table.{byte_values, max_keyword, pack_on, packed}
 use Rattle.words.specs.TableLaws.{each_below, short}
 use Rattle.record.specs.Place.{Fed, separates, Ends}
-use Rattle.record.proofs.PlaceLaws.{fed_in, along_back, ends_later, Passing, pass_start, pass_on, pass_done, slice_snoc}
+use Rattle.record.proofs.PlaceLaws.{fed_in, along_ends, ends_alike, ends_later, Passing, pass_start, pass_on, pass_done, slice_snoc}
 use Rattle.line.specs.Kinds.{Packed, KeywordAt}
 
 -- ── unpacking ──
@@ -65,7 +65,7 @@ unfolding pack_on
 pack_on_up [] v h = h
 pack_on_up (b ∷ s) v h = pack_on_up s (v * byte_values + b) (omega arith)
 
-packed_up : (s : Bytes) → 0 < packed s
+pub packed_up : (s : Bytes) → 0 < packed s
 unfolding packed
 packed_up s = pack_on_up s 1 (omega arith)
 
@@ -133,22 +133,25 @@ module _ (s : Bytes) (p v i : ℕ) (g : Packing s p v i) (t : Bool) (e : t ≡ s
 
   -- ── the piece ends ──
 
-  pub pack_done : t ≡ true → KeywordAt s p v i
+  pub pack_done : t ≡ true → KeywordAt s p (Some (record { value = v; end = i }))
   unfolding short packed
   pack_done z =
       let plain : short (slice p i s) ≡ true = rw (le-leb (length (slice p i s)) max_keyword (omega (arith, counted, g.few))) g.bytes in
-      record { ends = pass_done s p i g.pass t e (not_from_true t z); packed = rw g.is (packed_tells (slice p i s) plain) }
+      let ends : Ends s p i = pass_done s p i g.pass t e z in
+      record { is = λ q h. rw (ends_alike s p q i h ends) (rw g.is (packed_tells (slice p i s) plain)); ends = ends }
 
   -- ── it goes on ──
 
   module _ (z : t ≡ false) where
     -- with more than seven bytes
-    pub pack_long : i ≡ p + max_keyword → (r : ℕ) → Ends s i r → KeywordAt s p 0 r
-    pack_long q r h =
-        let past : separates (get_or s i 0) ≡ false = sym e ∙ z in
-        let on : i < r = ends_later s i r h past in
-        let whole = along_back s p i g.pass.along r h in
-        record { ends = whole; packed = long_tells (slice p r s) (omega (arith, length-slice p r s (omega (arith, h.to)))) }
+    pub pack_long : i ≡ p + max_keyword → KeywordAt s p None
+    pack_long q =
+        record {
+          is = λ r h.
+              let on : i < r = ends_later s i r (along_ends s p i g.pass.along r h) (sym e ∙ z) in
+              long_tells (slice p r s) (omega (arith, length-slice p r s (omega (arith, h.to))));
+          ends = tt;
+        }
 
     module _ (n : i ≡ p + max_keyword → ⊥) where
       pub pack_room : v < 2 * byte_values ^ (max_keyword - 1)
@@ -163,7 +166,7 @@ module _ (s : Bytes) (p v i : ℕ) (g : Packing s p v i) (t : Bool) (e : t ≡ s
           let one : slice p (i + 1) s ≡ slice p i s ++ (get_or s i 0 ∷ []) = slice_snoc p i s 0 from inside in
           let sum : i + 1 - p ≡ suc (i - p) = omega (arith, from) in
           record {
-            pass = pass_on s p i g.pass t e (not_from_false t z);
+            pass = pass_on s p i g.pass t e z;
             few = omega (arith, g.few, n);
             is = rw (one, pack_on_append, ← g.is, q);
             bytes = rw one (bytes_append (slice p i s) _ g.bytes (rw (← q, lt-ltb _ _ l)));

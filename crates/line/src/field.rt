@@ -1,146 +1,154 @@
 // The two words of a field of one piece, which begins at a place of a line.
 ghost use Rattle.std.specs.Prelude.{◌≡◌, [], ◌∷◌, ◌+◌, ◌/◌, ◌%◌, ◌<◌, ◌≤◌, Some};
+ghost use Rattle.std.specs.Fn.{FnReturnsAt};
 ghost use Rattle.model.specs.Text.{Bytes};
 ghost use Rattle.model.specs.Field.{Form, u32};
-ghost use Rattle.record.specs.Place.{Fed};
 ghost use Rattle.words.specs.Words.{two32};
-ghost use Rattle.line.specs.Place.{InLine};
-ghost use Rattle.line.specs.FieldRead.{WordsOf, WordsAt, words_value, placed};
+ghost use Rattle.line.specs.FieldRead.{WordsOf, WordsAt, Own, words_value};
 
-use record::piece::piece_end;
-use record::{AliasAt, Decimal, DecimalAt, OptDecimalAt, Signed, TextAt};
+use crate::place::Place;
+use record::cursor::Cursor;
+use record::hex::hex;
+use record::int::signed;
+use record::name::{alias_at, text_at};
+use record::number::{decimal_at, decimal_or_absent_at};
+use record::piece::{Piece, piece_end};
 
-// A field's words, or none.
+// A field's two words.
 #[derive(Clone, Copy)]
-pub enum Words {
-    Is(u32, u32),
-    Not,
+pub struct Words {
+    pub first: u32,
+    pub second: u32,
 }
 
-// A field's words and where its last piece ends, or none.
-#[derive(Clone, Copy)]
-pub enum FieldRead {
-    Is(u32, u32, usize),
-    Not,
-}
-
-// Words of a piece that ends at r.
-fn placed(w: Words, r: usize) -> FieldRead
-    ensures { result ≡ placed w r }
-{
-    match w {
-        Words::Is(x, y) => FieldRead::Is(x, y, r),
-        Words::Not => FieldRead::Not,
-    }
-}
+// The words of a field that is absent.
+const ABSENT: Words = Words {
+    first: 0,
+    second: 0,
+};
 
 // A number of at most `limit`.
-pub fn number(sheet: &[u8], p: usize, limit: u64) -> FieldRead
-    requires fed { Fed sheet.now p }
-    requires limit_le_u32 { limit ≤ u32 }
-    ensures { WordsAt (Form.num limit) sheet.now p result }
+pub fn number(c: Cursor<'_>, limit: u64) -> Option<Piece<Words>>
+    requires { limit ≤ u32 }
+    ensures { WordsAt (Form.num limit) c.entry.bytes.now c.entry.at result }
 {
-    match record::number::decimal_at(sheet, p, limit) {
-        DecimalAt::Is(n, r) => FieldRead::Is(n as u32, 0, r),
-        DecimalAt::Not => FieldRead::Not,
-    }
+    let n = decimal_at(c, limit)?;
+    let value = Words {
+        first: n.value as u32,
+        second: 0,
+    };
+    Some(Piece { value, end: n.end })
 }
 
 // A variable's id, or a dash.
-pub fn variable(sheet: &[u8], p: usize) -> FieldRead
-    requires { Fed sheet.now p }
-    ensures { WordsAt Form.var_or_absent sheet.now p result }
+pub fn variable(c: Cursor<'_>) -> Option<Piece<Words>>
+    ensures { WordsAt Form.var_or_absent c.entry.bytes.now c.entry.at result }
 {
-    match record::number::decimal_or_absent_at(sheet, p, words::MAX_U32) {
-        OptDecimalAt::Is(n, r) => FieldRead::Is(1, n as u32, r),
-        OptDecimalAt::Absent(r) => FieldRead::Is(0, 0, r),
-        OptDecimalAt::Not => FieldRead::Not,
+    let id = decimal_or_absent_at(c, words::MAX_U32)?;
+    let end = id.end;
+    match id.value {
+        Some(n) => {
+            let value = Words {
+                first: 1,
+                second: n as u32,
+            };
+            Some(Piece { value, end })
+        }
+        None => Some(Piece { value: ABSENT, end }),
     }
 }
 
 // A number of 64 bits in two halves, and a number added to the high one.
 fn halves(n: u64, top: u32) -> Words
     requires { n / two32 + top < two32 }
-    ensures { result ≡ Words.Is (n % two32) (n / two32 + top) }
+    ensures { result ≡ record { first = n % two32; second = n / two32 + top } }
 {
     let low = n % words::TWO_32;
     let high = n / words::TWO_32;
-    Words::Is(low as u32, high as u32 + top)
+    Words {
+        first: low as u32,
+        second: high as u32 + top,
+    }
 }
 
 // The bits of a float, from its piece.
-fn float_words(s: &[u8]) -> Words
+fn float_words(s: &[u8]) -> Option<Words>
     ensures { (sheet : Bytes) → WordsOf Form.float sheet (s.now ∷ []) result }
 {
-    match record::hex::hex(s) {
-        Decimal::Is(n) => halves(n, 0),
-        Decimal::Not => Words::Not,
-    }
+    let n = hex(s)?;
+    Some(halves(n, 0))
 }
 
 // A signed number's words: those of its size, or of one less with the top bit for a negative one.
 fn signed_words(v: i64) -> Words
-    ensures { (sheet : Bytes) → words_value Form.int sheet result ≡ Some v }
+    ensures { (sheet : Bytes) → words_value Form.int sheet (Some result) ≡ Some v }
 {
+    let size = v.unsigned_abs();
     if v < 0 {
-        let m = -1 - v;
-        return halves(m as u64, words::TOP_BIT);
+        return halves(size - 1, words::TOP_BIT);
     }
-    halves(v as u64, 0)
+    halves(size, 0)
 }
 
 // A signed number, from its piece.
-fn int_words(s: &[u8]) -> Words
+fn int_words(s: &[u8]) -> Option<Words>
     ensures { (sheet : Bytes) → WordsOf Form.int sheet (s.now ∷ []) result }
 {
-    match record::int::signed(s) {
-        Signed::Is(v) => signed_words(v),
-        Signed::Not => Words::Not,
-    }
+    let v = signed(s)?;
+    Some(signed_words(v))
+}
+
+// A field whose piece is read on its own.
+fn own<F: Fn(&[u8]) -> Option<Words>>(c: Cursor<'_>, read: F) -> Option<Piece<Words>>
+    requires { F.IsAlwaysCallable read }
+    ensures { Own c.entry.bytes.now c.entry.at (λ s w. FnReturnsAt F.Fn read s w) result }
+{
+    let end = piece_end(c);
+    let value = read(&c.bytes[c.at..end])?;
+    Some(Piece { value, end })
 }
 
 // A signed number.
-pub fn int(sheet: &[u8], p: usize) -> FieldRead
-    requires { Fed sheet.now p }
-    ensures { WordsAt Form.int sheet.now p result }
+pub fn int(c: Cursor<'_>) -> Option<Piece<Words>>
+    ensures { WordsAt Form.int c.entry.bytes.now c.entry.at result }
 {
-    let r = piece_end(sheet, p);
-    let w = int_words(&sheet[p..r]);
-    placed(w, r)
+    own(c, int_words)
 }
 
 // The bits of a float.
-pub fn float(sheet: &[u8], p: usize) -> FieldRead
-    requires { Fed sheet.now p }
-    ensures { WordsAt Form.float sheet.now p result }
+pub fn float(c: Cursor<'_>) -> Option<Piece<Words>>
+    ensures { WordsAt Form.float c.entry.bytes.now c.entry.at result }
 {
-    let r = piece_end(sheet, p);
-    let w = float_words(&sheet[p..r]);
-    placed(w, r)
+    own(c, float_words)
 }
 
 // A name, held as its place.
-pub fn text(sheet: &[u8], p: usize) -> FieldRead
-    requires { InLine sheet.now p }
-    ensures { WordsAt Form.text sheet.now p result }
+pub fn text(p: Place<'_>) -> Option<Piece<Words>>
+    ensures { WordsAt Form.text p.entry.cursor.bytes.now p.entry.cursor.at result }
 {
-    match record::name::text_at(sheet, p) {
-        TextAt::To(r) => FieldRead::Is(p as u32, r as u32, r),
-        TextAt::Not => FieldRead::Not,
-    }
+    let at = p.cursor.at;
+    let end = text_at(p.cursor)?;
+    let value = Words {
+        first: at as u32,
+        second: end as u32,
+    };
+    Some(Piece { value, end })
 }
 
 // A dash, or an equals sign and a name.
-pub fn alias(sheet: &[u8], p: usize) -> FieldRead
-    requires { InLine sheet.now p }
-    ensures { WordsAt Form.alias sheet.now p result }
+pub fn alias(p: Place<'_>) -> Option<Piece<Words>>
+    ensures { WordsAt Form.alias p.entry.cursor.bytes.now p.entry.cursor.at result }
 {
-    match record::name::alias_at(sheet, p) {
-        AliasAt::Absent(r) => FieldRead::Is(0, 0, r),
-        AliasAt::Named(r) => {
-            let at = p + 1;
-            FieldRead::Is(at as u32, r as u32, r)
+    let name = alias_at(p.cursor)?;
+    let end = name.end;
+    match name.value {
+        None => Some(Piece { value: ABSENT, end }),
+        Some(at) => {
+            let value = Words {
+                first: at as u32,
+                second: end as u32,
+            };
+            Some(Piece { value, end })
         }
-        AliasAt::Not => FieldRead::Not,
     }
 }

@@ -3,73 +3,89 @@ ghost use Rattle.std.specs.Prelude.{◌<◌};
 ghost use Rattle.model.specs.Field.{Form};
 ghost use Rattle.words.specs.Places.{form_count};
 ghost use Rattle.words.specs.Table.{form_of};
-ghost use Rattle.record.specs.Place.{Fed};
-ghost use Rattle.line.specs.Place.{InLine};
 ghost use Rattle.line.specs.FieldRead.{FieldHere};
 
-use crate::field::{FieldRead, alias, float, int, number, text, variable};
-use record::piece::piece_end;
+use crate::field::{Words, alias, float, int, number, text, variable};
+use crate::place::Place;
+use record::cursor::Cursor;
+use record::length::length;
+use record::piece::{Piece, piece_end};
 use words::form;
 use words::table::limit;
 
 // A span: two numbers, the start at most the end.
-fn span(sheet: &[u8], p: usize) -> FieldRead
-    requires { Fed sheet.now p }
-    ensures { FieldHere Form.span sheet.now p result }
+fn span(c: Cursor<'_>) -> Option<Piece<Words>>
+    ensures { FieldHere Form.span c.entry.bytes.now c.entry.at result }
 {
-    let FieldRead::Is(x, _, r) = number(sheet, p, words::MAX_U32) else {
-        return FieldRead::Not;
-    };
-    if sheet[r] != b'\t' {
-        return FieldRead::Not;
+    let start = number(c, words::MAX_U32)?;
+    let r = start.end;
+    if c.bytes[r] != b'\t' {
+        return None;
     }
-    let FieldRead::Is(y, _, t) = number(sheet, r + 1, words::MAX_U32) else {
-        return FieldRead::Not;
+    let behind = Cursor {
+        bytes: c.bytes,
+        at: r + 1,
     };
-    if x <= y {
-        return FieldRead::Is(x, y, t);
+    let last = number(behind, words::MAX_U32)?;
+    let first = start.value.first;
+    let second = last.value.first;
+    if second < first {
+        return None;
     }
-    FieldRead::Not
+    Some(Piece {
+        value: Words { first, second },
+        end: last.end,
+    })
 }
 
 // The length of a pattern's relationship: three pieces, held as their place.
-fn hops(sheet: &[u8], p: usize) -> FieldRead
-    requires { InLine sheet.now p }
-    ensures { FieldHere Form.length sheet.now p result }
+fn hops(p: Place<'_>) -> Option<Piece<Words>>
+    ensures { FieldHere Form.length p.entry.cursor.bytes.now p.entry.cursor.at result }
 {
-    let r = piece_end(sheet, p);
+    let sheet = p.cursor.bytes;
+    let start = p.cursor.at;
+    let r = piece_end(p.cursor);
     if sheet[r] != b'\t' {
-        return FieldRead::Not;
+        return None;
     }
     let q = r + 1;
-    let t = piece_end(sheet, q);
+    let t = piece_end(Cursor {
+        bytes: sheet,
+        at: q,
+    });
     if sheet[t] != b'\t' {
-        return FieldRead::Not;
+        return None;
     }
     let u = t + 1;
-    let v = piece_end(sheet, u);
-    if record::length::length(&sheet[p..r], &sheet[q..t], &sheet[u..v]) {
-        return FieldRead::Is(p as u32, v as u32, v);
+    let end = piece_end(Cursor {
+        bytes: sheet,
+        at: u,
+    });
+    if !length(&sheet[start..r], &sheet[q..t], &sheet[u..end]) {
+        return None;
     }
-    FieldRead::Not
+    let value = Words {
+        first: start as u32,
+        second: end as u32,
+    };
+    Some(Piece { value, end })
 }
 
 // The field that begins at p, by the code of its form: a number with the table's limit from that of a number on.
-pub fn read_form(sheet: &[u8], p: usize, form: u32) -> FieldRead
-    requires in_line { InLine sheet.now p }
-    requires form_nonzero { (0 < form) × (form < form_count) }
-    ensures { FieldHere (form_of form) sheet.now p result }
+pub fn read_form(p: Place<'_>, form: u32) -> Option<Piece<Words>>
+    requires { (0 < form) × (form < form_count) }
+    ensures { FieldHere (form_of form) p.entry.cursor.bytes.now p.entry.cursor.at result }
 {
     match form {
-        form::FLAG => number(sheet, p, 1),
-        form::VAR => number(sheet, p, words::MAX_U32),
-        form::VAR_OR_ABSENT => variable(sheet, p),
-        form::INT => int(sheet, p),
-        form::FLOAT => float(sheet, p),
-        form::TEXT => text(sheet, p),
-        form::ALIAS => alias(sheet, p),
-        form::SPAN => span(sheet, p),
-        form::LENGTH => hops(sheet, p),
-        _ => number(sheet, p, limit(form - form::NUMBER)),
+        form::FLAG => number(p.cursor, 1),
+        form::VAR => number(p.cursor, words::MAX_U32),
+        form::VAR_OR_ABSENT => variable(p.cursor),
+        form::INT => int(p.cursor),
+        form::FLOAT => float(p.cursor),
+        form::TEXT => text(p),
+        form::ALIAS => alias(p),
+        form::SPAN => span(p.cursor),
+        form::LENGTH => hops(p),
+        _ => number(p.cursor, limit(form - form::NUMBER)),
     }
 }

@@ -1,11 +1,12 @@
 // The groups of children that follow a record, by its kind, and how many children they are together.
 ghost use Rattle.std.specs.Prelude.{◌≡◌, ◌%◌, ◌<◌, length};
-ghost use Rattle.words.specs.Words.{Roomy, part, max_records, record_words, two32};
+ghost use Rattle.words.specs.Words.{part, max_records, record_words, two32};
 ghost use Rattle.words.specs.Places.{kind_count, sort_count};
 ghost use Rattle.words.specs.Held.{total};
 ghost use Rattle.words.specs.Table.{group_sort, group_source, count_of, group_count, groups_of};
 ghost use Rattle.line.specs.Group.{CountedAt};
 
+use words::records::Records;
 use words::table::{group_entry, groups_of};
 
 // A group has so many entries in the table: its sort, and behind it the source of its count.
@@ -49,19 +50,18 @@ fn count_place(kind: u32, g: usize) -> Counted
 }
 
 // How many records group g of record i has.
-pub fn group_count(a: &[u32], b: &[u32], i: usize, kind: u32, g: usize) -> u32
+pub fn group_count(r: &Records<'_>, i: usize, kind: u32, g: usize) -> u32
     requires kind_lt_kind_count { (kind < kind_count) × (g < group_count) }
     requires i_lt_max_records { i < max_records }
-    requires roomy { Roomy a.now b.now }
-    ensures { result ≡ count_of (part a.now b.now i) (group_source kind g) }
+    ensures { result ≡ count_of (part r.now.a.now r.now.b.now i) (group_source kind g) }
 {
     match count_place(kind, g) {
         Counted::Fixed(n) => n,
-        Counted::InWord(c) => words::word(a, b, i, c),
+        Counted::InWord(c) => r.word(i, c),
     }
 }
 
-// How many records group g has of the record whose words these are.
+// How many records group g has of the record whose words these are. Not one with `group_count`: a closure for the read of a word would want that word's bound and value in the contract, which is longer than both.
 fn count_in(part: &[u32], kind: u32, g: usize) -> u32
     requires kind_lt_kind_count { (kind < kind_count) × (g < group_count) }
     requires part_len { length part.now ≡ record_words }
@@ -73,25 +73,15 @@ fn count_in(part: &[u32], kind: u32, g: usize) -> u32
     }
 }
 
-// A word as a number of 64 bits.
-fn wide(x: u32) -> u64
-    ensures { (result ≡ x) × (result < two32) }
-{
-    x as u64
-}
-
 // How many children a record of a kind has by its words, as far as a word holds it: no sheet that is read has more.
 pub fn children_of(part: &[u32], kind: u32) -> u32
     requires { (kind < kind_count) × (length part.now ≡ record_words) }
     ensures { result ≡ total (groups_of kind part.now) % two32 }
 {
-    let n = groups_of(kind);
-    let mut g = 0;
     let mut sum: u64 = 0;
-    while g < n {
-        let c = wide(count_in(part, kind, g));
+    for g in 0..groups_of(kind) {
+        let c = u64::from(count_in(part, kind, g));
         sum += c;
-        g += 1;
     }
     (sum % words::TWO_32) as u32
 }

@@ -1,124 +1,103 @@
 // The kind that a keyword names among those of a sort.
-ghost use Rattle.std.specs.Prelude.{◌≡◌, ◌<◌, cond, eqb};
+ghost use Rattle.std.specs.Prelude.{◌≡◌, ◌<◌, cond, eqb, Some, None};
 ghost use Rattle.words.specs.Places.{sort_count, clause_sort, pattern_element_sort, expr_sort};
-ghost use Rattle.words.specs.Table.{sort_of, byte_values};
+ghost use Rattle.words.specs.Table.{sort_of};
 ghost use Rattle.model.specs.Text.{Bytes};
-ghost use Rattle.record.specs.Place.{Fed};
 ghost use Rattle.line.specs.Kinds.{Packed, KeywordAt, Named, keyed};
 
-use record::piece::{piece_end, separates};
+use record::cursor::Cursor;
+use record::piece::{Piece, separates};
 use words::{BYTE_VALUES, key, kind, sort};
-
-// The number of a kind, or none.
-#[derive(Clone, Copy)]
-pub enum KindFound {
-    Is(u32),
-    Not,
-}
-
-fn wide(b: u8) -> u64
-    ensures { (result ≡ b) × (result < byte_values) }
-{
-    b as u64
-}
-
-// A keyword as one number, its bytes behind a leading 1, and where it ends; 0 for one of more than seven bytes.
-#[derive(Clone, Copy)]
-pub struct Keyword {
-    pub word: u64,
-    pub end: usize,
-}
 
 // No keyword has more bytes, so that the number fits 64 bits.
 const MAX_KEYWORD: usize = 7;
 
-// The keyword at p.
-pub fn read_keyword(s: &[u8], p: usize) -> Keyword
-    requires { Fed s.now p }
-    ensures { KeywordAt s.now p result.word result.end }
+// The keyword here as one number, its bytes behind a leading 1, and where it ends; none of more than seven bytes.
+pub fn read_keyword(c: Cursor<'_>) -> Option<Piece<u64>>
+    ensures { KeywordAt c.entry.bytes.now c.entry.at result }
 {
-    let most = p + MAX_KEYWORD;
+    let most = c.at + MAX_KEYWORD;
     let mut v: u64 = 1;
-    let mut i = p;
-    while !separates(s[i]) {
+    let mut i = c.at;
+    // A `while`, since nothing tells where the separator is before it is met.
+    while !separates(c.bytes[i]) {
         if i == most {
-            let end = piece_end(s, i);
-            return Keyword { word: 0, end: end };
+            return None;
         }
-        v = v * BYTE_VALUES + wide(s[i]);
+        let b = u64::from(c.bytes[i]);
+        v = v * BYTE_VALUES + b;
         i += 1;
     }
-    Keyword { word: v, end: i }
+    Some(Piece { value: v, end: i })
 }
 
 // The kind of a sort that has only this one.
-fn only(w: u64, key: u64, kind: u32) -> KindFound
-    ensures { result ≡ cond (eqb key w) (KindFound.Is kind) KindFound.Not }
+fn only(w: u64, key: u64, kind: u32) -> Option<u32>
+    ensures { result ≡ cond (eqb key w) (Some kind) None }
 {
-    if key == w {
-        KindFound::Is(kind)
-    } else {
-        KindFound::Not
-    }
+    (key == w).then_some(kind)
 }
 
-fn clause_kind(w: u64) -> KindFound
+#[tactic(auto, using(crate::proofs::KindLaws::none_keyed), unfolding(crate::specs::Kinds::keyed, crate::specs::Kinds::keyed_from))]
+fn clause_kind(w: u64) -> Option<u32>
     ensures { result ≡ keyed clause_sort w }
 {
     match w {
-        key::MATCH => KindFound::Is(kind::MATCH),
-        key::WHERE => KindFound::Is(kind::WHERE),
-        key::WITH => KindFound::Is(kind::WITH),
-        key::RETURN => KindFound::Is(kind::RETURN),
-        key::UNWIND => KindFound::Is(kind::UNWIND),
-        key::CALL => KindFound::Is(kind::CALL),
-        key::WRITE => KindFound::Is(kind::WRITE),
-        _ => KindFound::Not,
+        key::MATCH => Some(kind::MATCH),
+        key::WHERE => Some(kind::WHERE),
+        key::WITH => Some(kind::WITH),
+        key::RETURN => Some(kind::RETURN),
+        key::UNWIND => Some(kind::UNWIND),
+        key::CALL => Some(kind::CALL),
+        key::WRITE => Some(kind::WRITE),
+        _ => None,
     }
 }
 
-fn element_kind(w: u64) -> KindFound
+#[tactic(auto, using(crate::proofs::KindLaws::none_keyed), unfolding(crate::specs::Kinds::keyed, crate::specs::Kinds::keyed_from))]
+fn element_kind(w: u64) -> Option<u32>
     ensures { result ≡ keyed pattern_element_sort w }
 {
     match w {
-        key::NODE => KindFound::Is(kind::NODE),
-        key::REL => KindFound::Is(kind::REL),
-        _ => KindFound::Not,
+        key::NODE => Some(kind::NODE),
+        key::REL => Some(kind::REL),
+        _ => None,
     }
 }
 
-fn expr_kind(w: u64) -> KindFound
+#[tactic(auto, using(crate::proofs::KindLaws::none_keyed), unfolding(crate::specs::Kinds::keyed, crate::specs::Kinds::keyed_from))]
+fn expr_kind(w: u64) -> Option<u32>
     ensures { result ≡ keyed expr_sort w }
 {
     match w {
-        key::NULL => KindFound::Is(kind::NULL),
-        key::BOOL => KindFound::Is(kind::BOOL),
-        key::INT => KindFound::Is(kind::INT),
-        key::FLOAT => KindFound::Is(kind::FLOAT),
-        key::STR => KindFound::Is(kind::STR),
-        key::PARAM => KindFound::Is(kind::PARAM),
-        key::PROP => KindFound::Is(kind::PROP),
-        key::INDEX => KindFound::Is(kind::INDEX),
-        key::SLICE => KindFound::Is(kind::SLICE),
-        key::LIST => KindFound::Is(kind::LIST),
-        key::BIN => KindFound::Is(kind::BIN),
-        key::UN => KindFound::Is(kind::UN),
-        key::CASE => KindFound::Is(kind::CASE),
-        key::IS_NULL => KindFound::Is(kind::IS_NULL),
-        key::IN => KindFound::Is(kind::IN),
-        key::VAR => KindFound::Is(kind::VAR),
-        key::MAP => KindFound::Is(kind::MAP),
-        key::FN => KindFound::Is(kind::FN),
-        key::PAT => KindFound::Is(kind::PAT),
-        key::LIST_PREDICATE => KindFound::Is(kind::LIST_PREDICATE),
-        key::UNRES => KindFound::Is(kind::UNRES),
-        key::UNDES => KindFound::Is(kind::UNDES),
-        _ => KindFound::Not,
+        key::NULL => Some(kind::NULL),
+        key::BOOL => Some(kind::BOOL),
+        key::INT => Some(kind::INT),
+        key::FLOAT => Some(kind::FLOAT),
+        key::STR => Some(kind::STR),
+        key::PARAM => Some(kind::PARAM),
+        key::PROP => Some(kind::PROP),
+        key::INDEX => Some(kind::INDEX),
+        key::SLICE => Some(kind::SLICE),
+        key::LIST => Some(kind::LIST),
+        key::BIN => Some(kind::BIN),
+        key::UN => Some(kind::UN),
+        key::CASE => Some(kind::CASE),
+        key::IS_NULL => Some(kind::IS_NULL),
+        key::IN => Some(kind::IN),
+        key::VAR => Some(kind::VAR),
+        key::MAP => Some(kind::MAP),
+        key::FN => Some(kind::FN),
+        key::PAT => Some(kind::PAT),
+        key::LIST_PREDICATE => Some(kind::LIST_PREDICATE),
+        key::UNRES => Some(kind::UNRES),
+        key::UNDES => Some(kind::UNDES),
+        _ => None,
     }
 }
 
 // The kind whose keyword has the number w among those of the sort.
-pub fn kind_named(w: u64, sort: u32) -> KindFound
+pub fn kind_named(w: u64, sort: u32) -> Option<u32>
     requires { sort < sort_count }
     ensures { (s : Bytes) → Packed s w → Named (sort_of sort) s result }
 {

@@ -5,4 +5,5 @@ pub mod field;
 pub mod form;
 pub mod group;
 pub mod kind;
+pub mod place;
 pub mod read;

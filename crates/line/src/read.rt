@@ -2,91 +2,106 @@
 ghost use Rattle.line.specs.LineRead.{FieldsAsked, FieldsHere, LineAsked, LineHere, IntoAsked, IntoHere};
 ghost use Rattle.words.specs.Table.{sort_of};
 
-use crate::field::FieldRead;
 use crate::form::read_form;
 use crate::group::children_of;
-use crate::kind::{KindFound, kind_named, read_keyword};
+use crate::kind::{kind_named, read_keyword};
+use crate::place::Place;
+use record::cursor::Cursor;
+use record::piece::Piece;
+use words::records::RecordsMut;
 use words::table::form_code;
 use words::{field, form};
-
-// Where the line ends, of which all fields are read; or none.
-#[derive(Clone, Copy)]
-pub enum FieldsTo {
-    End(usize),
-    Not,
-}
-
-// The number of a record's kind and the place behind its line, or none.
-#[derive(Clone, Copy)]
-pub enum Line {
-    Kind(u32, usize),
-    Not,
-}
 
 // Where the two words of the first field stand; each field behind it has the next two.
 const FIRST_WORD: usize = 2;
 
 const SECOND_WORD: usize = 3;
 
-// The fields of a kind, from behind place p on: field g goes to the words 2g + 2 and 2g + 3. Each stands behind a tab, and the line feed behind the last.
-fn read_fields(sheet: &[u8], p: usize, kind: u32, part: &mut [u32]) -> FieldsTo
-    requires { FieldsAsked kind sheet.now p part.old }
-    ensures { FieldsHere kind sheet.now p part.old part.new result }
+// A record's words are lent as a slice with its length in the contracts, not as an array: an array made of a part of a slice (`try_from`, `as_mut_array`) was tried, and nothing then tells what the slice holds behind the loan.
+
+// The fields of a kind, from behind place p on: field g goes to the words 2g + 2 and 2g + 3. Each stands behind a tab, and the line feed behind the last. Where the line ends, of which all fields are read.
+fn read_fields(p: Place<'_>, kind: u32, part: &mut [u32]) -> Option<usize>
+    requires { FieldsAsked kind p.cursor.bytes.now p.cursor.at part.old }
+    ensures { FieldsHere kind p.entry.cursor.bytes.now p.entry.cursor.at part.old part.new result }
 {
+    let sheet = p.cursor.bytes;
     let row = kind as usize;
-    let mut at = p;
+    let mut at = p.cursor.at;
     let mut g = 0;
     let mut form = form_code(row, 0);
+    // A `while`, since a row of the table ends at the code of no form.
     while form != form::NONE {
         if sheet[at] != b'\t' {
-            return FieldsTo::Not;
+            return None;
         }
-        let FieldRead::Is(x, y, end) = read_form(sheet, at + 1, form) else {
-            return FieldsTo::Not;
-        };
-        part[g + g + FIRST_WORD] = x;
-        part[g + g + SECOND_WORD] = y;
-        at = end;
+        let behind = at + 1;
+        let read = read_form(
+            Place {
+                cursor: Cursor {
+                    bytes: sheet,
+                    at: behind,
+                },
+            },
+            form,
+        )?;
+        part[g + g + FIRST_WORD] = read.value.first;
+        part[g + g + SECOND_WORD] = read.value.second;
+        at = read.end;
         g += 1;
         form = form_code(row, g);
     }
     if sheet[at] == b'\n' {
-        return FieldsTo::End(at);
+        return Some(at);
     }
-    FieldsTo::Not
+    None
 }
 
-// The line at p as a record of a sort, in the sixteen words of `part`. If there is none, what stands in `part` is not promised.
-pub fn read_line(sheet: &[u8], p: usize, sort: u32, part: &mut [u32]) -> Line
-    requires { LineAsked sort sheet.now p part.old }
-    ensures { LineHere (sort_of sort) sheet.now p part.new result }
+// The line at p as a record of a sort, in the sixteen words of `part`: the number of its kind and the place behind the line. If there is none, what stands in `part` is not promised.
+pub fn read_line(p: Place<'_>, sort: u32, part: &mut [u32]) -> Option<Piece<u32>>
+    requires { LineAsked sort part.old }
+    ensures { LineHere (sort_of sort) p.entry.cursor.bytes.now p.entry.cursor.at part.new result }
 {
-    let key = read_keyword(sheet, p);
-    let KindFound::Is(k) = kind_named(key.word, sort) else {
-        return Line::Not;
-    };
-    part[field::LINE_START] = p as u32;
+    let key = read_keyword(p.cursor)?;
+    let k = kind_named(key.value, sort)?;
+    part[field::LINE_START] = p.cursor.at as u32;
     part[field::KIND] = k;
-    let FieldsTo::End(e) = read_fields(sheet, key.end, k, part) else {
-        return Line::Not;
+    let fields = Cursor {
+        bytes: p.cursor.bytes,
+        at: key.end,
     };
+    let e = read_fields(Place { cursor: fields }, k, part)?;
     part[field::CHILDREN] = children_of(part, k);
     let behind = e + 1;
     part[field::LINE_END] = behind as u32;
-    Line::Kind(k, behind)
+    Some(Piece {
+        value: k,
+        end: behind,
+    })
 }
 
-// The same into record i of two slices.
-pub fn read_into(sheet: &[u8], p: usize, sort: u32, a: &mut [u32], b: &mut [u32], i: usize) -> Line
-    requires { IntoAsked sort sheet.now p i a.old b.old }
-    ensures { IntoHere (sort_of sort) sheet.now p i a.old b.old a.new b.new result }
+// The same into record i.
+pub fn read_into(
+    sheet: &[u8],
+    p: usize,
+    sort: u32,
+    records: &mut RecordsMut<'_>,
+    i: usize,
+) -> Option<Piece<u32>>
+    requires { IntoAsked sort sheet.now p i }
+    ensures { IntoHere (sort_of sort) sheet.now p i records.old.a.now records.old.b.now records.new.a.now records.new.b.now result }
 {
+    let place = Place {
+        cursor: Cursor {
+            bytes: sheet,
+            at: p,
+        },
+    };
     if i < words::FIRST_RECORDS {
         let at = i * words::RECORD_WORDS;
         let z = at + words::RECORD_WORDS;
-        return read_line(sheet, p, sort, &mut a[at..z]);
+        return read_line(place, sort, &mut records.a[at..z]);
     }
     let at = (i - words::FIRST_RECORDS) * words::RECORD_WORDS;
     let z = at + words::RECORD_WORDS;
-    read_line(sheet, p, sort, &mut b[at..z])
+    read_line(place, sort, &mut records.b[at..z])
 }

@@ -6,11 +6,12 @@ use native.Mathlib.Omega.{arith}
 use mathlib.Core.Bool.{Bool, true, false}
 use mathlib.Core.List.{List, [], ◌∷◌}
 use Rattle.words.specs.Places.{map_kind, pat_kind, unres_kind, undes_kind, kind_at, part_elements_at, undes_kind_at}
+use Rattle.std.specs.Prelude.{Result, Ok, Err}
 use Rattle.model.specs.Field.{Span}
 use Rattle.model.specs.Kind.{Sort, expr, pattern_part, pattern_element}
 use Rattle.model.specs.Check.{Verdict, fine, no_span}
 use Rattle.words.specs.Words.{Roomy, cell, fields_of, field_of}
-use Rattle.precheck.specs.Answer.{span_of, Found}
+use Rattle.precheck.specs.Answer.{span_of}
 use Rattle.precheck.specs.Steps.{Stage, Exists, Ends, Walks, Run}
 use Rattle.words.specs.Numbers.{Others, expr_number_law}
 use Rattle.words.specs.Count.{count_at, is_leaf}
@@ -19,10 +20,8 @@ use Rattle.precheck.specs.Stands.{At, Standing, SomeAt, Exprs, own_verdict, verd
 use Rattle.precheck.specs.declared.HirSpan.{HirSpan}
 use Rattle.precheck.specs.declared.PlanLowerError.{PlanLowerError}
 use Rattle.precheck.specs.declared.PlanLowerError.TheVariants.{UnresolvedName, UndesugaredExpr, EmptyPatternPart}
-use Rattle.precheck.specs.declared.Props.{Props}
-use Rattle.precheck.specs.declared.Walk.{Walk}
-use Rattle.precheck.specs.declared.Walk.TheVariants.{Go, Refused}
-use Rattle.precheck.proofs.Laws.{first_met, closed, last_of, map_run}
+use Rattle.precheck.specs.declared.verdict.Props.{Props}
+use Rattle.precheck.proofs.Laws.{Remaining, child, first_met, closed, last_of, map_run}
 use Rattle.precheck.proofs.Opened.{Opened, in_turn_law, kids_of, open_at, open_held}
 use Rattle.precheck.proofs.Counting.{one_group}
 use Rattle.precheck.proofs.Expressions.{Seen, plain, entries, pattern, see, of_entry, in_expr}
@@ -37,7 +36,7 @@ module _ {P Q : Stage} (t : Turns P Q) where
   pub some_turned : Exists P → Exists Q
   some_turned h = record { verdict = h.verdict; next = h.next; is = t.to _ _ h.is }
 
-  pub walks_turned : {r : Walk} → Walks r Q → Walks r P
+  pub walks_turned : {r : Result ℕ PlanLowerError} → Walks r Q → Walks r P
   walks_turned w = record { each = λ v e p. w.each v e (t.to v e p) }
 
 module _ {a b : List ℕ} (room : Roomy a b) {s : Sort} {d : ℕ} {span : Span} {i : ℕ} (h : Exists (At a b s d span i)) where
@@ -47,40 +46,44 @@ module _ {a b : List ℕ} (room : Roomy a b) {s : Sort} {d : ℕ} {span : Span} 
   pub some_at : SomeAt a b s i
   some_at = record { low = (open_at room h.is).low; depth = d; span = span; verdict = h.verdict; next = h.next; is = h.is }
 
+-- the next of those that remain stands there
+pub next_standing : {a b : List ℕ} {s : Sort} {d n i k at : ℕ} {span : Span} → Roomy a b → Remaining (At a b s d span) n i k at → k < n → Exists (Run (At a b s d span) n i) → Standing a b s d span at
+next_standing room remaining h some = standing room (child remaining h some)
+
 -- so many as a word says
 module _ {P : ℕ → Stage} {n m i : ℕ} (e : n ≡ m) where
   pub some_counted : Exists (Run P m i) → Exists (Run P n i)
   some_counted h = rw e h
 
-  pub walks_counted : {r : Walk} → Walks r (Run P n i) → Walks r (Run P m i)
+  pub walks_counted : {r : Result ℕ PlanLowerError} → Walks r (Run P n i) → Walks r (Run P m i)
   walks_counted h = rw e at h
 
 -- ── the verdict at a record ──
 
-module _ {a b : List ℕ} {s : Sort} {d : ℕ} {span : Span} {i : ℕ} {r : Walk} (own : Own a b s i span r) where
+module _ {a b : List ℕ} {s : Sort} {d : ℕ} {span : Span} {i : ℕ} where
   -- what a record is refused for by itself, its tree is refused for
-  pub own_refused : {x : PlanLowerError} → r ≡ Refused x → Walks r (At a b s d span i)
-  own_refused {x} g = record { each = λ v e h. (let f : Found x (own_verdict h.tree span) = rw g at (own.each h.sheet d h.tree h.held) in rw g (first_met (verdict_below h.tree span) (h.verdict ∙ in_turn_law h.tree span) f)) }
+  pub own_refused : {x : PlanLowerError} → Own a b s i span (Err x) → Walks (Err x) (At a b s d span i)
+  own_refused own = record { each = λ v e h. first_met (verdict_below h.tree span) (h.verdict ∙ in_turn_law h.tree span) (own.each h.sheet d h.tree h.held) }
 
-  own_fine : {k : ℕ} → r ≡ Go k → {v : Verdict} {e : ℕ} (h : At a b s d span i v e) → own_verdict h.tree span ≡ fine
-  own_fine {k} g h = let f : Ends (Go k) (own_verdict h.tree span) (i + 1) = rw g at (own.each h.sheet d h.tree h.held) in f.0
+  own_fine : {u : Unit {0}} → Own a b s i span (Ok u) → {v : Verdict} {e : ℕ} (h : At a b s d span i v e) → own_verdict h.tree span ≡ fine
+  own_fine own h = own.each h.sheet d h.tree h.held
 
 module _ {a b : List ℕ} (room : Roomy a b) {i c : ℕ} (kind : c ≡ cell a b i kind_at) {span : HirSpan} where
-  pub own_other : c < unres_kind → Own a b expr i (span_of span) (Go (i + 1))
-  own_other k = record { each = λ sheet d t h. ((in_expr (open_held room sheet d t (span_of span) h)).other (λ z. omega arith) (λ z. omega arith), refl) }
+  pub own_other : c < unres_kind → Own a b expr i (span_of span) (Ok tt)
+  own_other k = record { each = λ sheet d t h. (in_expr (open_held room sheet d t (span_of span) h)).other (λ z. omega arith) (λ z. omega arith) }
 
-  pub own_unresolved : c ≡ unres_kind → Own a b expr i (span_of span) (Refused (UnresolvedName (i + 1) span))
+  pub own_unresolved : c ≡ unres_kind → Own a b expr i (span_of span) (Err (UnresolvedName (i + 1) span))
   own_unresolved k = record { each = λ sheet d t h. let q = (in_expr (open_held room sheet d t (span_of span) h)).unresolved (sym kind ∙ k) in record { unresolved = q.0; is = rw add-one q.1 } }
 
-  pub own_undesugared : {x : ℕ} → x ≡ cell a b i undes_kind_at → unres_kind ≤ c → (c ≡ unres_kind → ⊥) → Own a b expr i (span_of span) (Refused (UndesugaredExpr (i + 1) span x))
+  pub own_undesugared : {x : ℕ} → x ≡ cell a b i undes_kind_at → unres_kind ≤ c → (c ≡ unres_kind → ⊥) → Own a b expr i (span_of span) (Err (UndesugaredExpr (i + 1) span x))
   own_undesugared q l k = record { each = λ sheet d t h. record { unresolved = []; is = rw (add-one, q) ((in_expr (open_held room sheet d t (span_of span) h)).undesugared (rw kind at l) (λ z. k (kind ∙ z))) } }
 
 module _ {a b : List ℕ} {i : ℕ} {t : Bool} {span : HirSpan} (h : Begins a b i t) where
-  pub own_empty : t ≡ false → Own a b pattern_part i (span_of span) (Refused (EmptyPatternPart (i + 1) span))
+  pub own_empty : t ≡ false → Own a b pattern_part i (span_of span) (Err (EmptyPatternPart (i + 1) span))
   own_empty e = record { each = λ sheet d p q. record { unresolved = []; is = rw add-one (rw e at (h.each sheet d p (span_of span) q)) } }
 
-  pub own_begins : t ≡ true → Own a b pattern_part i (span_of span) (Go (i + 1))
-  own_begins e = record { each = λ sheet d p q. (rw e at (h.each sheet d p (span_of span) q), refl) }
+  pub own_begins : t ≡ true → Own a b pattern_part i (span_of span) (Ok tt)
+  own_begins e = record { each = λ sheet d p q. rw e at (h.each sheet d p (span_of span) q) }
 
 -- ── an expression ──
 
@@ -89,9 +92,9 @@ module _ {a b : List ℕ} (room : Roomy a b) {i c n : ℕ} (kind : c ≡ cell a 
   seen o own =
       rw (count ∙ o.count ∙ one_group o.kind _) (see o.sheet c o.kind (kind ∙ expr_number_law _ _ o.number) o.body (sym o.own ∙ own))
 
-  module _ {r : Walk} {k : ℕ} (own : Own a b expr i span r) (is_fine : r ≡ Go k) where
+  module _ {u : Unit {0}} (own : Own a b expr i span (Ok u)) where
     pub as_entries : c ≡ map_kind → Turns (At a b expr d span i) (Exprs a b 1 (d - 1) span n (i + 1))
-    as_entries z = record { to = λ v e h. go (seen (open_at room h) (own_fine own is_fine h)) }
+    as_entries z = record { to = λ v e h. go (seen (open_at room h) (own_fine own h)) }
       where
         go : {v : Verdict} {e : ℕ} → Seen a b (d - 1) span i c n v e → Exprs a b 1 (d - 1) span n (i + 1) v e
         go (plain p r) = absurd (p.map z)
@@ -99,7 +102,7 @@ module _ {a b : List ℕ} (room : Roomy a b) {i c n : ℕ} (kind : c ≡ cell a 
         go (pattern p r) = absurd (omega arith)
 
     pub as_pattern : c ≡ pat_kind → Turns (At a b expr d span i) (Run (At a b pattern_part (d - 1) span) n (i + 1))
-    as_pattern z = record { to = λ v e h. go (seen (open_at room h) (own_fine own is_fine h)) }
+    as_pattern z = record { to = λ v e h. go (seen (open_at room h) (own_fine own h)) }
       where
         go : {v : Verdict} {e : ℕ} → Seen a b (d - 1) span i c n v e → Run (At a b pattern_part (d - 1) span) n (i + 1) v e
         go (plain p r) = absurd (p.pattern z)
@@ -107,7 +110,7 @@ module _ {a b : List ℕ} (room : Roomy a b) {i c n : ℕ} (kind : c ≡ cell a 
         go (pattern p r) = r
 
     pub as_plain : Others c (pat_kind ∷ map_kind ∷ []) → Turns (At a b expr d span i) (Exprs a b 0 (d - 1) span n (i + 1))
-    as_plain z = record { to = λ v e h. go (seen (open_at room h) (own_fine own is_fine h)) }
+    as_plain z = record { to = λ v e h. go (seen (open_at room h) (own_fine own h)) }
       where
         go : {v : Verdict} {e : ℕ} → Seen a b (d - 1) span i c n v e → Exprs a b 0 (d - 1) span n (i + 1) v e
         go (plain p r) = at_once r
@@ -115,31 +118,29 @@ module _ {a b : List ℕ} (room : Roomy a b) {i c n : ℕ} (kind : c ≡ cell a 
         go (pattern p r) = absurd (z.1 p)
 
 -- an expression that has none below it, whatever its fields
-pub as_leaf : {a b : List ℕ} {i c : ℕ} {d : ℕ} {span : Span} → Roomy a b → c ≡ cell a b i kind_at → is_leaf c ≡ true → Walks (Go (i + 1)) (At a b expr d span i)
+pub as_leaf : {a b : List ℕ} {i c : ℕ} {d : ℕ} {span : Span} → Roomy a b → c ≡ cell a b i kind_at → is_leaf c ≡ true → Walks (Ok (i + 1)) (At a b expr d span i)
 unfolding is_leaf
 as_leaf {a} {b} {i} {c} {d} {span} room kind leaf = record { each = λ v e h. let o = open_at room h in go (seen room kind (leaf_count h.sheet a b d i c h.tree room h.held kind leaf) o ((in_expr o).other (λ z. not unres_kind refl (kind ∙ z)) (λ z. not undes_kind refl (kind ∙ z)))) }
   where
     not : (k : ℕ) → is_leaf k ≡ false → c ≡ k → ⊥
     not k = leaf_not c k leaf
 
-    go : {v : Verdict} {e : ℕ} → Seen a b (d - 1) span i c 0 v e → Ends (Go (i + 1)) v e
+    go : {v : Verdict} {e : ℕ} → Seen a b (d - 1) span i c 0 v e → Ends (Ok (i + 1)) v e
     go (plain p r) = closed refl r
     go (entries p r) = absurd (not map_kind refl p)
     go (pattern p r) = absurd (not pat_kind refl p)
 
 -- ── a part ──
 
-pub as_elements : {a b : List ℕ} {i n : ℕ} {r : Walk} {k d : ℕ} {span : Span} → Roomy a b → Own a b pattern_part i span r → r ≡ Go k → n ≡ cell a b i part_elements_at → Turns (At a b pattern_part d span i) (Run (At a b pattern_element (d - 1) no_span) n (i + 1))
+pub as_elements : {a b : List ℕ} {i n : ℕ} {u : Unit {0}} {d : ℕ} {span : Span} → Roomy a b → Own a b pattern_part i span (Ok u) → n ≡ cell a b i part_elements_at → Turns (At a b pattern_part d span i) (Run (At a b pattern_element (d - 1) no_span) n (i + 1))
 unfolding fields_of field_of
-as_elements room own is_fine e = record { to = λ v x p. let o = open_at room p in rw e (map_run any_span (last_of (kids_of o.body (sym o.own ∙ own_fine own is_fine p)))) }
+as_elements room own e = record { to = λ v x p. let o = open_at room p in rw e (map_run any_span (last_of (kids_of o.body (sym o.own ∙ own_fine own p)))) }
 
 pub as_props : {a b : List ℕ} {i : ℕ} {p : Props} {d : ℕ} {span : Span} → Inside a b i p → Turns (At a b pattern_element d span i) (Exprs a b 0 (d - 1) (span_of p.span) p.n p.first)
 as_props {d = d} {span = span} h = record { to = λ v e q. h.each d span v e q }
 
 -- ── the answer ──
 
-pub fine_answer : {w : Walk} {k : ℕ} → w ≡ Go k → (v : Verdict) (e : ℕ) → Ends w v e → v ≡ fine
-fine_answer {k = k} g v e h = let q : Ends (Go k) v e = rw g at h in q.0
-
-pub refused_answer : {w : Walk} {x : PlanLowerError} → w ≡ Refused x → (v : Verdict) (e : ℕ) → Ends w v e → Found x v
-refused_answer g v e h = rw g at h
+-- a walk over all that stands there says what the answer is
+pub walk_fine : {P : Stage} {k : ℕ} {v : Verdict} {e : ℕ} → Walks (Ok k) P → P v e → v ≡ fine
+walk_fine w p = (w.each _ _ p).0

@@ -1,14 +1,16 @@
 -- The laws of runs of stages, and of one stage after another: what a loop over them keeps, and what each step gives. Assumes nothing.
-use mathlib.Core.Path.{◌≡◌, refl, ◌∙◌}
-use Prim.Native.Nat.{ℕ, ◌-◌}
+use mathlib.Core.Path.{◌≡◌, refl, ap, ◌∙◌}
+use Prim.Native.Nat.{ℕ, ◌+◌, ◌-◌, ◌<◌, ◌≤◌}
 use native.Mathlib.Numerals.{sub-one}
+use Rattle.std.proofs.Math.Nat.{sub-zero}
 use native.Mathlib.Omega.{arith}
+use Rattle.std.specs.Prelude.{Result, Ok, Err}
+use Rattle.std.specs.Result.{IsErrAnd}
+use Rattle.std.proofs.lemmas.Result.{err_from_is_err_and}
 use Rattle.model.specs.Check.{Verdict, fine, violated, and_then}
 use Rattle.precheck.specs.Answer.{Found}
 use Rattle.precheck.specs.Steps.{Stage, Exists, Ends, first_of, Walks, Then, Run, no_more, one_more}
 use Rattle.precheck.specs.declared.PlanLowerError.{PlanLowerError}
-use Rattle.precheck.specs.declared.Walk.{Walk}
-use Rattle.precheck.specs.declared.Walk.TheVariants.{Go, Refused}
 
 -- what comes after a violation does not count
 pub first_met : {x : PlanLowerError} {u v : Verdict} (w : Verdict) → v ≡ first_of u w → Found x u → Found x v
@@ -20,9 +22,13 @@ unfolding and_then
 none_after fine = refl
 none_after (violated r) = refl
 
--- a walk that is told to be stopped walks as the one that is
-pub stopped_as : {r : Walk} {x : PlanLowerError} {P : Stage} → r ≡ Refused x → Walks (Refused x) P → Walks r P
-stopped_as e w = rw e w
+-- a `?` hands on the error that it meets
+pub handed_on : {A B : Type 0} {r : Result A B} {x : B} → IsErrAnd r (λ y. y ≡ x) → r ≡ Err x
+handed_on {r = r} h = let p = err_from_is_err_and r h in p.1 ∙ ap Err p.2
+
+-- so it is stopped as the walk was
+pub stopped_as : {r : Result ℕ PlanLowerError} {x : PlanLowerError} {P : Stage} → IsErrAnd r (λ y. y ≡ x) → Walks (Err x) P → Walks r P
+stopped_as h w = rw (handed_on h) w
 
 -- ── one stage, then another ──
 
@@ -30,30 +36,25 @@ module _ {P : Stage} {Q : ℕ → Stage} where
   pub first_of_law : Exists (Then P Q) → Exists P
   first_of_law h = record { verdict = h.is.verdict; next = h.is.next; is = h.is.first }
 
-  module _ {r : Walk} (walks : Walks r P) where
+  module _ {k : ℕ} (walks : Walks (Ok k) P) where
     -- a walk that goes on stands at the second stage, which has the verdict of both
-    pub rest_of : {k : ℕ} → r ≡ Go k → {v : Verdict} {e : ℕ} → Then P Q v e → Q k v e
+    pub rest_of : {v : Verdict} {e : ℕ} → Then P Q v e → Q k v e
     unfolding and_then
-    rest_of {k} g {v} {e} h =
-        let w : Ends (Go k) h.verdict h.next = rw g at (walks.each _ _ h.first) in
+    rest_of {v} {e} h =
+        let w : Ends (Ok k) h.verdict h.next = walks.each _ _ h.first in
         let z : v ≡ h.later = h.both ∙ rw w.0 in
         rw (z, w.1) h.second
 
-    -- a walk that is stopped has the verdict of both
-    pub stopped : {x : PlanLowerError} → r ≡ Refused x → {v : Verdict} {e : ℕ} → Then P Q v e → Ends (Refused x) v e
-    stopped {x} g h =
-        let w : Ends (Refused x) h.verdict h.next = rw g at (walks.each _ _ h.first) in
-        first_met h.later h.both w
+    -- the same of walks: something stands there, and another walks it
+    pub after : Exists (Then P Q) → Exists (Q k)
+    after h = record { verdict = h.verdict; next = h.next; is = rest_of h.is }
 
-    -- the same of walks: the first went on, and another walks the second stage; or the first is stopped
-    pub after : {k : ℕ} → r ≡ Go k → Exists (Then P Q) → Exists (Q k)
-    after g h = record { verdict = h.verdict; next = h.next; is = rest_of g h.is }
+    pub then_walks : {q : Result ℕ PlanLowerError} → Walks q (Q k) → Walks q (Then P Q)
+    then_walks w = record { each = λ v e h. w.each v e (rest_of h) }
 
-    pub then_walks : {k : ℕ} → r ≡ Go k → {q : Walk} → Walks q (Q k) → Walks q (Then P Q)
-    then_walks g w = record { each = λ v e h. w.each v e (rest_of g h) }
-
-    pub then_stopped : {x : PlanLowerError} → r ≡ Refused x → Walks r (Then P Q)
-    then_stopped g = record { each = λ v e h. rw g (stopped g h) }
+  -- a walk that is stopped has the verdict of both
+  pub then_stopped : {x : PlanLowerError} → Walks (Err x) P → Walks (Err x) (Then P Q)
+  then_stopped w = record { each = λ v e h. first_met h.later h.both (w.each _ _ h.first) }
 
 -- none of a kind are there, wherever that is
 pub some_none : {P : ℕ → Stage} {i : ℕ} → Exists (Run P 0 i)
@@ -85,16 +86,22 @@ with_none j v e h = record { verdict = fine; next = j; first = no_more; later = 
 
 -- ── loops over runs ──
 
--- what remains, m from record at on, has the verdict of the whole, and the same record behind it
-pub record Remaining (P : ℕ → Stage) (n i m at : ℕ) : Type 0 where
-  pub same : (v : Verdict) (e : ℕ) → Run P n i v e → Run P m at v e
+-- what remains when k are passed, from record at on, has the verdict of the whole, and the same record behind it
+pub record Remaining (P : ℕ → Stage) (n i k at : ℕ) : Type 0 where
+  pub same : (v : Verdict) (e : ℕ) → Run P n i v e → Run P (n - k) at v e
 
 module _ {P : ℕ → Stage} where
-  pub opened : {m i : ℕ} {v : Verdict} {e : ℕ} → ((m ≡ 0) → ⊥) → Run P m i v e → Then (P i) (Run P (m - 1)) v e
-  opened h no_more = absurd (h refl)
-  opened h (one_more {n = n} {u = u} {w = w} {j = j} p ps b) = rw sub-one (record { verdict = u; next = j; first = p; later = w; second = ps; both = b })
+  open_run : {m i : ℕ} {v : Verdict} {e : ℕ} → 0 < m → Run P m i v e → Then (P i) (Run P (m - 1)) v e
+  open_run h no_more = absurd (omega arith)
+  open_run h (one_more {n = n} {u = u} {w = w} {j = j} p ps b) = rw sub-one (record { verdict = u; next = j; first = p; later = w; second = ps; both = b })
 
-  pub closed : {m i : ℕ} {v : Verdict} {e : ℕ} → m ≡ 0 → Run P m i v e → Ends (Go i) v e
+  -- of the n - k that remain the first is one, and the n - (k + 1) others
+  pub opened : {n k i : ℕ} {v : Verdict} {e : ℕ} → k < n → Run P (n - k) i v e → Then (P i) (Run P (n - (k + 1))) v e
+  opened {n} {k} h r =
+      let q : n - (k + 1) ≡ n - k - 1 = omega arith in
+      rw q (open_run (omega arith) r)
+
+  pub closed : {m i : ℕ} {v : Verdict} {e : ℕ} → m ≡ 0 → Run P m i v e → Ends (Ok i) v e
   closed h no_more = (refl, refl)
   closed h (one_more {n = n} p ps b) = absurd (omega arith)
 
@@ -103,19 +110,18 @@ map_run f no_more = no_more
 map_run f (one_more p ps b) = one_more (f _ _ _ p) (map_run f ps) b
 
 module _ {P : ℕ → Stage} {n i : ℕ} where
-  pub whole : Remaining P n i n i
-  whole = record { same = λ v e p. p }
+  pub whole : Remaining P n i 0 i
+  whole = record { same = λ v e p. rw sub-zero p }
 
-  module _ {m at : ℕ} (remaining : Remaining P n i m at) where
-    pub child : ((m ≡ 0) → ⊥) → Exists (Run P n i) → Exists (P at)
+  module _ {k at : ℕ} (remaining : Remaining P n i k at) where
+    pub child : k < n → Exists (Run P n i) → Exists (P at)
     child h s = first_of_law (record { verdict = s.verdict; next = s.next; is = opened h (remaining.same _ _ s.is) })
 
-    pub done : m ≡ 0 → Walks (Go at) (Run P n i)
-    done h = record { each = λ v e p. closed h (remaining.same v e p) }
+    pub done : n ≤ k → Walks (Ok at) (Run P n i)
+    done h = record { each = λ v e p. closed (omega arith) (remaining.same v e p) }
 
-    module _ {r : Walk} (h : (m ≡ 0) → ⊥) (walks : Walks r (P at)) where
-      pub again : {k : ℕ} → r ≡ Go k → Remaining P n i (m - 1) k
-      again g = record { same = λ v e p. rest_of walks g (opened h (remaining.same v e p)) }
+    pub again : {next : ℕ} → k < n → Walks (Ok next) (P at) → Remaining P n i (k + 1) next
+    again h w = record { same = λ v e p. rest_of w (opened h (remaining.same v e p)) }
 
-      pub stop : {x : PlanLowerError} → r ≡ Refused x → Walks (Refused x) (Run P n i)
-      stop g = record { each = λ v e p. stopped walks g (opened h (remaining.same v e p)) }
+    pub stop : {x : PlanLowerError} → k < n → Walks (Err x) (P at) → Walks (Err x) (Run P n i)
+    stop h w = record { each = λ v e p. (then_stopped w).each v e (opened h (remaining.same v e p)) }

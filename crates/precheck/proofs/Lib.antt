@@ -4,5 +4,5 @@ pub mod Expressions
 pub mod Counting
 pub mod Patterns
 pub mod Checks
-pub mod Clauses
-pub mod Flat
+pub mod ClauseLaws
+pub mod FlatLaws

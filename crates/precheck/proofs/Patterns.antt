@@ -3,9 +3,10 @@ use mathlib.Core.Path.{◌≡◌, refl, sym, ap, ◌∙◌}
 use Prim.Native.Nat.{ℕ, suc, ◌+◌, ◌-◌, ◌<◌, ◌≤◌}
 use native.Mathlib.Nat.{add-zero}
 use native.Mathlib.Omega.{arith}
-use mathlib.Core.Bool.{true, false}
+use mathlib.Core.Bool.{Bool, true, false}
 use mathlib.Core.List.{List, [], ◌∷◌}
 use lib.Dec.{eqb}
+use borrow.Author.Tests.{eqb-true, eqb-false}
 use Rattle.model.specs.Text.{Bytes}
 use Rattle.model.specs.Field.{Span}
 use Rattle.model.specs.Kind.{PatternElement, expr, name, yield_item, pattern_part, pattern_element}
@@ -134,14 +135,22 @@ module _ {a b : List ℕ} (room : Roomy a b) {span : Span} {i : ℕ} {u : Verdic
 
 module _ {a b : List ℕ} (room : Roomy a b) {i n : ℕ} (elements : n ≡ cell a b i part_elements_at) where
   module _ (some : (n ≡ 0) → ⊥) where
-    pub begins_rel : {c : ℕ} → c ≡ cell a b (i + 1) kind_at → (c ≡ node_kind → ⊥) → Begins a b i false
+    begins_rel : {c : ℕ} → c ≡ cell a b (i + 1) kind_at → (c ≡ node_kind → ⊥) → Begins a b i false
     begins_rel kind h = record { each = λ sheet d t span p. (in_part room (open_held room sheet d t span p)).rel (λ z. some (elements ∙ z)) (λ z. h (kind ∙ z)) }
 
     pub begins_low : SomeAt a b pattern_part i → i + 1 < max_records
     begins_low h = (in_part room (open_at room h.is)).low (λ z. some (elements ∙ z))
 
-    pub begins_node : {c : ℕ} → c ≡ cell a b (i + 1) kind_at → c ≡ node_kind → Begins a b i true
+    begins_node : {c : ℕ} → c ≡ cell a b (i + 1) kind_at → c ≡ node_kind → Begins a b i true
     begins_node kind h = record { each = λ sheet d t span p. (in_part room (open_held room sheet d t span p)).node (λ z. some (elements ∙ z)) (sym kind ∙ h) }
+
+    -- as the first element's kind says
+    pub begins_by_kind : {c : ℕ} → c ≡ cell a b (i + 1) kind_at → Begins a b i (eqb c node_kind)
+    begins_by_kind {c} kind = go (eqb c node_kind) refl
+      where
+        go : (t : Bool) → eqb c node_kind ≡ t → Begins a b i t
+        go true e = begins_node kind (eqb-true c node_kind e)
+        go false e = begins_rel kind (eqb-false c node_kind e)
 
   pub begins_not : n ≡ 0 → Begins a b i false
   begins_not h = record { each = λ sheet d t span p. (in_part room (open_held room sheet d t span p)).empty (sym elements ∙ h) }

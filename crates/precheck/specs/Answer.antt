@@ -1,5 +1,5 @@
 -- What the check's answers mean: the verdicts of the definition. Assumes nothing: these are definitions.
-use Rattle.std.specs.Prelude.{◌≡◌}
+use Rattle.std.specs.Prelude.{◌≡◌, Result, Ok, Err}
 use Rattle.model.specs.Text.{Bytes}
 use Rattle.model.specs.Field.{Span}
 use Rattle.model.specs.Refusal.{Refusal}
@@ -7,8 +7,6 @@ use Rattle.model.specs.Check.{Verdict, fine, violated}
 use Rattle.precheck.specs.declared.HirSpan.{HirSpan}
 use Rattle.precheck.specs.declared.PlanLowerError.{PlanLowerError}
 use Rattle.precheck.specs.declared.PlanLowerError.TheVariants.{UnresolvedName, UndesugaredExpr, EmptyPatternPart}
-use Rattle.precheck.specs.declared.Checked.{Checked}
-use Rattle.precheck.specs.declared.Checked.TheVariants.{Fine, Refused}
 
 abbrev pub span_of : HirSpan → Span
 span_of s = record { start = s.start; end = s.end }
@@ -25,6 +23,6 @@ pub record Found (x : PlanLowerError) (v : Verdict) : Type 0 where
   pub is : v ≡ violated (error_of x unresolved)
 
 -- the verdict that an answer stands for
-abbrev pub Says : Checked → Verdict → Type 0
-Says Fine v = v ≡ fine
-Says (Refused x) v = Found x v
+abbrev pub Says : Result (Unit {0}) PlanLowerError → Verdict → Type 0
+Says (Ok _) v = v ≡ fine
+Says (Err x) v = Found x v

@@ -1,5 +1,5 @@
 -- What stands in the words, for the check: a tree that they hold, with its verdict and the record behind it; and what the small functions read off a record. Assumes nothing: these are definitions.
-use Rattle.std.specs.Prelude.{◌≡◌, ℕ, suc, ◌+◌, ◌-◌, ◌<◌, ◌≤◌, Bool, true, false, cond, List, [], ◌∷◌, eqb}
+use Rattle.std.specs.Prelude.{◌≡◌, ℕ, suc, ◌+◌, ◌-◌, ◌<◌, ◌≤◌, Bool, true, false, cond, List, [], ◌∷◌, eqb, Result}
 use Rattle.model.specs.Text.{Bytes}
 use Rattle.model.specs.Field.{Span}
 use Rattle.model.specs.Kind.{Sort, expr, pattern_part, pattern_element}
@@ -8,14 +8,14 @@ use Rattle.model.specs.Tree.{Tree, node}
 use Rattle.model.specs.Refusal.{Refusal}
 use Rattle.model.specs.Check.{Verdict, fine, violated, check, check_in, of_record}
 use Rattle.model.specs.Check
-use Rattle.words.specs.Words.{Roomy, cell, max_records}
+use Rattle.words.specs.Words.{cell, max_records}
 use Rattle.words.specs.Places.{match_kind, match_span_at, where_kind, where_span_at, unwind_kind, unwind_span_at, call_kind, call_span_at, call_args_at, call_yields_at, write_kind, write_span_at, projection_span_at, items_at, keys_at, skip_at, limit_at}
 use Rattle.words.specs.Held.{Held, size}
-use Rattle.precheck.specs.Answer.{span_of}
-use Rattle.precheck.specs.Steps.{Stage, Exists, Ends, first_of, Then, Run}
+use Rattle.precheck.specs.Answer.{span_of, Says}
+use Rattle.precheck.specs.Steps.{Stage, Exists, first_of, Then, Run}
 use Rattle.precheck.specs.declared.HirSpan.{HirSpan}
-use Rattle.precheck.specs.declared.Props.{Props}
-use Rattle.precheck.specs.declared.Walk.{Walk}
+use Rattle.precheck.specs.declared.PlanLowerError.{PlanLowerError}
+use Rattle.precheck.specs.declared.verdict.Props.{Props}
 
 -- a tree of a sort is held from record i on, at most d deep; v is its verdict under a span, and e the record behind it
 pub record At (a b : List ℕ) (s : Sort) (d : ℕ) (span : Span) (i : ℕ) (v : Verdict) (e : ℕ) : Type 0 where
@@ -75,9 +75,9 @@ verdict_below (node s line k f kids) span = check_in kids (Check.span_in s k f s
 abbrev pub in_turn : {s : Sort} → Tree s → Span → Verdict
 in_turn t span = first_of (own_verdict t span) (verdict_below t span)
 
--- a walk over record i alone is stopped by what any tree of a sort that stands there is refused for at its own record, or goes on behind it
-pub record Own (a b : List ℕ) (s : Sort) (i : ℕ) (span : Span) (r : Walk) : Type 0 where
-  pub each : (sheet : Bytes) (d : ℕ) (t : Tree s) → Held sheet a b t d i → Ends r (own_verdict t span) (i + 1)
+-- what is told of record i alone is what any tree of a sort that stands there is refused for at its own record
+pub record Own (a b : List ℕ) (s : Sort) (i : ℕ) (span : Span) (r : Result (Unit {0}) PlanLowerError) : Type 0 where
+  pub each : (sheet : Bytes) (d : ℕ) (t : Tree s) → Held sheet a b t d i → Says r (own_verdict t span)
 
 -- what a part is refused for itself, whether it begins with a node or not
 abbrev pub part_verdict : Bool → ℕ → Span → Verdict
@@ -103,15 +103,13 @@ pub record NoneRefused (a b : List ℕ) : Type 0 where
 
 -- ── what a walk asks ──
 
--- words with room, more than so many levels left, and that something stands there
-pub record WalkAsked (a b : List ℕ) (levels left : ℕ) (P : Type 0) : Type 0 where
-  pub words : Roomy a b
+-- more than so many levels left, and that something stands there
+pub record WalkAsked (levels left : ℕ) (P : Type 0) : Type 0 where
   pub deep : levels < left
   pub there : P
 
 -- the same of a part of the clause at record i
-pub record ClauseAsked (a b : List ℕ) (i left : ℕ) (P : Type 0) : Type 0 where
-  pub words : Roomy a b
+pub record ClauseAsked (i left : ℕ) (P : Type 0) : Type 0 where
   pub low : i < max_records
   pub deep : 0 < left
   pub there : P

@@ -1,9 +1,8 @@
 -- Walks over records, as relations: a stage says which verdict something has that stands from a record on, and which record is behind it. Assumes nothing: these are definitions.
-use Rattle.std.specs.Prelude.{◌≡◌, ℕ, zero, suc}
+use Rattle.std.specs.Prelude.{◌≡◌, ℕ, zero, suc, Result, Ok, Err}
 use Rattle.model.specs.Check.{Verdict, fine, and_then}
 use Rattle.precheck.specs.Answer.{Found}
-use Rattle.precheck.specs.declared.Walk.{Walk}
-use Rattle.precheck.specs.declared.Walk.TheVariants.{Go, Refused}
+use Rattle.precheck.specs.declared.PlanLowerError.{PlanLowerError}
 
 abbrev pub Stage : Type 1
 Stage = Verdict → ℕ → Type 0
@@ -15,11 +14,11 @@ pub record Exists (P : Stage) : Type 0 where
   pub is : P verdict next
 
 -- a walk ends as a stage says: it goes on behind what is fine, or is stopped by the violation
-abbrev pub Ends : Walk → Verdict → ℕ → Type 0
-Ends (Go k) v e = (v ≡ fine) × (k ≡ e)
-Ends (Refused x) v e = Found x v
+abbrev pub Ends : Result ℕ PlanLowerError → Verdict → ℕ → Type 0
+Ends (Ok k) v e = (v ≡ fine) × (k ≡ e)
+Ends (Err x) v e = Found x v
 
-pub record Walks (r : Walk) (P : Stage) : Type 0 where
+pub record Walks (r : Result ℕ PlanLowerError) (P : Stage) : Type 0 where
   pub each : (v : Verdict) (e : ℕ) → P v e → Ends r v e
 
 -- of two verdicts one after another the first violation counts

@@ -15,15 +15,12 @@ use Rattle.model.specs.Field.{num, u32, u64, read, spell, fits}
 use Rattle.laws.specs.TextLaws.{and_left, and_right}
 use Rattle.laws.specs.NumberLaws.{decimal_value}
 use Rattle.laws.specs.FieldLaws.{limited}
-use Rattle.record.specs.declared.Decimal.{Decimal}
-use Rattle.record.specs.declared.Decimal.TheVariants.{Is, Not}
-use Rattle.record.specs.Answer.{decimal_of}
-use Rattle.record.specs.Number.{digit, all_digits, digits_on}
-use Rattle.record.specs.declared.DecimalAt.{DecimalAt}
+use Rattle.record.specs.declared.piece.Piece.{Piece}
+use Rattle.record.specs.Number.{digit, digit_value, all_digits, digits_on}
 use Rattle.record.specs.Place.{Fed, separates, Ends, EndsAt}
-use Rattle.record.specs.InPlace.{decimal_in, decimal_end, DigitsAt, NumberAt}
+use Rattle.record.specs.InPlace.{value_in, end_in, DigitsAt, NumberAt}
 use Rattle.record.proofs.PlaceLaws.{separates_other, byte_fed, byte_alone, along_start, along_on, along_back, ends_next, ends_cons, ends_none}
-use Rattle.record.proofs.GatherLaws.{too_big, byte_below, byte_above, byte_on}
+use Rattle.record.proofs.GatherLaws.{too_big, digit_bounds, is_digit, value_none, value_byte, byte_none, byte_on}
 use Rattle.record.proofs.ReadLaws.{accepted, refused, piece_is}
 
 -- digits with no spare zero in front
@@ -31,13 +28,6 @@ pub plain : Bytes → Bool
 plain [] = false
 plain (b ∷ []) = digit b
 plain (b ∷ c ∷ s) = not (eqb b digit0) && all_digits (b ∷ c ∷ s)
-
--- a byte that is a digit
-pub digit_bounds : (b : ℕ) → digit b ≡ true → (digit0 ≤ b) × (b ≤ digit9)
-digit_bounds b e = (leb-true digit0 b (and_left _ _ e), leb-true b digit9 (and_right (leb digit0 b) _ e))
-
-pub is_digit : (b : ℕ) → digit0 ≤ b → b ≤ digit9 → digit b ≡ true
-is_digit b h k = rw (le-leb digit0 b h, le-leb b digit9 k)
 
 -- ── digits with no spare zero are spelled by their value ──
 
@@ -153,13 +143,6 @@ number_read limit l s = go (plain s) refl (leb (value s) limit) refl
         let k = leb-true n limit f in
         false≢true (sym e ∙ (rw (piece_is t) at (decimal_plain n (omega arith))))))
 
-pub number_answer : (limit : ℕ) → limit ≤ u64 → (s : Bytes) → decimal_of (read (num limit) (s ∷ [])) ≡ cond (plain s && leb (value s) limit) (Is (value s)) Not
-number_answer limit l s = ap decimal_of (number_read limit l s) ∙ go (plain s && leb (value s) limit)
-  where
-    go : (t : Bool) → decimal_of (cond t (Some (value s)) None) ≡ cond t (Is (value s)) Not
-    go true = refl
-    go false = refl
-
 -- ── the cases of the code ──
 
 plain_none : (s : Bytes) → length s ≡ 0 → plain s ≡ false
@@ -180,85 +163,89 @@ plain_many (b ∷ []) h k = absurd (k refl)
 plain_many (b ∷ c ∷ s) h k = refl
 
 module _ (limit : ℕ) (l : limit < suc u64) (s : Bytes) where
-  pub none_of : length s ≡ 0 → Not ≡ decimal_of (read (num limit) (s ∷ []))
-  none_of h = rw (number_answer limit (omega arith) s, plain_none s h)
+  pub none_of : length s ≡ 0 → None ≡ read (num limit) (s ∷ [])
+  none_of h = rw (number_read limit (omega arith) s, plain_none s h)
 
-  module _ (r : Decimal) (e : r ≡ digits_on limit 0 s) where
-    pub one_of : length s ≡ 1 → r ≡ decimal_of (read (num limit) (s ∷ []))
+  module _ (r : Option ℕ) (e : r ≡ digits_on limit 0 s) where
+    pub one_of : length s ≡ 1 → r ≡ read (num limit) (s ∷ [])
     unfolding digits_on value
-    one_of h = e ∙ rw (number_answer limit (omega arith) s, plain_one s h)
+    one_of h = e ∙ rw (number_read limit (omega arith) s, plain_one s h)
 
-    pub many_of_law : (length s ≡ 0 → ⊥) → (length s ≡ 1 → ⊥) → (get_or s 0 0 ≡ digit0 → ⊥) → r ≡ decimal_of (read (num limit) (s ∷ []))
+    pub many_of_law : (length s ≡ 0 → ⊥) → (length s ≡ 1 → ⊥) → (get_or s 0 0 ≡ digit0 → ⊥) → r ≡ read (num limit) (s ∷ [])
     unfolding digits_on value
-    many_of_law h k z = e ∙ rw (number_answer limit (omega arith) s, plain_many s h k, ne_eqb (get_or s 0 0) digit0 z)
+    many_of_law h k z = e ∙ rw (number_read limit (omega arith) s, plain_many s h k, ne_eqb (get_or s 0 0) digit0 z)
 
-  pub spare_of : (length s ≡ 0 → ⊥) → (length s ≡ 1 → ⊥) → get_or s 0 0 ≡ digit0 → Not ≡ decimal_of (read (num limit) (s ∷ []))
-  spare_of h k z = rw (number_answer limit (omega arith) s, plain_many s h k, eq-eqb (get_or s 0 0) digit0 z)
+  pub spare_of : (length s ≡ 0 → ⊥) → (length s ≡ 1 → ⊥) → get_or s 0 0 ≡ digit0 → None ≡ read (num limit) (s ∷ [])
+  spare_of h k z = rw (number_read limit (omega arith) s, plain_many s h k, eq-eqb (get_or s 0 0) digit0 z)
 
   -- with no zero in front the digits are the number
-  unspared : (length s ≡ 0 → ⊥) → (get_or s 0 0 ≡ digit0 → ⊥) → digits_on limit 0 s ≡ decimal_of (read (num limit) (s ∷ []))
+  unspared : (length s ≡ 0 → ⊥) → (get_or s 0 0 ≡ digit0 → ⊥) → digits_on limit 0 s ≡ read (num limit) (s ∷ [])
   unspared h z = go (eqb (length s) 1) refl
     where
-      go : (t : Bool) → eqb (length s) 1 ≡ t → digits_on limit 0 s ≡ decimal_of (read (num limit) (s ∷ []))
+      go : (t : Bool) → eqb (length s) 1 ≡ t → digits_on limit 0 s ≡ read (num limit) (s ∷ [])
       go true e = one_of (digits_on limit 0 s) refl (eqb-true (length s) 1 e)
       go false e = many_of_law (digits_on limit 0 s) refl h (eqb-false (length s) 1 e) z
 
 -- ── in place ──
 
-module _ (limit : ℕ) (l : limit ≤ u32) (s : Bytes) (p : ℕ) (f : Fed s p) (b : ℕ) (e : b ≡ get_or s p 0) where
+module _ (limit : ℕ) (l : limit ≤ u32) (s : Bytes) (p : ℕ) (f : Fed s p) where
   small : limit < suc u64
   small = omega arith
 
   -- a piece whose first byte makes the answer
-  module _ (a : DecimalAt) (ends : EndsAt s p (decimal_end a)) where
-    by_first : line_feed < b → ((q : ℕ) → Ends s (p + 1) q → decimal_in a ≡ decimal_of (read (num limit) ((b ∷ slice (p + 1) q s) ∷ []))) → NumberAt limit s p a
-    by_first k so =
-        let past : separates (get_or s p 0) ≡ false = rw (← e) (separates_other b k) in
-        record { is = λ q h. rw (ends_cons s p q h past, ← e) (so q (ends_next s p q h past)); ends = ends }
+  by_first : (a : Option (Piece ℕ)) → EndsAt s p (end_in a) → line_feed < get_or s p 0
+      → ((q : ℕ) → Ends s (p + 1) q → value_in a ≡ read (num limit) ((get_or s p 0 ∷ slice (p + 1) q s) ∷ [])) → NumberAt limit s p a
+  by_first a ends k so =
+      let past : separates (get_or s p 0) ≡ false = separates_other (get_or s p 0) k in
+      record { is = λ q h. rw (ends_cons s p q h past) (so q (ends_next s p q h past)); ends = ends }
 
   -- the number that the first digit begins
-  begun : (t : Bytes) → (b ≡ digit0 → ⊥) → digits_on limit 0 (b ∷ t) ≡ decimal_of (read (num limit) ((b ∷ t) ∷ []))
-  begun t z = unspared limit small (b ∷ t) (λ h. omega arith) z
+  begun : (t : Bytes) → (get_or s p 0 ≡ digit0 → ⊥) → digits_on limit 0 (get_or s p 0 ∷ t) ≡ read (num limit) ((get_or s p 0 ∷ t) ∷ [])
+  begun t z = unspared limit small (get_or s p 0 ∷ t) (λ h. omega arith) z
 
-  pub decimal_below : b < digit0 → NumberAt limit s p DecimalAt.Not
-  decimal_below k = record { is = λ q h. go q h (separates (get_or s p 0)) refl; ends = tt }
+  pub decimal_none : digit_value (get_or s p 0) ≡ None → NumberAt limit s p None
+  decimal_none e = record { is = λ q h. go q h (separates (get_or s p 0)) refl; ends = tt }
     where
-      go : (q : ℕ) → Ends s p q → (t : Bool) → separates (get_or s p 0) ≡ t → Not ≡ decimal_of (read (num limit) (slice p q s ∷ []))
+      other : get_or s p 0 ≡ digit0 → ⊥
+      other z = false≢true (sym (value_none (get_or s p 0) e) ∙ is_digit (get_or s p 0) (omega arith) (omega arith))
+
+      go : (q : ℕ) → Ends s p q → (t : Bool) → separates (get_or s p 0) ≡ t → None ≡ read (num limit) (slice p q s ∷ [])
       go q h true z = rw (ends_none s p q h z) (none_of limit small [] refl)
-      go q h false z = rw (ends_cons s p q h z, ← e) (sym (byte_below limit 0 b (slice (p + 1) q s) k) ∙ begun (slice (p + 1) q s) (omega arith))
+      go q h false z = rw (ends_cons s p q h z) (sym (byte_none limit 0 (get_or s p 0) (slice (p + 1) q s) e) ∙ begun (slice (p + 1) q s) other)
 
-  pub decimal_above : digit0 ≤ b → 9 < b - digit0 → NumberAt limit s p DecimalAt.Not
-  decimal_above u k = by_first DecimalAt.Not tt (omega arith) (λ q h. sym (byte_above limit 0 b (slice (p + 1) q s) k) ∙ begun (slice (p + 1) q s) (omega arith))
+  module _ (d : ℕ) (e : digit_value (get_or s p 0) ≡ Some d) where
+    high : line_feed < get_or s p 0
+    high = omega (arith, value_byte (get_or s p 0) d e)
 
-  pub first_fed : digit0 ≤ b → Fed s (p + 1)
-  first_fed u = byte_fed s p f (omega (arith, e))
+    pub first_fed : Fed s (p + 1)
+    first_fed = byte_fed s p f high
 
-  module _ (u : digit0 ≤ b) (z : b - digit0 ≡ 0) where
-    here : b ≡ digit0
-    here = omega arith
+    module _ (z : d ≡ 0) where
+      here : get_or s p 0 ≡ digit0
+      here = omega (arith, value_byte (get_or s p 0) d e)
 
-    pub decimal_zero : (t : Bool) → t ≡ separates (get_or s (p + 1) 0) → t ≡ true → NumberAt limit s p (DecimalAt.Is 0 (p + 1))
-    unfolding digits_on all_digits value_on
-    decimal_zero t g o =
-        let stop : separates (get_or s (p + 1) 0) ≡ true = sym g ∙ o in
-        by_first (DecimalAt.Is 0 (p + 1)) (byte_alone s p f (omega (arith, e)) stop) (omega arith)
-        (λ q h. rw (ends_none s (p + 1) q h stop, here) (one_of limit small (digit0 ∷ []) (Is 0) (rw (le-leb 0 limit (omega arith))) refl))
+      pub decimal_zero : (t : Bool) → t ≡ separates (get_or s (p + 1) 0) → t ≡ true → NumberAt limit s p (Some (record { value = 0; end = p + 1 }))
+      unfolding digits_on all_digits value_on
+      decimal_zero t g o =
+          let stop : separates (get_or s (p + 1) 0) ≡ true = sym g ∙ o in
+          by_first (Some (record { value = 0; end = p + 1 })) (byte_alone s p f high stop) high
+          (λ q h. rw (ends_none s (p + 1) q h stop, here) (one_of limit small (digit0 ∷ []) (Some 0) (rw (le-leb 0 limit (omega arith))) refl))
 
-    pub decimal_spare : (t : Bool) → t ≡ separates (get_or s (p + 1) 0) → t ≡ false → NumberAt limit s p DecimalAt.Not
-    decimal_spare t g o =
-        by_first DecimalAt.Not tt (omega arith)
-        (λ q h. rw (ends_cons s (p + 1) q h (sym g ∙ o)) (spare_of limit small _ (λ k. omega arith) (λ k. omega arith) here))
+      pub decimal_spare : (t : Bool) → t ≡ separates (get_or s (p + 1) 0) → t ≡ false → NumberAt limit s p None
+      decimal_spare t g o =
+          by_first None tt high
+          (λ q h. rw (ends_cons s (p + 1) q h (sym g ∙ o)) (spare_of limit small _ (λ k. omega arith) (λ k. omega arith) here))
 
-  module _ (u : digit0 ≤ b) (k : b - digit0 ≤ 9) (z : b - digit0 ≡ 0 → ⊥) where
-    on_first : (t : Bytes) → digits_on limit (b - digit0) t ≡ decimal_of (read (num limit) ((b ∷ t) ∷ []))
-    on_first t = ap (λ v. digits_on limit v t) (sym (zero-add (b - digit0))) ∙ sym (byte_on limit 0 b t u k) ∙ begun t (λ h. z (omega arith))
+    module _ (z : d ≡ 0 → ⊥) where
+      on_first : (t : Bytes) → digits_on limit d t ≡ read (num limit) ((get_or s p 0 ∷ t) ∷ [])
+      on_first t = ap (λ v. digits_on limit v t) (sym (zero-add d)) ∙ sym (byte_on limit 0 (get_or s p 0) t d e) ∙ begun t (λ h. z (omega (arith, value_byte (get_or s p 0) d e)))
 
-    pub decimal_over : limit < b - digit0 → NumberAt limit s p DecimalAt.Not
-    decimal_over h = by_first DecimalAt.Not tt (omega arith) (λ q g. sym (too_big limit (b - digit0) (slice (p + 1) q s) h) ∙ on_first (slice (p + 1) q s))
+      pub decimal_over : limit < d → NumberAt limit s p None
+      decimal_over h = by_first None tt high (λ q g. sym (too_big limit d (slice (p + 1) q s) h) ∙ on_first (slice (p + 1) q s))
 
-    pub decimal_on : (a : DecimalAt) → DigitsAt limit (b - digit0) s (p + 1) a → NumberAt limit s p a
-    decimal_on a d = by_first a (go (decimal_end a) d.ends) (omega arith) (λ q h. d.is q h ∙ on_first (slice (p + 1) q s))
-      where
-        go : (o : Option ℕ) → EndsAt s (p + 1) o → EndsAt s p o
-        go None h = tt
-        go (Some r) h = along_back s p (p + 1) (along_on s p p (along_start s p) (rw (← e) (separates_other b (omega arith)))) r h
+      pub decimal_on : (a : Option (Piece ℕ)) → DigitsAt limit d s (p + 1) a → NumberAt limit s p a
+      decimal_on a g = by_first a (go (end_in a) g.ends) high (λ q h. g.is q h ∙ on_first (slice (p + 1) q s))
+        where
+          go : (o : Option ℕ) → EndsAt s (p + 1) o → EndsAt s p o
+          go None h = tt
+          go (Some r) h = along_back s p (p + 1) (along_on s p p (along_start s p) (separates_other (get_or s p 0) high)) r h

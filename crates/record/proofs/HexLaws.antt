@@ -1,98 +1,131 @@
 -- A text is a float of the sheet exactly if it is sixteen hexadecimal digits. Assumes nothing.
 use mathlib.Core.Path.{◌≡◌, refl, sym, ap, ◌∙◌}
-use mathlib.Core.Bool.{Bool, true, false, false≢true}
+use mathlib.Core.Bool.{Bool, true, false, cond, ◌&&◌, and-false, false≢true}
 use mathlib.Core.List.{[], ◌∷◌, ◌++◌, append_assoc, append-nil}
-use Rattle.std.specs.Prelude.{None, Some}
+use Rattle.std.specs.Prelude.{Option, None, Some}
 use Prim.Native.Nat.{ℕ, zero, suc, ◌+◌, ◌*◌, ◌-◌, ◌/◌, ◌%◌, ◌^◌, ◌≤◌, ◌<◌}
 use native.Mathlib.Nat.{pow-suc, pow-le-pow_right, add-zero}
 use native.Mathlib.Numerals.{add-one}
 use native.Mathlib.Omega.{arith}
-use borrow.Author.Tests.{lt-leb, le-leb, lt-ltb, le-ltb, ltb-true, ltb-false}
-use lib.Dec.{ltb}
+use borrow.Author.Tests.{lt-leb, le-leb, leb-true, lt-ltb, le-ltb, ltb-true, ltb-false}
+use lib.Dec.{ltb, leb}
 use lib.ListN.{length, drop, get_or, drop_of_length-le, length-append}
 use lib.Seq.{drop-cons}
 use Rattle.model.specs.Text.{Bytes, hex_digit, hex_digits, hex_digit_value, hex_value_on, digit0, digit9, letter_base}
 use Rattle.model.specs.Field.{float, float_digits, u64, read, spell, fits}
 use Rattle.laws.specs.TextLaws.{and_left, and_right}
 use Rattle.laws.specs.FieldLaws.{limited}
-use Rattle.record.specs.declared.Decimal.{Decimal}
-use Rattle.record.specs.Answer.{decimal_of}
-use Rattle.record.specs.Hex.{hex_base, before0, before_a, letter_f, digit, all_hex, hex_on}
+use Rattle.record.specs.Answer.{is_read}
+use Rattle.record.specs.Hex.{letter_a, letter_f, digit, all_hex, hex_on}
 use Rattle.record.proofs.ReadLaws.{accepted, refused, piece_is}
 
 -- ── one digit ──
 
+-- the value of a digit is below this
+abbrev pub hex_base : ℕ
+hex_base = 16
+
 -- the ranges of a byte
 data Range (b : ℕ) : Type 0 where
-  number : before0 < b → b ≤ digit9 → digit b ≡ b - digit0 → Range b
-  letter : before_a < b → b ≤ letter_f → digit b ≡ b - letter_base → Range b
-  other : digit b ≡ hex_base → Range b
+  number : digit0 ≤ b → b ≤ digit9 → digit b ≡ Some (b - digit0) → Range b
+  letter : letter_a ≤ b → b ≤ letter_f → digit b ≡ Some (b - letter_base) → Range b
+  other : digit b ≡ None → Range b
+
+between : (l b u : ℕ) → (leb l b && leb b u) ≡ true → (l ≤ b) × (b ≤ u)
+between l b u e = (leb-true l b (and_left (leb l b) (leb b u) e), leb-true b u (and_right (leb l b) (leb b u) e))
+
+within : (l b u : ℕ) → l ≤ b → b ≤ u → (leb l b && leb b u) ≡ true
+within l b u h k = rw (le-leb l b h, le-leb b u k)
+
+-- the code's ranges
+module _ (b : ℕ) where
+  pub number_of : digit0 ≤ b → b ≤ digit9 → Some (b - digit0) ≡ digit b
+  unfolding digit
+  number_of h k = rw (within digit0 b digit9 h k)
+
+  pub letter_of : letter_a ≤ b → b ≤ letter_f → Some (b - letter_base) ≡ digit b
+  unfolding digit
+  letter_of h k = rw (lt-leb b digit9 (omega arith), and-false (leb digit0 b), within letter_a b letter_f h k)
+
+  pub other_of : (digit0 ≤ b → b ≤ digit9 → ⊥) → (letter_a ≤ b → b ≤ letter_f → ⊥) → None ≡ digit b
+  unfolding digit
+  other_of h k = go (leb digit0 b && leb b digit9) refl (leb letter_a b && leb b letter_f) refl
+    where
+      go : (t : Bool) → (leb digit0 b && leb b digit9) ≡ t → (u : Bool) → (leb letter_a b && leb b letter_f) ≡ u → None ≡ cond t (Some (b - digit0)) (cond u (Some (b - letter_base)) None)
+      go true e u f = let w = between digit0 b digit9 e in absurd (h w.0 w.1)
+      go false e true f = let w = between letter_a b letter_f f in absurd (k w.0 w.1)
+      go false e false f = refl
 
 range : (b : ℕ) → Range b
 unfolding digit
-range b = go (ltb letter_f b) refl (ltb before_a b) refl (ltb digit9 b) refl (ltb before0 b) refl
+range b = go (leb digit0 b && leb b digit9) refl (leb letter_a b && leb b letter_f) refl
   where
-    go : (t : Bool) → ltb letter_f b ≡ t → (u : Bool) → ltb before_a b ≡ u → (v : Bool) → ltb digit9 b ≡ v → (w : Bool) → ltb before0 b ≡ w → Range b
-    go true e u f v g w h = other (rw e)
-    go false e true f v g w h = letter (ltb-true before_a b f) (ltb-false letter_f b e) (rw (e, f))
-    go false e false f true g w h = other (rw (e, f, g))
-    go false e false f false g true h = number (ltb-true before0 b h) (ltb-false digit9 b g) (rw (e, f, g, h))
-    go false e false f false g false h = other (rw (e, f, g, h))
+    go : (t : Bool) → (leb digit0 b && leb b digit9) ≡ t → (u : Bool) → (leb letter_a b && leb b letter_f) ≡ u → Range b
+    go true e u f = let h = between digit0 b digit9 e in number h.0 h.1 (rw e)
+    go false e true f = let h = between letter_a b letter_f f in letter h.0 h.1 (rw (e, f))
+    go false e false f = other (rw (e, f))
 
--- a digit's value is the definition's, and spells it
-pub digit_value : (b : ℕ) → digit b < hex_base → hex_digit_value b ≡ digit b
-unfolding hex_digit_value
-digit_value b h = go (range b)
+-- a digit's value is the definition's, is below 16, and spells it
+pub record Digit (b d : ℕ) : Type 0 where
+  pub low : d < hex_base
+  pub value : hex_digit_value b ≡ d
+  pub spells : hex_digit d ≡ b
+
+pub digit_is : (b d : ℕ) → digit b ≡ Some d → Digit b d
+unfolding hex_digit_value hex_digit
+digit_is b d h = go (range b)
   where
-    go : Range b → hex_digit_value b ≡ digit b
-    go (number l u e) = rw (e, le-leb b digit9 (omega arith))
-    go (letter l u e) = rw (e, lt-leb b digit9 (omega arith))
-    go (other e) = absurd (omega arith)
+    go : Range b → Digit b d
+    go (number l u e) =
+        let z : d ≡ b - digit0 = cc in
+        rw z (record { low = omega arith; value = rw (le-leb b digit9 u); spells = rw (lt-ltb (b - digit0) 10 (omega arith)) (omega arith) })
+    go (letter l u e) =
+        let z : d ≡ b - letter_base = cc in
+        rw z (record { low = omega arith; value = rw (lt-leb b digit9 (omega arith)); spells = rw (le-ltb (b - letter_base) 10 (omega arith)) (omega arith) })
+    go (other e) = let z : None ≡ Some d = sym e ∙ h in cc
 
-digit_spells : (b : ℕ) → digit b < hex_base → hex_digit (digit b) ≡ b
-unfolding hex_digit
-digit_spells b h = go (range b)
+read_value : (b : ℕ) → is_read (digit b) ≡ true → digit b ≡ Some (hex_digit_value b)
+read_value b e = go (digit b) refl e
   where
-    go : Range b → hex_digit (digit b) ≡ b
-    go (number l u e) = rw (e, lt-ltb (b - digit0) 10 (omega arith)) (omega arith)
-    go (letter l u e) = rw (e, le-ltb (b - letter_base) 10 (omega arith)) (omega arith)
-    go (other e) = absurd (omega arith)
+    go : (o : Option ℕ) → digit b ≡ o → is_read o ≡ true → o ≡ Some (hex_digit_value b)
+    go None q e = absurd (false≢true e)
+    go (Some d) q e = ap Some (sym (digit_is b d q).value)
 
-digit_of : (d : ℕ) → d < hex_base → digit (hex_digit d) < hex_base
+digit_of : (d : ℕ) → d < hex_base → is_read (digit (hex_digit d)) ≡ true
 unfolding hex_digit digit
 digit_of d h = go (ltb d 10) refl
   where
-    go : (t : Bool) → ltb d 10 ≡ t → digit (hex_digit d) < hex_base
+    go : (t : Bool) → ltb d 10 ≡ t → is_read (digit (hex_digit d)) ≡ true
     go true e =
         let k = ltb-true d 10 e in
-        rw e (rw (le-ltb letter_f (digit0 + d) (omega arith), le-ltb before_a (digit0 + d) (omega arith), le-ltb digit9 (digit0 + d) (omega arith), lt-ltb before0 (digit0 + d) (omega arith)) (omega arith))
+        rw e (rw (le-leb digit0 (digit0 + d) (omega arith), le-leb (digit0 + d) digit9 (omega arith)) refl)
     go false e =
         let k = ltb-false d 10 e in
-        rw e (rw (le-ltb letter_f (letter_base + d) (omega arith), lt-ltb before_a (letter_base + d) (omega arith)) (omega arith))
+        rw e (rw (lt-leb (letter_base + d) digit9 (omega arith), and-false (leb digit0 (letter_base + d)), le-leb letter_a (letter_base + d) (omega arith), le-leb (letter_base + d) letter_f (omega arith)) refl)
 
 -- ── many ──
 
-all_head : (b : ℕ) (s : Bytes) → all_hex (b ∷ s) ≡ true → digit b < hex_base
+all_head : (b : ℕ) (s : Bytes) → all_hex (b ∷ s) ≡ true → digit b ≡ Some (hex_digit_value b)
 unfolding all_hex
-all_head b s e = ltb-true (digit b) hex_base (and_left (ltb (digit b) hex_base) (all_hex s) e)
+all_head b s e = read_value b (and_left (is_read (digit b)) (all_hex s) e)
 
 all_tail : (b : ℕ) (s : Bytes) → all_hex (b ∷ s) ≡ true → all_hex s ≡ true
 unfolding all_hex
-all_tail b s e = and_right (ltb (digit b) hex_base) (all_hex s) e
+all_tail b s e = and_right (is_read (digit b)) (all_hex s) e
 
-all_snoc : (s : Bytes) (b : ℕ) → all_hex s ≡ true → digit b < hex_base → all_hex (s ++ (b ∷ [])) ≡ true
+all_snoc : (s : Bytes) (b : ℕ) → all_hex s ≡ true → is_read (digit b) ≡ true → all_hex (s ++ (b ∷ [])) ≡ true
 unfolding all_hex
-all_snoc [] b e h = rw (lt-ltb (digit b) hex_base h)
-all_snoc (a ∷ s) b e h = rw (lt-ltb (digit a) hex_base (all_head a s e), all_snoc s b (all_tail a s e) h)
+all_snoc [] b e h = rw h
+all_snoc (a ∷ s) b e h = rw (all_head a s e, all_snoc s b (all_tail a s e) h)
 
 -- one digit more
-step : (j v b : ℕ) → digit b < hex_base → hex_digits (suc j) (v * 16 + hex_digit_value b) ≡ hex_digits j v ++ (b ∷ [])
+step : (j v b : ℕ) → digit b ≡ Some (hex_digit_value b) → hex_digits (suc j) (v * 16 + hex_digit_value b) ≡ hex_digits j v ++ (b ∷ [])
 unfolding hex_digits
 step j v b h =
-    let e = digit_value b h in
-    let q : (v * 16 + hex_digit_value b) / 16 ≡ v = omega arith in
-    let r : (v * 16 + hex_digit_value b) % 16 ≡ digit b = omega arith in
-    rw (q, r, digit_spells b h)
+    let k = digit_is b (hex_digit_value b) h in
+    let q : (v * 16 + hex_digit_value b) / 16 ≡ v = omega (arith, k.low) in
+    let r : (v * 16 + hex_digit_value b) % 16 ≡ hex_digit_value b = omega (arith, k.low) in
+    rw (q, r, k.spells)
 
 -- digits behind a number are spelled behind it
 hex_on_law : (j v : ℕ) (s : Bytes) → all_hex s ≡ true → hex_digits (j + length s) (hex_value_on v s) ≡ hex_digits j v ++ s
@@ -110,7 +143,7 @@ unfolding hex_value_on
 hex_bound j v [] e h = rw (add-zero j) h
 hex_bound j v (b ∷ s) e h =
     let n : j + suc (length s) ≡ suc j + length s = omega arith in
-    rw n (hex_bound (suc j) (v * 16 + hex_digit_value b) s (all_tail b s e) (omega (arith, pow-suc 16 j, digit_value b (all_head b s e), all_head b s e)))
+    rw n (hex_bound (suc j) (v * 16 + hex_digit_value b) s (all_tail b s e) (omega (arith, pow-suc 16 j, (digit_is b (hex_digit_value b) (all_head b s e)).low)))
 
 spelled_length : (k n : ℕ) → length (hex_digits k n) ≡ k
 unfolding hex_digits
@@ -129,9 +162,9 @@ no_digits n = refl
 spelled : (s : Bytes) → length s ≡ float_digits → all_hex s ≡ true → hex_digits float_digits (hex_value_on 0 s) ≡ s
 spelled s h e = rw (h, no_digits 0) at (hex_on_law 0 0 s e)
 
-hex_on_cons : (v b : ℕ) (s : Bytes) → digit b < hex_base → hex_on v (b ∷ s) ≡ hex_on (v * 16 + digit b) s
+hex_on_cons : (v b d : ℕ) (s : Bytes) → digit b ≡ Some d → hex_on v (b ∷ s) ≡ hex_on (v * 16 + d) s
 unfolding hex_on all_hex hex_value_on
-hex_on_cons v b s h = rw (lt-ltb (digit b) hex_base h) (ap (λ x. hex_on (v * 16 + x) s) (digit_value b h))
+hex_on_cons v b d s h = rw (h, (digit_is b d h).value)
 
 -- ── what is read ──
 
@@ -150,31 +183,34 @@ module _ (s : Bytes) where
       let b : hex_value_on 0 s < 16 ^ (0 + length s) = hex_bound 0 0 s e (omega arith) in
       accepted float (s ∷ []) refl (hex_value_on 0 s) (ap (λ t. t ∷ []) (spelled s h e)) (le-leb (hex_value_on 0 s) u64 (omega (arith, rw h at b)))
 
-  float_answer : length s ≡ float_digits → hex_on 0 s ≡ decimal_of (read float (s ∷ []))
+  float_answer : length s ≡ float_digits → hex_on 0 s ≡ read float (s ∷ [])
   unfolding hex_on
   float_answer h = go (all_hex s) refl
     where
-      go : (t : Bool) → all_hex s ≡ t → hex_on 0 s ≡ decimal_of (read float (s ∷ []))
+      go : (t : Bool) → all_hex s ≡ t → hex_on 0 s ≡ read float (s ∷ [])
       go true e = rw (e, float_read h e)
       go false e = rw (e, float_bad e)
 
   -- ── the code ──
 
-  pub hex_not : (length s ≡ float_digits → ⊥) → Decimal.Not ≡ decimal_of (read float (s ∷ []))
+  pub hex_not : (length s ≡ float_digits → ⊥) → None ≡ read float (s ∷ [])
   hex_not h = rw (float_none h)
 
   module _ (n : length s ≡ float_digits) (i v : ℕ) (inv : hex_on v (drop i s) ≡ hex_on 0 s) where
-    pub hex_of : length s ≤ i → Decimal.Is v ≡ decimal_of (read float (s ∷ []))
+    pub hex_of : length s ≤ i → Some v ≡ read float (s ∷ [])
     unfolding hex_on all_hex hex_value_on
     hex_of h = (rw (drop_of_length-le s h) at inv) ∙ float_answer n
 
-    module _ (h : i < length s) (d : ℕ) (e : d ≡ digit (get_or s i 0)) where
-      pub hex_bad : hex_base ≤ d → Decimal.Not ≡ decimal_of (read float (s ∷ []))
+    module _ (h : i < length s) where
+      pub hex_bad : digit (get_or s i 0) ≡ None → None ≡ read float (s ∷ [])
       unfolding hex_on all_hex
-      hex_bad k = (rw (drop-cons s i 0 h, ← e, le-ltb d hex_base k) at inv) ∙ float_answer n
+      hex_bad k = (rw (drop-cons s i 0 h, k) at inv) ∙ float_answer n
 
-      pub hex_more : d < hex_base → hex_on (v * 16 + d) (drop (i + 1) s) ≡ hex_on 0 s
-      hex_more k = rw (add-one i, e) (sym (hex_on_cons v (get_or s i 0) (drop (suc i) s) (omega arith)) ∙ (rw (drop-cons s i 0 h) at inv))
+      pub hex_more : (d : ℕ) → digit (get_or s i 0) ≡ Some d → hex_on (v * 16 + d) (drop (i + 1) s) ≡ hex_on 0 s
+      hex_more d k = rw (add-one i) (sym (hex_on_cons v (get_or s i 0) d (drop (suc i) s) k) ∙ (rw (drop-cons s i 0 h) at inv))
+
+pub digit_low : (b d : ℕ) → digit b ≡ Some d → d < hex_base
+digit_low b d e = (digit_is b d e).low
 
 -- the number fits as long as there are digits to come
 pub room : (i v : ℕ) → i < float_digits → v < 16 ^ i → v < 16 ^ (float_digits - 1)

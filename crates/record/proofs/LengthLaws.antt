@@ -1,78 +1,12 @@
 -- A relationship's length: what the definition reads, in the terms of the code. Assumes nothing.
-use mathlib.Core.Path.{◌≡◌, refl, sym, ap, ap₂, ◌∙◌}
+use mathlib.Core.Path.{◌≡◌, refl, sym, ap₂, ◌∙◌}
 use mathlib.Core.Bool.{Bool, true, false, cond, ◌&&◌, and-true, and-false}
 use mathlib.Core.List.{[], ◌∷◌}
-use Rattle.std.specs.Prelude.{Option, None, Some}
-use Prim.Native.Nat.{ℕ}
-use native.Mathlib.Omega.{arith}
-use borrow.Author.Tests.{eq-eqb, ne_eqb}
-use lib.Dec.{eqb}
-use lib.ListN as ListN
-use lib.ListN.{get_or}
+use Rattle.std.specs.Prelude.{None, Some}
 use Rattle.model.specs.Text.{Bytes, bytes_from, bytes, same, same_by, dash}
 use Rattle.model.specs.Field.{Single, Variable, num_or_absent, length, u64, read, meaning, piece, spell, spell_option, spell_length, fits, fits_option, fits_length, option_value, length_value}
 use Rattle.laws.specs.TextLaws.{same_sound}
-use Rattle.record.specs.declared.OptDecimal.{OptDecimal}
-use Rattle.record.specs.Answer.{is_read, opt_decimal_of}
-
--- ── three letters ──
-
-module _ (x y z : ℕ) where
-  pub word_long : (s : Bytes) → (ListN.length s ≡ 3 → ⊥) → false ≡ same s (x ∷ y ∷ z ∷ [])
-  unfolding same same_by
-  word_long [] h = refl
-  word_long (a ∷ []) h = sym (and-false (eqb a x))
-  word_long (a ∷ b ∷ []) h = rw (and-false (eqb b y), and-false (eqb a x))
-  word_long (a ∷ b ∷ c ∷ []) h = absurd (h refl)
-  word_long (a ∷ b ∷ c ∷ d ∷ s) h = rw (and-false (eqb c z), and-false (eqb b y), and-false (eqb a x))
-
-  letters : (s : Bytes) → ListN.length s ≡ 3 → same s (x ∷ y ∷ z ∷ []) ≡ (eqb (get_or s 0 0) x && (eqb (get_or s 1 0) y && eqb (get_or s 2 0) z))
-  unfolding same same_by
-  letters [] h = absurd (omega arith)
-  letters (a ∷ []) h = absurd (omega arith)
-  letters (a ∷ b ∷ []) h = absurd (omega arith)
-  letters (a ∷ b ∷ c ∷ []) h = rw (and-true (eqb c z))
-  letters (a ∷ b ∷ c ∷ d ∷ s) h = absurd (omega arith)
-
-  module _ (s : Bytes) (h : ListN.length s ≡ 3) where
-    pub word_first : (get_or s 0 0 ≡ x → ⊥) → false ≡ same s (x ∷ y ∷ z ∷ [])
-    word_first n = rw (letters s h, ne_eqb (get_or s 0 0) x n)
-
-    module _ (e : get_or s 0 0 ≡ x) where
-      pub word_second : (get_or s 1 0 ≡ y → ⊥) → false ≡ same s (x ∷ y ∷ z ∷ [])
-      word_second n = rw (letters s h, eq-eqb (get_or s 0 0) x e, ne_eqb (get_or s 1 0) y n)
-
-      pub word_third : get_or s 1 0 ≡ y → eqb (get_or s 2 0) z ≡ same s (x ∷ y ∷ z ∷ [])
-      word_third f = rw (letters s h, eq-eqb (get_or s 0 0) x e, eq-eqb (get_or s 1 0) y f)
-
--- ── a bound ──
-
-given : OptDecimal → Bool
-given (OptDecimal.Is n) = true
-given OptDecimal.Absent = true
-given OptDecimal.Not = false
-
-module _ (limit : ℕ) (s : Bytes) (o : OptDecimal) (p : o ≡ opt_decimal_of (read (num_or_absent limit) (s ∷ []))) where
-  same_given : given o ≡ is_read (read (num_or_absent limit) (s ∷ []))
-  unfolding given
-  same_given = ap given p ∙ go (read (num_or_absent limit) (s ∷ []))
-    where
-      go : (r : Option (Option ℕ)) → given (opt_decimal_of r) ≡ is_read r
-      go None = refl
-      go (Some None) = refl
-      go (Some (Some n)) = refl
-
-  pub bound_is : (n : ℕ) → o ≡ OptDecimal.Is n → true ≡ is_read (read (num_or_absent limit) (s ∷ []))
-  unfolding given
-  bound_is n e = rw e at same_given
-
-  pub bound_absent : o ≡ OptDecimal.Absent → true ≡ is_read (read (num_or_absent limit) (s ∷ []))
-  unfolding given
-  bound_absent e = rw e at same_given
-
-  pub bound_not : o ≡ OptDecimal.Not → false ≡ is_read (read (num_or_absent limit) (s ∷ []))
-  unfolding given
-  bound_not e = rw e at same_given
+use Rattle.record.specs.Answer.{is_read}
 
 -- ── the whole ──
 

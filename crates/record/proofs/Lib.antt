@@ -1,4 +1,3 @@
-pub mod TestRules
 pub mod ReadLaws
 pub mod PlaceLaws
 pub mod GatherLaws

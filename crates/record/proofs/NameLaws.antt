@@ -1,23 +1,22 @@
 -- A name is read exactly if its bytes pass one by one. Assumes nothing.
 use mathlib.Core.Path.{◌≡◌, refl, sym, ap, ◌∙◌}
-use mathlib.Core.Bool.{Bool, true, false, cond, not, ◌&&◌, false≢true}
+use mathlib.Core.Bool.{Bool, true, false, cond, ◌&&◌, false≢true}
 use mathlib.Core.List.{[], ◌∷◌}
-use Rattle.std.specs.Prelude.{None, Some}
-use Prim.Native.Nat.{ℕ, ◌+◌, ◌<◌, ◌≤◌}
+use mathlib.Core.Logic.{◌⊎◌, inl, inr}
+use Rattle.std.specs.Prelude.{Option, None, Some}
+use Prim.Native.Nat.{ℕ, ◌+◌, ◌<◌}
 use native.Mathlib.Omega.{arith}
-use borrow.Author.Tests.{eqb-true, eq-eqb, ne_eqb, not-true, not-false}
+use borrow.Author.Tests.{eqb-true, eq-eqb, ne_eqb}
 use lib.Dec.{eqb}
 use lib.ListN.{get_or}
 use lib.Seq.{slice}
 use Rattle.model.specs.Text.{Bytes, tab, line_feed, backslash, same, same_by, escape, escape_byte, unescape, unescape_on, unescape_byte, meant, dash, equals, letter_n, letter_t, minus}
 use Rattle.model.specs.Field.{read, text, alias, meaning, piece, spell, spell_alias, alias_value, fits}
-use Rattle.record.specs.declared.AliasAt.{AliasAt}
-use Rattle.record.specs.declared.TextAt.{TextAt}
 use Rattle.record.specs.Answer.{is_read, alias_of}
 use Rattle.record.specs.Name.{Seen, Plain, Escape, Bad, CharAt, bare_one, escaped, broken, bare, letter, step, seen_on, is_plain}
 use Rattle.record.specs.Place.{Fed, separates, Ends}
-use Rattle.record.specs.InPlace.{is_text, NameAt, AliasReadAt}
-use Rattle.record.proofs.PlaceLaws.{separates_other, no_feed, fed_on, byte_past, byte_fed, Along, along_start, along_on, along_back, along_ends, ends_here, ends_next, ends_cons, ends_none}
+use Rattle.record.specs.InPlace.{NameAt, AliasReadAt}
+use Rattle.record.proofs.PlaceLaws.{separates_other, no_feed, fed_on, byte_past, Along, along_start, along_on, along_back, along_ends, ends_here, ends_next, ends_cons, ends_none}
 use Rattle.record.proofs.AbsentLaws.{dash_not, dash_first, dash_past, dash_alone}
 
 bad_stays : (s : Bytes) → seen_on Bad s ≡ Bad
@@ -99,32 +98,26 @@ letter_bad c h = go (eqb c backslash) (eqb c letter_n) (eqb c letter_t) h
     go false false true h = absurd (false≢true (sym h))
     go false false false h = refl
 
-pub letter_last : (c : ℕ) → (c ≡ backslash → ⊥) → (c ≡ letter_n → ⊥) → eqb c letter_t ≡ is_plain (letter c)
+pub escape_is : (c : ℕ) → (c ≡ backslash) ⊎ ((c ≡ letter_n) ⊎ (c ≡ letter_t)) → true ≡ is_plain (letter c)
 unfolding letter
-letter_last c h k = rw (ne_eqb c backslash h, ne_eqb c letter_n k) (go (eqb c letter_t))
-  where
-    go : (t : Bool) → t ≡ is_plain (cond t Plain Bad)
-    go true = refl
-    go false = refl
+escape_is c (inl e) = rw e
+escape_is c (inr (inl e)) = rw e
+escape_is c (inr (inr e)) = rw e
+
+pub escape_other : (c : ℕ) → ((c ≡ backslash) ⊎ ((c ≡ letter_n) ⊎ (c ≡ letter_t)) → ⊥) → false ≡ is_plain (letter c)
+unfolding letter
+escape_other c h = rw (ne_eqb c backslash (λ e. h (inl e)), ne_eqb c letter_n (λ e. h (inr (inl e))), ne_eqb c letter_t (λ e. h (inr (inr e))))
 
 -- how many bytes a character has
 module _ (s : Bytes) (i : ℕ) where
-  pub open_fed : Fed s i → get_or s i 0 ≡ backslash → Fed s (i + 1)
-  open_fed f e = fed_on s i f (λ k. omega (arith, e))
-
-  pub char_plain : (get_or s i 0 ≡ backslash → ⊥) → CharAt s i 1
+  pub char_plain : (get_or s i 0 ≡ backslash → ⊥) → CharAt s i (Some 1)
   char_plain h = bare_one h
 
-  pub char_few : (n : ℕ) → CharAt s i n → n ≤ 2
-  char_few _ (bare_one h) = omega arith
-  char_few _ (escaped e h) = omega arith
-  char_few _ (broken e h) = omega arith
-
   module _ (e : get_or s i 0 ≡ backslash) (t : Bool) (q : t ≡ is_plain (letter (get_or s (i + 1) 0))) where
-    pub char_escaped : t ≡ true → CharAt s i 2
+    pub char_escaped : t ≡ true → CharAt s i (Some 2)
     char_escaped z = escaped e (sym q ∙ z)
 
-    pub char_broken : t ≡ false → CharAt s i 0
+    pub char_broken : t ≡ false → CharAt s i None
     char_broken z = broken e (sym q ∙ z)
 
 bare_plain : (b : ℕ) → separates b ≡ false → (b ≡ backslash → ⊥) → bare b ≡ Plain
@@ -162,22 +155,19 @@ pub record Naming (s : Bytes) (p i : ℕ) : Type 0 where
   pub along : Along s p i
   pub same : (q : ℕ) → Ends s i q → seen_on Plain (slice i q s) ≡ seen_on Plain (slice p q s)
 
-pub naming_start : (s : Bytes) (p : ℕ) → Fed s p → Naming s p p
-naming_start s p f = record { fed = f; along = along_start s p; same = λ q h. refl }
-
 module _ (s : Bytes) (p i : ℕ) (d : Naming s p i) where
-  pub naming_done : (t : Bool) → t ≡ separates (get_or s i 0) → not t ≡ false → NameAt s p (TextAt.To i)
+  pub naming_done : (t : Bool) → t ≡ separates (get_or s i 0) → t ≡ true → NameAt s p (Some i)
   unfolding seen_on
   naming_done t z o =
-      let k : separates (get_or s i 0) ≡ true = sym z ∙ not-false t o in
+      let k : separates (get_or s i 0) ≡ true = sym z ∙ o in
       record {
         is = λ q h. let g = along_ends s p i d.along q h in ap is_plain (rw (ends_none s i q g k) at (d.same q g)) ∙ name_read (slice p q s);
         ends = along_back s p i d.along i (ends_here s i d.fed k);
       }
 
-  module _ (t : Bool) (z : t ≡ separates (get_or s i 0)) (o : not t ≡ true) where
+  module _ (t : Bool) (z : t ≡ separates (get_or s i 0)) (o : t ≡ false) where
     k : separates (get_or s i 0) ≡ false
-    k = sym z ∙ not-true t o
+    k = sym z ∙ o
 
     on_fed : Fed s (i + 1)
     on_fed = fed_on s i d.fed (no_feed (get_or s i 0) k)
@@ -193,17 +183,23 @@ module _ (s : Bytes) (p i : ℕ) (d : Naming s p i) where
         go true z = waits (slice (i + 1) q s) (ends_none s (i + 1) q (ends_next s i q w k) z)
         go false z = rw (ends_cons s (i + 1) q (ends_next s i q w k) z) (ap is_plain (seen_broken (get_or s (i + 1) 0) (slice (i + 1 + 1) q s) h))
 
-    pub naming_broken : (n : ℕ) → CharAt s i n → n ≡ 0 → NameAt s p TextAt.Not
-    naming_broken _ (bare_one h) n = absurd (omega arith)
-    naming_broken _ (escaped e h) n = absurd (omega arith)
+    -- what is left behind a character
+    Next : Option ℕ → Type 0
+    Next None = Unit {0}
+    Next (Some n) = Naming s p (i + n)
+
+    pub naming_broken : (o : Option ℕ) → CharAt s i o → o ≡ None → NameAt s p None
+    naming_broken _ (bare_one h) n = cc
+    naming_broken _ (escaped e h) n = cc
     naming_broken _ (broken e h) n =
         record {
           is = λ q g. let w = along_ends s p i d.along q g in sym (no_char e h q w) ∙ ap is_plain (d.same q w) ∙ name_read (slice p q s);
           ends = tt;
         }
 
-    pub naming_more : (n : ℕ) → CharAt s i n → (n ≡ 0 → ⊥) → Naming s p (i + n)
-    naming_more _ (bare_one h) n =
+    next : (o : Option ℕ) → CharAt s i o → Next o
+    unfolding Next
+    next _ (bare_one h) =
         record {
           fed = on_fed;
           along = along_on s p i d.along k;
@@ -211,7 +207,7 @@ module _ (s : Bytes) (p i : ℕ) (d : Naming s p i) where
               let w = along_back s i (i + 1) one q g in
               sym (seen_plain (get_or s i 0) (slice (i + 1) q s) k h) ∙ rw (ends_cons s i q w k) at (d.same q w);
         }
-    naming_more _ (escaped e h) n =
+    next _ (escaped e h) =
         let past : separates (get_or s (i + 1) 0) ≡ false = separates_other (get_or s (i + 1) 0) (letter_past (get_or s (i + 1) 0) h) in
         let two : i + 1 + 1 ≡ i + 2 = omega arith in
         rw (← two)
@@ -224,74 +220,75 @@ module _ (s : Bytes) (p i : ℕ) (d : Naming s p i) where
               sym (seen_escape (get_or s i 0) (get_or s (i + 1) 0 ∷ slice (i + 1 + 1) q s) e ∙ seen_letter (get_or s (i + 1) 0) (slice (i + 1 + 1) q s) h)
               ∙ rw (ends_cons s i q w k, ends_cons s (i + 1) q v past) at (d.same q w);
         })
-    naming_more _ (broken e h) n = absurd (n refl)
+    next _ (broken e h) = tt
+
+    pub naming_more : (o : Option ℕ) → CharAt s i o → (n : ℕ) → o ≡ Some n → Naming s p (i + n)
+    unfolding Next
+    naming_more o h n e = rw e at (next o h)
 
 -- ── an alias ──
 
 -- behind an equals sign stands a name
-alias_named : (s : Bytes) → alias_of (read alias ((equals ∷ s) ∷ [])) ≡ cond (is_read (read text (s ∷ []))) (Some true) None
+alias_named : (at : ℕ) (s : Bytes) → alias_of at (read alias ((equals ∷ s) ∷ [])) ≡ cond (is_read (read text (s ∷ []))) (Some (Some at)) None
 unfolding read meaning piece fits spell spell_alias alias_value same same_by
-alias_named s = go (same (escape (unescape s)) s)
+alias_named at s = go (same (escape (unescape s)) s)
   where
-    go : (t : Bool) → alias_of (cond (t && true) (Some (Some (unescape s))) None) ≡ cond (is_read (cond (t && true) (Some (unescape s)) None)) (Some true) None
+    go : (t : Bool) → alias_of at (cond (t && true) (Some (Some (unescape s))) None) ≡ cond (is_read (cond (t && true) (Some (unescape s)) None)) (Some (Some at)) None
     go true = refl
     go false = refl
 
 -- what begins with neither sign is none
-alias_other : (s : Bytes) → same s dash ≡ false → (get_or s 0 0 ≡ equals → ⊥) → None ≡ alias_of (read alias (s ∷ []))
+alias_other : (at : ℕ) (s : Bytes) → same s dash ≡ false → (get_or s 0 0 ≡ equals → ⊥) → None ≡ alias_of at (read alias (s ∷ []))
 unfolding read meaning piece fits spell spell_alias alias_value same same_by
-alias_other [] e h = refl
-alias_other (b ∷ s) e h = rw (e, ne_eqb equals b (λ q. h (sym q)))
+alias_other at [] e h = refl
+alias_other at (b ∷ s) e h = rw (e, ne_eqb equals b (λ q. h (sym q)))
 
-absent_is : Some false ≡ alias_of (read alias (dash ∷ []))
+absent_is : (at : ℕ) → Some None ≡ alias_of at (read alias (dash ∷ []))
 unfolding read meaning piece fits spell spell_alias alias_value same same_by
-absent_is = refl
+absent_is at = refl
 
 module _ (s : Bytes) (p : ℕ) (f : Fed s p) where
   module _ (e : get_or s p 0 ≡ minus) where
     past : separates (get_or s p 0) ≡ false
     past = dash_past s p f e
 
-    pub alias_absent : (t : Bool) → t ≡ separates (get_or s (p + 1) 0) → t ≡ true → AliasReadAt s p (AliasAt.Absent (p + 1))
+    pub alias_absent : (t : Bool) → t ≡ separates (get_or s (p + 1) 0) → t ≡ true → AliasReadAt s p (Some (record { value = None; end = p + 1 }))
     alias_absent t g o =
         record {
-          is = λ q h. rw (ends_cons s p q h past, ends_none s (p + 1) q (ends_next s p q h past) (sym g ∙ o), e) absent_is;
+          is = λ q h. rw (ends_cons s p q h past, ends_none s (p + 1) q (ends_next s p q h past) (sym g ∙ o), e) (absent_is (p + 1));
           ends = dash_alone s p f e (sym g ∙ o);
         }
 
-    pub alias_spare : (t : Bool) → t ≡ separates (get_or s (p + 1) 0) → t ≡ false → AliasReadAt s p AliasAt.Not
+    pub alias_spare : (t : Bool) → t ≡ separates (get_or s (p + 1) 0) → t ≡ false → AliasReadAt s p None
     alias_spare t g o =
         record {
-          is = λ q h. rw (ends_cons s p q h past, ends_cons s (p + 1) q (ends_next s p q h past) (sym g ∙ o)) (alias_other _ (sym (dash_not _ (λ z. omega arith))) (λ z. omega (arith, z)));
+          is = λ q h. rw (ends_cons s p q h past, ends_cons s (p + 1) q (ends_next s p q h past) (sym g ∙ o)) (alias_other (p + 1) _ (sym (dash_not _ (λ z. omega arith))) (λ z. omega (arith, z)));
           ends = tt;
         }
 
-  pub alias_neither : (get_or s p 0 ≡ minus → ⊥) → (get_or s p 0 ≡ equals → ⊥) → AliasReadAt s p AliasAt.Not
+  pub alias_neither : (get_or s p 0 ≡ minus → ⊥) → (get_or s p 0 ≡ equals → ⊥) → AliasReadAt s p None
   alias_neither m n = record { is = λ q h. go q h (separates (get_or s p 0)) refl; ends = tt }
     where
-      go : (q : ℕ) → Ends s p q → (t : Bool) → separates (get_or s p 0) ≡ t → None ≡ alias_of (read alias (slice p q s ∷ []))
-      go q h true z = rw (ends_none s p q h z) (alias_other [] (sym (dash_not [] (λ k. omega arith))) (λ k. omega arith))
-      go q h false z = rw (ends_cons s p q h z) (alias_other _ (sym (dash_first (get_or s p 0) (slice (p + 1) q s) m)) n)
+      go : (q : ℕ) → Ends s p q → (t : Bool) → separates (get_or s p 0) ≡ t → None ≡ alias_of (p + 1) (read alias (slice p q s ∷ []))
+      go q h true z = rw (ends_none s p q h z) (alias_other (p + 1) [] (sym (dash_not [] (λ k. omega arith))) (λ k. omega arith))
+      go q h false z = rw (ends_cons s p q h z) (alias_other (p + 1) _ (sym (dash_first (get_or s p 0) (slice (p + 1) q s) m)) n)
 
   module _ (e : get_or s p 0 ≡ equals) where
     name_past : separates (get_or s p 0) ≡ false
     name_past = byte_past s p f (omega arith)
 
-    pub name_fed : Fed s (p + 1)
-    name_fed = byte_fed s p f (omega arith)
-
-    module _ (a : TextAt) (d : NameAt s (p + 1) a) where
-      named : (q : ℕ) → Ends s p q → alias_of (read alias (slice p q s ∷ [])) ≡ cond (is_text a) (Some true) None
+    module _ (a : Option ℕ) (d : NameAt s (p + 1) a) where
+      named : (q : ℕ) → Ends s p q → alias_of (p + 1) (read alias (slice p q s ∷ [])) ≡ cond (is_read a) (Some (Some (p + 1))) None
       named q h =
-          rw (ends_cons s p q h name_past, e) (alias_named (slice (p + 1) q s))
-          ∙ ap (λ t. cond t (Some true) None) (sym (d.is q (ends_next s p q h name_past)))
+          rw (ends_cons s p q h name_past, e) (alias_named (p + 1) (slice (p + 1) q s))
+          ∙ ap (λ t. cond t (Some (Some (p + 1))) None) (sym (d.is q (ends_next s p q h name_past)))
 
-      pub alias_name : (r : ℕ) → a ≡ TextAt.To r → AliasReadAt s p (AliasAt.Named r)
+      pub alias_name : (r : ℕ) → a ≡ Some r → AliasReadAt s p (Some (record { value = Some (p + 1); end = r }))
       alias_name r z =
           record {
             is = λ q h. sym (rw z at (named q h));
             ends = along_back s p (p + 1) (along_on s p p (along_start s p) name_past) r (rw z at d.ends);
           }
 
-      pub alias_bad : a ≡ TextAt.Not → AliasReadAt s p AliasAt.Not
+      pub alias_bad : a ≡ None → AliasReadAt s p None
       alias_bad z = record { is = λ q h. sym (rw z at (named q h)); ends = tt }

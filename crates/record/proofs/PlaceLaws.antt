@@ -1,11 +1,11 @@
 -- Going along a piece byte by byte: where it ends, and what of it is left. Assumes nothing.
 use mathlib.Core.Path.{◌≡◌, refl, sym, ◌∙◌}
-use mathlib.Core.Bool.{Bool, true, false, cond, not, false≢true}
+use mathlib.Core.Bool.{Bool, true, false, cond, false≢true}
 use mathlib.Core.List.{List, [], ◌∷◌, ◌++◌}
 use Prim.Native.Nat.{ℕ, zero, suc, ◌+◌, ◌-◌, ◌≤◌, ◌<◌}
 use native.Mathlib.Numerals.{add-one}
 use native.Mathlib.Omega.{arith}
-use borrow.Author.Tests.{ne_eqb, eqb-true, ltb-true, ltb-false, not-true, not-false}
+use borrow.Author.Tests.{eq-eqb, ne_eqb, eqb-true, eqb-false, ltb-true, ltb-false}
 use lib.Dec.{eqb, ltb}
 use lib.ListN.{length, take, get_or}
 use lib.Seq.{slice, slice-cons, slice_empty, take-suc, drop-append-le, length-take-le}
@@ -21,6 +21,19 @@ separates_feed b e = rw e
 pub separates_other : (b : ℕ) → line_feed < b → separates b ≡ false
 unfolding separates
 separates_other b h = rw (ne_eqb b tab (omega arith), ne_eqb b line_feed (omega arith))
+
+-- the code's tests
+pub separates_in : (b : ℕ) → tab ≤ b → b ≤ line_feed → true ≡ separates b
+unfolding separates
+separates_in b h k = go (eqb b tab) refl
+  where
+    go : (t : Bool) → eqb b tab ≡ t → true ≡ cond t true (eqb b line_feed)
+    go true e = refl
+    go false e = let z = eqb-false b tab e in sym (eq-eqb b line_feed (omega arith))
+
+pub separates_low : (b : ℕ) → b < tab → false ≡ separates b
+unfolding separates
+separates_low b h = rw (ne_eqb b tab (omega arith), ne_eqb b line_feed (omega arith))
 
 pub no_feed : (b : ℕ) → separates b ≡ false → b ≡ line_feed → ⊥
 no_feed b e q = false≢true (sym e ∙ separates_feed b q)
@@ -159,8 +172,8 @@ pub pass_start : (s : Bytes) (p : ℕ) → Fed s p → Passing s p p
 pass_start s p f = record { fed = f; along = along_start s p }
 
 module _ (s : Bytes) (p i : ℕ) (g : Passing s p i) (t : Bool) (e : t ≡ separates (get_or s i 0)) where
-  pub pass_on : not t ≡ true → Passing s p (i + 1)
-  pass_on n = let z = not-true t n in record { fed = fed_on s i g.fed (no_feed (get_or s i 0) (sym e ∙ z)); along = along_on s p i g.along (sym e ∙ z) }
+  pub pass_on : t ≡ false → Passing s p (i + 1)
+  pass_on z = record { fed = fed_on s i g.fed (no_feed (get_or s i 0) (sym e ∙ z)); along = along_on s p i g.along (sym e ∙ z) }
 
-  pub pass_done : not t ≡ false → Ends s p i
-  pass_done n = let z = not-false t n in along_back s p i g.along i (ends_here s i g.fed (sym e ∙ z))
+  pub pass_done : t ≡ true → Ends s p i
+  pass_done z = along_back s p i g.along i (ends_here s i g.fed (sym e ∙ z))

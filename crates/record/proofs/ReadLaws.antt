@@ -1,13 +1,11 @@
 -- Two ways to say what is read: pieces that a value in range spells, and pieces that no value in range spells. Assumes nothing.
-use mathlib.Core.Path.{◌≡◌, refl}
-use mathlib.Core.Bool.{true}
+use mathlib.Core.Path.{◌≡◌, refl, ap, ◌∙◌}
+use mathlib.Core.Bool.{Bool, true, ◌&&◌}
 use mathlib.Core.List.{List, [], ◌∷◌}
 use Rattle.std.specs.Prelude.{Option, None, Some}
-use Prim.Native.Nat.{ℕ, suc, ◌-◌}
-use native.Mathlib.Omega.{arith}
-use lib.ListN.{length, take, drop, get_or}
-use lib.Seq.{take_all}
-use Rattle.model.specs.Text.{Bytes}
+use lib.Dec.{eqb}
+use lib.Pointwise.{pointwise}
+use Rattle.model.specs.Text.{Bytes, same, same_by}
 use Rattle.model.specs.Field.{Form, Val, read, spell, fits}
 use Rattle.laws.specs.FieldLaws.{limited, spell_read, read_spell}
 
@@ -26,7 +24,13 @@ module _ (f : Form) (ps : List Bytes) where
 pub piece_is : {s t : Bytes} → ◌≡◌ {A = List Bytes} (s ∷ []) (t ∷ []) → s ≡ t
 piece_is e = cc
 
--- a text by its first byte and the part behind it, as the code has that part
-pub headed : (s : Bytes) (b : ℕ) → (length s ≡ 0 → ⊥) → get_or s 0 0 ≡ b → s ≡ b ∷ take (length s - 1) (drop 1 s)
-headed [] b h e = absurd (h refl)
-headed (c ∷ s) b h e = rw (e, take_all (suc (length s) - 1) s (omega arith))
+-- the code's test of two texts is the definition's
+pub tested : (s t u : Bytes) (r : Bool) → u ≡ t → r ≡ pointwise eqb s u → r ≡ same s t
+unfolding same same_by
+tested s t u r e h = h ∙ ap (pointwise eqb s) e ∙ go s t
+  where
+    go : (s t : Bytes) → pointwise eqb s t ≡ same s t
+    go [] [] = refl
+    go [] (b ∷ t) = refl
+    go (a ∷ s) [] = refl
+    go (a ∷ s) (b ∷ t) = ap (λ q. eqb a b && q) (go s t)

@@ -1,15 +1,12 @@
 -- What an answer of this crate says of the definition's reading: for the crates above. Assumes nothing: each law is proved.
 use Rattle.std.proofs.Math.Path.{◌≡◌, refl}
 use Rattle.std.proofs.Common.{sym, ap, ◌∙◌, arith}
-use Rattle.std.specs.Prelude.{Bool, ◌&&◌, ℕ, ℤ, Option, None, Some}
+use Rattle.std.specs.Prelude.{Bool, ◌&&◌, ℕ, Option, None, Some}
 use Rattle.std.proofs.Math.Bool.{true, false, cond}
 use mathlib.Core.List.{List, [], ◌∷◌, tail}
 use Rattle.model.specs.Text.{Bytes, same, same_by, unescape, dash}
 use Rattle.model.specs.Field.{Form, Val, num, var, var_or_absent, num_or_absent, text, alias, u32, read, meaning, piece, spell, fits, alias_value}
-use Rattle.record.specs.declared.Decimal.{Decimal}
-use Rattle.record.specs.declared.OptDecimal.{OptDecimal}
-use Rattle.record.specs.declared.Signed.{Signed}
-use Rattle.record.specs.Answer.{is_read, decimal_of, opt_decimal_of, signed_of, alias_of}
+use Rattle.record.specs.Answer.{is_read, alias_of}
 
 -- an id is a number of 32 bits
 pub var_is : (ps : List Bytes) → read var ps ≡ read (num u32) ps
@@ -42,42 +39,19 @@ pub text_value : (s : Bytes) → is_read (read text (s ∷ [])) ≡ true → rea
 unfolding meaning piece
 text_value s e = read_meaning text (s ∷ []) e
 
-pub alias_value_law : (s : Bytes) → alias_of (read alias (s ∷ [])) ≡ Some true → read alias (s ∷ []) ≡ Some (Some (unescape (tail s)))
+pub alias_value_law : (at n : ℕ) (s : Bytes) → alias_of at (read alias (s ∷ [])) ≡ Some (Some n) → (read alias (s ∷ []) ≡ Some (Some (unescape (tail s)))) × (n ≡ at)
 unfolding meaning piece alias_value
-alias_value_law s e = go (same s dash) (read_meaning alias (s ∷ []) (named (read alias (s ∷ [])) e))
+alias_value_law at n s e = (go (same s dash) (read_meaning alias (s ∷ []) (named (read alias (s ∷ [])) e)), begins (read alias (s ∷ [])) e)
   where
-    named : (o : Option (Option Bytes)) → alias_of o ≡ Some true → is_read o ≡ true
-    named None e = let z : ◌≡◌ {A = ℕ} 0 1 = cc in absurd (omega arith)
+    named : (o : Option (Option Bytes)) → alias_of at o ≡ Some (Some n) → is_read o ≡ true
+    named None e = cc
     named (Some o) e = refl
 
+    begins : (o : Option (Option Bytes)) → alias_of at o ≡ Some (Some n) → n ≡ at
+    begins None e = cc
+    begins (Some None) e = cc
+    begins (Some (Some t)) e = cc
+
     go : (t : Bool) → read alias (s ∷ []) ≡ Some (cond t None (Some (unescape (tail s)))) → read alias (s ∷ []) ≡ Some (Some (unescape (tail s)))
-    go true r = let z : Some false ≡ Some true = sym (ap alias_of r) ∙ e in let y : ◌≡◌ {A = ℕ} 0 1 = cc in absurd (omega arith)
+    go true r = let z : Some None ≡ Some (Some n) = sym (ap (alias_of at) r) ∙ e in cc
     go false r = r
-
--- ── an answer tells what was read ──
-
-abbrev pub number_in : Decimal → Option ℕ
-number_in (Decimal.Is n) = Some n
-number_in Decimal.Not = None
-
-abbrev pub opt_number_in : OptDecimal → Option (Option ℕ)
-opt_number_in (OptDecimal.Is n) = Some (Some n)
-opt_number_in OptDecimal.Absent = Some None
-opt_number_in OptDecimal.Not = None
-
-abbrev pub int_in : Signed → Option ℤ
-int_in (Signed.Is z) = Some z
-int_in Signed.Not = None
-
-pub decimal_read : (o : Option ℕ) (r : Decimal) → r ≡ decimal_of o → o ≡ number_in r
-decimal_read None r e = rw e
-decimal_read (Some n) r e = rw e
-
-pub opt_read : (o : Option (Option ℕ)) (r : OptDecimal) → r ≡ opt_decimal_of o → o ≡ opt_number_in r
-opt_read None r e = rw e
-opt_read (Some None) r e = rw e
-opt_read (Some (Some n)) r e = rw e
-
-pub signed_read : (o : Option ℤ) (r : Signed) → r ≡ signed_of o → o ≡ int_in r
-signed_read None r e = rw e
-signed_read (Some z) r e = rw e

@@ -1,33 +1,24 @@
 -- Runs of hexadecimal digits. Assumes nothing: these are definitions.
-use Rattle.std.specs.Prelude.{ℕ, ◌-◌, Bool, true, cond, ◌&&◌, [], ◌∷◌, ltb}
+use Rattle.std.specs.Prelude.{ℕ, ◌-◌, Bool, true, cond, ◌&&◌, [], ◌∷◌, leb, Option, None, Some}
 use Rattle.model.specs.Text.{Bytes, hex_value_on, digit0, digit9, letter_base}
-use Rattle.record.specs.declared.Decimal.{Decimal}
+use Rattle.record.specs.Answer.{is_read}
 
-abbrev pub before0 : ℕ
-before0 = 47
-
-abbrev pub before_a : ℕ
-before_a = 96
+abbrev pub letter_a : ℕ
+letter_a = 97
 
 abbrev pub letter_f : ℕ
 letter_f = 102
 
--- the value of a digit is below this; that of a byte that is none is this
-abbrev pub hex_base : ℕ
-hex_base = 16
-
--- the value of a lower-case digit; the base for any other byte
-unfoldable pub digit : ℕ → ℕ
+-- the value of a lower-case digit
+unfoldable pub digit : ℕ → Option ℕ
 digit b =
-    cond (ltb letter_f b) hex_base
-    (cond (ltb before_a b) (b - letter_base)
-    (cond (ltb digit9 b) hex_base
-    (cond (ltb before0 b) (b - digit0) hex_base)))
+    cond (leb digit0 b && leb b digit9) (Some (b - digit0))
+    (cond (leb letter_a b && leb b letter_f) (Some (b - letter_base)) None)
 
 unfoldable pub all_hex : Bytes → Bool
 all_hex [] = true
-all_hex (b ∷ s) = ltb (digit b) hex_base && all_hex s
+all_hex (b ∷ s) = is_read (digit b) && all_hex s
 
 -- digits that follow a number v
-unfoldable pub hex_on : ℕ → Bytes → Decimal
-hex_on v s = cond (all_hex s) (Decimal.Is (hex_value_on v s)) Decimal.Not
+unfoldable pub hex_on : ℕ → Bytes → Option ℕ
+hex_on v s = cond (all_hex s) (Some (hex_value_on v s)) None

@@ -1,5 +1,5 @@
 -- Reading a name byte by byte. Assumes nothing: these are definitions.
-use Rattle.std.specs.Prelude.{◌≡◌, ℕ, ◌+◌, Bool, true, false, cond, [], ◌∷◌, eqb, get_or}
+use Rattle.std.specs.Prelude.{◌≡◌, ℕ, ◌+◌, Bool, true, false, cond, [], ◌∷◌, eqb, get_or, Option, None, Some}
 use Rattle.model.specs.Text.{Bytes, tab, line_feed, backslash, letter_n, letter_t}
 
 -- what the bytes before have come to: nothing open, a backslash that waits for its letter, or a byte that may not stand there
@@ -31,7 +31,7 @@ is_plain Escape = false
 is_plain Bad = false
 
 -- how many bytes the character at i has; none if a backslash has no letter
-pub data CharAt (s : Bytes) (i : ℕ) : ℕ → Type 0 where
-  bare_one : (get_or s i 0 ≡ backslash → ⊥) → CharAt s i 1
-  escaped : get_or s i 0 ≡ backslash → is_plain (letter (get_or s (i + 1) 0)) ≡ true → CharAt s i 2
-  broken : get_or s i 0 ≡ backslash → is_plain (letter (get_or s (i + 1) 0)) ≡ false → CharAt s i 0
+pub data CharAt (s : Bytes) (i : ℕ) : Option ℕ → Type 0 where
+  bare_one : (get_or s i 0 ≡ backslash → ⊥) → CharAt s i (Some 1)
+  escaped : get_or s i 0 ≡ backslash → is_plain (letter (get_or s (i + 1) 0)) ≡ true → CharAt s i (Some 2)
+  broken : get_or s i 0 ≡ backslash → is_plain (letter (get_or s (i + 1) 0)) ≡ false → CharAt s i None

@@ -1,72 +1,70 @@
 // Names of a sheet, and what may be named.
 ghost use Rattle.std.specs.Prelude.{◌≡◌};
 ghost use Rattle.record.specs.Name.{is_plain, letter, CharAt};
-ghost use Rattle.record.specs.Place.{Fed, separates};
+ghost use Rattle.record.specs.Place.{separates};
 ghost use Rattle.record.specs.InPlace.{NameAt, AliasReadAt};
 
-use crate::piece::separates;
-use crate::{AliasAt, TextAt};
+use crate::cursor::Cursor;
+use crate::piece::{Piece, separates};
 
 // Whether a byte may stand behind a backslash.
 fn escaped(b: u8) -> bool
     ensures { result ≡ is_plain (letter b) }
 {
-    if b == b'\\' {
-        return true;
-    }
-    if b == b'n' {
-        return true;
-    }
-    b == b't'
+    matches!(b, b'\\' | b'n' | b't')
 }
 
-// How many bytes the character at i has: two for one of the three escapes. 0 for a backslash with no letter of theirs.
-fn char_len(s: &[u8], i: usize) -> usize
-    requires { Fed s.now i }
-    ensures { CharAt s.now i result }
+// How many bytes the character here has: two for one of the three escapes. None for a backslash with no letter of theirs.
+fn char_len(c: Cursor<'_>) -> Option<usize>
+    ensures { CharAt c.entry.bytes.now c.entry.at result }
 {
-    if s[i] == b'\\' {
-        if escaped(s[i + 1]) {
-            return 2;
-        }
-        return 0;
+    if c.bytes[c.at] != b'\\' {
+        return Some(1);
     }
-    1
+    if escaped(c.bytes[c.at + 1]) {
+        Some(2)
+    } else {
+        None
+    }
 }
 
-// The name at p: any bytes up to the end of the piece, with the three escapes and no other.
-pub fn text_at(s: &[u8], p: usize) -> TextAt
-    requires { Fed s.now p }
-    ensures { NameAt s.now p result }
+// The name here: any bytes up to the end of the piece, with the three escapes and no other.
+pub fn text_at(c: Cursor<'_>) -> Option<usize>
+    ensures { NameAt c.entry.bytes.now c.entry.at result }
 {
-    let mut i = p;
-    while !separates(s[i]) {
-        let n = char_len(s, i);
-        if n == 0 {
-            return TextAt::Not;
-        }
+    let mut i = c.at;
+    // A `while`, since nothing tells where the separator is before it is met, and a character may have two bytes.
+    while !separates(c.bytes[i]) {
+        let n = char_len(Cursor {
+            bytes: c.bytes,
+            at: i,
+        })?;
         i += n;
     }
-    TextAt::To(i)
+    Some(i)
 }
 
-// A dash, or an equals sign and a name.
-pub fn alias_at(s: &[u8], p: usize) -> AliasAt
-    requires { Fed s.now p }
-    ensures { AliasReadAt s.now p result }
+// A dash, or an equals sign and a name: where the name begins.
+pub fn alias_at(c: Cursor<'_>) -> Option<Piece<Option<usize>>>
+    ensures { AliasReadAt c.entry.bytes.now c.entry.at result }
 {
-    let b = s[p];
-    if b == b'-' {
-        if separates(s[p + 1]) {
-            return AliasAt::Absent(p + 1);
+    match c.bytes[c.at] {
+        b'-' => {
+            let end = c.at + 1;
+            if separates(c.bytes[end]) {
+                Some(Piece { value: None, end })
+            } else {
+                None
+            }
         }
-        return AliasAt::Not;
-    }
-    if b != b'=' {
-        return AliasAt::Not;
-    }
-    match text_at(s, p + 1) {
-        TextAt::To(r) => AliasAt::Named(r),
-        TextAt::Not => AliasAt::Not,
+        b'=' => {
+            let at = c.at + 1;
+            let end = text_at(Cursor { bytes: c.bytes, at })?;
+            Some(Piece {
+                value: Some(at),
+                end,
+            })
+        }
+        _ => None,
     }
 }

@@ -2,157 +2,133 @@
 ghost use Rattle.std.specs.Prelude.{◌≡◌, [], ◌∷◌, ◌≤◌};
 ghost use Rattle.model.specs.Field.{read, Form, u32};
 ghost use Rattle.model.specs.Text.{same, dash};
-ghost use Rattle.record.specs.Answer.{decimal_of, opt_decimal_of};
-ghost use Rattle.record.specs.Number.{digits_on};
-ghost use Rattle.record.specs.Place.{Fed};
+ghost use Rattle.record.specs.Number.{digit_value, digits_on};
 ghost use Rattle.record.specs.InPlace.{DigitsAt, NumberAt, OptNumberAt};
 
-use crate::piece::separates;
-use crate::{Decimal, DecimalAt, OptDecimal, OptDecimalAt};
+use crate::cursor::Cursor;
+use crate::piece::{Piece, separates};
 
-// The byte of the digit 0.
-const DIGIT_0: u64 = 48;
-
-// A byte as a number of 64 bits.
-fn wide(b: u8) -> u64
-    ensures { result ≡ b }
+// The value of a digit.
+fn digit(b: u8) -> Option<u64>
+    ensures { result ≡ digit_value b }
 {
-    b as u64
+    match b {
+        b'0'..=b'9' => Some(u64::from(b - b'0')),
+        _ => None,
+    }
 }
 
 // The value of a run of digits, at most `limit`.
-fn gather(s: &[u8], limit: u64) -> Decimal
+fn gather(s: &[u8], limit: u64) -> Option<u64>
     ensures { result ≡ digits_on limit 0 s.now }
 {
     let mut v: u64 = 0;
-    let mut i = 0;
-    while i < s.len() {
-        let b = wide(s[i]);
-        if b < DIGIT_0 {
-            return Decimal::Not;
+    for b in s {
+        let d = digit(*b)?;
+        let tens = v.checked_mul(10)?;
+        v = tens.checked_add(d)?;
+        if limit < v {
+            return None;
         }
-        let d = b - DIGIT_0;
-        if 9 < d {
-            return Decimal::Not;
-        }
-        if limit / 10 < v {
-            return Decimal::Not;
-        }
-        if limit - v * 10 < d {
-            return Decimal::Not; // above the limit
-        }
-        v = v * 10 + d;
-        i += 1;
     }
-    Decimal::Is(v)
+    Some(v)
 }
 
 // A decimal number with no spare zero, at most `limit`.
-pub fn decimal(s: &[u8], limit: u64) -> Decimal
-    ensures { result ≡ decimal_of (read (Form.num limit) (s.now ∷ [])) }
+pub fn decimal(s: &[u8], limit: u64) -> Option<u64>
+    ensures { result ≡ read (Form.num limit) (s.now ∷ []) }
 {
-    if s.len() == 0 {
-        return Decimal::Not;
+    match s {
+        [] => None,
+        [_] => gather(s, limit),
+        [b'0', ..] => None,
+        _ => gather(s, limit),
     }
-    if s.len() == 1 {
-        return gather(s, limit);
-    }
-    if s[0] == b'0' {
-        return Decimal::Not;
-    }
-    gather(s, limit)
 }
 
 // The dash, for what is absent.
 pub fn is_dash(s: &[u8]) -> bool
     ensures { result ≡ same s.now dash }
 {
-    if s.len() != 1 {
-        return false;
-    }
-    s[0] == b'-'
+    s == b"-".as_slice()
 }
 
 // A decimal number as above, or a dash.
-pub fn decimal_or_absent(s: &[u8], limit: u64) -> OptDecimal
-    ensures { result ≡ opt_decimal_of (read (Form.num_or_absent limit) (s.now ∷ [])) }
+pub fn decimal_or_absent(s: &[u8], limit: u64) -> Option<Option<u64>>
+    ensures { result ≡ read (Form.num_or_absent limit) (s.now ∷ []) }
 {
     if is_dash(s) {
-        return OptDecimal::Absent;
+        return Some(None);
     }
-    match decimal(s, limit) {
-        Decimal::Is(n) => OptDecimal::Is(n),
-        Decimal::Not => OptDecimal::Not,
-    }
+    let n = decimal(s, limit)?;
+    Some(Some(n))
 }
 
-// The digits from p on that follow the number `first`, up to the end of their piece. The number with them is at most `limit`, which is small enough that one digit more does not overflow.
-fn gather_at(s: &[u8], p: usize, first: u64, limit: u64) -> DecimalAt
-    requires fed { Fed s.now p }
-    requires first_le_limit { (first ≤ limit) × (limit ≤ u32) }
-    ensures { DigitsAt limit first s.now p result }
+// The digits from here on that follow the number `first`, up to the end of their piece. The number with them is at most `limit`, which is small enough that one digit more does not overflow.
+fn gather_at(c: Cursor<'_>, first: u64, limit: u64) -> Option<Piece<u64>>
+    requires { (first ≤ limit) × (limit ≤ u32) }
+    ensures { DigitsAt limit first c.entry.bytes.now c.entry.at result }
 {
     let mut v = first;
-    let mut i = p;
-    let mut b = wide(s[p]);
-    while DIGIT_0 <= b {
-        let d = b - DIGIT_0;
-        if 9 < d {
-            return DecimalAt::Not;
-        }
+    let mut i = c.at;
+    // A `while`, since nothing tells where the last digit is before it is met.
+    while let Some(d) = digit(c.bytes[i]) {
         v = v * 10 + d;
         if limit < v {
-            return DecimalAt::Not; // above the limit
+            return None;
         }
         i += 1;
-        b = wide(s[i]);
     }
-    if separates(s[i]) {
-        return DecimalAt::Is(v, i);
+    if separates(c.bytes[i]) {
+        return Some(Piece { value: v, end: i });
     }
-    DecimalAt::Not
+    None
 }
 
-// The decimal number at p, with no spare zero and at most `limit`.
-pub fn decimal_at(s: &[u8], p: usize, limit: u64) -> DecimalAt
-    requires fed { Fed s.now p }
-    requires limit_le_u32 { limit ≤ u32 }
-    ensures { NumberAt limit s.now p result }
+// The decimal number here, with no spare zero and at most `limit`.
+pub fn decimal_at(c: Cursor<'_>, limit: u64) -> Option<Piece<u64>>
+    requires { limit ≤ u32 }
+    ensures { NumberAt limit c.entry.bytes.now c.entry.at result }
 {
-    let b = wide(s[p]);
-    if b < DIGIT_0 {
-        return DecimalAt::Not;
-    }
-    let d = b - DIGIT_0;
-    if 9 < d {
-        return DecimalAt::Not;
-    }
+    let d = digit(c.bytes[c.at])?;
+    let behind = c.at + 1;
     if d == 0 {
-        if separates(s[p + 1]) {
-            return DecimalAt::Is(0, p + 1);
+        if separates(c.bytes[behind]) {
+            return Some(Piece {
+                value: 0,
+                end: behind,
+            });
         }
-        return DecimalAt::Not;
+        return None;
     }
     if limit < d {
-        return DecimalAt::Not;
+        return None;
     }
-    gather_at(s, p + 1, d, limit)
+    gather_at(
+        Cursor {
+            bytes: c.bytes,
+            at: behind,
+        },
+        d,
+        limit,
+    )
 }
 
-// The decimal number at p as above, or a dash.
-pub fn decimal_or_absent_at(s: &[u8], p: usize, limit: u64) -> OptDecimalAt
-    requires fed { Fed s.now p }
-    requires limit_le_u32 { limit ≤ u32 }
-    ensures { OptNumberAt limit s.now p result }
+// The decimal number here as above, or a dash.
+pub fn decimal_or_absent_at(c: Cursor<'_>, limit: u64) -> Option<Piece<Option<u64>>>
+    requires { limit ≤ u32 }
+    ensures { OptNumberAt limit c.entry.bytes.now c.entry.at result }
 {
-    if s[p] == b'-' {
-        if separates(s[p + 1]) {
-            return OptDecimalAt::Absent(p + 1);
+    if c.bytes[c.at] == b'-' {
+        let end = c.at + 1;
+        if separates(c.bytes[end]) {
+            return Some(Piece { value: None, end });
         }
-        return OptDecimalAt::Not;
+        return None;
     }
-    match decimal_at(s, p, limit) {
-        DecimalAt::Is(n, r) => OptDecimalAt::Is(n, r),
-        DecimalAt::Not => OptDecimalAt::Not,
-    }
+    let n = decimal_at(c, limit)?;
+    Some(Piece {
+        value: Some(n.value),
+        end: n.end,
+    })
 }

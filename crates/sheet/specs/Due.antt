@@ -68,7 +68,7 @@ unfolding mapped
 mapped_ext (got a p) f g h = ap (λ b. got b p) (h a)
 mapped_ext (refused y) f g h = refl
 
-mapped_id : {A : Type 0} (r : Reading A) → mapped (λ a. a) r ≡ r
+pub mapped_id : {A : Type 0} (r : Reading A) → mapped (λ a. a) r ≡ r
 unfolding mapped
 mapped_id (got a p) = refl
 mapped_id (refused y) = refl

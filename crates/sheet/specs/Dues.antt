@@ -1,24 +1,19 @@
--- The due groups that words hold, the top first, and what the stack's two steps do to them. Assumes nothing.
+-- The due groups that words hold, the top first, and what the steps of the stack do to them. Assumes nothing.
 use Rattle.std.specs.Prelude.{◌≡◌, refl, ℕ, zero, suc, ◌+◌, ◌*◌, ◌-◌, ◌<◌, ◌≤◌, Bool, true, false, List, [], ◌∷◌, ◌++◌, eqb, length, get_or, set}
 use Rattle.std.proofs.Common.{◌∙◌, ap, arith, eqb-true, length-set, get_or-set_same, get_or-set_other}
 use Rattle.std.proofs.lemmas.Bool.{eqb-false}
 use Rattle.model.specs.Call.{work_words}
 use Rattle.words.specs.Places.{sort_count, kind_count}
 use Rattle.model.specs.Kind.{Sort}
-use Rattle.words.specs.Words.{Roomy, max_records}
-use Rattle.words.proofs.GroupLaws.{none_behind}
+use Rattle.words.specs.Words.{max_records}
+use Rattle.words.proofs.GroupLaws.{groups_few, none_behind}
 use Rattle.words.specs.Table.{group_numbers, sort_of, group_sort, group_source, count_of, groups_from, group_count}
 use Rattle.sheet.specs.Due.{Due, due, due_of}
-use Rattle.sheet.specs.Stack.{Alike, alike_refl, alike_sym, alike_trans, alike_under, alike_none, slack, Fit, due_words, due_count_at, due_room_at, allowed, max_room}
+use Rattle.sheet.specs.Stack.{Alike, alike_refl, alike_sym, alike_trans, alike_under, alike_none, slack, due_words, due_count_at, due_room_at, allowed, max_room}
 
 -- at most this many groups are ever due
 abbrev pub max_due : ℕ
 max_due = allowed 0
-
--- a group more has room on top of m
-pub record Room (w : List ℕ) (m : ℕ) : Type 0 where
-  pub few : m < max_due
-  pub long : work_words ≤ length w
 
 -- group m
 abbrev pub group : List ℕ → ℕ → Due
@@ -28,227 +23,215 @@ unfoldable pub dues : List ℕ → ℕ → List Due
 dues w zero = []
 dues w (suc m) = group w m ∷ dues w m
 
-pub dues_length : (w : List ℕ) (m : ℕ) → length (dues w m) ≡ m
-unfolding dues
-dues_length w zero = refl
-dues_length w (suc m) = ap suc (dues_length w m)
-
 -- words behind group m do not matter
-pub dues_same : (w w' : List ℕ) (m : ℕ) → ((j : ℕ) → j < m * due_words → get_or w' j 0 ≡ get_or w j 0) → dues w' m ≡ dues w m
+dues_same : (w w' : List ℕ) (m : ℕ) → ((j : ℕ) → j < m * due_words → get_or w' j 0 ≡ get_or w j 0) → dues w' m ≡ dues w m
 unfolding dues
 dues_same w w' zero h = refl
 dues_same w w' (suc m) h = rw (h (m * due_words) (omega arith), h (m * due_words + due_count_at) (omega arith), h (m * due_words + due_room_at) (omega arith), dues_same w w' m (λ j l. h j (omega arith)))
 
--- the groups' sorts are numbers of sorts
-pub record Sorted (w : List ℕ) (m : ℕ) : Type 0 where
-  pub at : (j : ℕ) → j < m → get_or w (j * due_words) 0 < sort_count
+-- group j is due: some records of a sort, low enough for their room
+pub record Fits (w : List ℕ) (j : ℕ) : Type 0 where
+  pub sort : get_or w (j * due_words) 0 < sort_count
+  pub count : 0 < get_or w (j * due_words + due_count_at) 0
+  pub room : get_or w (j * due_words + due_room_at) 0 ≤ max_room
+  pub low : j + 1 + slack (sort_of (get_or w (j * due_words) 0)) ≤ allowed (get_or w (j * due_words + due_room_at) 0)
 
-pub record Pushed (w w' : List ℕ) (m sort count room : ℕ) : Type 0 where
-  pub same : length w' ≡ length w
-  pub is : dues w' (suc m) ≡ due (sort_of sort) count room ∷ dues w m
-  pub sorted : Sorted w m → sort < sort_count → Sorted w' (suc m)
+-- the stack as it stands: m groups, and room for all that can come to be due with them
+pub record Stacked (w : List ℕ) (m : ℕ) : Type 0 where
+  pub long : work_words ≤ length w
+  pub each : (j : ℕ) → j < m → Fits w j
 
--- the top group, m, has one less
-pub record Popped (w w' : List ℕ) (m r : ℕ) : Type 0 where
-  pub same : length w' ≡ length w
-  pub low : m ≤ r
-  pub high : r ≤ suc m
-  pub is : Alike (dues w' r) (due (group w m).sort ((group w m).count - 1) (group w m).room ∷ dues w m)
-  pub fit : Fit (dues w (suc m)) → Fit (dues w' r)
-  pub sorted : Sorted w (suc m) → Sorted w' r
+-- ── the topmost group ──
+
+-- what is so of a group on top of m others
+pub record Top (s : Sort) (n d m : ℕ) : Type 0 where
+  pub count : 0 < n
+  pub room : d ≤ max_room
+  pub low : m + 1 + slack s ≤ allowed d
+
+-- the topmost of m groups: n records of sort number s, each with room d
+pub record Topmost (w : List ℕ) (m s n d : ℕ) : Type 0 where
+  pub top : Top (sort_of s) n d (m - 1)
+  pub is : dues w m ≡ due (sort_of s) n d ∷ dues w (m - 1)
+
+-- one of its records is read: it has one less, and is gone at none
+pub record Taken (w w' : List ℕ) (m m' s n d : ℕ) : Type 0 where
+  pub topmost : Topmost w m s n d
+  pub high : m' ≤ suc (m - 1)
+  pub left : Alike (dues w' m') (due (sort_of s) (n - 1) d ∷ dues w (m - 1))
+
+-- what is due when nothing is left
+pub none_due_is : (w : List ℕ) (m : ℕ) → m ≡ 0 → dues w m ≡ []
+unfolding dues
+none_due_is w m e = rw e
+
+module _ (w : List ℕ) (m : ℕ) (h : 0 < m) (s : Stacked w m) where
+  top_low : m - 1 < max_due
+  top_low = let t = s.each (m - 1) (omega arith) in omega (arith, t.low)
+
+  top_fits : Top (group w (m - 1)).sort (group w (m - 1)).count (group w (m - 1)).room (m - 1)
+  top_fits = let t = s.each (m - 1) (omega arith) in record { count = t.count; room = t.room; low = t.low }
+
+top_is : (w : List ℕ) (m : ℕ) → 0 < m → dues w m ≡ group w (m - 1) ∷ dues w (m - 1)
+unfolding dues
+top_is w zero h = absurd (omega arith)
+top_is w (suc m) h = let e : suc m - 1 ≡ m = omega arith in rw e
+
+pub topmost : {w : List ℕ} {m : ℕ} → 0 < m → Stacked w m → Topmost w m (get_or w ((m - 1) * due_words) 0) (get_or w ((m - 1) * due_words + due_count_at) 0) (get_or w ((m - 1) * due_words + due_room_at) 0)
+topmost {w} {m} h s = record { top = top_fits w m h s; is = top_is w m h }
+
+pub taken_last : {w : List ℕ} {m : ℕ} → 0 < m → Stacked w m → get_or w ((m - 1) * due_words + due_count_at) 0 ≡ 1 → Taken w w m (m - 1) (get_or w ((m - 1) * due_words) 0) (get_or w ((m - 1) * due_words + due_count_at) 0) (get_or w ((m - 1) * due_words + due_room_at) 0)
+taken_last {w} {m} h s e = record { topmost = topmost h s; high = omega arith; left = rw e (alike_sym (alike_none (group w (m - 1)).sort (group w (m - 1)).room (dues w (m - 1)))) }
+
+module _ {w : List ℕ} {m : ℕ} (h : 0 < m) (s : Stacked w m) (more : get_or w ((m - 1) * due_words + due_count_at) 0 ≡ 1 → ⊥) where
+  -- one less
+  abbrev pub lessened : List ℕ
+  lessened = set w ((m - 1) * due_words + due_count_at) (get_or w ((m - 1) * due_words + due_count_at) 0 - 1)
+
+  lessened_count : get_or lessened ((m - 1) * due_words + due_count_at) 0 ≡ get_or w ((m - 1) * due_words + due_count_at) 0 - 1
+  lessened_count = let few = top_low w m h s in get_or-set_same w ((m - 1) * due_words + due_count_at) (get_or w ((m - 1) * due_words + due_count_at) 0 - 1) 0 (omega (arith, s.long))
+
+  lessened_other : (j : ℕ) → (j ≡ (m - 1) * due_words + due_count_at → ⊥) → get_or lessened j 0 ≡ get_or w j 0
+  lessened_other j n = get_or-set_other w ((m - 1) * due_words + due_count_at) j (get_or w ((m - 1) * due_words + due_count_at) 0 - 1) 0 (omega arith)
+
+  pub taken_more : Taken w lessened m m (get_or w ((m - 1) * due_words) 0) (get_or w ((m - 1) * due_words + due_count_at) 0) (get_or w ((m - 1) * due_words + due_room_at) 0)
+  taken_more =
+      let x = lessened_other ((m - 1) * due_words) (omega arith) in
+      let y = lessened_other ((m - 1) * due_words + due_room_at) (omega arith) in
+      let below : dues lessened (m - 1) ≡ dues w (m - 1) = dues_same w lessened (m - 1) (λ j l. lessened_other j (omega arith)) in
+      let same : dues lessened m ≡ due (group w (m - 1)).sort ((group w (m - 1)).count - 1) (group w (m - 1)).room ∷ dues w (m - 1) = top_is lessened m h ∙ rw (x, lessened_count, y, below) in
+      record { topmost = topmost h s; high = omega arith; left = rw same (alike_refl _) }
 
 -- ── pushing ──
 
--- the words of the sorts below stay
-sorted_same : (w w' : List ℕ) (m : ℕ) → ((j : ℕ) → j < m → get_or w' (j * due_words) 0 ≡ get_or w (j * due_words) 0) → Sorted w m → Sorted w' m
-sorted_same w w' m h s = record { at = λ j l. rw (h j l) (s.at j l) }
+-- a group on top, where one of none may be passed over
+pub record Pushed (w w' : List ℕ) (m m' sort count room : ℕ) : Type 0 where
+  pub high : m' ≤ suc m
+  pub is : Alike (dues w' m') (due (sort_of sort) count room ∷ dues w m)
 
-sorted_more : (w w' : List ℕ) (m x : ℕ) → ((j : ℕ) → j < m → get_or w' (j * due_words) 0 ≡ get_or w (j * due_words) 0) → get_or w' (m * due_words) 0 ≡ x → Sorted w m → x < sort_count → Sorted w' (suc m)
-sorted_more w w' m x h e s l = record { at = λ j k. at j k (eqb j m) refl }
+-- a group's words
+fits_same : (w w' : List ℕ) (j : ℕ) → ((x : ℕ) → x < suc j * due_words → get_or w' x 0 ≡ get_or w x 0) → Fits w j → Fits w' j
+fits_same w w' j h f =
+    let s = h (j * due_words) (omega arith) in
+    let c = h (j * due_words + due_count_at) (omega arith) in
+    let d = h (j * due_words + due_room_at) (omega arith) in
+    record { sort = rw s f.sort; count = rw c f.count; room = rw d f.room; low = rw (s, d) f.low }
+
+-- the three words of a group
+abbrev pub written : List ℕ → ℕ → ℕ → ℕ → ℕ → List ℕ
+written w m s n d = set (set (set w (m * due_words) s) (m * due_words + due_count_at) n) (m * due_words + due_room_at) d
+
+module _ (w : List ℕ) (m s n d : ℕ) (h : Stacked w m) (few : m < max_due) where
+  written_long : length (written w m s n d) ≡ length w
+  written_long = length-set (set (set w (m * due_words) s) (m * due_words + due_count_at) n) (m * due_words + due_room_at) d ∙ length-set (set w (m * due_words) s) (m * due_words + due_count_at) n ∙ length-set w (m * due_words) s
+
+  written_below : (j : ℕ) → j < m * due_words → get_or (written w m s n d) j 0 ≡ get_or w j 0
+  written_below j l =
+      get_or-set_other (set (set w (m * due_words) s) (m * due_words + due_count_at) n) (m * due_words + due_room_at) j d 0 (omega arith)
+      ∙ get_or-set_other (set w (m * due_words) s) (m * due_words + due_count_at) j n 0 (omega arith)
+      ∙ get_or-set_other w (m * due_words) j s 0 (omega arith)
+
+  written_room : get_or (written w m s n d) (m * due_words + due_room_at) 0 ≡ d
+  written_room = get_or-set_same (set (set w (m * due_words) s) (m * due_words + due_count_at) n) (m * due_words + due_room_at) d 0 (omega (arith, h.long, length-set (set w (m * due_words) s) (m * due_words + due_count_at) n, length-set w (m * due_words) s))
+
+  written_count : get_or (written w m s n d) (m * due_words + due_count_at) 0 ≡ n
+  written_count =
+      get_or-set_other (set (set w (m * due_words) s) (m * due_words + due_count_at) n) (m * due_words + due_room_at) (m * due_words + due_count_at) d 0 (omega arith)
+      ∙ get_or-set_same (set w (m * due_words) s) (m * due_words + due_count_at) n 0 (omega (arith, h.long, length-set w (m * due_words) s))
+
+  written_sort : get_or (written w m s n d) (m * due_words) 0 ≡ s
+  written_sort =
+      get_or-set_other (set (set w (m * due_words) s) (m * due_words + due_count_at) n) (m * due_words + due_room_at) (m * due_words) d 0 (omega arith)
+      ∙ get_or-set_other (set w (m * due_words) s) (m * due_words + due_count_at) (m * due_words) n 0 (omega arith)
+      ∙ get_or-set_same w (m * due_words) s 0 (omega (arith, h.long))
+
+  push_is : dues (written w m s n d) (suc m) ≡ due (sort_of s) n d ∷ dues w m
+  unfolding dues
+  push_is = rw (written_sort, written_count, written_room) (ap (λ l. due (sort_of s) n d ∷ l) (dues_same w (written w m s n d) m written_below))
+
+  written_fits : 0 < n → s < sort_count → d ≤ max_room → m + 1 + slack (sort_of s) ≤ allowed d → Fits (written w m s n d) m
+  written_fits z l r p = record { sort = rw written_sort l; count = rw written_count z; room = rw written_room r; low = rw (written_sort, written_room) p }
+
+pub pushed_stacked : {w : List ℕ} {m s n d m' : ℕ} → Stacked w m → m' ≡ suc m → 0 < n → s < sort_count → d ≤ max_room → m + 1 + slack (sort_of s) ≤ allowed d → Stacked (written w m s n d) m'
+pushed_stacked {w} {m} {s} {n} {d} {m'} h e z l r p = record { long = omega (arith, written_long w m s n d h few, h.long); each = λ j k. at j k (eqb j m) refl }
   where
-    at : (j : ℕ) → j < suc m → (t : Bool) → eqb j m ≡ t → get_or w' (j * due_words) 0 < sort_count
-    at j k true q = rw (eqb-true j m q, e) l
-    at j k false q = let z : j < m = omega (arith, eqb-false j m q) in rw (h j z) (s.at j z)
+    few : m < max_due
+    few = omega arith
 
-sorted_less : (w : List ℕ) (m : ℕ) → Sorted w (suc m) → Sorted w m
-sorted_less w m s = record { at = λ j l. s.at j (omega arith) }
+    at : (j : ℕ) → j < m' → (t : Bool) → eqb j m ≡ t → Fits (written w m s n d) j
+    at j k true q = rw (eqb-true j m q) (written_fits w m s n d h few z l r p)
+    at j k false q =
+        let other = eqb-false j m q in
+        let low : j < m = omega arith in
+        fits_same w (written w m s n d) j (λ x y. written_below w m s n d h few x (omega arith)) (h.each j low)
 
-pub push_is : (w : List ℕ) (m s n d : ℕ) → Room w m → Pushed w (set (set (set w (m * due_words) s) (m * due_words + due_count_at) n) (m * due_words + due_room_at) d) m s n d
-unfolding dues
-push_is w m s n d h =
-    let long = h.long in
-    let few = h.few in
-    let x = set w (m * due_words) s in
-    let y = set x (m * due_words + due_count_at) n in
-    let lx : length x ≡ length w = length-set w (m * due_words) s in
-    let ly : length y ≡ length w = length-set x (m * due_words + due_count_at) n ∙ lx in
-    record {
-      same = length-set y (m * due_words + due_room_at) d ∙ ly;
-      is =
-          rw (
-            get_or-set_same y (m * due_words + due_room_at) d 0 (omega arith),
-            get_or-set_other y (m * due_words + due_room_at) (m * due_words + due_count_at) d 0 (omega arith),
-            get_or-set_same x (m * due_words + due_count_at) n 0 (omega arith),
-            get_or-set_other y (m * due_words + due_room_at) (m * due_words) d 0 (omega arith),
-            get_or-set_other x (m * due_words + due_count_at) (m * due_words) n 0 (omega arith),
-            get_or-set_same w (m * due_words) s 0 (omega arith),
-          )
-          (ap (λ l. due (sort_of s) n d ∷ l) (dues_same w (set y (m * due_words + due_room_at) d) m (λ j l. get_or-set_other y (m * due_words + due_room_at) j d 0 (omega arith) ∙ get_or-set_other x (m * due_words + due_count_at) j n 0 (omega arith) ∙ get_or-set_other w (m * due_words) j s 0 (omega arith))));
-      sorted = sorted_more w (set y (m * due_words + due_room_at) d) m s
-          (λ j l. get_or-set_other y (m * due_words + due_room_at) (j * due_words) d 0 (omega arith) ∙ get_or-set_other x (m * due_words + due_count_at) (j * due_words) n 0 (omega arith) ∙ get_or-set_other w (m * due_words) (j * due_words) s 0 (omega arith))
-          (get_or-set_other y (m * due_words + due_room_at) (m * due_words) d 0 (omega arith) ∙ get_or-set_other x (m * due_words + due_count_at) (m * due_words) n 0 (omega arith) ∙ get_or-set_same w (m * due_words) s 0 (omega arith));
-    }
+pub pushed : {w : List ℕ} {m s n d m' : ℕ} → Stacked w m → m' ≡ suc m → m + 1 + slack (sort_of s) ≤ allowed d → Pushed w (written w m s n d) m m' s n d
+pushed {w} {m} {s} {n} {d} {m'} h e p = let few : m < max_due = omega arith in record { high = omega arith; is = rw (e, push_is w m s n d h few) (alike_refl _) }
 
--- ── popping ──
-
-pub pop_last : (w : List ℕ) (m : ℕ) → get_or w (m * due_words + due_count_at) 0 ≡ 1 → Popped w w m m
-unfolding dues
-pop_last w m e = record { same = refl; low = omega arith; high = omega arith; is = rw e (alike_sym (alike_none (group w m).sort (group w m).room (dues w m))); fit = λ f. f.3; sorted = sorted_less w m }
-
-fit_less : (s : Sort) (n d : ℕ) (st : List Due) → 1 < n → Fit (due s n d ∷ st) → Fit (due s (n - 1) d ∷ st)
-fit_less s n d st h f = (omega arith, f.1, f.2, f.3)
-
-pop_dues : (w : List ℕ) (m : ℕ) → 1 < get_or w (m * due_words + due_count_at) 0 → Room w m → dues (set w (m * due_words + due_count_at) (get_or w (m * due_words + due_count_at) 0 - 1)) (suc m) ≡ due (group w m).sort ((group w m).count - 1) (group w m).room ∷ dues w m
-unfolding dues
-pop_dues w m h room =
-    let long = room.long in
-    let few = room.few in
-    let n = get_or w (m * due_words + due_count_at) 0 - 1 in
-    rw (
-      get_or-set_same w (m * due_words + due_count_at) n 0 (omega arith),
-      get_or-set_other w (m * due_words + due_count_at) (m * due_words) n 0 (omega arith),
-      get_or-set_other w (m * due_words + due_count_at) (m * due_words + due_room_at) n 0 (omega arith),
-    )
-    (ap (λ l. due (sort_of (get_or w (m * due_words) 0)) n (get_or w (m * due_words + due_room_at) 0) ∷ l) (dues_same w (set w (m * due_words + due_count_at) n) m (λ j l. get_or-set_other w (m * due_words + due_count_at) j n 0 (omega arith))))
-
-pop_fit : (w : List ℕ) (m : ℕ) → 1 < get_or w (m * due_words + due_count_at) 0 → Fit (dues w (suc m)) → Fit (due (group w m).sort ((group w m).count - 1) (group w m).room ∷ dues w m)
-unfolding dues
-pop_fit w m h f = fit_less (group w m).sort (group w m).count (group w m).room (dues w m) h f
-
-pub pop_more : (w : List ℕ) (m r : ℕ) → r ≡ suc m → 1 < get_or w (m * due_words + due_count_at) 0 → Room w m → Popped w (set w (m * due_words + due_count_at) (get_or w (m * due_words + due_count_at) 0 - 1)) m r
-pop_more w m r e h room =
-    let d = pop_dues w m h room in
-    record {
-      same = length-set w (m * due_words + due_count_at) (get_or w (m * due_words + due_count_at) 0 - 1);
-      low = omega arith;
-      high = omega arith;
-      is = rw (e, d) (alike_refl _);
-      fit = λ f. rw (e, d) (pop_fit w m h f);
-      sorted = λ z. rw e (sorted_same w (set w (m * due_words + due_count_at) (get_or w (m * due_words + due_count_at) 0 - 1)) (suc m) (λ j l. get_or-set_other w (m * due_words + due_count_at) (j * due_words) (get_or w (m * due_words + due_count_at) 0 - 1) 0 (omega arith)) z);
-    }
+pub pushed_none : {w : List ℕ} {m s n d : ℕ} → n ≡ 0 → Pushed w w m m s n d
+pushed_none {w} {m} {s} {n} {d} e = record { high = omega arith; is = rw e (alike_sym (alike_none (sort_of s) d (dues w m))) }
 
 -- ── a record's groups ──
 
-nonzero : (n : ℕ) → (n ≡ 0 → ⊥) → 0 < n
-nonzero zero z = absurd (z refl)
-nonzero (suc n) z = omega arith
-
--- group (s, n) on top, unless it is a group of none
-pub record Grouped (w w' : List ℕ) (m s n d r : ℕ) : Type 0 where
-  pub same : length w' ≡ length w
-  pub low : m ≤ r
-  pub high : r ≤ suc m
-  pub is : Alike (dues w' r) (due (sort_of s) n d ∷ dues w m)
-  pub fit : Fit (dues w m) → d ≤ max_room → m + 1 + slack (sort_of s) ≤ allowed d → Fit (dues w' r)
-  pub sorted : Sorted w m → Sorted w' r
-
-pub grouped_none : (w : List ℕ) (m s n d : ℕ) → n ≡ 0 → Grouped w w m s n d m
-grouped_none w m s n d e = record { same = refl; low = omega arith; high = omega arith; is = rw e (alike_sym (alike_none (sort_of s) d (dues w m))); fit = λ f h g. f; sorted = λ z. z }
-
-grouped_one : (w w' : List ℕ) (m s n d r : ℕ) → (n ≡ 0 → ⊥) → s < sort_count → r ≡ suc m → Pushed w w' m s n d → Grouped w w' m s n d r
-grouped_one w w' m s n d r z low e p = record { same = p.same; low = omega arith; high = omega arith; is = rw (e, p.is) (alike_refl _); fit = λ f h g. rw (e, p.is) (nonzero n z, h, rw (dues_length w m) g, f); sorted = λ q. rw e (p.sorted q low) }
-
-pub grouped_push : (w w' : List ℕ) (m s n d r s' n' : ℕ) → (s' ≡ s) × (s' < sort_count) → n' ≡ n → (n' ≡ 0 → ⊥) → r ≡ suc m → Pushed w w' m s' n' d → Grouped w w' m s n d r
-grouped_push w w' m s n d r s' n' e f z q p = rw (← e.0, ← f) (grouped_one w w' m s' n' d r z e.1 q p)
-
 -- k groups from group g on, on top of m others
 pub record Groups (w w' : List ℕ) (n : ℕ) (ws : List ℕ) (g k m d r : ℕ) : Type 0 where
-  pub same : length w' ≡ length w
-  pub low : m ≤ r
   pub high : r ≤ m + k
   pub is : Alike (dues w' r) (due_of d (groups_from n ws g k) ++ dues w m)
-  pub fit : Fit (dues w' r)
-  pub sorted : Sorted w' r
 
 -- there is room for every group of a kind
-pub record Space (w : List ℕ) (n m d : ℕ) : Type 0 where
-  pub long : work_words ≤ length w
-  pub few : m + group_count ≤ max_due
+pub record Space (n m d : ℕ) : Type 0 where
   pub room : d ≤ max_room
   pub each : (g : ℕ) → g < group_count → m + group_count + slack (sort_of (group_sort n g)) ≤ allowed d
-  pub fit : Fit (dues w m)
-  pub sorted : Sorted w m
 
--- ── what the functions ask ──
-
--- group g of record i, which is of kind n, on top of m others
-pub record GroupAsked (a b w : List ℕ) (m i n g : ℕ) : Type 0 where
-  pub kind : n < kind_count
-  pub among : g < group_count
-  pub low : i < max_records
-  pub words : Roomy a b
-  pub room : Room w m
-
--- all its groups, each with room d
-pub record GroupsAsked (a b w : List ℕ) (m i n d : ℕ) : Type 0 where
+-- what is asked for all groups of record i, which is of kind n, each with room d, on top of m others
+pub record GroupsAsked (m i n d : ℕ) : Type 0 where
   pub kind : n < kind_count
   pub low : i < max_records
-  pub words : Roomy a b
-  pub space : Space w n m d
+  pub space : Space n m d
 
 -- ── all groups of a record ──
 
-pub groups_none : (w : List ℕ) (n : ℕ) (ws : List ℕ) (m d : ℕ) → Space w n m d → Groups w w n ws group_count 0 m d m
+groups_none : (w : List ℕ) (n : ℕ) (ws : List ℕ) (m d : ℕ) → Groups w w n ws group_count 0 m d m
 unfolding groups_from due_of
-groups_none w n ws m d s = record { same = refl; low = omega arith; high = omega arith; is = alike_refl (dues w m); fit = s.fit; sorted = s.sorted }
+groups_none w n ws m d = record { high = omega arith; is = alike_refl (dues w m) }
 
-pub groups_more : (w w' w'' : List ℕ) (n : ℕ) (ws : List ℕ) (g k m d r r' : ℕ) → Space w n m d → k + suc g ≡ group_count → Groups w w' n ws (suc g) k m d r → Grouped w' w'' r (group_sort n g) (count_of ws (group_source n g)) d r' → Groups w w'' n ws g (suc k) m d r'
+groups_more : (w w' w'' : List ℕ) (n : ℕ) (ws : List ℕ) (g k m d r r' : ℕ) → Groups w w' n ws (suc g) k m d r → Pushed w' w'' r r' (group_sort n g) (count_of ws (group_source n g)) d → Groups w w'' n ws g (suc k) m d r'
 unfolding groups_from due_of
-groups_more w w' w'' n ws g k m d r r' s e p q =
-    let low = p.low in
-    let high = p.high in
-    let low' = q.low in
-    let high' = q.high in
-    let space = s.each g (omega arith) in
+groups_more w w' w'' n ws g k m d r r' p q =
     record {
-      same = q.same ∙ p.same;
-      low = omega arith;
-      high = omega arith;
+      high = omega (arith, p.high, q.high);
       is = alike_trans q.is (alike_under (due (sort_of (group_sort n g)) (count_of ws (group_source n g)) d) p.is);
-      fit = q.fit p.fit s.room (omega arith);
-      sorted = q.sorted p.sorted;
     }
 
 -- the groups behind a kind's last are passed over
-pub groups_behind : (w : List ℕ) (n : ℕ) (ws : List ℕ) (m d : ℕ) → Space w n m d → n < kind_count → (k : ℕ) → get_or group_numbers n 0 + k ≤ group_count → Groups w w n ws (group_count - k) k m d m
-groups_behind w n ws m d s low zero h = groups_none w n ws m d s
-groups_behind w n ws m d s low (suc k) h =
+groups_behind : (w : List ℕ) (n : ℕ) (ws : List ℕ) (m d : ℕ) → n < kind_count → (k : ℕ) → get_or group_numbers n 0 + k ≤ group_count → Groups w w n ws (group_count - k) k m d m
+groups_behind w n ws m d low zero h = groups_none w n ws m d
+groups_behind w n ws m d low (suc k) h =
     let g : ℕ = group_count - suc k in
     let after : group_count - k ≡ suc g = omega arith in
-    let before : Groups w w n ws (group_count - k) k m d m = groups_behind w n ws m d s low k (omega arith) in
+    let before : Groups w w n ws (group_count - k) k m d m = groups_behind w n ws m d low k (omega arith) in
     let none : count_of ws (group_source n g) ≡ 0 = rw (none_behind n g low (omega arith) (omega arith)) in
-    groups_more w w w n ws g k m d m m s (omega arith) (rw after at before) (grouped_none w m (group_sort n g) (count_of ws (group_source n g)) d none)
+    groups_more w w w n ws g k m d m m (rw after at before) (pushed_none none)
 
--- the same, counted from the other end
-pub begun : (w : List ℕ) (n : ℕ) (ws : List ℕ) (m d g : ℕ) → g ≤ group_count → Groups w w n ws (group_count - (group_count - g)) (group_count - g) m d m → Groups w w n ws g (group_count - g) m d m
-begun w n ws m d g h p = let e : group_count - (group_count - g) ≡ g = omega arith in rw e at p
+-- before the first step, from the end of a kind's groups
+pub begun : {w : List ℕ} {n : ℕ} {ws : List ℕ} {m d g : ℕ} → n < kind_count → g ≡ get_or group_numbers n 0 → (g ≤ group_count) × Groups w w n ws g (group_count - g) m d m
+begun {w} {n} {ws} {m} {d} {g} low q =
+    let few : g ≤ group_count = rw q (groups_few n low) in
+    let e : group_count - (group_count - g) ≡ g = omega arith in
+    (few, rw e at (groups_behind w n ws m d low (group_count - g) (omega arith)))
 
 -- ── the loop over a record's groups, from the last to the first ──
 
-stepped : (w w' w'' : List ℕ) (n : ℕ) (ws : List ℕ) (m d r r' : ℕ) → Space w n m d → (g : ℕ) → 0 < g → g ≤ group_count → Groups w w' n ws g (group_count - g) m d r → Grouped w' w'' r (group_sort n (g - 1)) (count_of ws (group_source n (g - 1))) d r' → Groups w w'' n ws (g - 1) (group_count - (g - 1)) m d r'
-stepped w w' w'' n ws m d r r' s zero h l p q = absurd (omega arith)
-stepped w w' w'' n ws m d r r' s (suc g) h l p q =
+stepped : (w w' w'' : List ℕ) (n : ℕ) (ws : List ℕ) (g m d r r' : ℕ) → 0 < g → g ≤ group_count → Groups w w' n ws g (group_count - g) m d r → Pushed w' w'' r r' (group_sort n (g - 1)) (count_of ws (group_source n (g - 1))) d → Groups w w'' n ws (g - 1) (group_count - (g - 1)) m d r'
+stepped w w' w'' n ws zero m d r r' h l p q = absurd (omega arith)
+stepped w w' w'' n ws (suc g) m d r r' h l p q =
     let e : suc g - 1 ≡ g = omega arith in
     let k : group_count - (suc g - 1) ≡ suc (group_count - suc g) = omega arith in
-    rw (k, e) (groups_more w w' w'' n ws g (group_count - suc g) m d r r' s (omega arith) p (rw e at q))
+    rw (k, e) (groups_more w w' w'' n ws g (group_count - suc g) m d r r' p (rw e at q))
 
-module _ (w w' : List ℕ) (n : ℕ) (ws : List ℕ) (g m d r : ℕ) (s : Space w n m d) (h : 0 < g) (l : g ≤ group_count) (p : Groups w w' n ws g (group_count - g) m d r) where
-  pub room_left : Room w' r
-  room_left = record { few = omega (arith, s.few, p.high); long = omega (arith, s.long, p.same) }
+pub groups_step : {w w' w'' : List ℕ} {n : ℕ} {ws : List ℕ} {g m d r r' s c : ℕ} → 0 < g → g ≤ group_count → Groups w w' n ws g (group_count - g) m d r → Pushed w' w'' r r' s c d → s ≡ group_sort n (g - 1) → c ≡ count_of ws (group_source n (g - 1)) → Groups w w'' n ws (g - 1) (group_count - (g - 1)) m d r'
+groups_step {w} {w'} {w''} {n} {ws} {g} {m} {d} {r} {r'} h l p q x y = stepped w w' w'' n ws g m d r r' h l p (rw (x, y) at q)
 
-  pub groups_step : (w'' : List ℕ) (r' : ℕ) → Grouped w' w'' r (group_sort n (g - 1)) (count_of ws (group_source n (g - 1))) d r' → Groups w w'' n ws (g - 1) (group_count - (g - 1)) m d r'
-  groups_step w'' r' q = stepped w w' w'' n ws m d r r' s g h l p q
-
-pub groups_all : (w w' : List ℕ) (n : ℕ) (ws : List ℕ) (m d r g : ℕ) → g ≡ 0 → Groups w w' n ws g (group_count - g) m d r → Groups w w' n ws 0 group_count m d r
-groups_all w w' n ws m d r zero e p = p
-groups_all w w' n ws m d r (suc g) e p = absurd (omega arith)
+-- a group of none is passed over
+pub groups_pass : {w w' : List ℕ} {n : ℕ} {ws : List ℕ} {g m d r c : ℕ} → 0 < g → g ≤ group_count → Groups w w' n ws g (group_count - g) m d r → c ≡ 0 → c ≡ count_of ws (group_source n (g - 1)) → Groups w w' n ws (g - 1) (group_count - (g - 1)) m d r
+groups_pass {w} {w'} {n} {ws} {g} {m} {d} {r} h l p e y = stepped w w' w' n ws g m d r r h l p (rw (← y) (pushed_none e))

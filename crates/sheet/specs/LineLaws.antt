@@ -1,5 +1,5 @@
 -- Lines of a sheet: which of them have their line feed, and how the line of a record that is read stands in the sheet. Assumes nothing.
-use Rattle.std.specs.Prelude.{◌≡◌, refl, ℕ, zero, suc, ◌+◌, ◌-◌, ◌<◌, ◌≤◌, Bool, true, false, eqb, ltb, length, take, drop, get_or, Some}
+use Rattle.std.specs.Prelude.{◌≡◌, refl, ℕ, zero, suc, ◌+◌, ◌-◌, ◌<◌, ◌≤◌, Bool, true, false, eqb, ltb, length, take, drop, get_or, Option, None, Some, MatchOption}
 use Rattle.std.proofs.Common.{sym, ◌∙◌, add-one, arith, eqb-true, ne_eqb, ltb-true, ltb-false, take-append-drop, drop_of_length-le, take_all, length-take-le, take-take, drop-cons}
 use Rattle.std.proofs.Math.Path.{ap}
 use mathlib.Core.List.{[], ◌∷◌, ◌++◌, append-nil}
@@ -48,21 +48,17 @@ feed_from s q h f p l = go (q - p) p l (omega arith)
     go zero p l k = let e : p ≡ q = omega arith in here p (omega arith) (rw e f)
     go (suc n) p l k = step p l (eqb (get_or s p 0) line_feed) refl (λ m. go n (p + 1) m (omega arith))
 
--- no line feed from place z on
-pub record Unfed (s : Bytes) (z : ℕ) : Type 0 where
-  pub low : z ≤ length s
-  pub free : (i : ℕ) → z ≤ i → i < length s → get_or s i 0 ≡ line_feed → ⊥
+-- where the last line feed stands, if there is one
+abbrev pub LastFeed : Bytes → Option ℕ → Type 0
+LastFeed s r = MatchOption r ((i : ℕ) → i < length s → get_or s i 0 ≡ line_feed → ⊥) (λ z. (z < length s) × (get_or s z 0 ≡ line_feed) × ((i : ℕ) → z < i → i < length s → get_or s i 0 ≡ line_feed → ⊥))
 
-pub unfed_start : (s : Bytes) → Unfed s (length s)
-unfed_start s = record { low = omega arith; free = λ i a b. absurd (omega arith) }
-
-module _ (s : Bytes) (z : ℕ) (u : Unfed s z) where
+module _ (s : Bytes) where
   unsplit : (t : Bytes) → Free line_feed t → (split line_feed t).more ≡ []
   unfolding split
   unsplit t h = rw (append-nil t) at (ap (λ p. p.more) (split_append line_feed t [] h))
 
-  none_from : (p : ℕ) → z ≤ p → (split line_feed (drop p s)).more ≡ []
-  none_from p h = go (ltb (length s) p) refl
+  none_from : (p : ℕ) → ((i : ℕ) → p ≤ i → i < length s → get_or s i 0 ≡ line_feed → ⊥) → (split line_feed (drop p s)).more ≡ []
+  none_from p none = go (ltb (length s) p) refl
     where
       go : (t : Bool) → ltb (length s) p ≡ t → (split line_feed (drop p s)).more ≡ []
       go true e = let up : length s ≤ p = omega (arith, ltb-true (length s) p e) in rw (drop_of_length-le s up) (unsplit [] each[])
@@ -70,20 +66,11 @@ module _ (s : Bytes) (z : ℕ) (u : Unfed s z) where
           let up = ltb-false (length s) p e in
           let sum : p + (length s - p) ≡ length s = omega arith in
           let whole : slice p (p + (length s - p)) s ≡ drop p s = rw (sum, take_all (length s) s (omega arith)) in
-          unsplit (drop p s) (rw whole at (free_of line_feed s (length s - p) p (omega arith) (λ i a b. ne_eqb (get_or s i 0) line_feed (u.free i (omega arith) (omega arith)))))
+          unsplit (drop p s) (rw whole at (free_of line_feed s (length s - p) p (omega arith) (λ i a b. ne_eqb (get_or s i 0) line_feed (none i (omega arith) (omega arith)))))
 
-  pub lines_found : 0 < z → get_or s (z - 1) 0 ≡ line_feed → LinesEnd s z
-  lines_found h e = record { fed = λ p k. feed_from s (z - 1) (omega (arith, u.low)) e p (omega arith); none = none_from }
-
-  pub lines_none : z ≡ 0 → LinesEnd s z
-  lines_none e = record { fed = λ p k. absurd (omega arith); none = none_from }
-
-  pub unfed_more : 0 < z → (get_or s (z - 1) 0 ≡ line_feed → ⊥) → Unfed s (z - 1)
-  unfed_more h n = record { low = omega (arith, u.low); free = λ i a b. at i a b (ltb i z) refl }
-    where
-      at : (i : ℕ) → z - 1 ≤ i → i < length s → (t : Bool) → ltb i z ≡ t → get_or s i 0 ≡ line_feed → ⊥
-      at i a b true q k = let low = ltb-true i z q in let e : i ≡ z - 1 = omega arith in n (rw e at k)
-      at i a b false q k = u.free i (ltb-false i z q) b k
+  pub lines_end_law : (o : Option ℕ) (r : ℕ) → LastFeed s o → MatchOption o (r ≡ 0) (λ z. r ≡ z + 1) → LinesEnd s r
+  lines_end_law None r h e = record { fed = λ p k. absurd (omega arith); none = λ p k. none_from p (λ i a b. h i b) }
+  lines_end_law (Some z) r h e = record { fed = λ p k. feed_from s z h.0 h.1 p (omega arith); none = λ p k. none_from p (λ i a b. h.2 i (omega arith) b) }
 
 -- ── a line ──
 

@@ -1,5 +1,5 @@
 -- The stack of due groups in words: three words a group (sort, count, room), the top first; lists of groups that read the same; and why the stack has room. Assumes nothing.
-use Rattle.std.specs.Prelude.{◌≡◌, refl, ℕ, zero, suc, ◌+◌, ◌*◌, ◌-◌, ◌<◌, ◌≤◌, cond, List, [], ◌∷◌, ◌++◌, length, replicate}
+use Rattle.std.specs.Prelude.{◌≡◌, refl, ℕ, zero, suc, ◌+◌, ◌*◌, ◌-◌, cond, List, [], ◌∷◌, ◌++◌, replicate}
 use Rattle.std.proofs.Common.{sym, ◌∙◌, ap, arith}
 use Rattle.model.specs.Kind.{Sort}
 use Rattle.model.specs.Record.{rec, Group, children, beside}
@@ -84,11 +84,6 @@ entry_slack = 6
 
 abbrev pub slack : Sort → ℕ
 slack s = cond (beside s) entry_slack 0
-
--- each group is due, and stands low enough for its room
-abbrev pub Fit : List Due → Type 0
-Fit [] = Unit {0}
-Fit (g ∷ st) = (0 < g.count) × (g.room ≤ max_room) × (length st + 1 + slack g.sort ≤ allowed g.room) × Fit st
 
 -- ── groups one by one ──
 

@@ -1,7 +1,6 @@
 -- What the steps of a line come to: the room below a record, a write, room for its groups, and the groups that are due then. Assumes nothing.
-use Rattle.std.specs.Prelude.{◌≡◌, refl, ℕ, zero, suc, ◌+◌, ◌*◌, ◌-◌, ◌<◌, ◌≤◌, Bool, true, false, cond, List, ◌∷◌, ◌++◌, eqb, length, get_or, Some}
+use Rattle.std.specs.Prelude.{◌≡◌, refl, ℕ, zero, suc, ◌+◌, ◌-◌, ◌<◌, ◌≤◌, Bool, true, false, cond, List, ◌∷◌, ◌++◌, eqb, Some}
 use Rattle.std.proofs.Common.{sym, ◌∙◌, subst, arith, eqb-true, eq-eqb, ne_eqb}
-use Rattle.model.specs.Call.{work_words}
 use Rattle.words.specs.Places.{write_kind, entry_kind, entry_sort, sort_count}
 use Rattle.model.specs.Text.{Bytes}
 use Rattle.model.specs.Kind.{Sort, Kind}
@@ -11,10 +10,10 @@ use Rattle.words.specs.Held.{Flags}
 use Rattle.words.specs.Table.{sorts, sort_of, group_sort, groups_from, groups_of, group_count}
 use Rattle.words.specs.TableLaws.{Rows, done, ◌▸◌, kind_row}
 use Rattle.words.proofs.GroupLaws.{groups_are}
-use Rattle.sheet.specs.Due.{due, due_of, room_below}
+use Rattle.sheet.specs.Due.{Due, due, due_of, room_below}
 use Rattle.sheet.specs.Writes.{writes}
-use Rattle.sheet.specs.Stack.{Alike, alike_trans, alike_behind, alike_groups, slack, Fit, due_words, allowed, entry_slack, max_room}
-use Rattle.sheet.specs.Dues.{dues, dues_length, group, Sorted, Popped, Groups, Space}
+use Rattle.sheet.specs.Stack.{Alike, alike_trans, alike_behind, alike_groups, slack, allowed, entry_slack, max_room}
+use Rattle.sheet.specs.Dues.{dues, Top, Groups, Space}
 
 -- ── the room below ──
 
@@ -109,49 +108,39 @@ numbers_below m r d t h l z k e = omega arith
 
 -- ── the line's groups on the stack ──
 
--- m groups lie below the top one, of which a record was read: a record of sort number s and kind number n
-module _ (w w' : List ℕ) (m r n : ℕ) (long : work_words ≤ length w) (fit : Fit (dues w (suc m))) (sorted : Sorted w (suc m)) (pop : Popped w w' m r) (room : 0 < (group w m).room) (k : Kind (group w m).sort) (named : kind_of (group w m).sort n ≡ Some k) where
-  low_sort : get_or w (m * due_words) 0 < sort_count
-  low_sort = sorted.at m (omega arith)
+-- a record of sort number s and kind number n, of the topmost group, is read; m groups lie below that one, and r with it if it has more
+module _ (s : ℕ) (low_sort : s < sort_count) (c d m r n : ℕ) (top : Top (sort_of s) c d m) (high : r ≤ suc m) (room : 0 < d) (k : Kind (sort_of s)) (named : kind_of (sort_of s) n ≡ Some k) where
+  each_fits : (t : Bool) → beside (sort_of s) ≡ t → (e : ℕ) → e ≡ room_below (sort_of s) d → (g : ℕ) → g < group_count → r + group_count + slack (sort_of (group_sort n g)) ≤ allowed e
+  each_fits true q e z g h =
+      let entry_is : s ≡ entry_sort = eqb-true s entry_sort (sym (beside_entry s low_sort) ∙ q) in
+      let low : m + 1 + entry_slack ≤ allowed d = rw q at top.low in
+      rw (z, ← (room_same (sort_of s) d q room)) (numbers_beside m r d _ low high room (entry_slack_law s n g k entry_is named h))
+  each_fits false q e z g h =
+      let low : m + 1 + 0 ≤ allowed d = rw q at top.low in
+      rw (z, ← (room_less (sort_of s) d q room)) (numbers_below m r d _ low high room top.room (slack_low (sort_of (group_sort n g))))
 
-  top_fits : (0 < (group w m).count) × ((group w m).room ≤ max_room) × (m + 1 + slack (group w m).sort ≤ allowed (group w m).room)
-  unfolding dues
-  top_fits = (fit.0, fit.1, rw (dues_length w m) at fit.2)
+  room_low : (t : Bool) → beside (sort_of s) ≡ t → room_below (sort_of s) d ≤ max_room
+  room_low true q = rw (← (room_same (sort_of s) d q room)) top.room
+  room_low false q = rw (← (room_less (sort_of s) d q room)) (omega (arith, top.room))
 
-  each_fits : (t : Bool) → beside (group w m).sort ≡ t → (d : ℕ) → d ≡ room_below (group w m).sort (group w m).room → (g : ℕ) → g < group_count → r + group_count + slack (sort_of (group_sort n g)) ≤ allowed d
-  each_fits true e d q g h =
-      let entry_is : get_or w (m * due_words) 0 ≡ entry_sort = eqb-true (get_or w (m * due_words) 0) entry_sort (sym (beside_entry (get_or w (m * due_words) 0) low_sort) ∙ e) in
-      let low : m + 1 + entry_slack ≤ allowed (group w m).room = rw e at top_fits.2 in
-      rw (q, ← (room_same (group w m).sort (group w m).room e room)) (numbers_beside m r (group w m).room _ low pop.high room (entry_slack_law (get_or w (m * due_words) 0) n g k entry_is named h))
-  each_fits false e d q g h =
-      let low : m + 1 + 0 ≤ allowed (group w m).room = rw e at top_fits.2 in
-      rw (q, ← (room_less (group w m).sort (group w m).room e room)) (numbers_below m r (group w m).room _ low pop.high room top_fits.1 (slack_low (sort_of (group_sort n g))))
+  pub space : (e : ℕ) → e ≡ room_below (sort_of s) d → Space n r e
+  space e q = record { room = rw q (room_low (beside (sort_of s)) refl); each = each_fits (beside (sort_of s)) refl e q }
 
-  room_low : (t : Bool) → beside (group w m).sort ≡ t → room_below (group w m).sort (group w m).room ≤ max_room
-  room_low true e = rw (← (room_same (group w m).sort (group w m).room e room)) top_fits.1
-  room_low false e = rw (← (room_less (group w m).sort (group w m).room e room)) (omega (arith, top_fits.1))
-
-  pub space : (d : ℕ) → d ≡ room_below (group w m).sort (group w m).room → Space w' n r d
-  space d q =
-      record {
-        long = omega (arith, pop.same);
-        few = omega (arith, pop.high, top_fits.2);
-        room = rw q (room_low (beside (group w m).sort) refl);
-        each = each_fits (beside (group w m).sort) refl d q;
-        fit = pop.fit fit;
-        sorted = pop.sorted sorted;
-      }
-
-  -- the children are due, and then what was due before
-  pub due_now :
-      (w'' : List ℕ) (r'' d : ℕ) (sheet : Bytes) (ws : List ℕ)
-      → Flags (forms (group w m).sort k) ws 0
-      → d ≡ room_below (group w m).sort (group w m).room
-      → Groups w' w'' n ws 0 group_count r d r''
-      → Alike (dues w'' r'') (due_of (room_below (group w m).sort (group w m).room) (children (group w m).sort k (fields_of (forms (group w m).sort k) sheet ws 0)) ++ (due (group w m).sort ((group w m).count - 1) (group w m).room ∷ dues w m))
-  unfolding groups_of
-  due_now w'' r'' d sheet ws flags q g =
-      rw (← q)
-      (alike_trans g.is
-      (alike_trans (alike_behind (due_of d (groups_from n ws 0 group_count)) pop.is)
-      (alike_groups d (groups_from n ws 0 group_count) (children (group w m).sort k (fields_of (forms (group w m).sort k) sheet ws 0)) _ (groups_are (get_or w (m * due_words) 0) low_sort n k named sheet ws flags))))
+-- the children are due, and then what was due before
+pub due_now :
+    (s : ℕ)
+    → s < sort_count
+    → (c d n : ℕ) (k : Kind (sort_of s))
+    → kind_of (sort_of s) n ≡ Some k
+    → (st : List Due) (w' w'' : List ℕ) (m' m'' e : ℕ) (sheet : Bytes) (ws : List ℕ)
+    → Flags (forms (sort_of s) k) ws 0
+    → e ≡ room_below (sort_of s) d
+    → Alike (dues w' m') (due (sort_of s) c d ∷ st)
+    → Groups w' w'' n ws 0 group_count m' e m''
+    → Alike (dues w'' m'') (due_of (room_below (sort_of s) d) (children (sort_of s) k (fields_of (forms (sort_of s) k) sheet ws 0)) ++ (due (sort_of s) c d ∷ st))
+unfolding groups_of
+due_now s low c d n k named st w' w'' m' m'' e sheet ws flags q left g =
+    rw (← q)
+    (alike_trans g.is
+    (alike_trans (alike_behind (due_of e (groups_from n ws 0 group_count)) left)
+    (alike_groups e (groups_from n ws 0 group_count) (children (sort_of s) k (fields_of (forms (sort_of s) k) sheet ws 0)) _ (groups_are s low n k named sheet ws flags))))

@@ -1,159 +1,107 @@
 // Reading a sheet line by line.
 ghost use Rattle.std.specs.Prelude.{◌≡◌, ℕ, ◌+◌, ◌<◌, ◌≤◌};
-ghost use Rattle.words.specs.Words.{max_records};
-ghost use Rattle.words.specs.Places.{sort_count};
-ghost use Rattle.words.specs.Table.{sort_of};
 ghost use Rattle.line.specs.Place.{InLine};
-ghost use Rattle.sheet.specs.Due.{room_below};
-ghost use Rattle.sheet.specs.LineLaws.{LinesEnd};
+ghost use Rattle.sheet.specs.LineLaws.{LastFeed, LinesEnd};
 ghost use Rattle.sheet.specs.Stack.{max_room};
+ghost use Rattle.sheet.specs.Dues.{dues};
 ghost use Rattle.sheet.specs.Reader.{ReaderAsked, Reads, SoFar, Ends};
-ghost use Rattle.sheet.specs.Next.{Next, Wrote};
+ghost use Rattle.sheet.specs.Next.{Next};
 
-use crate::stack::{pop, push, push_groups};
-use line::read::{Line, read_into};
-use words::sort;
+use crate::reached::Reached;
+use crate::stack::{Group, Stack};
+use line::read::read_into;
+use words::{RecordsMut, sort};
 
-// The number of records, or a refusal with its line.
-#[derive(Clone, Copy)]
-pub enum Read {
-    Records(usize),
+// Why a sheet is not read as a tree that can be lowered, with the line.
+#[derive(Clone, Copy, Debug, PartialEq, Eq)]
+pub enum ReadError {
     BadLine(u32),
     BigTree(u32),
     WriteClause(u32),
 }
 
-// Nothing is due any more: i records were read, up to pos, and the first write is on line `write`, if that is not 0.
-fn finish(sheet: &[u8], i: usize, pos: usize, write: u32) -> Read
-    requires { i ≤ max_records }
-    ensures { Ends sheet.now i pos write result }
+// Nothing is due any more: the number of records, or what is wrong with them all.
+fn finish(sheet: &[u8], at: Reached) -> Result<usize, ReadError>
+    ensures { Ends sheet.now at.records at.pos at.write result }
 {
-    if pos < sheet.len() {
-        return Read::BadLine(i as u32 + 1);
+    if at.pos < sheet.len() {
+        return Err(ReadError::BadLine(at.line()));
     }
-    if write == 0 {
-        return Read::Records(i);
+    match at.write {
+        Some(line) => Err(ReadError::WriteClause(line)),
+        None => Ok(at.records),
     }
-    Read::WriteClause(write)
 }
 
-// How far a line leads: the next position, how many groups are due then, and the line of the first write.
-#[derive(Clone, Copy)]
-pub enum Reached {
-    More(usize, usize, u32),
-    Bad,
-    Big,
-}
-
-// The room of the children of a record: a map's key and its expression stand side by side.
-fn room_below(sort: u32, room: u32) -> u32
-    requires { (sort < sort_count) × (0 < room) }
-    ensures { result ≡ room_below (sort_of sort) room }
+// Where the last line feed stands.
+fn last_feed(sheet: &[u8]) -> Option<usize>
+    ensures { LastFeed sheet.now result }
 {
-    if sort == sort::ENTRY {
-        return room;
-    }
-    room - 1
-}
-
-// The line of the first write, when record i is of a kind.
-fn write_line(kind: u32, write: u32, i: usize) -> u32
-    requires { i < max_records }
-    ensures { Wrote kind write i result }
-{
-    if kind == words::kind::WRITE {
-        if write == 0 {
-            return i as u32 + 1;
-        }
-    }
-    write
+    sheet.iter().rposition(|b| *b == b'\n')
 }
 
 // The place behind the last line feed, 0 if there is none: from there on no line has its line feed.
 fn lines_end(sheet: &[u8]) -> usize
     ensures { LinesEnd sheet.now result }
 {
-    let mut z = sheet.len();
-    while z > 0 {
-        if sheet[z - 1] == b'\n' {
-            return z;
-        }
-        z -= 1;
-    }
-    z
+    last_feed(sheet).map_or(0, |z| z + 1)
 }
 
-// The line at pos, which has its line feed, as a record of the group on top of `top` others.
+// The line behind what is read, which has its line feed, as a record of the topmost group.
 fn read_next(
     sheet: &[u8],
-    a: &mut [u32],
-    b: &mut [u32],
-    stack: &mut [u32],
-    i: usize,
-    pos: usize,
-    top: usize,
-    write: u32,
-) -> Reached
-    requires in_line { InLine sheet.now pos }
-    requires by_index { (depth : ℕ) × SoFar depth sheet.now a.old b.old stack.old i pos (top + 1) write }
-    ensures { (depth : ℕ) → SoFar depth sheet.now a.old b.old stack.old i pos (top + 1) write → Next depth sheet.now a.new b.new stack.new i result }
+    words: &mut RecordsMut<'_>,
+    stack: &mut Stack<'_>,
+    at: &mut Reached,
+) -> Result<(), ReadError>
+    requires in_line { InLine sheet.now at.old.pos }
+    requires due { 0 < stack.old.groups }
+    requires so_far { (depth : ℕ) × SoFar depth sheet.now words.old.a.now words.old.b.now (dues stack.old.words.now stack.old.groups) at.old.records at.old.pos at.old.write }
+    ensures { (depth : ℕ) → SoFar depth sheet.now words.old.a.now words.old.b.now (dues stack.old.words.now stack.old.groups) at.old.records at.old.pos at.old.write → Next depth sheet.now words.new.a.now words.new.b.now (dues stack.new.words.now stack.new.groups) at.old.records at.new result }
 {
-    let at = top * crate::stack::GROUP_WORDS;
-    let sort = stack[at];
-    let room = stack[at + crate::stack::ROOM];
-    if i == words::MAX_RECORDS {
-        return Reached::Big;
+    let i = at.records;
+    let top = stack.take();
+    if i == words::MAX_RECORDS || top.room == 0 {
+        return Err(ReadError::BigTree(at.line()));
     }
-    if room == 0 {
-        return Reached::Big;
-    }
-    let Line::Kind(kind, behind) = read_into(sheet, pos, sort, a, b, i) else {
-        return Reached::Bad;
-    };
-    let groups = pop(stack, top);
-    let below = room_below(sort, room);
-    let due = push_groups(a, b, stack, groups, i, kind, below);
-    let first = write_line(kind, write, i);
-    Reached::More(behind, due, first)
+    let bad = ReadError::BadLine(at.line());
+    let line = read_into(sheet, at.pos, top.sort, words, i).ok_or(bad)?;
+    stack.push_groups(&words.shared(), i, line.value, top.room_below());
+    at.advance(line.value, line.end);
+    Ok(())
 }
 
-// Reads a sheet of at most a depth into the records of two slices; the third is room to work in. What a refusal leaves in them is not promised.
+// Reads a sheet of at most a depth into records; the slice is room to work in. What a refusal leaves in them is not promised.
 pub fn read_sheet(
     sheet: &[u8],
-    a: &mut [u32],
-    b: &mut [u32],
+    words: &mut RecordsMut<'_>,
     stack: &mut [u32],
     depth: usize,
-) -> Read
-    requires reader_asked { ReaderAsked sheet.now a.old b.old stack.old }
+) -> Result<usize, ReadError>
+    requires reader_asked { ReaderAsked sheet.now stack.old }
     requires depth_le_max_room { depth ≤ max_room }
-    ensures { Reads depth sheet.now a.new b.new result }
+    ensures { Reads depth sheet.now words.new.a.now words.new.b.now result }
 {
     let last = lines_end(sheet);
-    let room = depth as u32;
-    push(stack, 0, sort::STATEMENT, 1, room);
-    let mut i = 0;
-    let mut pos = 0;
-    let mut due = 1;
-    let mut write = 0;
-    while due > 0 {
-        if last <= pos {
-            return Read::BadLine(i as u32 + 1);
+    let mut due = Stack {
+        words: stack,
+        groups: 0,
+    };
+    due.push(Group {
+        sort: sort::STATEMENT,
+        count: 1,
+        room: depth as u32,
+    });
+    let mut at = Reached {
+        records: 0,
+        pos: 0,
+        write: None,
+    };
+    while due.groups > 0 {
+        if last <= at.pos {
+            return Err(ReadError::BadLine(at.line()));
         }
-        match read_next(sheet, a, b, stack, i, pos, due - 1, write) {
-            Reached::More(p, n, w) => {
-                pos = p;
-                due = n;
-                write = w;
-                i += 1;
-            }
-            Reached::Bad => {
-                return Read::BadLine(i as u32 + 1);
-            }
-            Reached::Big => {
-                return Read::BigTree(i as u32 + 1);
-            }
-        }
+        read_next(sheet, words, &mut due, &mut at)?;
     }
-    finish(sheet, i, pos, write)
+    finish(sheet, at)
 }

@@ -1,88 +1,98 @@
-// The stack of due groups: three words a group (sort, count, room), group m from word 3m on.
-ghost use Rattle.std.specs.Prelude.{◌+◌, ◌*◌, ◌<◌, get_or};
-ghost use Rattle.sheet.specs.Stack.{due_words, due_count_at};
+// The stack of due groups: three words a group (sort, count, room), group m from word 3m on. They stand in a work slice that the caller of the C interface lends, since there is no heap.
+ghost use Rattle.std.specs.Prelude.{◌≡◌, ◌+◌, ◌<◌, ◌≤◌};
 ghost use Rattle.words.specs.Words.{part};
-ghost use Rattle.words.specs.Table.{group_sort, group_source, count_of, group_count};
-ghost use Rattle.sheet.specs.Dues.{Pushed, Popped, Room, Grouped, Groups, GroupAsked, GroupsAsked};
+ghost use Rattle.words.specs.Places.{sort_count};
+ghost use Rattle.words.specs.Table.{sort_of, group_count};
+ghost use Rattle.sheet.specs.Due.{room_below};
+ghost use Rattle.sheet.specs.Stack.{slack, allowed, max_room};
+ghost use Rattle.sheet.specs.Dues.{Stacked, Taken, Pushed, Groups, GroupsAsked};
 
 use line::group::{group_count, group_sort};
 use words::table::groups_of;
+use words::{Records, sort};
 
 // A group has so many words.
-pub const GROUP_WORDS: usize = 3;
+const GROUP_WORDS: usize = 3;
 
 // Its sort comes first; where its count and its room stand.
-pub const COUNT: usize = 1;
+const COUNT: usize = 1;
 
-pub const ROOM: usize = 2;
+const ROOM: usize = 2;
 
-// A group on top of m others.
-pub fn push(stack: &mut [u32], m: usize, sort: u32, count: u32, room: u32)
-    requires { Room stack.old m }
-    ensures { Pushed stack.old stack.new m sort count room }
-{
-    let at = m * GROUP_WORDS;
-    stack[at] = sort;
-    stack[at + COUNT] = count;
-    stack[at + ROOM] = room;
+// So many records of a sort, one behind another, each with room for so many levels.
+#[derive(Clone, Copy)]
+pub struct Group {
+    pub sort: u32,
+    pub count: u32,
+    pub room: u32,
+    ghost known: { sort < sort_count },
+    ghost due: { 0 < count },
+    ghost low: { room ≤ max_room },
 }
 
-// One record of the group on top of `top` others is read: it has one less, and is gone at none. How many groups there are now.
-pub fn pop(stack: &mut [u32], top: usize) -> usize
-    requires room { Room stack.old top }
-    requires nonzero { 0 < get_or stack.old (top * due_words + due_count_at) 0 }
-    ensures { Popped stack.old stack.new top result }
-{
-    let at = top * GROUP_WORDS + COUNT;
-    let count = stack[at];
-    if count == 1 {
-        return top;
+impl Group {
+    // The room of the records' children: a map's key and its expression stand side by side.
+    pub fn room_below(self) -> u32
+        requires { 0 < self.room }
+        ensures { result ≡ room_below (sort_of self.sort) self.room }
+    {
+        if self.sort == sort::ENTRY {
+            return self.room;
+        }
+        self.room - 1
     }
-    stack[at] = count - 1;
-    top + 1
 }
 
-// Group g of record i on top, unless it is a group of none. How many groups there are now.
-fn push_group(
-    a: &[u32],
-    b: &[u32],
-    stack: &mut [u32],
-    m: usize,
-    i: usize,
-    kind: u32,
-    g: usize,
-    room: u32,
-) -> usize
-    requires { GroupAsked a.now b.now stack.old m i kind g }
-    ensures { Grouped stack.old stack.new m (group_sort kind g) (count_of (part a.now b.now i) (group_source kind g)) room result }
-{
-    let n = group_count(a, b, i, kind, g);
-    if n == 0 {
-        return m;
-    }
-    let s = group_sort(kind, g);
-    push(stack, m, s, n, room);
-    m + 1
+// The groups that are due, and that there is room for all that can come to be due with them.
+#[derive(Drop)]
+pub struct Stack<'a> {
+    pub words: &'a mut [u32],
+    pub groups: usize,
+    ghost stands: { Stacked words.now groups },
 }
 
-// The groups of record i on top of m others, its first group topmost. How many groups there are now.
-pub fn push_groups(
-    a: &[u32],
-    b: &[u32],
-    stack: &mut [u32],
-    m: usize,
-    i: usize,
-    kind: u32,
-    room: u32,
-) -> usize
-    requires { GroupsAsked a.now b.now stack.old m i kind room }
-    ensures { Groups stack.old stack.new kind (part a.now b.now i) 0 group_count m room result }
-{
-    let mut g = groups_of(kind);
-    let mut top = m;
-    while g > 0 {
-        g -= 1;
-        top = push_group(a, b, stack, top, i, kind, g, room);
+impl Stack<'_> {
+    // One record of the topmost group is read: the group as it stood before.
+    pub fn take(&mut self) -> Group
+        requires { 0 < self.old.groups }
+        ensures { Taken self.old.words.now self.new.words.now self.old.groups self.new.groups result.sort result.count result.room }
+    {
+        let last = self.groups - 1;
+        let at = last * GROUP_WORDS;
+        let sort = self.words[at];
+        let count = self.words[at + COUNT];
+        let room = self.words[at + ROOM];
+        if count == 1 {
+            self.groups = last;
+        } else {
+            self.words[at + COUNT] = count - 1;
+        }
+        Group { sort, count, room }
     }
-    top
+
+    // A group on top.
+    pub fn push(&mut self, g: Group)
+        requires { self.old.groups + 1 + slack (sort_of g.sort) ≤ allowed g.room }
+        ensures { Pushed self.old.words.now self.new.words.now self.old.groups self.new.groups g.sort g.count g.room }
+    {
+        let at = self.groups * GROUP_WORDS;
+        self.words[at] = g.sort;
+        self.words[at + COUNT] = g.count;
+        self.words[at + ROOM] = g.room;
+        self.groups += 1;
+    }
+
+    // The groups of record i on top, its first group topmost; a group of none is passed over.
+    pub fn push_groups(&mut self, r: &Records<'_>, i: usize, kind: u32, room: u32)
+        requires { GroupsAsked self.old.groups i kind room }
+        ensures { Groups self.old.words.now self.new.words.now kind (part r.now.a.now r.now.b.now i) 0 group_count self.old.groups room self.new.groups }
+    {
+        for g in (0..groups_of(kind)).rev() {
+            let count = group_count(r, i, kind, g);
+            if count != 0 {
+                let sort = group_sort(kind, g);
+                self.push(Group { sort, count, room });
+            }
+        }
+    }
 }

@@ -2,9 +2,11 @@
 use Rattle.std.specs.Prelude.{ℕ}
 use Rattle.model.specs.Text.{Bytes}
 use Rattle.model.specs.Refusal.{Refusal}
-use Rattle.model.specs.Side.{SideRefusal}
+use Rattle.model.specs.Side.{SideRefusal, left_side, right_side}
 use Rattle.precheck.specs.Answer.{error_of}
 use Rattle.sides.specs.declared.Fault.{Fault}
+use Rattle.sides.specs.declared.Side.{Side}
+use Rattle.sides.specs.declared.SideFault.{SideFault}
 
 -- the refusal that a fault stands for; the code does not carry the name, which stands in the record of the line
 abbrev pub fault_of : Fault → (unresolved : Bytes) → Refusal
@@ -14,5 +16,10 @@ fault_of (Fault.BigTree l) unresolved = Refusal.BigTree l
 fault_of (Fault.WriteClause l) unresolved = Refusal.WriteClause l
 fault_of (Fault.Refused x) unresolved = error_of x unresolved
 
-abbrev pub on_side_of : ℕ → Fault → (unresolved : Bytes) → SideRefusal
-on_side_of side f unresolved = record { side = side; refusal = fault_of f unresolved }
+-- a side's number
+abbrev pub side_number : Side → ℕ
+side_number Side.Left = left_side
+side_number Side.Right = right_side
+
+abbrev pub on_side_of : SideFault → (unresolved : Bytes) → SideRefusal
+on_side_of f unresolved = record { side = side_number f.side; refusal = fault_of f.fault unresolved }

@@ -1,27 +1,31 @@
 -- What the calls' answers mean: the six values of the refusal that has the same name and carries the same. Assumes nothing: these are definitions.
-use Rattle.std.specs.Prelude.{◌≡◌, Bool, true, false, List, [], ◌∷◌, ℕ, ◌≤◌, length}
-use Rattle.model.specs.Refusal.{Refusal, Answer as Values, accepted, values_of}
-use Rattle.model.specs.Call.{short, work_words}
+use Rattle.std.specs.Prelude.{[], ℕ, Result, Ok, Err}
+use Rattle.model.specs.Refusal.{Refusal as Refuses, Answer as Values, accepted, values_of}
 use Rattle.precheck.specs.Answer.{error_of}
 use Rattle.precheck.specs.declared.PlanLowerError.{PlanLowerError}
-use Rattle.statement.specs.declared.Answer.{Answer}
+use Rattle.sheet.specs.declared.reader.ReadError.{ReadError}
+use Rattle.statement.specs.declared.Refusal.{Refusal}
 
 -- refusals 6 to 8, whatever the name is: no value tells it
 abbrev pub error_answer : PlanLowerError → Values
 error_answer x = values_of (error_of x [])
 
-abbrev pub answer_of : Answer → Values
-answer_of (Answer.Accepted n) = accepted n
-answer_of Answer.ShortWork = values_of Refusal.ShortWork
-answer_of Answer.LongSheet = values_of Refusal.LongSheet
-answer_of (Answer.BadLine l) = values_of (Refusal.BadLine l)
-answer_of (Answer.BigTree l) = values_of (Refusal.BigTree l)
-answer_of (Answer.WriteClause l) = values_of (Refusal.WriteClause l)
-answer_of (Answer.Refused x) = error_answer x
-answer_of Answer.PlanFull = values_of Refusal.PlanFull
-answer_of Answer.NoRoom = values_of Refusal.NoRoom
+-- refusals 3 to 5
+abbrev pub unread_of : ReadError → Refusal
+unread_of (ReadError.BadLine l) = Refusal.BadLine l
+unread_of (ReadError.BigTree l) = Refusal.BigTree l
+unread_of (ReadError.WriteClause l) = Refusal.WriteClause l
 
--- whether four slices are long enough
-abbrev pub Long : List ℕ → List ℕ → List ℕ → List ℕ → Bool → Type 0
-Long a b c d true = (work_words ≤ length a) × (work_words ≤ length b) × (work_words ≤ length c) × (work_words ≤ length d)
-Long a b c d false = short (length a ∷ length b ∷ length c ∷ length d ∷ []) ≡ true
+abbrev pub refusal_answer : Refusal → Values
+refusal_answer Refusal.ShortWork = values_of Refuses.ShortWork
+refusal_answer Refusal.LongSheet = values_of Refuses.LongSheet
+refusal_answer (Refusal.BadLine l) = values_of (Refuses.BadLine l)
+refusal_answer (Refusal.BigTree l) = values_of (Refuses.BigTree l)
+refusal_answer (Refusal.WriteClause l) = values_of (Refuses.WriteClause l)
+refusal_answer (Refusal.Refused x) = error_answer x
+refusal_answer Refusal.PlanFull = values_of Refuses.PlanFull
+refusal_answer Refusal.NoRoom = values_of Refuses.NoRoom
+
+abbrev pub answer_of : Result ℕ Refusal → Values
+answer_of (Ok n) = accepted n
+answer_of (Err r) = refusal_answer r

@@ -1,3 +1,4 @@
+pub mod Work
 pub mod Answer
 pub mod Sizing
 pub mod Lowering

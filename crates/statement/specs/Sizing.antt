@@ -1,50 +1,58 @@
 -- The sizing call's tests in order, from what the reader and the check answer. Assumes nothing.
-use Rattle.std.specs.Prelude.{◌≡◌, refl, ℕ, ◌*◌, ◌<◌, ◌≤◌, Bool, true, false, List, [], ◌∷◌, ltb, length, Option, None, Some}
+use Rattle.std.specs.Prelude.{◌≡◌, refl, ℕ, ◌*◌, ◌<◌, ◌≤◌, Bool, true, false, List, [], ◌∷◌, ltb, length, Option, None, Some, Ok, Err, ◌||◌}
+use Rattle.std.specs.List.{list_any}
 use Rattle.std.proofs.Common.{sym, ap, arith}
-use Rattle.std.proofs.Math.Bool.{or-true}
+use Rattle.std.proofs.lemmas.Bool.{ltb-false}
 use borrow.Author.Tests.{lt-ltb, le-ltb}
 use Rattle.model.specs.Text.{Bytes}
 use Rattle.model.specs.Kind.{statement}
 use Rattle.model.specs.Tree.{Tree}
 use Rattle.model.specs.Sheet.{Place, Reading, got, refused, read_sheet, first_write}
-use Rattle.model.specs.Refusal.{Refusal, accepted, values_of}
+use Rattle.model.specs.Refusal.{Refusal, Answer as Values, values_of}
 use Rattle.model.specs.Check.{violated, precheck_statement}
-use Rattle.model.specs.Call.{Test, refuse, pass, then, short, test_work, test_bytes, test_reading, test_write, test_check, checked, Sized, refusal, figure, Figure, record_count, work_words, max_bytes, max_depth}
-use Rattle.bounds.proofs.Counts as Counts
+use Rattle.model.specs.Call.{Test, refuse, pass, then, short, test_work, test_bytes, test_reading, test_write, test_check, checked, Sized, refusal, record_count, work_words, max_bytes, max_depth}
 use Rattle.words.specs.Words.{max_records}
 use Rattle.words.specs.Held.{Held, HeldSome}
 use Rattle.laws.specs.SheetLaws.{sheet_sound}
-use Rattle.precheck.specs.Answer.{Says, Found, error_of}
-use Rattle.precheck.specs.declared.Checked.{Checked}
+use Rattle.precheck.specs.Answer.{Says, error_of}
 use Rattle.precheck.specs.declared.PlanLowerError.{PlanLowerError}
-use Rattle.sheet.specs.Reader.{read_only, Reads}
-use Rattle.sheet.specs.declared.reader.Read.{Read}
-use Rattle.statement.specs.declared.Answer.{Answer}
-use Rattle.statement.specs.Answer.{answer_of, error_answer, Long}
+use Rattle.sheet.specs.Reader.{read_only, refusal_of as read_refusal, Reads}
+use Rattle.sheet.specs.declared.reader.ReadError.{ReadError}
+use Rattle.statement.specs.Work.{sizes}
+use Rattle.statement.specs.Answer.{unread_of, refusal_answer, error_answer}
 
 -- ── test 1 ──
 
--- one slice is too short
-module _ (a b c d : ℕ) where
-  pub short_a : a < work_words → short (a ∷ b ∷ c ∷ d ∷ []) ≡ true
-  unfolding short
-  short_a h = rw (lt-ltb a work_words h)
+-- the test as a search in the lengths
+pub short_any : (ws : List ℕ) → short ws ≡ list_any (λ n. ltb n work_words) ws
+unfolding short
+short_any [] = refl
+short_any (w ∷ ws) = ap (λ s. ltb w work_words || s) (short_any ws)
 
-  pub short_b : b < work_words → short (a ∷ b ∷ c ∷ d ∷ []) ≡ true
-  unfolding short
-  short_b h = rw (lt-ltb b work_words h) (or-true (ltb a work_words))
+-- four slices that are long enough
+pub record Enough (a b c d : List ℕ) : Type 0 where
+  pub first : work_words ≤ length a
+  pub second : work_words ≤ length b
+  pub third : work_words ≤ length c
+  pub fourth : work_words ≤ length d
 
-  pub short_c : c < work_words → short (a ∷ b ∷ c ∷ d ∷ []) ≡ true
-  unfolding short
-  short_c h = rw (lt-ltb c work_words h, or-true (ltb b work_words)) (or-true (ltb a work_words))
+both : (x y : Bool) → (x || y) ≡ false → (x ≡ false) × (y ≡ false)
+both true y e = cc
+both false y e = (refl, e)
 
-  pub short_d : d < work_words → short (a ∷ b ∷ c ∷ d ∷ []) ≡ true
-  unfolding short
-  short_d h = rw (lt-ltb d work_words h, or-true (ltb c work_words), or-true (ltb b work_words)) (or-true (ltb a work_words))
-
-  pub none_short : (work_words ≤ a) × (work_words ≤ b) × (work_words ≤ c) × (work_words ≤ d) → short (a ∷ b ∷ c ∷ d ∷ []) ≡ false
-  unfolding short
-  none_short h = rw (le-ltb a work_words h.0, le-ltb b work_words h.1, le-ltb c work_words h.2, le-ltb d work_words h.3)
+pub enough : (a b c d : List ℕ) → short (sizes a b c d) ≡ false → Enough a b c d
+unfolding short
+enough a b c d h =
+    let p = both (ltb (length a) work_words) _ h in
+    let q = both (ltb (length b) work_words) _ p.1 in
+    let r = both (ltb (length c) work_words) _ q.1 in
+    let s = both (ltb (length d) work_words) _ r.1 in
+    record {
+      first = ltb-false (length a) work_words p.0;
+      second = ltb-false (length b) work_words q.0;
+      third = ltb-false (length c) work_words r.0;
+      fourth = ltb-false (length d) work_words s.0;
+    }
 
 -- ── the tests in order ──
 
@@ -77,8 +85,8 @@ checked_answer t (PlanLowerError.EmptyPatternPart line span) unresolved = refusa
 abbrev pub figure_of : ℕ → ℕ
 figure_of n = n * 4
 
-pub check_refused : (t : Tree statement) (r : Checked) (x : PlanLowerError) → r ≡ Checked.Refused x → Says r (precheck_statement t) → Sized (test_check t (precheck_statement t)) (error_answer x)
-check_refused t r x e h = let f : Found x (precheck_statement t) = rw e at h in rw f.is (checked_answer t x f.unresolved)
+pub check_refused : (t : Tree statement) (x : PlanLowerError) → Says (Err x) (precheck_statement t) → Sized (test_check t (precheck_statement t)) (error_answer x)
+check_refused t x h = rw h.is (checked_answer t x h.unresolved)
 
 -- ── the call ──
 
@@ -87,26 +95,26 @@ module _ (work : List ℕ) (sheet : Bytes) (e : short work ≡ false) where
   size_long h = rw (long_second work sheet e h) refusal
 
   module _ (h : length sheet ≤ max_bytes) where
-    size_refused : (x : Refusal) → read_only max_depth sheet ≡ refuse x → Sized (checked max_depth work sheet) (values_of x)
+    pub size_unread : (x : ReadError) → read_only max_depth sheet ≡ refuse (read_refusal x) → Sized (checked max_depth work sheet) (refusal_answer (unread_of x))
     unfolding then
-    size_refused x q = rw (read_third work sheet e h, q) refusal
+    size_unread (ReadError.BadLine l) q = rw (read_third work sheet e h, q) refusal
+    size_unread (ReadError.BigTree l) q = rw (read_third work sheet e h, q) refusal
+    size_unread (ReadError.WriteClause l) q = rw (read_third work sheet e h, q) refusal
 
-    pub size_bad : (a b : List ℕ) (r : Read) (l : ℕ) → r ≡ Read.BadLine l → Reads max_depth sheet a b r → Sized (checked max_depth work sheet) (values_of (Refusal.BadLine l))
-    size_bad a b r l z q = size_refused (Refusal.BadLine l) (rw z at q)
-
-    pub size_big : (a b : List ℕ) (r : Read) (l : ℕ) → r ≡ Read.BigTree l → Reads max_depth sheet a b r → Sized (checked max_depth work sheet) (values_of (Refusal.BigTree l))
-    size_big a b r l z q = size_refused (Refusal.BigTree l) (rw z at q)
-
-    pub size_write : (a b : List ℕ) (r : Read) (l : ℕ) → r ≡ Read.WriteClause l → Reads max_depth sheet a b r → Sized (checked max_depth work sheet) (values_of (Refusal.WriteClause l))
-    size_write a b r l z q = size_refused (Refusal.WriteClause l) (rw z at q)
-
-    pub size_tree : (a b : List ℕ) (r : Read) (n : ℕ) (x : Answer) → r ≡ Read.Records n → Reads max_depth sheet a b r → ((sheet : Bytes) (t : Tree statement) → Held sheet a b t max_depth 0 → record_count t ≡ n → Sized (test_check t (precheck_statement t)) (answer_of x)) → Sized (checked max_depth work sheet) (answer_of x)
+    pub size_tree : {t : Tree statement} → read_only max_depth sheet ≡ pass t → (x : Values) → Sized (test_check t (precheck_statement t)) x → Sized (checked max_depth work sheet) x
     unfolding then
-    size_tree a b r n x z q f = let d = rw z at q in rw (read_third work sheet e h, d.1) (f sheet d.0 d.3 d.2)
+    size_tree q x f = rw (read_third work sheet e h, q) f
 
--- a statement is held, of not too many records
-pub held_some : (sheet : Bytes) (a b : List ℕ) (r : Read) (n : ℕ) → r ≡ Read.Records n → Reads max_depth sheet a b r → (sheet : Bytes) × HeldSome sheet a b statement max_depth 0
-held_some sheet a b r n z q = let d = rw z at q in (sheet, record { tree = d.0; is = d.3 })
+-- a statement is held, of not too many records; the words are those that were read
+module _ (sheet : Bytes) {a b : List ℕ} {n : ℕ} (d : Reads max_depth sheet a b (Ok n)) {a' b' : List ℕ} (e : (a' ≡ a) × (b' ≡ b)) where
+  pub held_as : Held sheet a' b' d.0 max_depth 0
+  held_as = rw (e.0, e.1) d.3
+
+  pub held_here : HeldSome sheet a' b' statement max_depth 0
+  held_here = record { tree = d.0; is = held_as }
+
+  pub held_some : (sheet : Bytes) × HeldSome sheet a' b' statement max_depth 0
+  held_some = (sheet, held_here)
 
 written : (u t : Tree statement) (o : Option ℕ) → test_write u o ≡ pass t → u ≡ t
 unfolding test_write
@@ -118,17 +126,12 @@ unfolding then test_reading
 passed sheet t (got u p) e = (p, ap (λ v. got v p) (written u t (first_write u) e))
 passed sheet t (refused x) e = let z : ◌≡◌ {A = ℕ} 0 1 = cc in absurd (omega arith)
 
-pub held_few : (sheet : Bytes) (a b : List ℕ) (r : Read) (n : ℕ) → r ≡ Read.Records n → Reads max_depth sheet a b r → n ≤ max_records
+pub held_few : (sheet : Bytes) (a b : List ℕ) {n : ℕ} → Reads max_depth sheet a b (Ok n) → n ≤ max_records
 unfolding read_only record_count
-held_few sheet a b r n z q =
-    let d = rw z at q in
+held_few sheet a b d =
     let g = passed sheet d.0 (read_sheet max_depth sheet) d.1 in
     omega (arith, (sheet_sound max_depth sheet d.0 g.0 g.1).0.few, d.2)
 
--- ── test 1, as the code has it ──
-
-pub yes : (a b c d : List ℕ) (r : Bool) → r ≡ true → Long a b c d r → (work_words ≤ length a) × (work_words ≤ length b) × (work_words ≤ length c) × (work_words ≤ length d)
-yes a b c d r e h = rw e at h
-
-pub no_size : (a b c d : List ℕ) (sheet : Bytes) (r : Bool) → r ≡ false → Long a b c d r → Sized (checked max_depth (length a ∷ length b ∷ length c ∷ length d ∷ []) sheet) (values_of Refusal.ShortWork)
-no_size a b c d sheet r e h = let s = rw e at h in rw (short_first (length a ∷ length b ∷ length c ∷ length d ∷ []) sheet s) refusal
+-- test 1 alone
+pub no_size : (work : List ℕ) (sheet : Bytes) → short work ≡ true → Sized (checked max_depth work sheet) (values_of Refusal.ShortWork)
+no_size work sheet e = rw (short_first work sheet e) refusal

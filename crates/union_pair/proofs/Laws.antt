@@ -1,19 +1,19 @@
 -- The call with two sheets: its tests in order, from what both sides' tests, the lowering and the writer answer. Assumes nothing: these are laws with their proofs.
 use Rattle.std.proofs.Math.Path.{◌≡◌}
-use Rattle.std.specs.Prelude.{refl, ℕ, ◌<◌, ◌≤◌, Bool, true, false, ◌||◌, List, [], ◌∷◌, ◌++◌, eqb, ltb}
+use Rattle.std.specs.Prelude.{refl, ℕ, ◌<◌, ◌≤◌, Bool, true, false, ◌||◌, List, [], ◌∷◌, ◌++◌, cond, eqb, ltb, Result, Ok, Err}
 use Rattle.std.proofs.Common.{sym, ap, subst, ◌∙◌, arith}
+use Rattle.std.specs.Int.{from_bool}
 use Rattle.std.proofs.Math.Bool.{or-true, or_assoc}
+use Rattle.std.proofs.lemmas.Bool.{ltb-true, ltb-false}
 use borrow.Author.Tests.{lt-ltb, le-ltb}
 use Rattle.std.proofs.Math.ListN.{length}
 use Rattle.model.specs.Text.{Bytes}
-use Rattle.model.specs.Kind.{statement}
-use Rattle.model.specs.Tree.{Tree, Many}
 use Rattle.model.specs.Refusal.{Refusal, Answer as Values}
 use Rattle.model.specs.Side.{side_values, whole_call, left_side, right_side}
 use Rattle.model.specs.Lower.{at, lower_pair}
 use Rattle.model.specs.Plan.{plan_sheet}
 use Rattle.model.specs.Call.{short, test_work, test_bytes, test_plan, Outcome, written, max_bytes, max_depth, max_plan, work_words}
-use Rattle.model.specs.Pair.{SideTest, refuse_side, then_sides, on_side, each, checked_sides, planned_pair, sides_outcome, pair_call}
+use Rattle.model.specs.Pair.{refuse_side, then_sides, on_side, each, checked_sides, planned_pair, sides_outcome, pair_call}
 use Rattle.words.specs.Words.{Roomy}
 use Rattle.context.specs.Tables.{max_vars}
 use Rattle.lower.specs.Rep.{State, mem}
@@ -28,13 +28,14 @@ use Rattle.plan_writer.specs.declared.Plan.{Plan}
 use Rattle.plan_writer.specs.declared.pair.Counts.{Counts}
 use Rattle.precheck.specs.declared.PlanLowerError.{PlanLowerError}
 use Rattle.sides.specs.declared.Fault.{Fault}
-use Rattle.union_pair.specs.declared.PairAnswer.{PairAnswer}
-use Rattle.union_pair.specs.PairAnswer.{fault_values, pair_answer_of, flag_of}
-use Rattle.statement.specs.Answer.{Long}
-use Rattle.statement.specs.Sizing.{none_short}
+use Rattle.sides.specs.declared.Side.{Side}
+use Rattle.sides.specs.declared.SideFault.{SideFault}
+use Rattle.union_pair.specs.declared.PairRefusal.{PairRefusal}
+use Rattle.union_pair.specs.PairAnswer.{fault_values, pair_answer_of}
+use Rattle.statement.specs.Sizing.{Enough}
 use Rattle.sides.specs.Fault.{on_side_of}
 use Rattle.sides.specs.Sides.{FailsOn, BothTested, read_sides, check_sides}
-use Rattle.union_pair.specs.PairCall.{PairGives, Stand, LoweredBoth, BothSlices, behind_bytes, works}
+use Rattle.union_pair.specs.PairCall.{PairGives, Stand, LoweredBoth, BothSlices, bytes_of, behind_bytes}
 
 -- ── test 9, and the plan ──
 
@@ -49,11 +50,11 @@ module _ {L R : SideTables} {sides : Sides} {s : State} (t : Stand L R sides s) 
   numbers_count : sides.ctx.numbers ≡ s.scope.next_var
   numbers_count = ap (λ (z : State). z.scope.next_var) t.on_right.state
 
-  pub full_ops : (slice : Bytes) → max_plan < sides.ctx.ops → PairGives slice slice PairAnswer.PlanFull (on_side whole_call (test_plan s))
+  pub full_ops : (slice : Bytes) → max_plan < sides.ctx.ops → PairGives slice slice (Err PairRefusal.PlanFull) (on_side whole_call (test_plan s))
   unfolding test_plan on_side sides_outcome
   full_ops slice h = let l : max_plan < length s.ops = rw ops_count at h in rw (lt-ltb max_plan (length s.ops) l)
 
-  pub full_numbers : (slice : Bytes) → max_plan < sides.ctx.numbers → PairGives slice slice PairAnswer.PlanFull (on_side whole_call (test_plan s))
+  pub full_numbers : (slice : Bytes) → max_plan < sides.ctx.numbers → PairGives slice slice (Err PairRefusal.PlanFull) (on_side whole_call (test_plan s))
   unfolding test_plan on_side sides_outcome
   full_numbers slice h = let l : max_plan < s.scope.next_var = rw numbers_count at h in rw (lt-ltb max_plan s.scope.next_var l, or-true (ltb max_plan (length s.ops)))
 
@@ -75,20 +76,20 @@ module _ {L R : SideTables} {sides : Sides} {s : State} (t : Stand L R sides s) 
     }
 
     module _ (few_numbers : sides.ctx.numbers ≤ max_plan) (slice slice' : Bytes) (p : Plan) (w : WrotePair L R (counts_of sides) slice slice' p) where
-      told : (x : PairAnswer) → pair_answer_of x ≡ Whole.answer_of p → PairGives slice slice' x (on_side whole_call (test_plan s))
+      told : (x : Result ℕ PairRefusal) → pair_answer_of x ≡ Whole.answer_of p → PairGives slice slice' x (on_side whole_call (test_plan s))
       unfolding test_plan on_side sides_outcome
       told x e =
           let h : length s.ops ≤ max_plan = rw ops_count at ops in
           let h' : s.scope.next_var ≤ max_plan = rw numbers_count at few_numbers in
           rw (le-ltb max_plan (length s.ops) h, le-ltb max_plan s.scope.next_var h') (subst (λ (z : Values). ◌≡◌ {A = Outcome} (record { answer = z; slice = slice' }) (written (plan_sheet s) slice)) (sym e) (w s pair_tables))
 
-      pub no_room : p ≡ Plan.NoRoom → PairGives slice slice' PairAnswer.NoRoom (on_side whole_call (test_plan s))
+      pub no_room : p ≡ Plan.NoRoom → PairGives slice slice' (Err PairRefusal.NoRoom) (on_side whole_call (test_plan s))
       unfolding Whole.answer_of
-      no_room e = told PairAnswer.NoRoom (rw e)
+      no_room e = told (Err PairRefusal.NoRoom) (rw e)
 
-      pub fitted : (n : ℕ) → p ≡ Plan.Written n → PairGives slice slice' (PairAnswer.Accepted n) (on_side whole_call (test_plan s))
+      pub fitted : (n : ℕ) → p ≡ Plan.Written n → PairGives slice slice' (Ok n) (on_side whole_call (test_plan s))
       unfolding Whole.answer_of
-      fitted n e = told (PairAnswer.Accepted n) (rw e)
+      fitted n e = told (Ok n) (rw e)
 
 pub asked : {L R : SideTables} {sides : Sides} → LoweredBoth L R sides → sides.ctx.ops ≤ max_plan → Pair.PairAsked L R (counts_of sides)
 asked l h = record { room = l.room; state = l.state; tables = pair_tables l.stand h l.met }
@@ -103,23 +104,23 @@ kept_words ea eb r = record { first = rw ea r.first; second = rw eb r.second }
 pub kept_slices : {la lb lc ld ra rb rc rd la' lb' lc' ra' rb' rc' : List ℕ} → length la' ≡ length la → length lb' ≡ length lb → length lc' ≡ length lc → length ra' ≡ length ra → length rb' ≡ length rb → length rc' ≡ length rc → BothSlices la lb lc ld ra rb rc rd → BothSlices la' lb' lc' ld ra' rb' rc' rd
 kept_slices ela elb elc era erb erc (g, h) = (record { records = kept_words ela elb g.records; in_ops = rw elc g.in_ops; in_rest = g.in_rest }, record { records = kept_words era erb h.records; in_ops = rw erc h.in_ops; in_rest = h.in_rest })
 
-flag_low : (all : Bool) → flag_of all ≤ 1
+flag_low : (all : Bool) → from_bool all ≤ 1
 flag_low true = omega arith
 flag_low false = omega arith
 
-flag_is : (all : Bool) → eqb (flag_of all) 1 ≡ all
+flag_is : (all : Bool) → eqb (from_bool all) 1 ≡ all
 flag_is true = refl
 flag_is false = refl
 
 module _ {left right : Bytes} {la lb ra rb : List ℕ} (all : Bool) where
-  pub lowering_asked : {lc ld rc rd : List ℕ} {n : ℕ} → n ≡ flag_of all → BothSlices la lb lc ld ra rb rc rd → BothTested left la lb right ra rb → PairAsked left la lb lc ld right ra rb rc rd n
+  pub lowering_asked : {lc ld rc rd : List ℕ} {n : ℕ} → n ≡ from_bool all → BothSlices la lb lc ld ra rb rc rd → BothTested left la lb right ra rb → PairAsked left la lb lc ld right ra rb rc rd n
   lowering_asked e g b = rw e (record {
     on_left = record { words = g.0.records; held = record { tree = b.held.tree; is = b.held.on_left }; in_ops = g.0.in_ops; in_rest = g.0.in_rest };
     on_right = record { words = g.1.records; held = record { tree = b.held.tree₂; is = b.held.on_right }; in_ops = g.1.in_ops; in_rest = g.1.in_rest };
     flag = flag_low all;
   })
 
-  module _ {n : ℕ} (e : n ≡ flag_of all) {los lrs ros rrs : List ℕ} {sides : Sides} (b : BothTested left la lb right ra rb) (l : LowersPair left la lb los lrs right ra rb n sides.first (mem sides.ctx ros rrs)) where
+  module _ {n : ℕ} (e : n ≡ from_bool all) {los lrs ros rrs : List ℕ} {sides : Sides} (b : BothTested left la lb right ra rb) (l : LowersPair left la lb los lrs right ra rb n sides.first (mem sides.ctx ros rrs)) where
     pub stands : Stand (side_tables left la lb los lrs) (side_tables right ra rb ros rrs) sides (lower_pair b.held.tree b.held.tree₂ all)
     stands = rw (ap (λ k. eqb k 1) e ∙ flag_is all) at (l.run b.held.tree b.held.tree₂ b.held.on_left b.held.on_right)
 
@@ -134,7 +135,7 @@ module _ {left right : Bytes} {la lb ra rb : List ℕ} (all : Bool) where
 -- ── the tests in order ──
 
 -- no value tells the name
-nameless : (side : ℕ) (f : Fault) (unresolved : Bytes) → side_values (on_side_of side f unresolved) ≡ fault_values side f
+nameless : (side : Side) (f : Fault) (unresolved : Bytes) → side_values (on_side_of (record { side = side; fault = f }) unresolved) ≡ fault_values (record { side = side; fault = f })
 nameless side Fault.LongSheet unresolved = refl
 nameless side (Fault.BadLine l) unresolved = refl
 nameless side (Fault.BigTree l) unresolved = refl
@@ -144,17 +145,11 @@ nameless side (Fault.Refused (PlanLowerError.UndesugaredExpr line span kind)) un
 nameless side (Fault.Refused (PlanLowerError.EmptyPatternPart line span)) unresolved = refl
 
 module _ (left right : Bytes) (all : Bool) (slice : Bytes) where
-  failed : {m : SideTest (Many (Tree statement) 2)} {side : ℕ} (f : Fault) → FailsOn side f m → sides_outcome slice (then_sides m λ ts. on_side whole_call (test_plan (lower_pair ts.0 ts.1.0 all))) ≡ record { answer = fault_values side f; slice = slice }
+  pub failed : (f : SideFault) → FailsOn f (read_sides left right) → PairGives slice slice (Err (PairRefusal.OfSide f)) (behind_bytes left right all)
   unfolding sides_outcome then_sides
-  failed {m} {side} f h = rw h.is (ap (λ (a : Values). record { answer = a; slice = slice }) (nameless side f h.unresolved))
+  failed f h = rw h.is (ap (λ (a : Values). record { answer = a; slice = slice }) (sym (nameless f.side f.fault h.unresolved)))
 
-  pub left_failed : (f : Fault) → FailsOn left_side f (read_sides left right) → PairGives slice slice (PairAnswer.Left f) (behind_bytes left right all)
-  left_failed f h = sym (failed f h)
-
-  pub right_failed : (f : Fault) → FailsOn right_side f (read_sides left right) → PairGives slice slice (PairAnswer.Right f) (behind_bytes left right all)
-  right_failed f h = sym (failed f h)
-
-  pub passed : {la lb ra rb : List ℕ} {slice' : Bytes} (b : BothTested left la lb right ra rb) (x : PairAnswer) → PairGives slice slice' x (on_side whole_call (test_plan (lower_pair b.held.tree b.held.tree₂ all))) → PairGives slice slice' x (behind_bytes left right all)
+  pub passed : {la lb ra rb : List ℕ} {slice' : Bytes} (b : BothTested left la lb right ra rb) (x : Result ℕ PairRefusal) → PairGives slice slice' x (on_side whole_call (test_plan (lower_pair b.held.tree b.held.tree₂ all))) → PairGives slice slice' x (behind_bytes left right all)
   unfolding then_sides
   passed b x g = rw b.passes g
 
@@ -184,72 +179,56 @@ unfolding short
 short_append [] w = refl
 short_append (n ∷ v) w = rw (short_append v w) (sym (or_assoc (ltb n work_words) (short v) (short w)))
 
--- what the call is given
-pub record Given : Type 0 where
-  pub left : Bytes
-  pub right : Bytes
-  pub all : Bool
-  pub la : List ℕ
-  pub lb : List ℕ
-  pub lc : List ℕ
-  pub ld : List ℕ
-  pub ra : List ℕ
-  pub rb : List ℕ
-  pub rc : List ℕ
-  pub rd : List ℕ
-  pub plan : Bytes
+pub one_short : (v w : List ℕ) → short v ≡ true → short (v ++ w) ≡ true
+one_short v w e = short_append v w ∙ rw e
 
-module _ (g : Given) where
-  abbrev on_left : List ℕ
-  on_left = length g.la ∷ length g.lb ∷ length g.lc ∷ length g.ld ∷ []
+pub other_short : (v w : List ℕ) → short w ≡ true → short (v ++ w) ≡ true
+other_short v w e = short_append v w ∙ rw e (or-true (short v))
 
-  abbrev on_right : List ℕ
-  on_right = length g.ra ∷ length g.rb ∷ length g.rc ∷ length g.rd ∷ []
+pub none_short : (v w : List ℕ) → short v ≡ false → short w ≡ false → short (v ++ w) ≡ false
+none_short v w e f = short_append v w ∙ rw (e, f)
 
-  abbrev work : List ℕ
-  work = works g.la g.lb g.lc g.ld g.ra g.rb g.rc g.rd
+-- both sides' slices are long enough
+pub both_slices : (la lb lc ld ra rb rc rd : List ℕ) → Enough la lb lc ld → Enough ra rb rc rd → BothSlices la lb lc ld ra rb rc rd
+both_slices la lb lc ld ra rb rc rd l r = (record { records = record { first = l.first; second = l.second }; in_ops = l.third; in_rest = l.fourth }, record { records = record { first = r.first; second = r.second }; in_ops = r.third; in_rest = r.fourth })
 
+-- ── the call ──
+
+-- test 2 of one side, by its outcome
+module _ (side : Side) (sheet : Bytes) where
+  pub not_long : (r : Result (Unit {0}) SideFault) {x : Unit {0}} → r ≡ bytes_of side sheet → r ≡ Ok x → length sheet ≤ max_bytes
+  not_long r e z = go (ltb max_bytes (length sheet)) refl (sym e ∙ z)
+    where
+      go : (b : Bool) {x : Unit {0}} → ltb max_bytes (length sheet) ≡ b → cond {A = Result (Unit {0}) SideFault} b (Err (record { side = side; fault = Fault.LongSheet })) (Ok tt) ≡ Ok x → length sheet ≤ max_bytes
+      go true k z = cc
+      go false k z = ltb-false max_bytes (length sheet) k
+
+  pub is_long : (r : Result (Unit {0}) SideFault) {f : SideFault} → r ≡ bytes_of side sheet → r ≡ Err f → (max_bytes < length sheet) × (f ≡ record { side = side; fault = Fault.LongSheet })
+  is_long r e z = go (ltb max_bytes (length sheet)) refl (sym e ∙ z)
+    where
+      go : (b : Bool) {f : SideFault} → ltb max_bytes (length sheet) ≡ b → cond {A = Result (Unit {0}) SideFault} b (Err (record { side = side; fault = Fault.LongSheet })) (Ok tt) ≡ Err f → (max_bytes < length sheet) × (f ≡ record { side = side; fault = Fault.LongSheet })
+      go true k z = (ltb-true max_bytes (length sheet) k, cc)
+      go false k z = cc
+
+module _ (work : List ℕ) (left right : Bytes) (all : Bool) (plan : Bytes) where
   -- the call's answer and slice
-  abbrev pub Answers : PairAnswer → Bytes → Type 0
-  Answers x slice = ◌≡◌ {A = Outcome} (record { answer = pair_answer_of x; slice = slice }) (pair_call work g.left g.right g.all g.plan)
+  abbrev pub Answers : Result ℕ PairRefusal → Bytes → Type 0
+  Answers x slice = ◌≡◌ {A = Outcome} (record { answer = pair_answer_of x; slice = slice }) (pair_call work left right all plan)
 
-  refused_first : short work ≡ true → Answers PairAnswer.ShortWork g.plan
+  pub refused_first : short work ≡ true → Answers (Err PairRefusal.ShortWork) plan
   unfolding pair_call sides_outcome
-  refused_first e = rw (pair_short work g.left g.right g.all e)
+  refused_first e = rw (pair_short work left right all e)
 
-  pub left_short : (r : Bool) → r ≡ false → Long g.la g.lb g.lc g.ld r → Answers PairAnswer.ShortWork g.plan
-  left_short r e h =
-      let s : short on_left ≡ true = rw e at h in
-      refused_first (short_append on_left on_right ∙ rw s)
-
-  pub right_short : (r : Bool) → r ≡ false → Long g.ra g.rb g.rc g.rd r → Answers PairAnswer.ShortWork g.plan
-  right_short r e h =
-      let s : short on_right ≡ true = rw e at h in
-      refused_first (short_append on_left on_right ∙ rw s (or-true (short on_left)))
-
-  -- both sides' slices are long enough
-  module _ (r r' : Bool) (e : r ≡ true) (e' : r' ≡ true) (h : Long g.la g.lb g.lc g.ld r) (h' : Long g.ra g.rb g.rc g.rd r') where
-    pub both_slices : BothSlices g.la g.lb g.lc g.ld g.ra g.rb g.rc g.rd
-    both_slices =
-        let l : Long g.la g.lb g.lc g.ld true = rw e at h in
-        let k : Long g.ra g.rb g.rc g.rd true = rw e' at h' in
-        (record { records = record { first = l.0; second = l.1 }; in_ops = l.2; in_rest = l.3 }, record { records = record { first = k.0; second = k.1 }; in_ops = k.2; in_rest = k.3 })
-
-    none_is_short : short work ≡ false
-    none_is_short =
-        let l : Long g.la g.lb g.lc g.ld true = rw e at h in
-        let k : Long g.ra g.rb g.rc g.rd true = rw e' at h' in
-        short_append on_left on_right ∙ rw (none_short _ _ _ _ l, none_short _ _ _ _ k)
-
-    pub left_long : max_bytes < length g.left → Answers (PairAnswer.Left Fault.LongSheet) g.plan
+  module _ (e : short work ≡ false) where
+    pub left_long : max_bytes < length left → Answers (Err (PairRefusal.OfSide (record { side = Side.Left; fault = Fault.LongSheet }))) plan
     unfolding pair_call sides_outcome
-    left_long l = rw (long_left work g.left g.right g.all none_is_short l)
+    left_long l = rw (long_left work left right all e l)
 
-    module _ (a : length g.left ≤ max_bytes) where
-      pub right_long : max_bytes < length g.right → Answers (PairAnswer.Right Fault.LongSheet) g.plan
+    module _ (a : length left ≤ max_bytes) where
+      pub right_long : max_bytes < length right → Answers (Err (PairRefusal.OfSide (record { side = Side.Right; fault = Fault.LongSheet }))) plan
       unfolding pair_call sides_outcome
-      right_long l = rw (long_right work g.left g.right g.all none_is_short a l)
+      right_long l = rw (long_right work left right all e a l)
 
-      pub called : length g.right ≤ max_bytes → (slice : Bytes) (x : PairAnswer) → PairGives g.plan slice x (behind_bytes g.left g.right g.all) → Answers x slice
+      pub called : length right ≤ max_bytes → (slice : Bytes) (x : Result ℕ PairRefusal) → PairGives plan slice x (behind_bytes left right all) → Answers x slice
       unfolding pair_call
-      called l slice x q = rw (behind_bytes_law work g.left g.right g.all none_is_short a l) q
+      called l slice x q = rw (behind_bytes_law work left right all e a l) q

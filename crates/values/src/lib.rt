@@ -2,18 +2,24 @@
 #![tactic(auto)]
 
 ghost use Rattle.std.specs.Prelude.{◌≡◌};
-ghost use Rattle.model.specs.Refusal.{line_refusal, tree_refusal};
+ghost use Rattle.model.specs.Refusal.{line_refusal, tree_refusal, accepted as accepts};
 ghost use Rattle.precheck.specs.Answer.{span_of};
-ghost use Rattle.statement.specs.Answer.{answer_of, error_answer};
-ghost use Rattle.values.specs.Told.{told};
+ghost use Rattle.sides.specs.Fault.{side_number};
+ghost use Rattle.statement.specs.Answer.{answer_of, error_answer, refusal_answer};
+ghost use Rattle.union_pair.specs.PairAnswer.{fault_values, pair_refusal_answer, pair_answer_of};
+ghost use Rattle.values.specs.Told.{told, refusal_of, kind_on};
 
 pub mod call;
-pub mod pair;
 pub mod refusal;
 pub mod text;
 
 use precheck::{HirSpan, PlanLowerError};
-use statement::Answer;
+use sides::{Fault, Side, SideFault};
+use statement::Refusal;
+use union_pair::PairRefusal;
+
+// What a side adds to the kind of a form.
+const SIDE_STEP: usize = 10;
 
 #[derive(Clone, Copy)]
 pub struct Values {
@@ -21,7 +27,7 @@ pub struct Values {
     pub line: u32,
     pub start: u32,
     pub end: u32,
-    pub kind: u32,
+    pub kind: usize,
     pub length: usize,
 }
 
@@ -48,7 +54,7 @@ fn in_tree(number: u32, line: u32, span: HirSpan, kind: u32) -> Values
         line,
         start: span.start,
         end: span.end,
-        kind,
+        kind: kind as usize,
         length: 0,
     }
 }
@@ -69,25 +75,90 @@ fn error_values(e: PlanLowerError) -> Values
     }
 }
 
-pub fn values_of(answer: Answer) -> Values
-    ensures { told result ≡ answer_of answer }
+fn refusal_values(r: Refusal) -> Values
+    ensures { told result ≡ refusal_answer r }
 {
-    match answer {
-        Answer::Accepted(n) => Values {
-            number: refusal::ACCEPTED,
-            line: 0,
-            start: 0,
-            end: 0,
-            kind: 0,
-            length: n,
+    match r {
+        Refusal::ShortWork => at_line(refusal::SHORT_WORK, 0),
+        Refusal::LongSheet => at_line(refusal::LONG_SHEET, 0),
+        Refusal::BadLine(line) => at_line(refusal::BAD_LINE, line),
+        Refusal::BigTree(line) => at_line(refusal::BIG_TREE, line),
+        Refusal::WriteClause(line) => at_line(refusal::WRITE_CLAUSE, line),
+        Refusal::Refused(e) => error_values(e),
+        Refusal::PlanFull => at_line(refusal::PLAN_FULL, 0),
+        Refusal::NoRoom => at_line(refusal::NO_ROOM, 0),
+    }
+}
+
+// A sheet's fault as a single sheet is refused for it.
+fn as_refusal(fault: Fault) -> Refusal
+    ensures { result ≡ refusal_of fault }
+{
+    match fault {
+        Fault::LongSheet => Refusal::LongSheet,
+        Fault::BadLine(line) => Refusal::BadLine(line),
+        Fault::BigTree(line) => Refusal::BigTree(line),
+        Fault::WriteClause(line) => Refusal::WriteClause(line),
+        Fault::Refused(e) => Refusal::Refused(e),
+    }
+}
+
+// The kind of a side's fault: it tells the side, in its tens where a form has a kind of its own.
+fn side_kind(side: Side, fault: Fault) -> usize
+    ensures { result ≡ kind_on side fault }
+{
+    let side = side as usize;
+    match fault {
+        Fault::Refused(PlanLowerError::UndesugaredExpr { kind, .. }) => {
+            SIDE_STEP * side + kind as usize
+        }
+        _ => side,
+    }
+}
+
+fn pair_refusal_values(r: PairRefusal) -> Values
+    ensures { told result ≡ pair_refusal_answer r }
+{
+    match r {
+        PairRefusal::ShortWork => at_line(refusal::SHORT_WORK, 0),
+        PairRefusal::OfSide(SideFault { side, fault }) => Values {
+            kind: side_kind(side, fault),
+            ..refusal_values(as_refusal(fault))
         },
-        Answer::ShortWork => at_line(refusal::SHORT_WORK, 0),
-        Answer::LongSheet => at_line(refusal::LONG_SHEET, 0),
-        Answer::BadLine(line) => at_line(refusal::BAD_LINE, line),
-        Answer::BigTree(line) => at_line(refusal::BIG_TREE, line),
-        Answer::WriteClause(line) => at_line(refusal::WRITE_CLAUSE, line),
-        Answer::Refused(e) => error_values(e),
-        Answer::PlanFull => at_line(refusal::PLAN_FULL, 0),
-        Answer::NoRoom => at_line(refusal::NO_ROOM, 0),
+        PairRefusal::PlanFull => at_line(refusal::PLAN_FULL, 0),
+        PairRefusal::NoRoom => at_line(refusal::NO_ROOM, 0),
+    }
+}
+
+// An accepted sheet or pair, with a length or a figure.
+fn accepted(length: usize) -> Values
+    ensures { told result ≡ accepts length }
+{
+    Values {
+        length,
+        ..at_line(refusal::ACCEPTED, 0)
+    }
+}
+
+impl From<Result<usize, Refusal>> for Values {
+    ghost from_gives = { λ r v. told v ≡ answer_of r };
+
+    fn from(answer: Result<usize, Refusal>) -> Values {
+        match answer {
+            Ok(n) => accepted(n),
+            Err(r) => refusal_values(r),
+        }
+    }
+}
+
+// The kind tells the side too.
+impl From<Result<usize, PairRefusal>> for Values {
+    ghost from_gives = { λ r v. told v ≡ pair_answer_of r };
+
+    fn from(answer: Result<usize, PairRefusal>) -> Values {
+        match answer {
+            Ok(n) => accepted(n),
+            Err(r) => pair_refusal_values(r),
+        }
     }
 }

@@ -1,19 +1,21 @@
 -- `size_statement` meets its contract: test 1, and then the others. Assumes nothing.
-use Rattle.statement.specs.Sizing.{yes, none_short, no_size}
+use Rattle.std.proofs.lemmas.Bool.{not-false, not-true}
+use Rattle.std.proofs.Common.{sym, ◌∙◌}
+use Rattle.statement.specs.Sizing.{enough, no_size}
 use Rattle.statement.proofs.size_statement.Goals as goal
+
+pub returns-then-not-long_enough : goal.returns-then-not-long_enough
+returns-then-not-long_enough c = no_size _ _ (not-false _ (sym c.long_enough.ensures ∙ c.if-not-long_enough.true))
+
+pub invariant_of-records : goal.invariant_of-records
+invariant_of-records c =
+    let e = enough _ _ _ _ (not-true _ (sym c.long_enough.ensures ∙ c.if-not-long_enough.false)) in
+    record { roomy = record { first = e.first; second = e.second } }
 
 pub size_read-requires : goal.size_read-requires
 size_read-requires c =
-    record {
-      roomy = record {
-        first = (yes _ _ _ _ _ c.if-long_enough.true c.long_enough.ensures).0;
-        second = (yes _ _ _ _ _ c.if-long_enough.true c.long_enough.ensures).1;
-      };
-      work_words_in_bounds = (yes _ _ _ _ _ c.if-long_enough.true c.long_enough.ensures).2;
-    }
-
-pub returns-then-long_enough : goal.returns-then-long_enough
-returns-then-long_enough c = c.size_read.ensures _ (none_short _ _ _ _ (yes _ _ _ _ _ c.if-long_enough.true c.long_enough.ensures))
+    let e = enough _ _ _ _ (not-true _ (sym c.long_enough.ensures ∙ c.if-not-long_enough.false)) in
+    e.third
 
 pub returns : goal.returns
-returns c = no_size _ _ _ _ _ _ c.if-long_enough.false c.long_enough.ensures
+returns c = c.size_read.ensures _ (not-true _ (sym c.long_enough.ensures ∙ c.if-not-long_enough.false))

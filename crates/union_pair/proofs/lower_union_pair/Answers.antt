@@ -1,33 +1,41 @@
 -- `lower_union_pair` meets its contract: tests 1 and 2 on both sides, and then the others. Assumes nothing.
-use Rattle.union_pair.proofs.Laws.{Given, left_short, right_short, left_long, right_long, called, both_slices}
+use Rattle.std.proofs.Common.{sym, ◌∙◌}
+use Rattle.std.proofs.lemmas.Bool.{not-false, not-true}
+use Rattle.std.proofs.lemmas.Result.{err_from_is_err_and}
+use Rattle.sides.specs.declared.Side.{Side}
+use Rattle.statement.specs.Sizing.{enough}
+use Rattle.statement.specs.Work.{sizes}
+use Rattle.union_pair.proofs.Laws.{one_short, other_short, none_short, both_slices, refused_first, not_long, is_long, left_long, right_long, called}
 use Rattle.union_pair.proofs.lower_union_pair.Goals as goal
 
 pub returns-then-not-long_enough : goal.returns-then-not-long_enough
-returns-then-not-long_enough c =
-    let g : Given = record { left = c.args.left.now; right = c.args.right.now; all = c.args.all; la = c.args.la.now; lb = c.args.lb.now; lc = c.args.lc.now; ld = c.args.ld.now; ra = c.args.ra.now; rb = c.args.rb.now; rc = c.args.rc.now; rd = c.args.rd.now; plan = c.args.plan.now } in
-    left_short g c.long_enough.result c.if-not-long_enough.true c.long_enough.ensures
+returns-then-not-long_enough c = refused_first _ _ _ _ _ (one_short (sizes _ _ _ _) (sizes _ _ _ _) (not-false _ (sym c.long_enough.ensures ∙ c.if-not-long_enough.true)))
 
 pub returns-then-not-long_enough-2 : goal.returns-then-not-long_enough-2
-returns-then-not-long_enough-2 c =
-    let g : Given = record { left = c.args.left.now; right = c.args.right.now; all = c.args.all; la = c.args.la.now; lb = c.args.lb.now; lc = c.args.lc.now; ld = c.args.ld.now; ra = c.args.ra.now; rb = c.args.rb.now; rc = c.args.rc.now; rd = c.args.rd.now; plan = c.args.plan.now } in
-    right_short g c.long_enough-2.result c.if-not-long_enough-2.true c.long_enough-2.ensures
+returns-then-not-long_enough-2 c = refused_first _ _ _ _ _ (other_short (sizes _ _ _ _) (sizes _ _ _ _) (not-false _ (sym c.long_enough-2.ensures ∙ c.if-not-long_enough-2.true)))
 
-pub returns-then-left-gt-MAX_BYTES : goal.returns-then-left-gt-MAX_BYTES
-returns-then-left-gt-MAX_BYTES c =
-    let g : Given = record { left = c.args.left.now; right = c.args.right.now; all = c.args.all; la = c.args.la.now; lb = c.args.lb.now; lc = c.args.lc.now; ld = c.args.ld.now; ra = c.args.ra.now; rb = c.args.rb.now; rc = c.args.rc.now; rd = c.args.rd.now; plan = c.args.plan.now } in
-    left_long g c.long_enough.result c.long_enough-2.result c.if-not-long_enough.false c.if-not-long_enough-2.false c.long_enough.ensures c.long_enough-2.ensures c.if-left-gt-MAX_BYTES.true
+pub returns-in_err-test_bytes : goal.returns-in_err-test_bytes
+returns-in_err-test_bytes c =
+    let p = err_from_is_err_and c.from_residual.result c.from_residual.ensures.1 in
+    let s = none_short (sizes _ _ _ _) (sizes _ _ _ _) (not-true _ (sym c.long_enough.ensures ∙ c.if-not-long_enough.false)) (not-true _ (sym c.long_enough-2.ensures ∙ c.if-not-long_enough-2.false)) in
+    let l = is_long Side.Left c.args.left.now c.test_bytes.result c.test_bytes.ensures c.in_err-test_bytes.was in
+    rw (p.1, p.2, l.1) (left_long _ _ _ _ _ s l.0)
 
-pub returns-then-right-gt-MAX_BYTES : goal.returns-then-right-gt-MAX_BYTES
-returns-then-right-gt-MAX_BYTES c =
-    let g : Given = record { left = c.args.left.now; right = c.args.right.now; all = c.args.all; la = c.args.la.now; lb = c.args.lb.now; lc = c.args.lc.now; ld = c.args.ld.now; ra = c.args.ra.now; rb = c.args.rb.now; rc = c.args.rc.now; rd = c.args.rd.now; plan = c.args.plan.now } in
-    right_long g c.long_enough.result c.long_enough-2.result c.if-not-long_enough.false c.if-not-long_enough-2.false c.long_enough.ensures c.long_enough-2.ensures c.if-left-gt-MAX_BYTES.false c.if-right-gt-MAX_BYTES.true
+pub returns-in_err-test_bytes-2 : goal.returns-in_err-test_bytes-2
+returns-in_err-test_bytes-2 c =
+    let p = err_from_is_err_and c.from_residual-in_err-test_bytes-2.result c.from_residual-in_err-test_bytes-2.ensures.1 in
+    let s = none_short (sizes _ _ _ _) (sizes _ _ _ _) (not-true _ (sym c.long_enough.ensures ∙ c.if-not-long_enough.false)) (not-true _ (sym c.long_enough-2.ensures ∙ c.if-not-long_enough-2.false)) in
+    let l = is_long Side.Right c.args.right.now c.test_bytes-2.result c.test_bytes-2.ensures c.in_err-test_bytes-2.was in
+    rw (p.1, p.2, l.1) (right_long _ _ _ _ _ s (not_long Side.Left c.args.left.now c.test_bytes.result c.test_bytes.ensures c.in_ok-test_bytes.was) l.0)
 
 pub lower_tested-requires : goal.lower_tested-requires
 lower_tested-requires c =
-    let g : Given = record { left = c.args.left.now; right = c.args.right.now; all = c.args.all; la = c.args.la.now; lb = c.args.lb.now; lc = c.args.lc.now; ld = c.args.ld.now; ra = c.args.ra.now; rb = c.args.rb.now; rc = c.args.rc.now; rd = c.args.rd.now; plan = c.args.plan.now } in
-    record { short = (c.if-left-gt-MAX_BYTES.false, c.if-right-gt-MAX_BYTES.false); both_slices = both_slices g c.long_enough.result c.long_enough-2.result c.if-not-long_enough.false c.if-not-long_enough-2.false c.long_enough.ensures c.long_enough-2.ensures }
+    record {
+      short = (not_long Side.Left c.args.left.now c.test_bytes.result c.test_bytes.ensures c.in_ok-test_bytes.was, not_long Side.Right c.args.right.now c.test_bytes-2.result c.test_bytes-2.ensures c.in_ok-test_bytes-2.was);
+      both_slices = both_slices _ _ _ _ _ _ _ _ (enough _ _ _ _ (not-true _ (sym c.long_enough.ensures ∙ c.if-not-long_enough.false))) (enough _ _ _ _ (not-true _ (sym c.long_enough-2.ensures ∙ c.if-not-long_enough-2.false)));
+    }
 
 pub returns : goal.returns
 returns c =
-    let g : Given = record { left = c.args.left.now; right = c.args.right.now; all = c.args.all; la = c.args.la.now; lb = c.args.lb.now; lc = c.args.lc.now; ld = c.args.ld.now; ra = c.args.ra.now; rb = c.args.rb.now; rc = c.args.rc.now; rd = c.args.rd.now; plan = c.args.plan.now } in
-    called g c.long_enough.result c.long_enough-2.result c.if-not-long_enough.false c.if-not-long_enough-2.false c.long_enough.ensures c.long_enough-2.ensures c.if-left-gt-MAX_BYTES.false c.if-right-gt-MAX_BYTES.false _ c.lower_tested.result c.lower_tested.ensures
+    let s = none_short (sizes _ _ _ _) (sizes _ _ _ _) (not-true _ (sym c.long_enough.ensures ∙ c.if-not-long_enough.false)) (not-true _ (sym c.long_enough-2.ensures ∙ c.if-not-long_enough-2.false)) in
+    called _ _ _ _ _ s (not_long Side.Left c.args.left.now c.test_bytes.result c.test_bytes.ensures c.in_ok-test_bytes.was) (not_long Side.Right c.args.right.now c.test_bytes-2.result c.test_bytes-2.ensures c.in_ok-test_bytes-2.was) _ c.lower_tested.result c.lower_tested.ensures

@@ -1,31 +1,15 @@
 -- `clauses::reading::lower_call` meets its contract.
-use mathlib.Core.List.{[]}
-use mathlib.Core.Path.{◌∙◌}
-use native.Mathlib.Omega.{arith}
+use Rattle.std.proofs.Common.{arith}
 use Rattle.context.specs.OpLaws.{pushed_as}
 use Rattle.projections.specs.Room
 use Rattle.clauses.proofs.Calling
-use Rattle.context.specs.OpLaws.{under_more}
 use Rattle.clauses.proofs.reading.lower_call.Goals as goal
 
 pub count-args-requires : goal.count-args-requires
-count-args-requires c =
-    record {
-      i_lt_max_records = Room.low c.requires.tree;
-      c_lt_record_words = omega arith;
-      roomy = c.requires.words;
-    }
+count-args-requires c = (Room.low c.requires.tree, omega arith)
 
 pub count-yields-requires : goal.count-yields-requires
-count-yields-requires c =
-    record {
-      i_lt_max_records = Room.low c.requires.tree;
-      c_lt_record_words = omega arith;
-      roomy = c.requires.words;
-    }
-
-pub overflow_add-first : goal.overflow_add-first
-overflow_add-first c = omega (arith, Room.bounds c.requires)
+count-yields-requires c = (Room.low c.requires.tree, omega arith)
 
 pub overflow_sub-less : goal.overflow_sub-less
 overflow_sub-less c = omega (arith, Room.bounds c.requires)
@@ -34,33 +18,16 @@ pub lower_exprs-s-requires : goal.lower_exprs-s-requires
 lower_exprs-s-requires c =
     let l = Room.bounds c.requires in
     record {
-      words = c.requires.words;
-      tree = Calling.some_args c.requires c.count-args.ensures.0;
+      tree = Calling.some_args c.args.r.now.roomy c.requires c.count-args.ensures.0;
       room = Room.ready_room c.requires.ready (omega arith) (omega (arith, l.low)) (omega (arith, l.shallow));
       depth = omega (arith, l.shallow);
       pass = omega arith;
     }
 
 pub lower_yields-t-requires : goal.lower_yields-t-requires
-lower_yields-t-requires c = Calling.asked_yields c.requires c.count-args.ensures.0 c.count-yields.ensures.0 c.lower_exprs-s.ensures
-
-pub procedure_call-requires : goal.procedure_call-requires
-procedure_call-requires c =
-    let l = Room.bounds c.requires in
-    (Room.fits (omega arith) (omega (arith, l.low)) (omega (arith, l.shallow)), under_more (omega (arith, l.few)) c.requires.stands)
-
-pub push-z-requires : goal.push-z-requires
-push-z-requires c =
-    let few = Room.few_after c.requires.ready c.lower_exprs-s.ensures.moved (omega arith) in
-    record { few = omega (arith, few, (c.lower_yields-t.ensures []).same); long = Room.ops_after c.requires.ready c.lower_exprs-s.ensures.moved (omega arith) }
-
-pub shape_of-ops : goal.shape_of-ops
-shape_of-ops c = c.push-z.auto.ops ∙ c.lower_exprs-s.auto.ops
-
-pub shape_of-rest : goal.shape_of-rest
-shape_of-rest c = c.lower_yields-t.auto.rest ∙ c.lower_exprs-s.auto.rest
+lower_yields-t-requires c = Calling.asked_yields c.args.r.now.roomy c.requires c.count-args.ensures.0 c.count-yields.ensures.0 c.lower_exprs-s.ensures
 
 pub returns : goal.returns
 returns c =
     let pushed = pushed_as c.procedure_call.ensures c.push-z.ensures in
-    Calling.call_law c.requires c.count-args.ensures.0 c.count-yields.ensures.0 c.lower_exprs-s.ensures (c.lower_yields-t.ensures _) pushed c.push-z.auto.ops
+    Calling.call_law c.args.r.now.roomy c.requires c.count-args.ensures.0 c.count-yields.ensures.0 c.lower_exprs-s.ensures (c.lower_yields-t.ensures _) pushed c.push-z.auto.ops

@@ -1,35 +1,14 @@
 -- `clauses::reading::lower_reading_clause` meets its contract.
-use mathlib.Core.Path.{sym, ◌∙◌}
-use native.Mathlib.Omega.{arith}
+use Rattle.std.proofs.Common.{arith, rules}
 use Rattle.projections.specs.Room
 use Rattle.clauses.proofs.Clausing
 use Rattle.clauses.proofs.reading.lower_reading_clause.Goals as goal
 
 pub word-kind-requires : goal.word-kind-requires
-word-kind-requires c =
-    record {
-      i_lt_max_records = Room.low (Room.some_tree c.requires.held);
-      c_lt_record_words = omega arith;
-      roomy = c.requires.words;
-    }
-
-pub lower_match-requires : goal.lower_match-requires
-lower_match-requires c = Clausing.asked c.requires (sym c.word-kind.ensures ∙ c.in-2.is)
-
-pub lower_where-requires : goal.lower_where-requires
-lower_where-requires c = Clausing.asked c.requires (sym c.word-kind.ensures ∙ c.in-3.is)
-
-pub lower_with-requires : goal.lower_with-requires
-lower_with-requires c = Clausing.asked c.requires (sym c.word-kind.ensures ∙ c.in-4.is)
-
-pub lower_return-requires : goal.lower_return-requires
-lower_return-requires c = record { asked = Clausing.asked c.requires (sym c.word-kind.ensures ∙ c.in-5.is); held = c.requires.held }
-
-pub lower_unwind-requires : goal.lower_unwind-requires
-lower_unwind-requires c = Clausing.asked c.requires (sym c.word-kind.ensures ∙ c.in-6.is)
+word-kind-requires c = (Room.low (Room.some_tree c.requires.held), omega arith)
 
 pub lower_call-requires : goal.lower_call-requires
-lower_call-requires c = Clausing.asked c.requires (Clausing.a_call_left c.requires c.word-kind.ensures c.in_default.in_default-own.rest)
+lower_call-requires c = Clausing.asked c.requires (Clausing.a_call_left c.args.r.now.roomy c.requires c.word-kind.ensures (search rules))
 
 pub returns-in-2 : goal.returns-in-2
 returns-in-2 c = c.lower_match.ensures _
@@ -39,9 +18,6 @@ returns-in-3 c = c.lower_where.ensures _
 
 pub returns-in-4 : goal.returns-in-4
 returns-in-4 c = c.lower_with.ensures _
-
-pub returns-in-5 : goal.returns-in-5
-returns-in-5 c = c.lower_return.ensures
 
 pub returns-in-6 : goal.returns-in-6
 returns-in-6 c = c.lower_unwind.ensures _

@@ -1,16 +1,9 @@
--- `line::field::alias` meets its contract: the place of an alias. Assumes nothing.
-use borrow.Author.Rules.{rules}
-use Rattle.line.proofs.NameLaws.{alias_dash, alias_named, alias_not, alias_small}
+-- `line::field::alias` meets its contract. Assumes nothing.
+use Rattle.line.proofs.NameLaws.{alias_dash, alias_named}
 use Rattle.line.proofs.field.alias.Goals as goal
 
-pub overflow_cast-result-in-Named : goal.overflow_cast-result-in-Named
-overflow_cast-result-in-Named c = record { fits = search (alias_small, rules) }
+pub returns-in-None : goal.returns-in-None
+returns-in-None c = alias_dash _ _ _ c.in_ok-name.ensures c.in-None.is
 
-pub returns-in-Absent : goal.returns-in-Absent
-returns-in-Absent c = search (alias_dash, rules)
-
-pub returns-in-Named : goal.returns-in-Named
-returns-in-Named c = search (alias_named, rules)
-
-pub returns-in-Not : goal.returns-in-Not
-returns-in-Not c = search (alias_not, rules)
+pub returns-in-Some : goal.returns-in-Some
+returns-in-Some c = alias_named _ _ _ c.in_ok-name.ensures _ c.in-Some.is

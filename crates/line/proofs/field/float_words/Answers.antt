@@ -1,10 +1,6 @@
--- `line::field::float_words` meets its contract: the words of a float. Assumes nothing.
-use borrow.Author.Rules.{rules}
-use Rattle.line.proofs.WordLaws.{float_is, float_not}
+-- `line::field::float_words` meets its contract. Assumes nothing.
+use Rattle.line.proofs.WordLaws.{float_is}
 use Rattle.line.proofs.field.float_words.Goals as goal
 
-pub returns-in-Is : goal.returns-in-Is
-returns-in-Is c = search (float_is, rules)
-
-pub returns-in-Not : goal.returns-in-Not
-returns-in-Not c = search (float_not, rules)
+pub returns : goal.returns
+returns c = float_is _ _ c.in_ok-n.ensures _ c.halves.ensures

@@ -1,16 +1,15 @@
--- `line::field::variable` meets its contract: the words of an id or a dash. Assumes nothing.
-use borrow.Author.Rules.{rules}
-use Rattle.line.proofs.WordLaws.{variable_at_low, variable_at, variable_at_absent, variable_at_not}
+-- `line::field::variable` meets its contract. Assumes nothing.
+use Rattle.line.proofs.WordLaws.{variable_at_low, variable_at, variable_at_absent, variable_at_none}
 use Rattle.line.proofs.field.variable.Goals as goal
 
-pub overflow_cast-result : goal.overflow_cast-result
-overflow_cast-result c = record { fits = search (variable_at_low, rules) }
+pub returns-in_err-id : goal.returns-in_err-id
+returns-in_err-id c = rw c.from_residual.ensures (variable_at_none _ _ c.in_err-id.ensures)
 
-pub returns-in-Is : goal.returns-in-Is
-returns-in-Is c = search (variable_at, rules)
+pub overflow_cast-value : goal.overflow_cast-value
+overflow_cast-value c = record { fits = variable_at_low _ _ _ c.in_ok-id.ensures _ c.in-Some.is }
 
-pub returns-in-Absent : goal.returns-in-Absent
-returns-in-Absent c = search (variable_at_absent, rules)
+pub returns-in-Some : goal.returns-in-Some
+returns-in-Some c = variable_at _ _ _ c.in_ok-id.ensures _ c.in-Some.is
 
-pub returns-in-Not : goal.returns-in-Not
-returns-in-Not c = search (variable_at_not, rules)
+pub returns-in-None : goal.returns-in-None
+returns-in-None c = variable_at_absent _ _ _ c.in_ok-id.ensures c.in-None.is

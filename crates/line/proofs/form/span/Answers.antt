@@ -1,34 +1,22 @@
--- `line::form::span` meets its contract: two numbers in order. Assumes nothing.
-use borrow.Author.Rules.{rules}
-use native.Mathlib.Omega.{arith}
+-- `line::form::span` meets its contract. Assumes nothing.
 use Rattle.line.proofs.PlaceLaws.{fed_behind}
 use Rattle.line.proofs.FormLaws.{span_start_not, ends, span_few, span_end_not, span_is, span_not}
 use Rattle.line.proofs.form.span.Goals as goal
 
-pub returns-in_default : goal.returns-in_default
-returns-in_default c = search (span_start_not, rules)
+pub returns-in_err-start : goal.returns-in_err-start
+returns-in_err-start c = rw c.from_residual.ensures (span_start_not _ _ _ c.number.ensures c.in_err-start.was)
 
-pub bounds-sheet-r : goal.bounds-sheet-r
-bounds-sheet-r c = omega (arith, (ends _ _ _ c.number.ensures _ _ _ c.in-Is.is).to)
+pub returns-then-c-r-ne9 : goal.returns-then-c-r-ne9
+returns-then-c-r-ne9 c = span_few _ _ _ c.number.ensures _ c.in_ok-start.was c.if-c-r-ne9.true
 
-pub returns-then-sheet-r-ne9 : goal.returns-then-sheet-r-ne9
-returns-then-sheet-r-ne9 c = search (span_few, rules)
+pub invariant_of-behind : goal.invariant_of-behind
+invariant_of-behind c = record { fed = fed_behind _ _ _ c.args.c.fed (ends _ _ _ c.number.ensures _ c.in_ok-start.was) c.if-c-r-ne9.false }
 
-pub overflow_add-r : goal.overflow_add-r
-overflow_add-r c = omega (arith, (ends _ _ _ c.number.ensures _ _ _ c.in-Is.is).to)
+pub returns-in_err-last : goal.returns-in_err-last
+returns-in_err-last c = rw c.from_residual-in_err-last.ensures (span_end_not _ _ _ c.number.ensures _ c.in_ok-start.was c.if-c-r-ne9.false _ c.number-2.ensures c.in_err-last.was)
 
-pub number-requires-2 : goal.number-requires-2
-number-requires-2 c =
-    record {
-      fed = fed_behind _ _ _ c.requires (ends _ _ _ c.number.ensures _ _ _ c.in-Is.is) c.if-sheet-r-ne9.false;
-      limit_le_u32 = search rules;
-    }
-
-pub returns-in_default-number : goal.returns-in_default-number
-returns-in_default-number c = search (span_end_not, rules)
-
-pub returns-then-x-y : goal.returns-then-x-y
-returns-then-x-y c = search (span_is, rules)
+pub returns-then-second-first : goal.returns-then-second-first
+returns-then-second-first c = span_not _ _ _ c.number.ensures _ c.in_ok-start.was c.if-c-r-ne9.false _ c.number-2.ensures _ c.in_ok-last.was c.if-second-first.true
 
 pub returns : goal.returns
-returns c = search (span_not, rules)
+returns c = span_is _ _ _ c.number.ensures _ c.in_ok-start.was c.if-c-r-ne9.false _ c.number-2.ensures _ c.in_ok-last.was c.if-second-first.false

@@ -1,32 +1,19 @@
 -- `record::hex::digit` meets its contract. Assumes nothing.
-use Rattle.record.specs.Hex.{digit}
-use Rattle.record.proofs.TestRules.{tests}
+use native.Mathlib.Omega.{arith}
+use Rattle.record.proofs.HexLaws.{number_of, letter_of, other_of}
 use Rattle.record.proofs.hex.digit.Goals as goal
 
-pub returns-then-d-gt-LETTER_F : goal.returns-then-d-gt-LETTER_F
-unfolding digit
-returns-then-d-gt-LETTER_F c = search tests
+pub returns-in-48-to-57 : goal.returns-in-48-to-57
+returns-in-48-to-57 c = rw c.from.ensures (number_of c.args.b (omega arith) (omega arith))
 
-pub overflow_sub-result : goal.overflow_sub-result
-unfolding digit
-overflow_sub-result c = search tests
+pub returns-in-97-to-102 : goal.returns-in-97-to-102
+returns-in-97-to-102 c = rw c.from-in-97-to-102.ensures (letter_of c.args.b (omega arith) (omega arith))
 
-pub returns-then-d-gt-BEFORE_A : goal.returns-then-d-gt-BEFORE_A
-unfolding digit
-returns-then-d-gt-BEFORE_A c = search tests
+pub returns-in_default : goal.returns-in_default
+returns-in_default c = other_of c.args.b (λ h k. omega arith) (λ h k. omega arith)
 
-pub returns-then-d-gt-DIGIT_9 : goal.returns-then-d-gt-DIGIT_9
-unfolding digit
-returns-then-d-gt-DIGIT_9 c = search tests
+pub returns-in_default-2 : goal.returns-in_default-2
+returns-in_default-2 c = other_of c.args.b (λ h k. omega arith) (λ h k. omega arith)
 
-pub overflow_sub-result-then-d-gt-BEFORE_0 : goal.overflow_sub-result-then-d-gt-BEFORE_0
-unfolding digit
-overflow_sub-result-then-d-gt-BEFORE_0 c = search tests
-
-pub returns-then-d-gt-BEFORE_0 : goal.returns-then-d-gt-BEFORE_0
-unfolding digit
-returns-then-d-gt-BEFORE_0 c = search tests
-
-pub returns-else-d-gt-BEFORE_0 : goal.returns-else-d-gt-BEFORE_0
-unfolding digit
-returns-else-d-gt-BEFORE_0 c = search tests
+pub returns-in_default-3 : goal.returns-in_default-3
+returns-in_default-3 c = other_of c.args.b (λ h k. omega arith) (λ h k. omega arith)

@@ -1,27 +1,29 @@
--- `record::hex::hex` meets its contract. The loop's invariant: the digits left, behind the number so far, give the whole answer, and the number has as many digits as were passed. Assumes nothing.
+-- `record::hex::hex` meets its contract. Assumes nothing.
 use native.Mathlib.Omega.{arith}
-use mathlib.Core.Path.{refl}
-use Rattle.record.proofs.HexLaws.{hex_not, hex_of, hex_bad, hex_more, room, grown}
-use borrow.Author.Rules.{rules}
+use mathlib.Core.Path.{refl, sym}
+use Rattle.record.proofs.HexLaws.{hex_not, hex_of, hex_bad, hex_more, digit_low, room, grown}
 use Rattle.record.proofs.hex.hex.Goals as goal
 
 pub returns-then-s-ne-HEX_DIGITS : goal.returns-then-s-ne-HEX_DIGITS
-returns-then-s-ne-HEX_DIGITS c = search (hex_not, rules)
+returns-then-s-ne-HEX_DIGITS c = hex_not _ c.if-s-ne-HEX_DIGITS.true
 
-pub loop-i-init : goal.loop-i-init
-loop-i-init c = (omega arith, omega arith, refl)
+pub loop-b-init : goal.loop-b-init
+loop-b-init c = (omega arith, refl)
 
-pub returns-then-d-ge-HEX_BASE : goal.returns-then-d-ge-HEX_BASE
-returns-then-d-ge-HEX_BASE c = search (hex_bad, rules)
+pub returns-in_err-d : goal.returns-in_err-d
+returns-in_err-d c = rw c.from_residual.ensures (hex_bad _ c.if-s-ne-HEX_DIGITS.false _ _ c.loop-b.invariant.1 c.loop-b-test.true (sym c.in_err-d.ensures))
 
 pub overflow_mul-v : goal.overflow_mul-v
-overflow_mul-v c = omega (arith, room c.loop-i.i c.loop-i.v (omega arith) c.loop-i.invariant.1)
+overflow_mul-v c = omega (arith, room c.loop-b.b-index c.loop-b.v (omega arith) c.loop-b.invariant.0)
 
 pub overflow_add-v : goal.overflow_add-v
-overflow_add-v c = omega (arith, room c.loop-i.i c.loop-i.v (omega arith) c.loop-i.invariant.1)
+overflow_add-v c = omega (arith, room c.loop-b.b-index c.loop-b.v (omega arith) c.loop-b.invariant.0, digit_low _ _ (sym c.in_ok-d.ensures))
 
-pub loop-i-preserved : goal.loop-i-preserved
-loop-i-preserved c = (omega arith, search (grown, rules), search (hex_more, rules))
+pub loop-b-preserved : goal.loop-b-preserved
+loop-b-preserved c = (
+  grown c.loop-b.b-index c.loop-b.v c.in_ok-d.d c.loop-b.invariant.0 (digit_low _ _ (sym c.in_ok-d.ensures)),
+  hex_more _ c.if-s-ne-HEX_DIGITS.false _ _ c.loop-b.invariant.1 c.loop-b-test.true c.in_ok-d.d (sym c.in_ok-d.ensures),
+)
 
 pub returns : goal.returns
-returns c = search (hex_of, rules)
+returns c = hex_of _ c.if-s-ne-HEX_DIGITS.false _ _ c.loop-b.invariant.1 c.loop-b-test.false

@@ -1,19 +1,12 @@
--- `record::int::minus` meets its contract: what `decimal` answers, negated. Assumes nothing.
-use Prim.Native.Nat.{◌≤◌}
-use native.Mathlib.Omega.{arith}
-use Rattle.record.proofs.IntLaws.{number_bound, minus_of, minus_zero, minus_not}
-use borrow.Author.Rules.{rules}
-use Rattle.record.specs.Number.{most_below}
+-- `record::int::minus` meets its contract. Assumes nothing.
+use Rattle.record.proofs.IntLaws.{minus_of, minus_zero, minus_not}
 use Rattle.record.proofs.int.minus.Goals as goal
 
+pub returns-in_err-n : goal.returns-in_err-n
+returns-in_err-n c = rw c.from_residual.ensures (minus_not _ _ c.decimal.ensures c.in_err-n.was)
+
 pub returns-then-n-eq0 : goal.returns-then-n-eq0
-returns-then-n-eq0 c = search (minus_zero, rules)
+returns-then-n-eq0 c = minus_zero _ _ c.decimal.ensures _ c.in_ok-n.was c.if-n-eq0.true
 
-pub negative-requires : goal.negative-requires
-negative-requires c = let b : c.in-Is.n ≤ most_below = search (number_bound, rules) in (omega arith, omega arith)
-
-pub returns-else-n-eq0 : goal.returns-else-n-eq0
-returns-else-n-eq0 c = search (minus_of, rules)
-
-pub returns-in-Not : goal.returns-in-Not
-returns-in-Not c = search (minus_not, rules)
+pub returns : goal.returns
+returns c = minus_of _ _ c.decimal.ensures _ c.in_ok-n.was c.if-n-eq0.false _ c.checked_sub_unsigned.ensures

@@ -1,19 +1,16 @@
--- `record::int::signed` meets its contract: with a minus sign what `minus` answers, without what `decimal` does. Assumes nothing.
-use Rattle.record.proofs.IntLaws.{number_bound, signed_empty, signed_minus, signed_of_law, signed_not}
+-- `record::int::signed` meets its contract. Assumes nothing.
 use borrow.Author.Rules.{rules}
+use Rattle.record.proofs.IntLaws.{cast_fits, signed_of_law, signed_not, signed_empty}
 use Rattle.record.proofs.int.signed.Goals as goal
 
-pub returns-then-s-eq0 : goal.returns-then-s-eq0
-returns-then-s-eq0 c = search (signed_empty, rules)
+pub returns-in_err-n-in_default : goal.returns-in_err-n-in_default
+returns-in_err-n-in_default c = rw c.from_residual.ensures (signed_not _ (search rules) _ c.decimal.ensures c.in_err-n-in_default.was)
 
-pub returns-then-s-eq45 : goal.returns-then-s-eq45
-returns-then-s-eq45 c = search (signed_minus, rules)
+pub overflow_cast-result : goal.overflow_cast-result
+overflow_cast-result c = cast_fits _ _ c.decimal.ensures _ c.in_ok-n-in_default.was
 
-pub positive-requires : goal.positive-requires
-positive-requires c = search (number_bound, rules)
+pub returns-in-empty : goal.returns-in-empty
+returns-in-empty c = signed_empty _ c.in-empty.len_below
 
-pub returns-in-Is : goal.returns-in-Is
-returns-in-Is c = search (signed_of_law, rules)
-
-pub returns-in-Not : goal.returns-in-Not
-returns-in-Not c = search (signed_not, rules)
+pub returns-in_ok-n-in_default : goal.returns-in_ok-n-in_default
+returns-in_ok-n-in_default c = signed_of_law _ (search rules) _ c.decimal.ensures _ c.in_ok-n-in_default.was

@@ -1,31 +1,19 @@
 -- `record::name::alias_at` meets its contract: a dash, or an equals sign and what `text_at` answers. Assumes nothing.
 use native.Mathlib.Omega.{arith}
-use borrow.Author.Rules.{rules}
-use Rattle.record.proofs.PlaceLaws.{fed_in}
-use Rattle.record.proofs.AbsentLaws.{dash_fed}
-use Rattle.record.proofs.NameLaws.{name_fed, alias_absent, alias_spare, alias_neither, alias_name, alias_bad}
+use Rattle.record.proofs.NameLaws.{alias_absent, alias_spare, alias_neither, alias_name, alias_bad}
 use Rattle.record.proofs.name.alias_at.Goals as goal
 
-pub bounds-s-p : goal.bounds-s-p
-bounds-s-p c = omega (arith, fed_in _ _ c.requires)
-
-pub bounds-s-p-then-b-eq45 : goal.bounds-s-p-then-b-eq45
-bounds-s-p-then-b-eq45 c = omega (arith, fed_in _ _ (dash_fed _ _ c.requires c.if-b-eq45.true))
+pub returns-in_err-end-in-61 : goal.returns-in_err-end-in-61
+returns-in_err-end-in-61 c = rw c.from_residual.ensures (alias_bad _ _ c.args.c.fed c.in-61.is _ c.text_at.ensures c.in_err-end-in-61.was)
 
 pub returns-then-separates : goal.returns-then-separates
-returns-then-separates c = search (alias_absent, rules)
+returns-then-separates c = alias_absent _ _ c.args.c.fed c.in-45.is _ c.separates.ensures c.if-separates.true
 
-pub returns-then-b-eq45 : goal.returns-then-b-eq45
-returns-then-b-eq45 c = search (alias_spare, rules)
+pub returns-else-separates : goal.returns-else-separates
+returns-else-separates c = alias_spare _ _ c.args.c.fed c.in-45.is _ c.separates.ensures c.if-separates.false
 
-pub returns-then-b-ne61 : goal.returns-then-b-ne61
-returns-then-b-ne61 c = search (alias_neither, rules)
+pub returns-in_ok-end-in-61 : goal.returns-in_ok-end-in-61
+returns-in_ok-end-in-61 c = alias_name _ _ c.args.c.fed c.in-61.is _ c.text_at.ensures _ c.in_ok-end-in-61.was
 
-pub text_at-requires : goal.text_at-requires
-text_at-requires c = search (name_fed, rules)
-
-pub returns-in-To : goal.returns-in-To
-returns-in-To c = search (alias_name, rules)
-
-pub returns-in-Not : goal.returns-in-Not
-returns-in-Not c = search (alias_bad, rules)
+pub returns-in_default : goal.returns-in_default
+returns-in_default c = alias_neither _ _ c.args.c.fed (λ h. omega arith) (λ h. omega arith)

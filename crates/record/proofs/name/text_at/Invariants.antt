@@ -4,8 +4,8 @@ use lib.ListN.{length}
 use Rattle.record.proofs.NameLaws.{Naming}
 use Rattle.record.proofs.name.text_at.Given as goal
 
-abbrev pub invariant-loop-n : goal.invariant-loop-n
-invariant-loop-n l = Naming l.s l.p l.i
+abbrev pub invariant-loop-i : goal.invariant-loop-i
+invariant-loop-i l = Naming l.c.bytes.now l.c.at l.i
 
-abbrev pub decreases-loop-n : goal.decreases-loop-n
-decreases-loop-n l = length l.s - l.i
+abbrev pub decreases-loop-i : goal.decreases-loop-i
+decreases-loop-i l = length l.c.bytes.now - l.i

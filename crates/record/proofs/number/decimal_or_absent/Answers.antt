@@ -1,13 +1,12 @@
--- `record::number::decimal_or_absent` meets its contract: a dash, or what `decimal` answers. Assumes nothing.
+-- `record::number::decimal_or_absent` meets its contract. Assumes nothing.
 use Rattle.record.proofs.AbsentLaws.{absent_of, present_of, neither_of}
-use borrow.Author.Rules.{rules}
 use Rattle.record.proofs.number.decimal_or_absent.Goals as goal
 
 pub returns-then-is_dash : goal.returns-then-is_dash
-returns-then-is_dash c = search (absent_of, rules)
+returns-then-is_dash c = absent_of _ _ _ c.is_dash.ensures c.if-is_dash.true
 
-pub returns-in-Is : goal.returns-in-Is
-returns-in-Is c = search (present_of, rules)
+pub returns-in_err-n : goal.returns-in_err-n
+returns-in_err-n c = rw c.from_residual.ensures (neither_of _ _ _ c.is_dash.ensures c.if-is_dash.false _ c.decimal.ensures c.in_err-n.was)
 
-pub returns-in-Not : goal.returns-in-Not
-returns-in-Not c = search (neither_of, rules)
+pub returns : goal.returns
+returns c = present_of _ _ _ c.is_dash.ensures c.if-is_dash.false _ c.decimal.ensures _ c.in_ok-n.was

@@ -1,41 +1,33 @@
--- `record::number::gather` meets its contract. The loop's invariant: the digits left, behind the number so far, give the whole answer. Assumes nothing.
+-- `record::number::gather` meets its contract. Assumes nothing.
 use native.Mathlib.Omega.{arith}
-use mathlib.Core.Path.{refl}
-use Prim.Native.Nat.{◌+◌, ◌*◌, ◌-◌, ◌<◌}
-use Rattle.model.specs.Text.{digit0}
-use Rattle.record.proofs.GatherLaws.{gathered, below, above, on, over}
-use borrow.Author.Rules.{rules}
+use mathlib.Core.Path.{◌≡◌, refl, sym}
+use Prim.Native.Nat.{◌+◌, ◌*◌}
+use Rattle.record.proofs.GatherLaws.{gathered, stuck, on, over}
 use Rattle.record.proofs.number.gather.Goals as goal
 
-pub loop-i-init : goal.loop-i-init
-loop-i-init c = (omega arith, omega arith, refl)
+pub loop-b-init : goal.loop-b-init
+loop-b-init c = (omega arith, refl)
 
-pub returns-then-b-lt-DIGIT_0 : goal.returns-then-b-lt-DIGIT_0
-returns-then-b-lt-DIGIT_0 c = search (below, rules)
+pub returns-in_err-d : goal.returns-in_err-d
+returns-in_err-d c = rw c.from_residual.ensures (stuck _ _ _ _ _ c.loop-b.invariant.1 c.loop-b-test.true (sym c.in_err-d.ensures))
 
-pub returns-then-d-gt9 : goal.returns-then-d-gt9
-returns-then-d-gt9 c = search (above, rules)
+pub returns-in_err-tens : goal.returns-in_err-tens
+returns-in_err-tens c =
+    rw c.from_residual-in_err-tens.ensures
+    (over _ _ _ _ _ c.loop-b.invariant.1 c.loop-b-test.true c.in_ok-d.d (sym c.in_ok-d.ensures) (omega (arith, c.in_err-tens.ensures)))
+
+pub returns-in_err-v : goal.returns-in_err-v
+returns-in_err-v c =
+    rw c.from_residual-in_err-v.ensures
+    (over _ _ _ _ _ c.loop-b.invariant.1 c.loop-b-test.true c.in_ok-d.d (sym c.in_ok-d.ensures) (omega (arith, c.in_ok-tens.ensures, c.in_err-v.ensures)))
 
 pub returns-then-limit-v : goal.returns-then-limit-v
-returns-then-limit-v c = let k : c.args.limit < c.loop-i.v * 10 + (c.wide-b.result - digit0) = omega arith in search (over, rules)
+returns-then-limit-v c = over _ _ _ _ _ c.loop-b.invariant.1 c.loop-b-test.true c.in_ok-d.d (sym c.in_ok-d.ensures) (omega (arith, c.in_ok-tens.ensures, c.in_ok-v.ensures))
 
-pub overflow_mul-v : goal.overflow_mul-v
-overflow_mul-v c = omega arith
-
-pub overflow_sub-limit : goal.overflow_sub-limit
-overflow_sub-limit c = omega arith
-
-pub returns-then-limit-v-2 : goal.returns-then-limit-v-2
-returns-then-limit-v-2 c = let k : c.args.limit < c.loop-i.v * 10 + (c.wide-b.result - digit0) = omega arith in search (over, rules)
-
-pub overflow_mul-v-in-loop-i : goal.overflow_mul-v-in-loop-i
-overflow_mul-v-in-loop-i c = omega arith
-
-pub overflow_add-v : goal.overflow_add-v
-overflow_add-v c = omega arith
-
-pub loop-i-preserved : goal.loop-i-preserved
-loop-i-preserved c = (omega arith, omega arith, search (on, rules))
+pub loop-b-preserved : goal.loop-b-preserved
+loop-b-preserved c =
+    let e : c.in_ok-v.v ≡ c.loop-b.v * 10 + c.in_ok-d.d = omega (arith, c.in_ok-tens.ensures, c.in_ok-v.ensures) in
+    (c.if-limit-v.false, rw e (on _ _ _ _ _ c.loop-b.invariant.1 c.loop-b-test.true c.in_ok-d.d (sym c.in_ok-d.ensures)))
 
 pub returns : goal.returns
-returns c = search (gathered, rules)
+returns c = gathered _ _ _ _ _ c.loop-b.invariant.1 c.loop-b-test.false c.loop-b.invariant.0

@@ -4,8 +4,8 @@ use lib.ListN.{length}
 use Rattle.record.proofs.GatherLaws.{Digits}
 use Rattle.record.proofs.number.gather_at.Given as goal
 
-abbrev pub invariant-loop-b : goal.invariant-loop-b
-invariant-loop-b l = Digits l.limit l.s l.p l.first l.v l.i l.b
+abbrev pub invariant-loop-d : goal.invariant-loop-d
+invariant-loop-d l = Digits l.limit l.c.bytes.now l.c.at l.first l.v l.i
 
-abbrev pub decreases-loop-b : goal.decreases-loop-b
-decreases-loop-b l = length l.s - l.i
+abbrev pub decreases-loop-d : goal.decreases-loop-d
+decreases-loop-d l = length l.c.bytes.now - l.i

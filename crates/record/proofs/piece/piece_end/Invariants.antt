@@ -5,7 +5,7 @@ use Rattle.record.proofs.PlaceLaws.{Passing}
 use Rattle.record.proofs.piece.piece_end.Given as goal
 
 abbrev pub invariant-loop-i : goal.invariant-loop-i
-invariant-loop-i l = Passing l.s l.p l.i
+invariant-loop-i l = Passing l.c.bytes.now l.c.at l.i
 
 abbrev pub decreases-loop-i : goal.decreases-loop-i
-decreases-loop-i l = length l.s - l.i
+decreases-loop-i l = length l.c.bytes.now - l.i

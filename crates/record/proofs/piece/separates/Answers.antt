@@ -1,12 +1,14 @@
 -- `record::piece::separates` meets its contract. Assumes nothing.
-use Rattle.record.specs.Place.{separates}
-use Rattle.record.proofs.TestRules.{tests}
+use mathlib.Core.Path.{sym}
+use native.Mathlib.Omega.{arith}
+use Rattle.record.proofs.PlaceLaws.{separates_in, separates_low, separates_other}
 use Rattle.record.proofs.piece.separates.Goals as goal
 
-pub returns-then-b-eq9 : goal.returns-then-b-eq9
-unfolding separates
-returns-then-b-eq9 c = search tests
+pub returns-in-9 : goal.returns-in-9
+returns-in-9 c = separates_in c.args.b (omega arith) (omega arith)
 
-pub returns : goal.returns
-unfolding separates
-returns c = search tests
+pub returns-in_default : goal.returns-in_default
+returns-in_default c = separates_low c.args.b (omega arith)
+
+pub returns-in_default-2 : goal.returns-in_default-2
+returns-in_default-2 c = sym (separates_other c.args.b (omega arith))

@@ -1,20 +1,12 @@
--- `sheet::reader::lines_end` meets its contract. The loop's invariant: from z on no line feed stands. Assumes nothing.
-use native.Mathlib.Omega.{arith}
+-- `lines_end` meets its contract. Assumes nothing.
+use mathlib.Core.Path.{◌≡◌}
+use Prim.Native.Nat.{◌+◌}
 use borrow.Author.Rules.{rules}
-use Rattle.sheet.specs.LineLaws.{unfed_start, unfed_more, lines_found, lines_none}
+use Rattle.std.specs.Prelude.{MatchOption}
+use Rattle.sheet.specs.LineLaws.{lines_end_law}
 use Rattle.sheet.proofs.reader.lines_end.Goals as goal
 
-pub loop-z-init : goal.loop-z-init
-loop-z-init c = search (unfed_start, rules)
-
-pub bounds-sheet-z : goal.bounds-sheet-z
-bounds-sheet-z c = omega (arith, c.loop-z.invariant.low)
-
-pub returns-then-sheet-z-eq10 : goal.returns-then-sheet-z-eq10
-returns-then-sheet-z-eq10 c = search (lines_found, rules)
-
-pub loop-z-preserved : goal.loop-z-preserved
-loop-z-preserved c = search (unfed_more, rules)
-
 pub returns : goal.returns
-returns c = lines_none _ _ c.loop-z.invariant (omega (arith, c.loop-z-test.false))
+returns c =
+    let behind : MatchOption c.last_feed.result (c.map_or.result ≡ 0) (λ z. c.map_or.result ≡ z + 1) = search rules in
+    lines_end_law _ _ _ c.last_feed.ensures behind

@@ -1,135 +1,35 @@
 -- `read_next` meets its contract: one line by the law of a line, its groups on the stack, or a refusal. Assumes nothing.
-use Rattle.sheet.specs.Next.{top_room, top_sort, top_count, next_many, next_deep, next_unformed, next_asked, next_more}
+use Rattle.std.specs.Prelude.{Err}
+use Rattle.std.proofs.Common.{◌≡◌, sym, inl, inr}
+use borrow.Author.Rules.{rules}
+use Rattle.sheet.specs.declared.reader.ReadError.TheVariants.{BadLine}
+use Rattle.sheet.specs.Next.{next_big, next_unformed, next_asked, next_more}
 use native.Mathlib.Omega.{arith}
 use Rattle.sheet.proofs.reader.read_next.Goals as goal
 
-pub overflow_mul-at : goal.overflow_mul-at
-overflow_mul-at c = omega (arith, (top_room _ _ _ _ _ _ _ _ c.requires.by_index.1).few)
-
-pub offset_bounds-stack-at : goal.offset_bounds-stack-at
-offset_bounds-stack-at c = omega (arith, (top_room _ _ _ _ _ _ _ _ c.requires.by_index.1).few)
-
-pub bounds-stack-at : goal.bounds-stack-at
-bounds-stack-at c = omega (arith, (top_room _ _ _ _ _ _ _ _ c.requires.by_index.1).few, (top_room _ _ _ _ _ _ _ _ c.requires.by_index.1).long)
-
-pub overflow_add-room : goal.overflow_add-room
-overflow_add-room c = omega (arith, (top_room _ _ _ _ _ _ _ _ c.requires.by_index.1).few)
-
-pub offset_bounds-stack-at-2 : goal.offset_bounds-stack-at-2
-offset_bounds-stack-at-2 c = omega (arith, (top_room _ _ _ _ _ _ _ _ c.requires.by_index.1).few)
-
-pub bounds-stack-at-2 : goal.bounds-stack-at-2
-bounds-stack-at-2 c = omega (arith, (top_room _ _ _ _ _ _ _ _ c.requires.by_index.1).few, (top_room _ _ _ _ _ _ _ _ c.requires.by_index.1).long)
-
 pub returns-then-i-eq-MAX_RECORDS : goal.returns-then-i-eq-MAX_RECORDS
-returns-then-i-eq-MAX_RECORDS c = λ depth o. next_many _ _ _ _ _ _ _ _ o _ c.requires.in_line.fed.line (omega (arith, c.if-i-eq-MAX_RECORDS.true))
+returns-then-i-eq-MAX_RECORDS c = λ depth o. next_big o c.take-top.ensures.topmost c.requires.in_line.fed.line c.line.ensures (elim c.then-i-eq-MAX_RECORDS.either [ inl q ↦ inl (omega (arith, q)) | inr q ↦ inr q.1 ])
 
-pub returns-then-room-eq0 : goal.returns-then-room-eq0
-returns-then-room-eq0 c = λ depth o. next_deep _ _ _ _ _ _ _ _ o _ c.requires.in_line.fed.line c.if-room-eq0.true
+pub returns-in_err-line : goal.returns-in_err-line
+returns-in_err-line c =
+    λ depth o.
+    let none = rw c.in_err-line.was at c.ok_or.ensures.ok_part in
+    let into = rw none at (c.read_into.ensures _ c.requires.in_line.fed.line) in
+    let bad : Err (BadLine c.line-2.result) ≡ c.ok_or.result = rw none at (sym c.ok_or.ensures.value) in
+    let answer : c.from_residual.result ≡ Err (BadLine c.line-2.result) = search rules in
+    rw answer (next_unformed o c.take-top.ensures.topmost c.requires.in_line.fed.line (omega arith) (omega arith) c.line-2.ensures into.line.answer)
 
-pub read_into-requires : goal.read_into-requires
-read_into-requires c =
-    record {
-      line = c.requires.in_line;
-      sort = top_sort _ _ _ _ _ _ _ _ c.requires.by_index.1;
-      low = omega (arith, c.requires.by_index.1.few, c.if-i-eq-MAX_RECORDS.false);
-      words = c.requires.by_index.1.roomy;
-    }
-
-pub returns-in_default : goal.returns-in_default
-returns-in_default c =
-    λ depth o. next_unformed
-    _
-    _
-    _
-    _
-    _
-    _
-    _
-    _
-    o
-    _
-    c.requires.in_line.fed.line
-    c.if-i-eq-MAX_RECORDS.false
-    c.if-room-eq0.false
-    _
-    _
-    _
-    (c.read_into.ensures _ c.requires.in_line.fed.line)
-    c.in_default.is
-
-pub pop-groups-requires : goal.pop-groups-requires
-pop-groups-requires c =
-    record {
-      room = top_room _ _ _ _ _ _ _ _ c.requires.by_index.1;
-      nonzero = top_count _ _ _ _ _ _ _ _ c.requires.by_index.1;
-    }
-
-pub room_below-below-requires : goal.room_below-below-requires
-room_below-below-requires c = (top_sort _ _ _ _ _ _ _ _ c.requires.by_index.1, omega (arith, c.if-room-eq0.false))
-
-pub push_groups-due-requires : goal.push_groups-due-requires
-push_groups-due-requires c =
-    next_asked
-    _
-    _
-    _
-    _
-    _
-    _
-    _
-    _
-    c.requires.by_index.1
-    _
-    c.requires.in_line.fed.line
-    c.if-i-eq-MAX_RECORDS.false
-    c.if-room-eq0.false
-    _
-    _
-    _
-    _
-    _
-    _
-    _
-    _
-    (c.read_into.ensures _ c.requires.in_line.fed.line)
-    c.in-Kind.is
-    c.pop-groups.ensures
-    c.room_below-below.ensures
-
-pub write_line-first-requires : goal.write_line-first-requires
-write_line-first-requires c = omega (arith, c.requires.by_index.1.few, c.if-i-eq-MAX_RECORDS.false)
+pub push_groups-requires : goal.push_groups-requires
+push_groups-requires c =
+    let some = rw c.in_ok-line.was at c.ok_or.ensures.ok_part in
+    let into = rw some at (c.read_into.ensures _ c.requires.in_line.fed.line) in
+    next_asked c.requires.so_far.1 c.take-top.ensures.topmost c.requires.in_line.fed.line (omega arith) (omega arith) c.take-top.result.known into c.take-top.ensures.high c.room_below.ensures
 
 pub returns : goal.returns
 returns c =
-    λ depth o. next_more
-    _
-    _
-    _
-    _
-    _
-    _
-    _
-    _
-    o
-    _
-    c.requires.in_line.fed.line
-    c.if-i-eq-MAX_RECORDS.false
-    c.if-room-eq0.false
-    _
-    _
-    _
-    _
-    _
-    _
-    _
-    _
-    (c.read_into.ensures _ c.requires.in_line.fed.line)
-    c.in-Kind.is
-    c.pop-groups.ensures
-    c.room_below-below.ensures
-    _
-    _
-    _
-    c.push_groups-due.ensures
-    c.write_line-first.ensures
+    λ depth o.
+    let some = rw c.in_ok-line.was at c.ok_or.ensures.ok_part in
+    let into = rw some at (c.read_into.ensures _ c.requires.in_line.fed.line) in
+    let groups = rw (c.shared.ensures.0, c.shared.ensures.1) at c.push_groups.ensures in
+    let more = next_more o c.take-top.ensures.topmost c.requires.in_line.fed.line (omega arith) (omega arith) c.take-top.result.known into c.room_below.ensures c.take-top.ensures groups in
+    (c.advance.ensures.records, rw (c.advance.ensures.records, c.advance.ensures.pos, c.advance.ensures.write) more)

@@ -1,23 +1,24 @@
 -- `lower_statement` meets its contract: test 1, and then the others. Assumes nothing.
-use Rattle.statement.specs.declared.Answer.{Answer}
+use Rattle.std.specs.Prelude.{Err}
+use Rattle.std.proofs.lemmas.Bool.{not-false, not-true}
+use Rattle.std.proofs.Common.{sym, ◌∙◌}
+use Rattle.statement.specs.declared.Refusal.{Refusal}
 use Rattle.statement.specs.Lowering.{lower_short, called}
-use Rattle.statement.specs.Sizing.{yes, none_short}
+use Rattle.statement.specs.Sizing.{enough}
 use Rattle.statement.proofs.lowering.lower_statement.Goals as goal
+
+pub returns-then-not-long_enough : goal.returns-then-not-long_enough
+returns-then-not-long_enough c = called _ _ _ _ (Err Refusal.ShortWork) (lower_short _ _ _ (not-false _ (sym c.long_enough.ensures ∙ c.if-not-long_enough.true)))
+
+pub invariant_of-records : goal.invariant_of-records
+invariant_of-records c =
+    let e = enough _ _ _ _ (not-true _ (sym c.long_enough.ensures ∙ c.if-not-long_enough.false)) in
+    record { roomy = record { first = e.first; second = e.second } }
 
 pub lower_read-requires : goal.lower_read-requires
 lower_read-requires c =
-    let y = yes _ _ _ _ _ c.if-long_enough.true c.long_enough.ensures in
-    record { records = record { first = y.0; second = y.1 }; in_ops = y.2; in_rest = y.3 }
-
-pub returns-then-long_enough : goal.returns-then-long_enough
-returns-then-long_enough c =
-    called
-    _
-    _
-    _
-    _
-    c.lower_read.result
-    (c.lower_read.ensures _ (none_short _ _ _ _ (yes _ _ _ _ _ c.if-long_enough.true c.long_enough.ensures)))
+    let e = enough _ _ _ _ (not-true _ (sym c.long_enough.ensures ∙ c.if-not-long_enough.false)) in
+    (e.third, e.fourth)
 
 pub returns : goal.returns
-returns c = called _ _ _ _ Answer.ShortWork (lower_short _ _ _ _ _ _ _ c.if-long_enough.false c.long_enough.ensures)
+returns c = called _ _ _ _ c.lower_read.result (c.lower_read.ensures _ (not-true _ (sym c.long_enough.ensures ∙ c.if-not-long_enough.false)))

@@ -1,7 +1,0 @@
--- `line::field::int` meets its contract: the words of a signed number in place. Assumes nothing.
-use borrow.Author.Rules.{rules}
-use Rattle.line.proofs.WordLaws.{placed_at}
-use Rattle.line.proofs.field.int.Goals as goal
-
-pub returns : goal.returns
-returns c = search (placed_at, rules)

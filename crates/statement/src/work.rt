@@ -1,0 +1,24 @@
+// The four work slices of a call.
+ghost use Rattle.std.specs.Prelude.{◌≡◌, not};
+ghost use Rattle.model.specs.Call.{short};
+ghost use Rattle.statement.specs.Work.{sizes};
+
+// What a call is lent to work in: two slices for the records, one for the reader's stack and then the operators, and one for the lowering's notes and variables.
+#[derive(Drop)]
+pub struct Work<'a> {
+    pub a: &'a mut [u32],
+    pub b: &'a mut [u32],
+    pub c: &'a mut [u32],
+    pub d: &'a mut [u32],
+}
+
+impl Work<'_> {
+    // Whether each has as many words as a call needs.
+    pub fn long_enough(&self) -> bool
+        ensures { result ≡ not (short (sizes self.now.a.now self.now.b.now self.now.c.now self.now.d.now)) }
+    {
+        ![self.a.len(), self.b.len(), self.c.len(), self.d.len()]
+            .iter()
+            .any(|n| *n < words::WORK_WORDS)
+    }
+}
