@@ -1,4 +1,6 @@
 // The lowering of a whole statement: its clauses one after another, then its union arms, over the tables of crate context.
+//
+// The sheet, its records and the tables are lent one by one, as the crates below take them. In one struct, lent to be written, they would be no plainer: each function would have to promise that the struct's references stay what they were, as `pair::lower_union_pair` does.
 #![tactic(auto)]
 
 ghost use Rattle.std.specs.Prelude.{◌-◌, None};
@@ -109,7 +111,7 @@ fn lower_arm(
     }
 }
 
-// The arms behind head, so many.
+// So many arms behind head. The loop is `lower_clauses`'s over another step; one function for both would take the step as a closure with a contract of its own, and be longer than the two.
 fn lower_arms(
     sheet: &[u8],
     r: &Records<'_>,

@@ -1,5 +1,5 @@
 // The lowering of two statements into one plan, each over tables of its own, and their union.
-ghost use Rattle.std.specs.Prelude.{ℕ, List};
+ghost use Rattle.std.specs.Prelude.{◌≡◌, ℕ, List};
 ghost use Rattle.lower.specs.Rep.{mem};
 ghost use Rattle.clauses.specs.Pair.{union_of, UniteAsked, Unites, PairAsked, LowersPair};
 
@@ -36,6 +36,7 @@ pub fn unite(ops: &mut [u32], ctx: LowerCtx, both: Operands, i: usize) -> United
 }
 
 // One side of a pair: its sheet, the records that hold it, and its own tables.
+#[derive(Drop)]
 pub struct Side<'a> {
     pub sheet: &'a [u8],
     pub records: Records<'a>,
@@ -53,7 +54,9 @@ pub struct Sides {
 // The statements of both sides, the left one from empty tables on, the right one behind its operators and numbers and with no variables. The union stands in the right's table, with its first record.
 pub fn lower_union_pair(left: &mut Side<'_>, right: &mut Side<'_>, all: bool) -> Sides
     requires { PairAsked left.old.sheet.now left.old.records.a.now left.old.records.b.now left.old.ops.now left.old.rest.now right.old.sheet.now right.old.records.a.now right.old.records.b.now right.old.ops.now right.old.rest.now }
-    ensures { LowersPair left.old.sheet.now left.old.records.a.now left.old.records.b.now left.new.ops.now left.new.rest.now right.old.sheet.now right.old.records.a.now right.old.records.b.now all result.first (mem result.ctx right.new.ops.now right.new.rest.now) }
+    ensures lowered { LowersPair left.old.sheet.now left.old.records.a.now left.old.records.b.now left.new.ops.now left.new.rest.now right.old.sheet.now right.old.records.a.now right.old.records.b.now all result.first (mem result.ctx right.new.ops.now right.new.rest.now) }
+    ensures same_left { (left.new.ops.ghost_name ≡ left.old.ops.ghost_name) × (left.new.rest.ghost_name ≡ left.old.rest.ghost_name) }
+    ensures same_right { (right.new.ops.ghost_name ≡ right.old.ops.ghost_name) × (right.new.rest.ghost_name ≡ right.old.rest.ghost_name) }
 {
     let l = lower_from(
         left.sheet,

@@ -61,7 +61,7 @@ pub fn group_count(r: &Records<'_>, i: usize, kind: u32, g: usize) -> u32
     }
 }
 
-// How many records group g has of the record whose words these are.
+// How many records group g has of the record whose words these are. Not one with `group_count`: a closure for the read of a word would want that word's bound and value in the contract, which is longer than both.
 fn count_in(part: &[u32], kind: u32, g: usize) -> u32
     requires kind_lt_kind_count { (kind < kind_count) × (g < group_count) }
     requires part_len { length part.now ≡ record_words }

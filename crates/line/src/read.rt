@@ -17,6 +17,8 @@ const FIRST_WORD: usize = 2;
 
 const SECOND_WORD: usize = 3;
 
+// A record's words are lent as a slice with its length in the contracts, not as an array: an array made of a part of a slice (`try_from`, `as_mut_array`) was tried, and nothing then tells what the slice holds behind the loan.
+
 // The fields of a kind, from behind place p on: field g goes to the words 2g + 2 and 2g + 3. Each stands behind a tab, and the line feed behind the last. Where the line ends, of which all fields are read.
 fn read_fields(p: Place<'_>, kind: u32, part: &mut [u32]) -> Option<usize>
     requires { FieldsAsked kind p.cursor.bytes.now p.cursor.at part.old }

@@ -1,5 +1,5 @@
 -- What a whole text does from the start: from `Puts` to the lent slice, and to the call's definition of a written plan. Assumes nothing: every law is proved.
-use Rattle.std.specs.Prelude.{◌≡◌, Bool, cond, true, false, [], ◌∷◌, ◌++◌, ℕ, ◌<◌, ◌≤◌, ltb, length, take, drop}
+use Rattle.std.specs.Prelude.{◌≡◌, Option, None, Some, Bool, cond, true, false, [], ◌∷◌, ◌++◌, ℕ, ◌<◌, ◌≤◌, ltb, length, take, drop}
 use Rattle.std.specs.Borrow.{MutBor}
 use Rattle.std.proofs.Common.{refl, sym, ap, ◌∙◌, arith, zero-add, lt-ltb, le-ltb, ltb-true, ltb-false}
 use Rattle.std.proofs.lemmas.List.Edits.{sets-eq}
@@ -15,10 +15,15 @@ pub record Written (t p q : Bytes) (o : ℕ) : Type 0 where
   pub slice : q ≡ t ++ drop (length t) p
   pub at : o ≡ length t
 
--- a text that is written from the start of a slice p, which ends as q: its first n bytes are the text, or n is 0 and it does not fit
-pub record Begins (t p q : Bytes) (n : ℕ) : Type 0 where
+-- the first n bytes of q, as long as p, are the text
+pub record Fitted (t p q : Bytes) (n : ℕ) : Type 0 where
   pub upper_bound : n ≤ length p
-  pub page_after : take n q ≡ cond (ltb (length p) (length t)) [] t
+  pub page_after : take n q ≡ t
+
+-- a text that is written from the start of a slice p, which ends as q: where it ends, if it fits
+abbrev pub Begins : (t p q : Bytes) → Option ℕ → Type 0
+Begins t p q None = length p < length t
+Begins t p q (Some n) = Fitted t p q n
 
 -- the slice p, which is shorter than the largest cursor, was lent to a page and ends as q, what that page left under p's name
 module _ {t : Bytes} {p : MutBor Bytes} {g : Page} {q : Bytes} (e : Puts t (on p 0) g) (small : length p.now < most) (back : p.ghost_name ≡ g.bytes.ghost_name → q ≡ g.bytes.now) where
@@ -34,23 +39,21 @@ module _ {t : Bytes} {p : MutBor Bytes} {g : Page} {q : Bytes} (e : Puts t (on p
       }
 
   -- as `Page::used` tells it
-  pub begins : {n : ℕ} → n ≡ cond (ltb (length g.bytes.now) g.out) 0 g.out → Begins t p.now q n
-  begins {n} is = go (ltb (length g.bytes.now) g.out) refl
+  pub begins : {r : Option ℕ} → r ≡ cond (ltb (length g.bytes.now) g.out) None (Some g.out) → Begins t p.now q r
+  begins {r} is = rw is (go (ltb (length g.bytes.now) g.out) refl)
     where
-      go : (b : Bool) → ltb (length g.bytes.now) g.out ≡ b → Begins t p.now q n
+      go : (b : Bool) → ltb (length g.bytes.now) g.out ≡ b → Begins t p.now q (cond b None (Some g.out))
       go true l =
           let moved = e.moved in
           let long = e.long in
           let far = ltb-true (length g.bytes.now) g.out l in
-          let zero : n ≡ 0 = is ∙ rw l in
-          record { upper_bound = omega arith; page_after = rw (zero, lt-ltb (length p.now) (length t) (omega arith)) }
+          omega arith
       go false l =
           let moved = e.moved in
           let long = e.long in
           let near = ltb-false (length g.bytes.now) g.out l in
           let w = wrote (omega arith) in
-          let all : n ≡ length t = is ∙ rw l w.at in
-          record { upper_bound = omega arith; page_after = rw (all, w.slice, le-ltb (length p.now) (length t) (omega arith)) (take-append_seam t (drop (length t) p.now)) }
+          record { upper_bound = omega arith; page_after = rw (w.at, w.slice) (take-append_seam t (drop (length t) p.now)) }
 
 -- ── the call: measure on an empty part at the slice's start, which is x behind the measuring; then refuse with 10 or write ──
 

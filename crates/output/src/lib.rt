@@ -47,15 +47,14 @@ impl Page<'_> {
         self.out = self.out.saturating_add(n);
     }
 
-    // How many bytes were put from the slice's start on, or 0 if they did not fit.
-    pub fn used(&self) -> usize
-        ensures { result ≡ cond (ltb (length self.now.bytes.now) self.now.out) 0 self.now.out }
+    // How many bytes were put from the slice's start on, if they fit.
+    pub fn used(&self) -> Option<usize>
+        ensures { result ≡ cond (ltb (length self.now.bytes.now) self.now.out) None (Some self.now.out) }
     {
         if self.out > self.bytes.len() {
-            0
-        } else {
-            self.out
+            return None;
         }
+        Some(self.out)
     }
 
     // A number.

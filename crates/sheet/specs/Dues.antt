@@ -104,7 +104,7 @@ module _ {w : List ℕ} {m : ℕ} (h : 0 < m) (s : Stacked w m) (more : get_or w
 
 -- ── pushing ──
 
--- a group on top, which is passed over if it is one of none
+-- a group on top, where one of none may be passed over
 pub record Pushed (w w' : List ℕ) (m m' sort count room : ℕ) : Type 0 where
   pub high : m' ≤ suc m
   pub is : Alike (dues w' m') (due (sort_of sort) count room ∷ dues w m)
@@ -149,10 +149,10 @@ module _ (w : List ℕ) (m s n d : ℕ) (h : Stacked w m) (few : m < max_due) wh
   unfolding dues
   push_is = rw (written_sort, written_count, written_room) (ap (λ l. due (sort_of s) n d ∷ l) (dues_same w (written w m s n d) m written_below))
 
-  written_fits : (n ≡ 0 → ⊥) → s < sort_count → d ≤ max_room → m + 1 + slack (sort_of s) ≤ allowed d → Fits (written w m s n d) m
-  written_fits z l r p = record { sort = rw written_sort l; count = rw written_count (omega arith); room = rw written_room r; low = rw (written_sort, written_room) p }
+  written_fits : 0 < n → s < sort_count → d ≤ max_room → m + 1 + slack (sort_of s) ≤ allowed d → Fits (written w m s n d) m
+  written_fits z l r p = record { sort = rw written_sort l; count = rw written_count z; room = rw written_room r; low = rw (written_sort, written_room) p }
 
-pub pushed_stacked : {w : List ℕ} {m s n d m' : ℕ} → Stacked w m → m' ≡ suc m → (n ≡ 0 → ⊥) → s < sort_count → d ≤ max_room → m + 1 + slack (sort_of s) ≤ allowed d → Stacked (written w m s n d) m'
+pub pushed_stacked : {w : List ℕ} {m s n d m' : ℕ} → Stacked w m → m' ≡ suc m → 0 < n → s < sort_count → d ≤ max_room → m + 1 + slack (sort_of s) ≤ allowed d → Stacked (written w m s n d) m'
 pushed_stacked {w} {m} {s} {n} {d} {m'} h e z l r p = record { long = omega (arith, written_long w m s n d h few, h.long); each = λ j k. at j k (eqb j m) refl }
   where
     few : m < max_due
@@ -231,3 +231,7 @@ stepped w w' w'' n ws (suc g) m d r r' h l p q =
 
 pub groups_step : {w w' w'' : List ℕ} {n : ℕ} {ws : List ℕ} {g m d r r' s c : ℕ} → 0 < g → g ≤ group_count → Groups w w' n ws g (group_count - g) m d r → Pushed w' w'' r r' s c d → s ≡ group_sort n (g - 1) → c ≡ count_of ws (group_source n (g - 1)) → Groups w w'' n ws (g - 1) (group_count - (g - 1)) m d r'
 groups_step {w} {w'} {w''} {n} {ws} {g} {m} {d} {r} {r'} h l p q x y = stepped w w' w'' n ws g m d r r' h l p (rw (x, y) at q)
+
+-- a group of none is passed over
+pub groups_pass : {w w' : List ℕ} {n : ℕ} {ws : List ℕ} {g m d r c : ℕ} → 0 < g → g ≤ group_count → Groups w w' n ws g (group_count - g) m d r → c ≡ 0 → c ≡ count_of ws (group_source n (g - 1)) → Groups w w' n ws (g - 1) (group_count - (g - 1)) m d r
+groups_pass {w} {w'} {n} {ws} {g} {m} {d} {r} h l p e y = stepped w w' w' n ws g m d r r h l p (rw (← y) (pushed_none e))

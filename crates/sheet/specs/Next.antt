@@ -33,7 +33,7 @@ abbrev pub Next : ℕ → Bytes → List ℕ → List ℕ → List Due → ℕ �
 Next depth sheet a b st i at (Ok u) = (at.records ≡ i + 1) × SoFar depth sheet a b st at.records at.pos at.write
 Next depth sheet a b st i at (Err e) = read_only depth sheet ≡ refuse (refusal_of e)
 
--- the topmost group has tn records of sort number ts, each with room td, and lies on m others
+-- the topmost of m groups has tn records of sort number ts, each with room td
 module _ {depth : ℕ} {sheet : Bytes} {a b w : List ℕ} {m i pos : ℕ} {wr : Option ℕ} {ts tn td : ℕ} (o : SoFar depth sheet a b (dues w m) i pos wr) (topmost : Topmost w m ts tn td) where
   -- with the successor that definitions go by
   state : SoFar depth sheet a b (due (sort_of ts) (suc (tn - 1)) td ∷ dues w (m - 1)) i pos wr

@@ -1,4 +1,4 @@
-// The stack of due groups: three words a group (sort, count, room), group m from word 3m on.
+// The stack of due groups: three words a group (sort, count, room), group m from word 3m on. They stand in a work slice that the caller of the C interface lends, since there is no heap.
 ghost use Rattle.std.specs.Prelude.{◌≡◌, ◌+◌, ◌<◌, ◌≤◌};
 ghost use Rattle.words.specs.Words.{part};
 ghost use Rattle.words.specs.Places.{sort_count};
@@ -26,6 +26,7 @@ pub struct Group {
     pub count: u32,
     pub room: u32,
     ghost known: { sort < sort_count },
+    ghost due: { 0 < count },
     ghost low: { room ≤ max_room },
 }
 
@@ -69,14 +70,11 @@ impl Stack<'_> {
         Group { sort, count, room }
     }
 
-    // A group on top, unless it is a group of none.
+    // A group on top.
     pub fn push(&mut self, g: Group)
         requires { self.old.groups + 1 + slack (sort_of g.sort) ≤ allowed g.room }
         ensures { Pushed self.old.words.now self.new.words.now self.old.groups self.new.groups g.sort g.count g.room }
     {
-        if g.count == 0 {
-            return;
-        }
         let at = self.groups * GROUP_WORDS;
         self.words[at] = g.sort;
         self.words[at + COUNT] = g.count;
@@ -84,15 +82,17 @@ impl Stack<'_> {
         self.groups += 1;
     }
 
-    // The groups of record i on top, its first group topmost.
+    // The groups of record i on top, its first group topmost; a group of none is passed over.
     pub fn push_groups(&mut self, r: &Records<'_>, i: usize, kind: u32, room: u32)
         requires { GroupsAsked self.old.groups i kind room }
         ensures { Groups self.old.words.now self.new.words.now kind (part r.now.a.now r.now.b.now i) 0 group_count self.old.groups room self.new.groups }
     {
         for g in (0..groups_of(kind)).rev() {
-            let sort = group_sort(kind, g);
             let count = group_count(r, i, kind, g);
-            self.push(Group { sort, count, room });
+            if count != 0 {
+                let sort = group_sort(kind, g);
+                self.push(Group { sort, count, room });
+            }
         }
     }
 }

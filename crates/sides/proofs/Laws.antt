@@ -1,5 +1,5 @@
 -- The laws of the tests on two sheets: what the code finds is what the definition's tests say. Assumes nothing: these are laws with their proofs.
-use Rattle.std.specs.Prelude.{◌≡◌, refl, ℕ, List, [], Option, None, Some, Ok, Err}
+use Rattle.std.specs.Prelude.{◌≡◌, refl, ℕ, List, [], Option, None, Some, Result, Ok, Err}
 use Rattle.std.proofs.Common.{subst, ◌∙◌, arith}
 use Rattle.model.specs.Text.{Bytes}
 use Rattle.model.specs.Kind.{statement}
@@ -10,11 +10,11 @@ use Rattle.model.specs.Side.{left_side, right_side}
 use Rattle.model.specs.Check.{violated, precheck_statement}
 use Rattle.model.specs.Call.{Test, refuse, pass, then, test_reading, test_write, test_check, max_depth}
 use Rattle.model.specs.Pair.{refuse_side, pass_side, then_sides, on_side, each}
-use Rattle.precheck.specs.Answer.{Says, Found as FoundError, error_of}
-use Rattle.precheck.specs.declared.Checked.{Checked}
+use Rattle.words.specs.Held.{HeldSome}
+use Rattle.precheck.specs.Answer.{Says, error_of}
 use Rattle.precheck.specs.declared.PlanLowerError.{PlanLowerError}
 use Rattle.sheet.specs.Reader.{read_only, Reads}
-use Rattle.sheet.specs.declared.reader.Read.{Read}
+use Rattle.sheet.specs.declared.reader.ReadError.{ReadError}
 use Rattle.sides.specs.declared.Fault.{Fault}
 use Rattle.sides.specs.declared.Side.{Side}
 use Rattle.sides.specs.declared.SideFault.{SideFault}
@@ -118,28 +118,28 @@ module _ (left right : Bytes) where
         none_writes w' = rw (each_both read left right t e u e', each_both (λ t. test_write t (first_write t)) t u t (rw w) u (rw w'))
 
 -- a sheet with a write was read, as a tree that has it
-found : (sheet : Bytes) (a b : List ℕ) (l : ℕ) → Reads max_depth sheet a b (Read.WriteClause l) → WriteFound (read_sheet max_depth sheet) l
+found : (sheet : Bytes) (a b : List ℕ) (l : ℕ) → Reads max_depth sheet a b (Err (ReadError.WriteClause l)) → WriteFound (read_sheet max_depth sheet) l
 unfolding read_only
 found sheet a b l e = write_found max_depth sheet l e
 
 module _ (left right : Bytes) (la lb ra rb : List ℕ) where
-  pub read_law : (l r : Read) → Reads max_depth left la lb l → Reads max_depth right ra rb r → ReadBoth left la lb right ra rb (read_of l r)
-  read_law (Read.BadLine l) r p q = left_unread left right (Fault.BadLine l) (bad_unread left l p)
-  read_law (Read.BigTree l) r p q = left_unread left right (Fault.BigTree l) (big_unread left l p)
-  read_law (Read.Records n) (Read.BadLine l) p q = right_unread left right p.0 (read_only_law left p.0 p.1).0 (Fault.BadLine l) (bad_unread right l q)
-  read_law (Read.Records n) (Read.BigTree l) p q = right_unread left right p.0 (read_only_law left p.0 p.1).0 (Fault.BigTree l) (big_unread right l q)
-  read_law (Read.WriteClause n) (Read.BadLine l) p q = let x = found left la lb n p in right_unread left right x.tree x.reads (Fault.BadLine l) (bad_unread right l q)
-  read_law (Read.WriteClause n) (Read.BigTree l) p q = let x = found left la lb n p in right_unread left right x.tree x.reads (Fault.BigTree l) (big_unread right l q)
-  read_law (Read.WriteClause n) (Read.Records k) p q = let x = found left la lb n p in left_writes left right x.tree x.reads q.0 (read_only_law right q.0 q.1).0 n x.first
-  read_law (Read.WriteClause n) (Read.WriteClause k) p q =
+  pub read_law : (l r : Result ℕ ReadError) → Reads max_depth left la lb l → Reads max_depth right ra rb r → ReadBoth left la lb right ra rb (read_of l r)
+  read_law (Err (ReadError.BadLine l)) r p q = left_unread left right (Fault.BadLine l) (bad_unread left l p)
+  read_law (Err (ReadError.BigTree l)) r p q = left_unread left right (Fault.BigTree l) (big_unread left l p)
+  read_law (Ok n) (Err (ReadError.BadLine l)) p q = right_unread left right p.0 (read_only_law left p.0 p.1).0 (Fault.BadLine l) (bad_unread right l q)
+  read_law (Ok n) (Err (ReadError.BigTree l)) p q = right_unread left right p.0 (read_only_law left p.0 p.1).0 (Fault.BigTree l) (big_unread right l q)
+  read_law (Err (ReadError.WriteClause n)) (Err (ReadError.BadLine l)) p q = let x = found left la lb n p in right_unread left right x.tree x.reads (Fault.BadLine l) (bad_unread right l q)
+  read_law (Err (ReadError.WriteClause n)) (Err (ReadError.BigTree l)) p q = let x = found left la lb n p in right_unread left right x.tree x.reads (Fault.BigTree l) (big_unread right l q)
+  read_law (Err (ReadError.WriteClause n)) (Ok k) p q = let x = found left la lb n p in left_writes left right x.tree x.reads q.0 (read_only_law right q.0 q.1).0 n x.first
+  read_law (Err (ReadError.WriteClause n)) (Err (ReadError.WriteClause k)) p q =
       let x = found left la lb n p in
       let y = found right ra rb k q in
       left_writes left right x.tree x.reads y.tree y.reads n x.first
-  read_law (Read.Records n) (Read.WriteClause k) p q =
+  read_law (Ok n) (Err (ReadError.WriteClause k)) p q =
       let x = read_only_law left p.0 p.1 in
       let y = found right ra rb k q in
       right_writes left right p.0 x.0 y.tree y.reads x.1 k y.first
-  read_law (Read.Records n) (Read.Records k) p q =
+  read_law (Ok n) (Ok k) p q =
       let x = read_only_law left p.0 p.1 in
       let y = read_only_law right q.0 q.1 in
       record { held = record { tree = p.0; tree₂ = q.0; on_left = p.3; on_right = q.3 }; passes = none_writes left right p.0 x.0 q.0 y.0 x.1 y.1 }
@@ -148,16 +148,16 @@ module _ (left right : Bytes) (la lb ra rb : List ℕ) where
 
 -- the check's verdict
 module _ (t : Tree statement) where
-  pub check_fine : (r : Checked) → r ≡ Checked.Fine → Says r (precheck_statement t) → CheckFinds (Ok tt) t
+  pub check_fine : Says (Ok tt) (precheck_statement t) → CheckFinds (Ok tt) t
   unfolding test_check
-  check_fine r e h = let f = rw e at h in rw f
+  check_fine h = rw h
 
   refused_with : (x : PlanLowerError) (unresolved : Bytes) → precheck_statement t ≡ violated (error_of x unresolved) → test_check t (precheck_statement t) ≡ refuse (error_of x unresolved)
   unfolding test_check
   refused_with x unresolved e = rw e
 
-  pub check_refused : (r : Checked) (x : PlanLowerError) → r ≡ Checked.Refused x → Says r (precheck_statement t) → CheckFinds (Err (Fault.Refused x)) t
-  check_refused r x e h = let f : FoundError x (precheck_statement t) = rw e at h in record { unresolved = f.unresolved; is = refused_with x f.unresolved f.is }
+  pub check_refused : (x : PlanLowerError) → Says (Err x) (precheck_statement t) → CheckFinds (Err (Fault.Refused x)) t
+  check_refused x h = record { unresolved = h.unresolved; is = refused_with x h.unresolved h.is }
 
 module _ {left right : Bytes} {la lb ra rb : List ℕ} (b : BothRead left la lb right ra rb) where
   abbrev t : Tree statement
@@ -175,18 +175,26 @@ module _ {left right : Bytes} {la lb ra rb : List ℕ} (b : BothRead left la lb 
 -- ── at what the code found ──
 
 module _ (left right : Bytes) (la lb ra rb : List ℕ) where
-  read_at : {r : Tested} (l l' : Read) → r ≡ read_of l l' → Reads max_depth left la lb l → Reads max_depth right ra rb l' → ReadBoth left la lb right ra rb r
+  read_at : {r : Tested} (l l' : Result ℕ ReadError) → r ≡ read_of l l' → Reads max_depth left la lb l → Reads max_depth right ra rb l' → ReadBoth left la lb right ra rb r
   read_at {r} l l' e p q = rw e (read_law left right la lb ra rb l l' p q)
 
-  module _ {r : Tested} (l l' : Read) (e : r ≡ read_of l l') (p : Reads max_depth left la lb l) (q : Reads max_depth right ra rb l') where
+  module _ {r : Tested} (l l' : Result ℕ ReadError) (e : r ≡ read_of l l') (p : Reads max_depth left la lb l) (q : Reads max_depth right ra rb l') where
     pub read_passed : {x : Unit {0}} → r ≡ Ok x → BothRead left la lb right ra rb
     read_passed z = rw z at (read_at l l' e p q)
 
     pub read_failed : {f : SideFault} → r ≡ Err f → FailsOn f (read_sides left right)
     read_failed z = rw z at (read_at l l' e p q)
 
-  pub checked_at : {r : Tested} (x y : Found) → r ≡ each_of x y → BothRead left la lb right ra rb → ChecksSheet la lb x → ChecksSheet ra rb y → TestedBoth left la lb right ra rb r
-  checked_at {r} x y e b p q = rw e (checks_law b x y (p left b.held.tree b.held.on_left) (q right b.held.tree₂ b.held.on_right))
+  -- of what the words held when they were read
+  pub checked_at : {r : Tested} {la' lb' ra' rb' : List ℕ} (x y : Found) → r ≡ each_of x y → (la' ≡ la) × (lb' ≡ lb) → (ra' ≡ ra) × (rb' ≡ rb) → BothRead left la lb right ra rb → ChecksSheet la' lb' x → ChecksSheet ra' rb' y → TestedBoth left la lb right ra rb r
+  checked_at {r} x y e l r' b p q = rw e (checks_law b x y (p left b.held.tree (rw (l.0, l.1) b.held.on_left)) (q right b.held.tree₂ (rw (r'.0, r'.1) b.held.on_right)))
+
+  -- what is asked of the check
+  pub left_held : {la' lb' : List ℕ} → (la' ≡ la) × (lb' ≡ lb) → BothRead left la lb right ra rb → (sheet : Bytes) × HeldSome sheet la' lb' statement max_depth 0
+  left_held e b = rw (e.0, e.1) (left, record { tree = b.held.tree; is = b.held.on_left })
+
+  pub right_held : {ra' rb' : List ℕ} → (ra' ≡ ra) × (rb' ≡ rb) → BothRead left la lb right ra rb → (sheet : Bytes) × HeldSome sheet ra' rb' statement max_depth 0
+  right_held e b = rw (e.0, e.1) (right, record { tree = b.held.tree₂; is = b.held.on_right })
 
   pub tested_passed : {r : Tested} {x : Unit {0}} → r ≡ Ok x → TestedBoth left la lb right ra rb r → BothTested left la lb right ra rb
   tested_passed e h = rw e at h

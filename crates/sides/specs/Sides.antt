@@ -9,7 +9,7 @@ use Rattle.model.specs.Check.{precheck_statement}
 use Rattle.model.specs.Call.{Test, refuse, pass, test_reading, test_write, test_check, max_depth}
 use Rattle.model.specs.Pair.{SideTest, refuse_side, pass_side, then_sides, each}
 use Rattle.words.specs.Held.{Held}
-use Rattle.sheet.specs.declared.reader.Read.{Read}
+use Rattle.sheet.specs.declared.reader.ReadError.{ReadError}
 use Rattle.sides.specs.declared.Fault.{Fault}
 use Rattle.sides.specs.declared.Side.{Side}
 use Rattle.sides.specs.declared.SideFault.{SideFault}
@@ -38,19 +38,19 @@ abbrev pub each_of : Found → Found → Tested
 each_of left right = or_next (found_on Side.Left left) (found_on Side.Right right)
 
 -- tests 3 and 4, and test 5, of the reader's answer
-abbrev pub unread_of : Read → Found
-unread_of (Read.Records n) = Ok tt
-unread_of (Read.BadLine l) = Err (Fault.BadLine l)
-unread_of (Read.BigTree l) = Err (Fault.BigTree l)
-unread_of (Read.WriteClause l) = Ok tt
+abbrev pub unread_of : Result ℕ ReadError → Found
+unread_of (Ok n) = Ok tt
+unread_of (Err (ReadError.BadLine l)) = Err (Fault.BadLine l)
+unread_of (Err (ReadError.BigTree l)) = Err (Fault.BigTree l)
+unread_of (Err (ReadError.WriteClause l)) = Ok tt
 
-abbrev pub writes_of : Read → Found
-writes_of (Read.Records n) = Ok tt
-writes_of (Read.BadLine l) = Ok tt
-writes_of (Read.BigTree l) = Ok tt
-writes_of (Read.WriteClause l) = Err (Fault.WriteClause l)
+abbrev pub writes_of : Result ℕ ReadError → Found
+writes_of (Ok n) = Ok tt
+writes_of (Err (ReadError.BadLine l)) = Ok tt
+writes_of (Err (ReadError.BigTree l)) = Ok tt
+writes_of (Err (ReadError.WriteClause l)) = Err (Fault.WriteClause l)
 
-abbrev pub read_of : Read → Read → Tested
+abbrev pub read_of : Result ℕ ReadError → Result ℕ ReadError → Tested
 read_of left right = or_next (each_of (unread_of left) (unread_of right)) (each_of (writes_of left) (writes_of right))
 
 -- ── what that says ──

@@ -5,16 +5,17 @@ ghost use Rattle.std.specs.Prelude.{◌≡◌};
 ghost use Rattle.model.specs.Text.{Bytes};
 ghost use Rattle.model.specs.Kind.{statement};
 ghost use Rattle.model.specs.Call.{max_depth};
-ghost use Rattle.words.specs.Words.{Roomy};
 ghost use Rattle.words.specs.Held.{HeldSome};
 ghost use Rattle.sheet.specs.Reader.{ReaderAsked};
+ghost use Rattle.sides.specs.declared.Fault.TheVariants.{Refused};
 ghost use Rattle.sides.specs.Sides.{found_on, each_of, unread_of, writes_of, read_of, ChecksSheet, TestedBoth};
 
-use precheck::{Checked, PlanLowerError, precheck_statement};
-use sheet::reader::{Read, read_sheet};
+use precheck::{PlanLowerError, precheck_statement};
+use sheet::reader::{ReadError, read_sheet};
+use words::{Records, RecordsMut};
 
 // What is wrong with a sheet: a refusal of the tests 2 to 8 with what it carries.
-#[derive(Clone, Copy)]
+#[derive(Clone, Copy, Debug, PartialEq, Eq)]
 pub enum Fault {
     LongSheet,
     BadLine(u32),
@@ -23,8 +24,16 @@ pub enum Fault {
     Refused(PlanLowerError),
 }
 
+impl From<PlanLowerError> for Fault {
+    ghost from_gives = { λ e f. f ≡ Refused e };
+
+    fn from(e: PlanLowerError) -> Fault {
+        Fault::Refused(e)
+    }
+}
+
 // The sheet of a pair that a fault is of, with the numbers that document 01 tells them by; 0 is the call as a whole.
-#[derive(Clone, Copy)]
+#[derive(Clone, Copy, Debug, PartialEq, Eq)]
 pub enum Side {
     Left = 1,
     Right = 2,
@@ -40,7 +49,7 @@ impl Side {
 }
 
 // A fault with its side.
-#[derive(Clone, Copy)]
+#[derive(Clone, Copy, Debug, PartialEq, Eq)]
 pub struct SideFault {
     pub side: Side,
     pub fault: Fault,
@@ -55,28 +64,31 @@ fn each(left: Result<(), Fault>, right: Result<(), Fault>) -> Result<(), SideFau
 }
 
 // Tests 3 and 4, of what the reader answers.
-fn unread(read: Read) -> Result<(), Fault>
+fn unread(read: Result<usize, ReadError>) -> Result<(), Fault>
     ensures { result ≡ unread_of read }
 {
     match read {
-        Read::BadLine(l) => Err(Fault::BadLine(l)),
-        Read::BigTree(l) => Err(Fault::BigTree(l)),
+        Err(ReadError::BadLine(l)) => Err(Fault::BadLine(l)),
+        Err(ReadError::BigTree(l)) => Err(Fault::BigTree(l)),
         _ => Ok(()),
     }
 }
 
 // Test 5, of what the reader answers.
-fn writes(read: Read) -> Result<(), Fault>
+fn writes(read: Result<usize, ReadError>) -> Result<(), Fault>
     ensures { result ≡ writes_of read }
 {
     match read {
-        Read::WriteClause(l) => Err(Fault::WriteClause(l)),
+        Err(ReadError::WriteClause(l)) => Err(Fault::WriteClause(l)),
         _ => Ok(()),
     }
 }
 
 // Tests 3 and 4 on both sheets, and then 5 on both, of what the reader answers to each.
-fn both_read(left: Read, right: Read) -> Result<(), SideFault>
+fn both_read(
+    left: Result<usize, ReadError>,
+    right: Result<usize, ReadError>,
+) -> Result<(), SideFault>
     ensures { result ≡ read_of left right }
 {
     each(unread(left), unread(right))?;
@@ -84,33 +96,28 @@ fn both_read(left: Read, right: Read) -> Result<(), SideFault>
 }
 
 // Tests 6 to 8 on the statement that the words hold.
-fn checks(a: &[u32], b: &[u32]) -> Result<(), Fault>
-    requires roomy { Roomy a.now b.now }
-    requires held_some { (sheet : Bytes) × HeldSome sheet a.now b.now statement max_depth 0 }
-    ensures { ChecksSheet a.now b.now result }
+fn checks(r: &Records<'_>) -> Result<(), Fault>
+    requires { (sheet : Bytes) × HeldSome sheet r.now.a.now r.now.b.now statement max_depth 0 }
+    ensures { ChecksSheet r.now.a.now r.now.b.now result }
 {
-    match precheck_statement(a, b, words::MAX_DEPTH) {
-        Checked::Fine => Ok(()),
-        Checked::Refused(e) => Err(Fault::Refused(e)),
-    }
+    precheck_statement(r, words::MAX_DEPTH)?;
+    Ok(())
 }
 
-// Tests 3 to 8 on sheets that are not too long; what passes stands in the words.
+// Tests 3 to 8 on sheets that are not too long; what passes stands in the words. Each sheet has a slice for the reader's stack.
 pub fn test_sides(
     left: &[u8],
-    la: &mut [u32],
-    lb: &mut [u32],
-    lc: &mut [u32],
+    l: &mut RecordsMut<'_>,
+    left_stack: &mut [u32],
     right: &[u8],
-    ra: &mut [u32],
-    rb: &mut [u32],
-    rc: &mut [u32],
+    r: &mut RecordsMut<'_>,
+    right_stack: &mut [u32],
 ) -> Result<(), SideFault>
-    requires { ReaderAsked left.now la.old lb.old lc.old × ReaderAsked right.now ra.old rb.old rc.old }
-    ensures { TestedBoth left.now la.new lb.new right.now ra.new rb.new result }
+    requires { ReaderAsked left.now left_stack.old × ReaderAsked right.now right_stack.old }
+    ensures { TestedBoth left.now l.new.a.now l.new.b.now right.now r.new.a.now r.new.b.now result }
 {
-    let l = read_sheet(left, la, lb, lc, words::MAX_DEPTH);
-    let r = read_sheet(right, ra, rb, rc, words::MAX_DEPTH);
-    both_read(l, r)?;
-    each(checks(la, lb), checks(ra, rb))
+    let x = read_sheet(left, l, left_stack, words::MAX_DEPTH);
+    let y = read_sheet(right, r, right_stack, words::MAX_DEPTH);
+    both_read(x, y)?;
+    each(checks(&l.shared()), checks(&r.shared()))
 }

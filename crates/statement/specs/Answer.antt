@@ -3,11 +3,18 @@ use Rattle.std.specs.Prelude.{[], ℕ, Result, Ok, Err}
 use Rattle.model.specs.Refusal.{Refusal as Refuses, Answer as Values, accepted, values_of}
 use Rattle.precheck.specs.Answer.{error_of}
 use Rattle.precheck.specs.declared.PlanLowerError.{PlanLowerError}
+use Rattle.sheet.specs.declared.reader.ReadError.{ReadError}
 use Rattle.statement.specs.declared.Refusal.{Refusal}
 
 -- refusals 6 to 8, whatever the name is: no value tells it
 abbrev pub error_answer : PlanLowerError → Values
 error_answer x = values_of (error_of x [])
+
+-- refusals 3 to 5
+abbrev pub unread_of : ReadError → Refusal
+unread_of (ReadError.BadLine l) = Refusal.BadLine l
+unread_of (ReadError.BigTree l) = Refusal.BigTree l
+unread_of (ReadError.WriteClause l) = Refusal.WriteClause l
 
 abbrev pub refusal_answer : Refusal → Values
 refusal_answer Refusal.ShortWork = values_of Refuses.ShortWork

@@ -1,5 +1,5 @@
 -- The sizing call's tests in order, from what the reader and the check answer. Assumes nothing.
-use Rattle.std.specs.Prelude.{◌≡◌, refl, ℕ, ◌*◌, ◌<◌, ◌≤◌, Bool, true, false, List, [], ◌∷◌, ltb, length, Option, None, Some, Result, ◌||◌}
+use Rattle.std.specs.Prelude.{◌≡◌, refl, ℕ, ◌*◌, ◌<◌, ◌≤◌, Bool, true, false, List, [], ◌∷◌, ltb, length, Option, None, Some, Ok, Err, ◌||◌}
 use Rattle.std.specs.List.{list_any}
 use Rattle.std.proofs.Common.{sym, ap, arith}
 use Rattle.std.proofs.lemmas.Bool.{ltb-false}
@@ -8,20 +8,18 @@ use Rattle.model.specs.Text.{Bytes}
 use Rattle.model.specs.Kind.{statement}
 use Rattle.model.specs.Tree.{Tree}
 use Rattle.model.specs.Sheet.{Place, Reading, got, refused, read_sheet, first_write}
-use Rattle.model.specs.Refusal.{Refusal, values_of}
+use Rattle.model.specs.Refusal.{Refusal, Answer as Values, values_of}
 use Rattle.model.specs.Check.{violated, precheck_statement}
 use Rattle.model.specs.Call.{Test, refuse, pass, then, short, test_work, test_bytes, test_reading, test_write, test_check, checked, Sized, refusal, record_count, work_words, max_bytes, max_depth}
 use Rattle.words.specs.Words.{max_records}
 use Rattle.words.specs.Held.{Held, HeldSome}
 use Rattle.laws.specs.SheetLaws.{sheet_sound}
-use Rattle.precheck.specs.Answer.{Says, Found, error_of}
-use Rattle.precheck.specs.declared.Checked.{Checked}
+use Rattle.precheck.specs.Answer.{Says, error_of}
 use Rattle.precheck.specs.declared.PlanLowerError.{PlanLowerError}
-use Rattle.sheet.specs.Reader.{read_only, Reads}
-use Rattle.sheet.specs.declared.reader.Read.{Read}
-use Rattle.statement.specs.declared.Refusal.{Refusal as Refuses}
+use Rattle.sheet.specs.Reader.{read_only, refusal_of as read_refusal, Reads}
+use Rattle.sheet.specs.declared.reader.ReadError.{ReadError}
 use Rattle.statement.specs.Work.{sizes}
-use Rattle.statement.specs.Answer.{answer_of, error_answer}
+use Rattle.statement.specs.Answer.{unread_of, refusal_answer, error_answer}
 
 -- ── test 1 ──
 
@@ -87,8 +85,8 @@ checked_answer t (PlanLowerError.EmptyPatternPart line span) unresolved = refusa
 abbrev pub figure_of : ℕ → ℕ
 figure_of n = n * 4
 
-pub check_refused : (t : Tree statement) (r : Checked) (x : PlanLowerError) → r ≡ Checked.Refused x → Says r (precheck_statement t) → Sized (test_check t (precheck_statement t)) (error_answer x)
-check_refused t r x e h = let f : Found x (precheck_statement t) = rw e at h in rw f.is (checked_answer t x f.unresolved)
+pub check_refused : (t : Tree statement) (x : PlanLowerError) → Says (Err x) (precheck_statement t) → Sized (test_check t (precheck_statement t)) (error_answer x)
+check_refused t x h = rw h.is (checked_answer t x h.unresolved)
 
 -- ── the call ──
 
@@ -97,26 +95,26 @@ module _ (work : List ℕ) (sheet : Bytes) (e : short work ≡ false) where
   size_long h = rw (long_second work sheet e h) refusal
 
   module _ (h : length sheet ≤ max_bytes) where
-    size_refused : (x : Refusal) → read_only max_depth sheet ≡ refuse x → Sized (checked max_depth work sheet) (values_of x)
+    pub size_unread : (x : ReadError) → read_only max_depth sheet ≡ refuse (read_refusal x) → Sized (checked max_depth work sheet) (refusal_answer (unread_of x))
     unfolding then
-    size_refused x q = rw (read_third work sheet e h, q) refusal
+    size_unread (ReadError.BadLine l) q = rw (read_third work sheet e h, q) refusal
+    size_unread (ReadError.BigTree l) q = rw (read_third work sheet e h, q) refusal
+    size_unread (ReadError.WriteClause l) q = rw (read_third work sheet e h, q) refusal
 
-    pub size_bad : (a b : List ℕ) (r : Read) (l : ℕ) → r ≡ Read.BadLine l → Reads max_depth sheet a b r → Sized (checked max_depth work sheet) (values_of (Refusal.BadLine l))
-    size_bad a b r l z q = size_refused (Refusal.BadLine l) (rw z at q)
-
-    pub size_big : (a b : List ℕ) (r : Read) (l : ℕ) → r ≡ Read.BigTree l → Reads max_depth sheet a b r → Sized (checked max_depth work sheet) (values_of (Refusal.BigTree l))
-    size_big a b r l z q = size_refused (Refusal.BigTree l) (rw z at q)
-
-    pub size_write : (a b : List ℕ) (r : Read) (l : ℕ) → r ≡ Read.WriteClause l → Reads max_depth sheet a b r → Sized (checked max_depth work sheet) (values_of (Refusal.WriteClause l))
-    size_write a b r l z q = size_refused (Refusal.WriteClause l) (rw z at q)
-
-    pub size_tree : (a b : List ℕ) (r : Read) (n : ℕ) (x : Result ℕ Refuses) → r ≡ Read.Records n → Reads max_depth sheet a b r → ((sheet : Bytes) (t : Tree statement) → Held sheet a b t max_depth 0 → record_count t ≡ n → Sized (test_check t (precheck_statement t)) (answer_of x)) → Sized (checked max_depth work sheet) (answer_of x)
+    pub size_tree : {t : Tree statement} → read_only max_depth sheet ≡ pass t → (x : Values) → Sized (test_check t (precheck_statement t)) x → Sized (checked max_depth work sheet) x
     unfolding then
-    size_tree a b r n x z q f = let d = rw z at q in rw (read_third work sheet e h, d.1) (f sheet d.0 d.3 d.2)
+    size_tree q x f = rw (read_third work sheet e h, q) f
 
--- a statement is held, of not too many records
-pub held_some : (sheet : Bytes) (a b : List ℕ) (r : Read) (n : ℕ) → r ≡ Read.Records n → Reads max_depth sheet a b r → (sheet : Bytes) × HeldSome sheet a b statement max_depth 0
-held_some sheet a b r n z q = let d = rw z at q in (sheet, record { tree = d.0; is = d.3 })
+-- a statement is held, of not too many records; the words are those that were read
+module _ (sheet : Bytes) {a b : List ℕ} {n : ℕ} (d : Reads max_depth sheet a b (Ok n)) {a' b' : List ℕ} (e : (a' ≡ a) × (b' ≡ b)) where
+  pub held_as : Held sheet a' b' d.0 max_depth 0
+  held_as = rw (e.0, e.1) d.3
+
+  pub held_here : HeldSome sheet a' b' statement max_depth 0
+  held_here = record { tree = d.0; is = held_as }
+
+  pub held_some : (sheet : Bytes) × HeldSome sheet a' b' statement max_depth 0
+  held_some = (sheet, held_here)
 
 written : (u t : Tree statement) (o : Option ℕ) → test_write u o ≡ pass t → u ≡ t
 unfolding test_write
@@ -128,10 +126,9 @@ unfolding then test_reading
 passed sheet t (got u p) e = (p, ap (λ v. got v p) (written u t (first_write u) e))
 passed sheet t (refused x) e = let z : ◌≡◌ {A = ℕ} 0 1 = cc in absurd (omega arith)
 
-pub held_few : (sheet : Bytes) (a b : List ℕ) (r : Read) (n : ℕ) → r ≡ Read.Records n → Reads max_depth sheet a b r → n ≤ max_records
+pub held_few : (sheet : Bytes) (a b : List ℕ) {n : ℕ} → Reads max_depth sheet a b (Ok n) → n ≤ max_records
 unfolding read_only record_count
-held_few sheet a b r n z q =
-    let d = rw z at q in
+held_few sheet a b d =
     let g = passed sheet d.0 (read_sheet max_depth sheet) d.1 in
     omega (arith, (sheet_sound max_depth sheet d.0 g.0 g.1).0.few, d.2)
 

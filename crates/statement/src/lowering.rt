@@ -1,9 +1,9 @@
 // The lowering call: the sheet is read, checked and lowered, and its plan written if it fits.
-ghost use Rattle.std.specs.Prelude.{◌≡◌, false, List, [], ◌∷◌, ℕ, length};
+ghost use Rattle.std.specs.Prelude.{◌≡◌, ◌≤◌, false, List, [], ◌∷◌, ℕ, length};
 ghost use Rattle.model.specs.Kind.{statement};
 ghost use Rattle.model.specs.Tree.{Tree};
 ghost use Rattle.model.specs.Lower.{LowerCtx as State};
-ghost use Rattle.model.specs.Call.{short, planned, test_plan, max_depth, lower_call};
+ghost use Rattle.model.specs.Call.{short, planned, test_plan, max_depth, work_words, lower_call};
 ghost use Rattle.words.specs.Held.{Held, HeldSome};
 ghost use Rattle.lower.specs.Side.{side};
 ghost use Rattle.lower.specs.Rep.{mem, Rep, Written};
@@ -16,8 +16,9 @@ ghost use Rattle.statement.specs.Tables.{Lowered};
 use crate::{Refusal, Work};
 use context::LowerCtx;
 use plan_writer::{Plan, write_plan};
-use precheck::{Checked, precheck_statement};
-use sheet::reader::{Read, read_sheet};
+use precheck::precheck_statement;
+use sheet::reader::read_sheet;
+use words::{Records, RecordsMut};
 
 // A plan has at most so many operators.
 pub const MAX_OPERATORS: usize = 2048;
@@ -53,46 +54,36 @@ fn write_lowered(
 // The check and what is behind it, of a statement that the words hold.
 fn lower_checked(
     sheet: &[u8],
-    a: &[u32],
-    b: &[u32],
+    r: &Records<'_>,
     ops: &mut [u32],
     rest: &mut [u32],
     plan: &mut [u8],
 ) -> Result<usize, Refusal>
-    requires room { Room a.now b.now ops.old rest.old }
-    requires held_some { HeldSome sheet.now a.now b.now statement max_depth 0 }
-    ensures { (t : Tree statement) → Held sheet.now a.now b.now t max_depth 0 → Gives plan.old plan.new result (behind t) }
+    requires long { (work_words ≤ length ops.old) × (work_words ≤ length rest.old) }
+    requires held_some { HeldSome sheet.now r.now.a.now r.now.b.now statement max_depth 0 }
+    ensures { (t : Tree statement) → Held sheet.now r.now.a.now r.now.b.now t max_depth 0 → Gives plan.old plan.new result (behind t) }
 {
-    match precheck_statement(a, b, words::MAX_DEPTH) {
-        Checked::Fine => {
-            let ctx = clauses::lower(sheet, a, b, ops, rest);
-            write_lowered(sheet, a, b, ops, rest, ctx, plan)
-        }
-        Checked::Refused(e) => Err(Refusal::Refused(e)),
-    }
+    precheck_statement(r, words::MAX_DEPTH)?;
+    let ctx = clauses::lower(sheet, r.a, r.b, ops, rest);
+    write_lowered(sheet, r.a, r.b, ops, rest, ctx, plan)
 }
 
 // Tests 2 to 10, with work slices that are long enough.
 fn lower_read(
     sheet: &[u8],
-    a: &mut [u32],
-    b: &mut [u32],
+    records: &mut RecordsMut<'_>,
     c: &mut [u32],
     d: &mut [u32],
     plan: &mut [u8],
 ) -> Result<usize, Refusal>
-    requires { Room a.old b.old c.old d.old }
+    requires { (work_words ≤ length c.old) × (work_words ≤ length d.old) }
     ensures { (work : List ℕ) → short work ≡ false → Gives plan.old plan.new result (planned max_depth work sheet.now) }
 {
     if words::MAX_BYTES < sheet.len() {
         return Err(Refusal::LongSheet);
     }
-    match read_sheet(sheet, a, b, c, words::MAX_DEPTH) {
-        Read::Records(_) => lower_checked(sheet, a, b, c, d, plan),
-        Read::BadLine(l) => Err(Refusal::BadLine(l)),
-        Read::BigTree(l) => Err(Refusal::BigTree(l)),
-        Read::WriteClause(l) => Err(Refusal::WriteClause(l)),
-    }
+    read_sheet(sheet, records, c, words::MAX_DEPTH)?;
+    lower_checked(sheet, &records.shared(), c, d, plan)
 }
 
 // The lowering call: number, place, length and plan slice are those of the definition, for all arguments.
@@ -102,5 +93,9 @@ pub fn lower_statement(sheet: &[u8], work: &mut Work<'_>, plan: &mut [u8]) -> Re
     if !work.long_enough() {
         return Err(Refusal::ShortWork);
     }
-    lower_read(sheet, work.a, work.b, work.c, work.d, plan)
+    let mut records = RecordsMut {
+        a: work.a,
+        b: work.b,
+    };
+    lower_read(sheet, &mut records, work.c, work.d, plan)
 }

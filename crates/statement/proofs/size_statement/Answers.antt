@@ -7,10 +7,15 @@ use Rattle.statement.proofs.size_statement.Goals as goal
 pub returns-then-not-long_enough : goal.returns-then-not-long_enough
 returns-then-not-long_enough c = no_size _ _ (not-false _ (sym c.long_enough.ensures ∙ c.if-not-long_enough.true))
 
+pub invariant_of-records : goal.invariant_of-records
+invariant_of-records c =
+    let e = enough _ _ _ _ (not-true _ (sym c.long_enough.ensures ∙ c.if-not-long_enough.false)) in
+    record { roomy = record { first = e.first; second = e.second } }
+
 pub size_read-requires : goal.size_read-requires
 size_read-requires c =
     let e = enough _ _ _ _ (not-true _ (sym c.long_enough.ensures ∙ c.if-not-long_enough.false)) in
-    record { roomy = record { first = e.first; second = e.second }; work_words_in_bounds = e.third }
+    e.third
 
 pub returns : goal.returns
 returns c = c.size_read.ensures _ (not-true _ (sym c.long_enough.ensures ∙ c.if-not-long_enough.false))

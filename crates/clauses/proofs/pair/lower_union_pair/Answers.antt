@@ -11,5 +11,5 @@ lower_from-r-requires c = Pairing.right_asked c.requires c.lower_from-l.ensures
 pub unite-z-requires : goal.unite-z-requires
 unite-z-requires c = Pairing.unite_asked c.requires c.lower_from-l.ensures c.lower_from-r.ensures
 
-pub returns : goal.returns
-returns c = Pairing.pair_law c.requires c.lower_from-l.ensures c.lower_from-r.ensures _ (c.unite-z.ensures _)
+pub returns-clause-lowered : goal.returns-clause-lowered
+returns-clause-lowered c = Pairing.pair_law c.requires c.lower_from-l.ensures c.lower_from-r.ensures _ (c.unite-z.ensures _)

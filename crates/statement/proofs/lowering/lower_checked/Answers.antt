@@ -1,30 +1,25 @@
 -- `lower_checked` meets its contract: the check's verdict, or what the lowering gives. Assumes nothing.
+use Rattle.std.proofs.lemmas.Result.{err_from_is_err_and}
 use Rattle.statement.specs.Lowering.{tree_fine, tree_refused}
 use Rattle.statement.specs.Tables.{lowered}
 use Rattle.statement.proofs.lowering.lower_checked.Goals as goal
 
+pub returns-in_err-precheck_statement : goal.returns-in_err-precheck_statement
+returns-in_err-precheck_statement c =
+    let p = err_from_is_err_and c.from_residual.result c.from_residual.ensures.1 in
+    λ t h. rw (p.1, p.2) (tree_refused _ t _ (rw c.in_err-precheck_statement.was at (c.precheck_statement.ensures _ t h)))
+
 pub lower-ctx-requires : goal.lower-ctx-requires
-lower-ctx-requires c = record { words = c.requires.room.records; held = c.requires.held_some; in_ops = c.requires.room.in_ops; in_rest = c.requires.room.in_rest }
+lower-ctx-requires c = record { words = c.args.r.now.roomy; held = c.requires.held_some; in_ops = c.requires.long.0; in_rest = c.requires.long.1 }
 
 pub write_lowered-requires : goal.write_lowered-requires
 write_lowered-requires c =
     record {
-      room = record { records = c.requires.room.records; in_ops = c.lower-ctx.ensures.in_ops; in_rest = c.lower-ctx.ensures.in_rest };
+      room = record { records = c.args.r.now.roomy; in_ops = c.lower-ctx.ensures.in_ops; in_rest = c.lower-ctx.ensures.in_rest };
       lowered = lowered c.requires.held_some c.lower-ctx.ensures;
     }
 
-pub returns-in-Fine : goal.returns-in-Fine
-returns-in-Fine c =
-    λ t h.
-    tree_fine
-    _
-    _
-    t
-    _
-    c.write_lowered.result
-    c.in-Fine.is
-    (c.precheck_statement.ensures _ t h)
-    (let R = c.lower-ctx.ensures.run t h in c.write_lowered.ensures R.written _ R.rep)
-
-pub returns-in-Refused : goal.returns-in-Refused
-returns-in-Refused c = λ t h. tree_refused _ t _ _ c.in-Refused.is (c.precheck_statement.ensures _ t h)
+pub returns : goal.returns
+returns c = λ t h.
+    let R = c.lower-ctx.ensures.run t h in
+    tree_fine _ _ t c.write_lowered.result (rw c.in_ok-precheck_statement.was at (c.precheck_statement.ensures _ t h)) (c.write_lowered.ensures R.written _ R.rep)

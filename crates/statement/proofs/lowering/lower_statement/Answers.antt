@@ -10,10 +10,15 @@ use Rattle.statement.proofs.lowering.lower_statement.Goals as goal
 pub returns-then-not-long_enough : goal.returns-then-not-long_enough
 returns-then-not-long_enough c = called _ _ _ _ (Err Refusal.ShortWork) (lower_short _ _ _ (not-false _ (sym c.long_enough.ensures ∙ c.if-not-long_enough.true)))
 
+pub invariant_of-records : goal.invariant_of-records
+invariant_of-records c =
+    let e = enough _ _ _ _ (not-true _ (sym c.long_enough.ensures ∙ c.if-not-long_enough.false)) in
+    record { roomy = record { first = e.first; second = e.second } }
+
 pub lower_read-requires : goal.lower_read-requires
 lower_read-requires c =
     let e = enough _ _ _ _ (not-true _ (sym c.long_enough.ensures ∙ c.if-not-long_enough.false)) in
-    record { records = record { first = e.first; second = e.second }; in_ops = e.third; in_rest = e.fourth }
+    (e.third, e.fourth)
 
 pub returns : goal.returns
 returns c = called _ _ _ _ c.lower_read.result (c.lower_read.ensures _ (not-true _ (sym c.long_enough.ensures ∙ c.if-not-long_enough.false)))
