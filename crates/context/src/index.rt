@@ -14,6 +14,7 @@ struct End {
 }
 
 // A variable's child on the side that the last bit of `bits` names, if it has one. The left one is in the lower half of the variable's word of links, the right one in the upper half: its place and one, or 0 for none.
+#[tactic(auto, unfolding(crate::specs::Tables::half, crate::specs::Tables::linked))]
 fn child(vars: &[u32], p: usize, bits: u32) -> Option<usize>
     requires { (p < max_indexed) × (var_words ≤ length vars.now) }
     ensures { result ≡ linked (child_of vars.now p bits) }
@@ -31,6 +32,7 @@ fn child(vars: &[u32], p: usize, bits: u32) -> Option<usize>
 }
 
 // A variable that has no child on a side gets one there.
+#[tactic(auto, unfolding(crate::specs::Tables::half, crate::specs::Tables::with_half))]
 fn set_child(vars: &mut [u32], p: usize, bits: u32, link: u32)
     requires { (p < max_indexed) × (link < half_word) × (var_words ≤ length vars.old) × (child_of vars.old p bits ≡ 0) }
     ensures { vars.new ≡ set vars.old (links_at + p) (with_half (get_or vars.old (links_at + p) 0) bits link) }

@@ -97,6 +97,7 @@ pub type Root = Lowered<usize>;
 pub type Current = Lowered<Option<usize>>;
 
 // The variable of the part or the element at record i.
+#[tactic(auto, unfolding(words::specs::Words::option_of))]
 fn read_bind(r: &Records<'_>, i: usize) -> Option<u32>
     requires { i < max_records }
     ensures { result ≡ option_of (cell r.now.a.now r.now.b.now i element_named_at) (cell r.now.a.now r.now.b.now i element_var_at) }
@@ -148,13 +149,11 @@ pub fn or_source_all(ops: &mut [u32], ctx: LowerCtx, current: Option<usize>, nex
 }
 
 // The root of a chain so far, if it has one.
+#[tactic(auto, unfolding(model::specs::Lower::root_of))]
 fn root_of(last: Option<LastNode>) -> Option<usize>
     ensures { result ≡ root_of (last_of last) }
 {
-    match last {
-        Some(l) => Some(l.op),
-        None => None,
-    }
+    last.map(|l| l.op)
 }
 
 // A pattern of no parts, at record i: a source that does take a number.

@@ -16,7 +16,8 @@ use Rattle.model.specs.Kind.{Clause, clause, yield_item}
 use Rattle.model.specs.Record.{Rec, rec, one, forms, keyword, spell_rec, spell_recs}
 use Rattle.model.specs.Tree.{Trees, node, []ᵗ, ◌∷ᵗ◌, end}
 use Rattle.model.specs.Lower.{Recs, source, path_elements}
-use Rattle.output.specs.Page.{Page, Puts}
+use Rattle.output.specs.declared.Page.{Page}
+use Rattle.output.specs.Page.{Puts}
 use Rattle.output.specs.Writes.{◌⨾◌, stay}
 use Rattle.words.specs.Words.{Roomy, cell, field_of, fields_of, max_records}
 use Rattle.words.specs.Held.{Held, HeldOf, RecordAt, PlaceAt, size}
@@ -27,8 +28,9 @@ use Rattle.context.specs.declared.op.Op.{Op}
 use Rattle.lower.specs.Side.{side}
 use Rattle.lower.specs.Render.{Notes, Ops, render, render_of, recs_over, Below, kept_from}
 use Rattle.lower.specs.Shows.{shift, Shows, OverExpr, ByLabels, ByPath, ByWith, ByCall, shows_all, shows_no_parts, shows_source, shows_filter, shows_expand, shows_short, shows_path, shows_optional, shows_with, shows_project, shows_aggregate, shows_order, shows_skip, shows_limit, shows_distinct, shows_unwind, shows_union, shows_call}
-use Rattle.plan_line.specs.Keywords.{word, letters, yield_word}
-use Rattle.plan_line.specs.Row.{named_text, NamedAsked}
+use Rattle.plan_line.specs.Keywords.{word}
+use Rattle.plan_line.specs.declared.keyword.Keyword.{Keyword}
+use Rattle.plan_line.specs.Row.{named_text}
 use Rattle.plan_sheet.specs.Due.{noted, SomePlan, Names, names_recs, Carried, carried_recs, carried_end, Many, WroteMany, WroteFirst, text_at}
 use Rattle.plan_sheet.specs.Path.{Elements, WrotePath}
 use Rattle.plan_sheet.specs.Behind.{many_by, many_of, first_by, first_of, Yields, no_yields, yield_more, yields_recs, WroteYields, Tail, SomeTail, WroteTail}
@@ -55,13 +57,13 @@ own_ways = aggregate_kind ∷ optional_join_kind ∷ shortest_path_kind ∷ expa
 yield_place : {sheet : Bytes} {a b : List ℕ} {i : ℕ} {f : Fields (forms yield_item tt)} → Roomy a b → RecordAt sheet a b i yield_item tt f → PlaceAt text sheet (cell a b i yield_name_at) (cell a b i (yield_name_at + 1))
 yield_place room h = (texts_at room h).0
 
-yield_line : {sheet : Bytes} {a b : List ℕ} {i : ℕ} (n : ℕ) {f : Fields (forms yield_item tt)} → Roomy a b → RecordAt sheet a b i yield_item tt f → spell_rec (rec yield_item tt (f.0, (n, tt))) ≡ named_text yield_word (text_at sheet a b i yield_name_at) (n ∷ [])
-unfolding keyword word letters bytes bytes_from spell_fields spell fields_of field_of
-yield_line {sheet} {a} {b} {i} n room h = named_rec_law _ yield_word (text_at sheet a b i yield_name_at) (n ∷ []) refl (rw (shown room h).fields (rw (place_escape (yield_place room h))))
+yield_line : {sheet : Bytes} {a b : List ℕ} {i : ℕ} (n : ℕ) {f : Fields (forms yield_item tt)} → Roomy a b → RecordAt sheet a b i yield_item tt f → spell_rec (rec yield_item tt (f.0, (n, tt))) ≡ named_text Keyword.Yield (text_at sheet a b i yield_name_at) (n ∷ [])
+unfolding keyword word bytes bytes_from spell_fields spell fields_of field_of
+yield_line {sheet} {a} {b} {i} n room h = named_rec_law _ Keyword.Yield (text_at sheet a b i yield_name_at) (n ∷ []) refl (rw (shown room h).fields (rw (place_escape (yield_place room h))))
 
-pub yield_in : {sheet : Bytes} {a b : List ℕ} {n i s e : ℕ} → Roomy a b → s ≡ cell a b i yield_name_at → e ≡ cell a b i (yield_name_at + 1) → (n ≡ 0 → ⊥) → Yields sheet a b n i → NamedAsked yield_word sheet s e
+pub yield_in : {sheet : Bytes} {a b : List ℕ} {n i s e : ℕ} → Roomy a b → s ≡ cell a b i yield_name_at → e ≡ cell a b i (yield_name_at + 1) → (n ≡ 0 → ⊥) → Yields sheet a b n i → (s ≤ e) × (e ≤ length sheet)
 yield_in room p q z no_yields = absurd (z refl)
-yield_in room p q z (yield_more f h c) = let y = yield_place room h in rw (p, q) (record { keyword = omega arith; from = y.from; to = y.to })
+yield_in room p q z (yield_more f h c) = let y = yield_place room h in rw (p, q) (y.from, y.to)
 
 pub yield_low : {sheet : Bytes} {a b : List ℕ} {n i : ℕ} → (n ≡ 0 → ⊥) → Yields sheet a b n i → i < max_records
 yield_low z no_yields = absurd (z refl)
@@ -82,7 +84,6 @@ pub record YieldsStill (rest : List ℕ) (base : ℕ) {sheet : Bytes} {a b : Lis
 pub record YieldsGoing (sheet : Bytes) (a b rest : List ℕ) (base n i : ℕ) (start : Page) (m at : ℕ) (p : Page) : Type 0 where
   pub some : Yields sheet a b m at
   pub each : (h : Yields sheet a b n i) → YieldsStill rest base h start m at p
-  pub long : length p.bytes ≡ length start.bytes
 
 no_more : {sheet : Bytes} {a b : List ℕ} (rest : List ℕ) (base : ℕ) {m at : ℕ} → m ≡ 0 → (o : Yields sheet a b m at) → yields_recs (shift (noted rest) base) o ≡ []
 unfolding yields_recs
@@ -94,7 +95,7 @@ abbrev Lists : (rest : List ℕ) (base : ℕ) {sheet : Bytes} {a b : List ℕ} {
 Lists rest base h p q = Puts (spell_recs (yields_recs (shift (noted rest) base) h)) p q
 
 module _ {sheet : Bytes} {a b rest : List ℕ} {base : ℕ} where
-  yields_step : {n i m at number : ℕ} {start p q : Page} (h : Yields sheet a b n i) → Roomy a b → (m ≡ 0 → ⊥) → (others : Yields sheet a b m at) → ((q : Page) → Lists rest base others p q → Lists rest base h start q) → number ≡ note_of rest base at → Puts (named_text yield_word (text_at sheet a b at yield_name_at) (number ∷ [])) p q → YieldsStill rest base h start (m - 1) (at + 1) q
+  yields_step : {n i m at number : ℕ} {start p q : Page} (h : Yields sheet a b n i) → Roomy a b → (m ≡ 0 → ⊥) → (others : Yields sheet a b m at) → ((q : Page) → Lists rest base others p q → Lists rest base h start q) → number ≡ note_of rest base at → Puts (named_text Keyword.Yield (text_at sheet a b at yield_name_at) (number ∷ [])) p q → YieldsStill rest base h start (m - 1) (at + 1) q
   unfolding yields_recs spell_recs
   yields_step h room z no_yields far e w = absurd (z refl)
   yields_step {m = suc m} {at} {number} h room z (yield_more f r c) far e w =
@@ -103,17 +104,16 @@ module _ {sheet : Bytes} {a b rest : List ℕ} {base : ℕ} where
       rw d (record { others = c; text = λ q v. far q (rw (← e) (put ⨾ v)) })
 
   pub yields_going : {n i : ℕ} {p : Page} → Yields sheet a b n i → YieldsGoing sheet a b rest base n i p n i p
-  yields_going h = record { some = h; each = λ h. record { others = h; text = λ q r. r }; long = refl }
+  yields_going h = record { some = h; each = λ h. record { others = h; text = λ q r. r } }
 
   pub yields_again :
       {n i m at s e number : ℕ} {start p q : Page} → Roomy a b → (m ≡ 0 → ⊥) → YieldsGoing sheet a b rest base n i start m at p
-      → s ≡ cell a b at yield_name_at → e ≡ cell a b at (yield_name_at + 1) → number ≡ note_of rest base at → Puts (named_text yield_word (slice s e sheet) (number ∷ [])) p q → length q.bytes ≡ length p.bytes → YieldsGoing sheet a b rest base n i start (m - 1) (at + 1) q
-  yields_again {at = at} {number = number} {p = p} {q = q} room z g x y e w l =
-      let line : Puts (named_text yield_word (text_at sheet a b at yield_name_at) (number ∷ [])) p q = rw (x, y) at w in
+      → s ≡ cell a b at yield_name_at → e ≡ cell a b at (yield_name_at + 1) → number ≡ note_of rest base at → Puts (named_text Keyword.Yield (slice s e sheet) (number ∷ [])) p q → YieldsGoing sheet a b rest base n i start (m - 1) (at + 1) q
+  yields_again {at = at} {number = number} {p = p} {q = q} room z g x y e w =
+      let line : Puts (named_text Keyword.Yield (text_at sheet a b at yield_name_at) (number ∷ [])) p q = rw (x, y) at w in
       record {
         some = (yields_step g.some room z g.some (λ q r. r) e line).others;
         each = λ h. let s = g.each h in yields_step h room z s.others s.text e line;
-        long = l ∙ g.long;
       }
 
   pub yields_done : {n i m at : ℕ} {start p : Page} → m ≡ 0 → YieldsGoing sheet a b rest base n i start m at p → WroteYields sheet a b rest base n i start p

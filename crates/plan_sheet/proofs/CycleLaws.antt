@@ -8,7 +8,8 @@ use lib.Dec.{eqb}
 use Rattle.model.specs.Text.{Bytes}
 use Rattle.model.specs.Kind.{expr}
 use Rattle.model.specs.Record.{spell_rec, spell_recs}
-use Rattle.output.specs.Page.{Page, Puts}
+use Rattle.output.specs.declared.Page.{Page}
+use Rattle.output.specs.Page.{Puts}
 use Rattle.output.specs.Writes.{◌⨾◌}
 use Rattle.words.specs.Words.{Roomy, cell, max_records}
 use Rattle.words.specs.Held.{size}

@@ -11,7 +11,8 @@ use Rattle.model.specs.Kind.{Sort, Expr, projection, order_item, entry, expr, in
 use Rattle.model.specs.Record.{Group, rec, beside, spell_rec, spell_recs}
 use Rattle.model.specs.Tree.{Tree, Trees, Forest, node, []ᵗ, ◌∷ᵗ◌, end, ◌▸◌}
 use Rattle.model.specs.Lower.{Recs, item, synthesise_alias, expr_alias}
-use Rattle.output.specs.Page.{Page, Puts}
+use Rattle.output.specs.declared.Page.{Page}
+use Rattle.output.specs.Page.{Puts}
 use Rattle.output.specs.Writes.{◌⨾◌, stay}
 use Rattle.words.specs.Held.{Held, HeldOf, HeldIn, size, size_of, room_in}
 use Rattle.lower.specs.Render.{Notes, Ops, recs_over, render, render_of, name_of, Below, BelowOf, below_in}
@@ -46,7 +47,7 @@ pub record Still {sheet : Bytes} {a b os rest : List ℕ} {below base left n i :
 pub record Going (sheet : Bytes) (a b os rest : List ℕ) (below base left n i : ℕ) (start : Page) (m at : ℕ) (p : Page) : Type 0 where
   pub some : Many sheet a b os rest below base left m at
   pub each : (h : Many sheet a b os rest below base left n i) → Still h start m at p
-  pub long : length p.bytes ≡ length start.bytes
+  pub long : length p.bytes.now ≡ length start.bytes.now
 
 -- expressions made of a group of trees
 pub record Made (sheet : Bytes) (a b : List ℕ) (N : Notes) (first below left n i : ℕ) (recs : Ops → Recs) (stop : ℕ) : Type 0 where
@@ -100,6 +101,10 @@ module _ {sheet : Bytes} {a b os rest : List ℕ} {below base left : ℕ} where
   pub some_line : {n i : ℕ} → (n ≡ 0 → ⊥) → Many sheet a b os rest below base left n i → SomeLine sheet a b i
   some_line z h = let s = split z h in record { recs = s.recs; behind = s.j; line = s.line }
 
+  -- a line keeps the slice's length
+  pub line_long : {n i next : ℕ} {p q : Page} → (n ≡ 0 → ⊥) → Many sheet a b os rest below base left n i → WroteLine sheet a b i p next q → length q.bytes.now ≡ length p.bytes.now
+  line_long z h w = let s = split z h in (w s.recs s.j s.line).1.long
+
   -- the expression behind its line
   pub one_there : {n i next : ℕ} {p q : Page} → (n ≡ 0 → ⊥) → (h : Many sheet a b os rest below base left n i) → WroteLine sheet a b i p next q → One sheet a b os rest below base left next
   one_there {n} {i} {next} z h w =
@@ -146,12 +151,12 @@ module _ {sheet : Bytes} {a b os rest : List ℕ} {below base left : ℕ} where
         text = λ q r. g.text q (rw all (put ⨾ r));
       })
 
-  pub again : {n i m at last : ℕ} {start p q : Page} → (m ≡ 0 → ⊥) → Going sheet a b os rest below base left n i start m at p → WroteMany sheet a b os rest below base left 1 at p last q → length q.bytes ≡ length p.bytes → Going sheet a b os rest below base left n i start (m - 1) last q
-  again z g w l =
+  pub again : {n i m at last : ℕ} {start p q : Page} → (m ≡ 0 → ⊥) → Going sheet a b os rest below base left n i start m at p → WroteMany sheet a b os rest below base left 1 at p last q → Going sheet a b os rest below base left n i start (m - 1) last q
+  again z g w =
       record {
         some = (step z g.some (record { others = g.some; stop = refl; text = λ q r. r }) w).others;
         each = λ h. step z h (g.each h) w;
-        long = l ∙ g.long;
+        long = (w (first_one z g.some)).1.long ∙ g.long;
       }
 
   -- nothing is due

@@ -3,12 +3,12 @@ use mathlib.Core.Path.{◌≡◌, refl, ap, ◌∙◌}
 use Prim.Native.Nat.{ℕ, ◌+◌, ◌-◌, ◌≤◌, ◌<◌}
 use native.Mathlib.Omega.{arith}
 use mathlib.Core.List.{List, ◌∷◌, ◌++◌, append_assoc}
-use lib.ListN.{length}
 use Rattle.model.specs.Text.{Bytes}
 use Rattle.model.specs.Kind.{expr}
 use Rattle.model.specs.Record.{spell_rec, spell_recs}
 use Rattle.model.specs.Lower.{Recs, expr_head}
-use Rattle.output.specs.Page.{Page, Puts}
+use Rattle.output.specs.declared.Page.{Page}
+use Rattle.output.specs.Page.{Puts}
 use Rattle.output.specs.Writes.{◌⨾◌}
 use Rattle.words.specs.Words.{Roomy, cell, max_records}
 use Rattle.words.specs.Held.{size}
@@ -20,7 +20,7 @@ use Rattle.lower.specs.Render.{Notes, render}
 use Rattle.lower.specs.Shows.{shift}
 use Rattle.plan_sheet.specs.Due.{noted, ExprAt, Line, One, Carried, carried_recs, carried_end, Many, many_text, WroteLine}
 use Rattle.plan_sheet.specs.Due
-use Rattle.plan_sheet.proofs.DueLaws.{Made, Still, Going, split, joined, deeper, spell_append}
+use Rattle.plan_sheet.proofs.DueLaws.{one_there, line_long, Made, Still, Going, split, joined, deeper, spell_append}
 use Rattle.plan_sheet.proofs.CycleLaws.{one_at, kid_parts}
 
 -- ── how many are due ──
@@ -90,10 +90,10 @@ module _ {sheet : Bytes} {a b os rest : List ℕ} {below base left : ℕ} (room 
               g.text x (rw (s.text, recs, append_assoc (spell_rec (expr_head number (one_at o).kind (one_at o).fields)) (spell_recs (carried_recs A kids.list)) (spell_recs (carried_recs A s.others))) (e.1 ⨾ expr_put));
         })
 
-    pub again_below : {n i : ℕ} {start : Page} → Going sheet a b os rest below base left n i start m at p → length r.bytes ≡ length p.bytes → Going sheet a b os rest below base left n i start (m - 1 + k) (next + 1) r
-    again_below g l =
+    pub again_below : {n i : ℕ} {start : Page} → Going sheet a b os rest below base left n i start m at p → Going sheet a b os rest below base left n i start (m - 1 + k) (next + 1) r
+    again_below g =
         record {
           some = (step_below g.some (record { others = g.some; stop = refl; text = λ q r. r })).others;
           each = λ h. step_below h (g.each h);
-          long = l ∙ g.long;
+          long = (head (one_at (one_there some g.some line))).long ∙ line_long some g.some line ∙ g.long;
         }

@@ -14,14 +14,16 @@ use Rattle.model.specs.Field.{Fields, text, spell, spell_fields}
 use Rattle.model.specs.Kind.{Sort, Kind, Same, Expr, projection, order_item, entry, expr}
 use Rattle.model.specs.Record.{rec, forms, expr_forms, kinds, sames, keyword, expr_keyword, plan_keyword, plan_expr_keyword, same_keyword, spell_rec, spell_recs}
 use Rattle.model.specs.Lower.{Recs, expr_head}
-use Rattle.output.specs.Page.{Page, Puts}
+use Rattle.output.specs.declared.Page.{Page}
+use Rattle.output.specs.Page.{Puts}
 use Rattle.output.specs.Writes.{stay}
 use Rattle.words.specs.Words.{Roomy, cell, kind_of, first_kind, nth, field_of, fields_of, int_of, max_records}
 use Rattle.words.specs.Held.{RecordAt, Texts, PlaceAt}
 use Rattle.words.specs.Places.{kind_at, item_kind, key_kind, entry_kind, null_kind, int_kind, var_kind, fn_kind, pat_kind, list_predicate_kind, unres_kind, undes_kind, name_at, int_low_at, int_high_at, fn_args_at, list_predicate_kind_at, list_predicate_pred_at}
 use Rattle.words.specs.Cells.{cells, part_cells, shown, numbered, number_of}
 use Rattle.words.specs.Numbers.{Others, among, other_than, expr_number, expr_number_law}
-use Rattle.plan_line.specs.Keywords.{word, letters, var_word, exists_word, null_word, list_predicate_word, fn_word}
+use Rattle.plan_line.specs.Keywords.{word}
+use Rattle.plan_line.specs.declared.keyword.Keyword.{Keyword}
 use Rattle.plan_line.specs.Copy.{SomeRecord, Copied}
 use Rattle.plan_line.specs.Row.{row_text, named_text, int_text}
 use Rattle.plan_sheet.specs.Due.{ExprAt, ItemAt, named_rec, item_name, Line, TextAsked, text_at}
@@ -106,35 +108,35 @@ module _ {sheet : Bytes} {a b : List ℕ} {i : ℕ} (room : Roomy a b) where
   kind_is h n k e q = same_Some _ _ (sym q ∙ rw e at (shown room h.at).kind)
 
   module _ (n : ℕ) (h : ExprAt sheet a b i) where
-    pub var_head : cell a b i kind_at ≡ var_kind → spell_rec (expr_head n h.kind h.fields) ≡ row_text var_word (n ∷ [])
-    unfolding kind_of first_kind nth kinds sames keyword plan_keyword plan_expr_keyword word letters bytes bytes_from spell_fields spell
-    var_head e = at_kind Expr.Var h.kind (λ k f. spell_rec (expr_head n k f) ≡ row_text var_word (n ∷ [])) (kind_is h var_kind Expr.Var e refl) (λ f. row_rec _ var_word (n ∷ []) refl refl) h.fields
+    pub var_head : cell a b i kind_at ≡ var_kind → spell_rec (expr_head n h.kind h.fields) ≡ row_text Keyword.Var (n ∷ [])
+    unfolding kind_of first_kind nth kinds sames keyword plan_keyword plan_expr_keyword word bytes bytes_from spell_fields spell
+    var_head e = at_kind Expr.Var h.kind (λ k f. spell_rec (expr_head n k f) ≡ row_text Keyword.Var (n ∷ [])) (kind_is h var_kind Expr.Var e refl) (λ f. row_rec _ Keyword.Var (n ∷ []) refl refl) h.fields
 
-    pub exists_head : cell a b i kind_at ≡ pat_kind → spell_rec (expr_head n h.kind h.fields) ≡ row_text exists_word []
-    unfolding kind_of first_kind nth kinds sames keyword plan_keyword plan_expr_keyword word letters bytes bytes_from spell_fields spell
-    exists_head e = at_kind Expr.PatternPredicate h.kind (λ k f. spell_rec (expr_head n k f) ≡ row_text exists_word []) (kind_is h pat_kind Expr.PatternPredicate e refl) (λ f. row_rec _ exists_word [] refl refl) h.fields
+    pub exists_head : cell a b i kind_at ≡ pat_kind → spell_rec (expr_head n h.kind h.fields) ≡ row_text Keyword.Exists []
+    unfolding kind_of first_kind nth kinds sames keyword plan_keyword plan_expr_keyword word bytes bytes_from spell_fields spell
+    exists_head e = at_kind Expr.PatternPredicate h.kind (λ k f. spell_rec (expr_head n k f) ≡ row_text Keyword.Exists []) (kind_is h pat_kind Expr.PatternPredicate e refl) (λ f. row_rec _ Keyword.Exists [] refl refl) h.fields
 
-    unresolved_head : cell a b i kind_at ≡ unres_kind → spell_rec (expr_head n h.kind h.fields) ≡ row_text null_word []
-    unfolding kind_of first_kind nth kinds sames keyword plan_keyword plan_expr_keyword same_keyword word letters bytes bytes_from spell_fields spell
-    unresolved_head e = at_kind Expr.Unresolved h.kind (λ k f. spell_rec (expr_head n k f) ≡ row_text null_word []) (kind_is h unres_kind Expr.Unresolved e refl) (λ f. row_rec _ null_word [] refl refl) h.fields
+    unresolved_head : cell a b i kind_at ≡ unres_kind → spell_rec (expr_head n h.kind h.fields) ≡ row_text Keyword.Null []
+    unfolding kind_of first_kind nth kinds sames keyword plan_keyword plan_expr_keyword same_keyword word bytes bytes_from spell_fields spell
+    unresolved_head e = at_kind Expr.Unresolved h.kind (λ k f. spell_rec (expr_head n k f) ≡ row_text Keyword.Null []) (kind_is h unres_kind Expr.Unresolved e refl) (λ f. row_rec _ Keyword.Null [] refl refl) h.fields
 
-    undesugared_head : cell a b i kind_at ≡ undes_kind → spell_rec (expr_head n h.kind h.fields) ≡ row_text null_word []
-    unfolding kind_of first_kind nth kinds sames keyword plan_keyword plan_expr_keyword same_keyword word letters bytes bytes_from spell_fields spell
-    undesugared_head e = at_kind Expr.Undesugared h.kind (λ k f. spell_rec (expr_head n k f) ≡ row_text null_word []) (kind_is h undes_kind Expr.Undesugared e refl) (λ f. row_rec _ null_word [] refl refl) h.fields
+    undesugared_head : cell a b i kind_at ≡ undes_kind → spell_rec (expr_head n h.kind h.fields) ≡ row_text Keyword.Null []
+    unfolding kind_of first_kind nth kinds sames keyword plan_keyword plan_expr_keyword same_keyword word bytes bytes_from spell_fields spell
+    undesugared_head e = at_kind Expr.Undesugared h.kind (λ k f. spell_rec (expr_head n k f) ≡ row_text Keyword.Null []) (kind_is h undes_kind Expr.Undesugared e refl) (λ f. row_rec _ Keyword.Null [] refl refl) h.fields
 
     -- the two kinds that are printed as a null have the last numbers
-    pub null_head : unres_kind ≤ cell a b i kind_at → cell a b i kind_at ≤ undes_kind → spell_rec (expr_head n h.kind h.fields) ≡ row_text null_word []
+    pub null_head : unres_kind ≤ cell a b i kind_at → cell a b i kind_at ≤ undes_kind → spell_rec (expr_head n h.kind h.fields) ≡ row_text Keyword.Null []
     null_head l m = elim (two (cell a b i kind_at) unres_kind l m) [ inl e ↦ unresolved_head e | inr e ↦ undesugared_head e ]
 
-    any_fields : (f : Fields (expr_forms Expr.ListPredicate)) → RecordAt sheet a b i expr Expr.ListPredicate f → spell_rec (expr_head n Expr.ListPredicate f) ≡ row_text list_predicate_word (cell a b i list_predicate_kind_at ∷ n ∷ cell a b i list_predicate_pred_at ∷ [])
-    unfolding keyword plan_keyword plan_expr_keyword word letters bytes bytes_from spell_fields spell fields_of field_of
+    any_fields : (f : Fields (expr_forms Expr.ListPredicate)) → RecordAt sheet a b i expr Expr.ListPredicate f → spell_rec (expr_head n Expr.ListPredicate f) ≡ row_text Keyword.ListPredicate (cell a b i list_predicate_kind_at ∷ n ∷ cell a b i list_predicate_pred_at ∷ [])
+    unfolding keyword plan_keyword plan_expr_keyword word bytes bytes_from spell_fields spell fields_of field_of
     any_fields f at =
         let s = shown room at in
-        row_rec _ list_predicate_word (cell a b i list_predicate_kind_at ∷ n ∷ cell a b i list_predicate_pred_at ∷ []) refl (rw s.fields (rw (flag_decimal (cell a b i list_predicate_pred_at) s.flags.1.1.0)))
+        row_rec _ Keyword.ListPredicate (cell a b i list_predicate_kind_at ∷ n ∷ cell a b i list_predicate_pred_at ∷ []) refl (rw s.fields (rw (flag_decimal (cell a b i list_predicate_pred_at) s.flags.1.1.0)))
 
-    pub any_head : cell a b i kind_at ≡ list_predicate_kind → spell_rec (expr_head n h.kind h.fields) ≡ row_text list_predicate_word (cell a b i list_predicate_kind_at ∷ n ∷ cell a b i list_predicate_pred_at ∷ [])
+    pub any_head : cell a b i kind_at ≡ list_predicate_kind → spell_rec (expr_head n h.kind h.fields) ≡ row_text Keyword.ListPredicate (cell a b i list_predicate_kind_at ∷ n ∷ cell a b i list_predicate_pred_at ∷ [])
     unfolding kind_of first_kind nth kinds sames
-    any_head e = at_kind Expr.ListPredicate h.kind (λ k f. RecordAt sheet a b i expr k f → spell_rec (expr_head n k f) ≡ row_text list_predicate_word (cell a b i list_predicate_kind_at ∷ n ∷ cell a b i list_predicate_pred_at ∷ [])) (kind_is h list_predicate_kind Expr.ListPredicate e refl) any_fields h.fields h.at
+    any_head e = at_kind Expr.ListPredicate h.kind (λ k f. RecordAt sheet a b i expr k f → spell_rec (expr_head n k f) ≡ row_text Keyword.ListPredicate (cell a b i list_predicate_kind_at ∷ n ∷ cell a b i list_predicate_pred_at ∷ [])) (kind_is h list_predicate_kind Expr.ListPredicate e refl) any_fields h.fields h.at
 
     pub call_place : cell a b i kind_at ≡ fn_kind → PlaceAt text sheet (cell a b i name_at) (cell a b i (name_at + 1))
     unfolding kind_of first_kind nth kinds sames
@@ -143,16 +145,16 @@ module _ {sheet : Bytes} {a b : List ℕ} {i : ℕ} (room : Roomy a b) where
     pub call_in : cell a b i kind_at ≡ fn_kind → TextAsked sheet a b i name_at
     call_in e = let p = call_place e in record { low = h.at.low; from = p.from; to = p.to }
 
-    call_fields : PlaceAt text sheet (cell a b i name_at) (cell a b i (name_at + 1)) → (f : Fields (expr_forms Expr.Call)) → RecordAt sheet a b i expr Expr.Call f → spell_rec (expr_head n Expr.Call f) ≡ named_text fn_word (text_at sheet a b i name_at) (cell a b i fn_args_at ∷ [])
-    unfolding keyword plan_keyword plan_expr_keyword word letters bytes bytes_from spell_fields spell fields_of field_of
-    call_fields p f at = named_rec_law _ fn_word (text_at sheet a b i name_at) (cell a b i fn_args_at ∷ []) refl (rw (shown room at).fields (rw (place_escape p)))
+    call_fields : PlaceAt text sheet (cell a b i name_at) (cell a b i (name_at + 1)) → (f : Fields (expr_forms Expr.Call)) → RecordAt sheet a b i expr Expr.Call f → spell_rec (expr_head n Expr.Call f) ≡ named_text Keyword.Fn (text_at sheet a b i name_at) (cell a b i fn_args_at ∷ [])
+    unfolding keyword plan_keyword plan_expr_keyword word bytes bytes_from spell_fields spell fields_of field_of
+    call_fields p f at = named_rec_law _ Keyword.Fn (text_at sheet a b i name_at) (cell a b i fn_args_at ∷ []) refl (rw (shown room at).fields (rw (place_escape p)))
 
-    pub call_head : cell a b i kind_at ≡ fn_kind → spell_rec (expr_head n h.kind h.fields) ≡ named_text fn_word (text_at sheet a b i name_at) (cell a b i fn_args_at ∷ [])
+    pub call_head : cell a b i kind_at ≡ fn_kind → spell_rec (expr_head n h.kind h.fields) ≡ named_text Keyword.Fn (text_at sheet a b i name_at) (cell a b i fn_args_at ∷ [])
     unfolding kind_of first_kind nth kinds sames
-    call_head e = at_kind Expr.Call h.kind (λ k f. RecordAt sheet a b i expr k f → spell_rec (expr_head n k f) ≡ named_text fn_word (text_at sheet a b i name_at) (cell a b i fn_args_at ∷ [])) (kind_is h fn_kind Expr.Call e refl) (call_fields (call_place e)) h.fields h.at
+    call_head e = at_kind Expr.Call h.kind (λ k f. RecordAt sheet a b i expr k f → spell_rec (expr_head n k f) ≡ named_text Keyword.Fn (text_at sheet a b i name_at) (cell a b i fn_args_at ∷ [])) (kind_is h fn_kind Expr.Call e refl) (call_fields (call_place e)) h.fields h.at
 
     int_fields : (f : Fields (expr_forms (Expr.Over Same.Int))) → RecordAt sheet a b i expr (Expr.Over Same.Int) f → spell_rec (expr_head n (Expr.Over Same.Int) f) ≡ int_text (int_of (cell a b i int_low_at) (cell a b i int_high_at))
-    unfolding keyword plan_keyword plan_expr_keyword same_keyword word letters bytes bytes_from spell_fields spell fields_of field_of
+    unfolding keyword plan_keyword plan_expr_keyword same_keyword word bytes bytes_from spell_fields spell fields_of field_of
     int_fields f at = int_rec _ (int_of (cell a b i int_low_at) (cell a b i int_high_at)) refl (rw (shown room at).fields)
 
     pub int_head : cell a b i kind_at ≡ int_kind → spell_rec (expr_head n h.kind h.fields) ≡ int_text (int_of (cell a b i int_low_at) (cell a b i int_high_at))

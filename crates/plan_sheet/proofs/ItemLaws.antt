@@ -3,27 +3,27 @@ use mathlib.Core.Path.{◌≡◌, refl, sym, ap, ◌∙◌}
 use Prim.Native.Nat.{ℕ, zero, suc, ◌+◌, ◌/◌, ◌%◌, ◌<◌}
 use native.Mathlib.Omega.{arith}
 use mathlib.Core.Bool.{Bool, true, false, cond}
+use mathlib.Core.Logic.{◌⊎◌, inl, inr}
 use mathlib.Core.List.{List, [], ◌∷◌, ◌++◌, append_assoc}
 use Rattle.std.specs.Prelude.{None, Some}
 use borrow.Author.Tests.{ne_eqb, ltb-true}
 use lib.Dec.{ltb}
 use lib.Seq.{slice}
-use Rattle.model.specs.Text.{Bytes, behind, decimal, digits, bytes, bytes_from, escape_byte, escape, unescape, tab, line_feed, backslash, digit0, max_digits}
+use Rattle.model.specs.Text.{Bytes, decimal, digits, bytes, bytes_from, escape_byte, escape, unescape, tab, line_feed, backslash, digit0, max_digits}
 use Rattle.model.specs.Field.{Fields, text, spell, spell_fields}
 use Rattle.model.specs.Kind.{Same, Expr, projection, expr}
 use Rattle.model.specs.Record.{forms, same_forms, expr_forms, kinds, sames, keyword, plan_keyword, spell_rec}
 use Rattle.model.specs.Lower.{same_alias, alias_or, expr_alias}
-use Rattle.output.specs.Page.{Page, Puts}
-use Rattle.output.specs.Writes.{◌⨾◌}
 use Rattle.words.specs.Words.{Roomy, cell, kind_of, first_kind, nth, alias_of, field_of, fields_of}
 use Rattle.words.specs.Held.{RecordAt, PlaceAt}
 use Rattle.words.specs.Cells.{shown}
 use Rattle.words.specs.Numbers.{same_number, expr_number, Others}
-use Rattle.plan_line.specs.Keywords.{word, letters, item_word}
-use Rattle.plan_line.specs.Row.{numbers_text, named_text}
+use Rattle.plan_line.specs.Keywords.{word}
+use Rattle.plan_line.specs.declared.keyword.Keyword.{Keyword}
+use Rattle.plan_line.specs.Row.{named_text}
 use Rattle.plan_sheet.specs.Due.{ExprAt, ItemAt, named_rec, item_name, TextAsked, text_at}
 use Rattle.plan_line.proofs.RowLaws.{named_rec_law, place_escape}
-use Rattle.plan_sheet.proofs.HeadLaws.{at_kind, texts_at, number_is, kind_is, call_place}
+use Rattle.plan_sheet.proofs.HeadLaws.{at_kind, texts_at, number_is, kind_is, call_in, call_place}
 use Rattle.words.specs.Places.{fn_kind, item_alias_at, kind_at, name_at, prop_kind, var_id_at, var_kind}
 
 -- ── digits are not escaped ──
@@ -52,9 +52,9 @@ digits_escape (suc k) n = more_escape (digits k (n / 10)) n (digits_escape k (n 
 
 -- ── names ──
 
-named_is : (t name : Bytes) → escape t ≡ name → spell_rec (named_rec t) ≡ named_text item_word name []
-unfolding keyword plan_keyword word letters bytes bytes_from spell_fields spell
-named_is t name e = named_rec_law (named_rec t) item_word name [] refl (rw e)
+named_is : (t name : Bytes) → escape t ≡ name → spell_rec (named_rec t) ≡ named_text Keyword.Item name []
+unfolding keyword plan_keyword word bytes bytes_from spell_fields spell
+named_is t name e = named_rec_law (named_rec t) Keyword.Item name [] refl (rw e)
 
 id_escape : (id : ℕ) → escape (bytes "_v" ++ decimal id) ≡ bytes "_v" ++ decimal id
 unfolding escape escape_byte bytes bytes_from decimal
@@ -63,14 +63,6 @@ id_escape id = rw (digits_escape max_digits id)
 no_escape : escape (bytes "_") ≡ bytes "_"
 unfolding escape escape_byte bytes bytes_from
 no_escape = refl
-
-pub id_put : (id : ℕ) {p q r s t u v : Page} → Puts (word item_word) p q → Puts (tab ∷ []) q r → Puts (95 ∷ []) r s → Puts (118 ∷ []) s t → Puts (decimal id) t u → Puts (line_feed ∷ []) u v → Puts (named_text item_word (bytes "_v" ++ decimal id) []) p v
-unfolding named_text numbers_text behind bytes bytes_from
-id_put id a b c d e f = a ⨾ b ⨾ c ⨾ d ⨾ e ⨾ f
-
-pub no_put : {p q r s t : Page} → Puts (word item_word) p q → Puts (tab ∷ []) q r → Puts (95 ∷ []) r s → Puts (line_feed ∷ []) s t → Puts (named_text item_word (bytes "_") []) p t
-unfolding named_text numbers_text behind bytes bytes_from
-no_put a b c d = a ⨾ b ⨾ c ⨾ d
 
 same_none : (h : Same) → (same_number h ≡ prop_kind → ⊥) → (f : Fields (same_forms h)) → same_alias h f ≡ bytes "_"
 unfolding same_alias same_number
@@ -91,7 +83,7 @@ same_none Same.IsNull z f = refl
 same_none Same.InList z f = refl
 
 -- the kinds that have a name, as a `match` leaves them behind its arms
-abbrev named : List ℕ
+abbrev pub named : List ℕ
 named = fn_kind ∷ var_kind ∷ prop_kind ∷ []
 
 kind_none : (k : Expr) → Others (expr_number k) named → (f : Fields (expr_forms k)) → expr_alias k f ≡ bytes "_"
@@ -112,22 +104,29 @@ module _ {sheet : Bytes} {a b : List ℕ} {i : ℕ} (room : Roomy a b) (h : Expr
   unfolding kind_of first_kind nth kinds sames
   prop_place e = at_kind (Expr.Over Same.Prop) h.kind (λ k f. RecordAt sheet a b i expr k f → PlaceAt text sheet (cell a b i name_at) (cell a b i (name_at + 1))) (kind_is room h prop_kind (Expr.Over Same.Prop) e refl) (λ f at. (texts_at room at).0) h.fields h.at
 
-  pub prop_in : cell a b i kind_at ≡ prop_kind → TextAsked sheet a b i name_at
+  prop_in : cell a b i kind_at ≡ prop_kind → TextAsked sheet a b i name_at
   prop_in e = let p = prop_place e in record { low = h.at.low; from = p.from; to = p.to }
 
-  pub prop_named : cell a b i kind_at ≡ prop_kind → spell_rec (named_rec (expr_alias h.kind h.fields)) ≡ named_text item_word (text_at sheet a b i name_at) []
+  prop_named : cell a b i kind_at ≡ prop_kind → spell_rec (named_rec (expr_alias h.kind h.fields)) ≡ named_text Keyword.Item (text_at sheet a b i name_at) []
   unfolding kind_of first_kind nth kinds sames same_alias fields_of field_of
   prop_named e = named_is _ _ (at_kind (Expr.Over Same.Prop) h.kind (λ k f. RecordAt sheet a b i expr k f → escape (expr_alias k f) ≡ text_at sheet a b i name_at) (kind_is room h prop_kind (Expr.Over Same.Prop) e refl) (λ f at. rw (shown room at).fields (place_escape (prop_place e))) h.fields h.at)
 
-  pub call_named : cell a b i kind_at ≡ fn_kind → spell_rec (named_rec (expr_alias h.kind h.fields)) ≡ named_text item_word (text_at sheet a b i name_at) []
+  call_named : cell a b i kind_at ≡ fn_kind → spell_rec (named_rec (expr_alias h.kind h.fields)) ≡ named_text Keyword.Item (text_at sheet a b i name_at) []
   unfolding kind_of first_kind nth kinds sames fields_of field_of
   call_named e = named_is _ _ (at_kind Expr.Call h.kind (λ k f. RecordAt sheet a b i expr k f → escape (expr_alias k f) ≡ text_at sheet a b i name_at) (kind_is room h fn_kind Expr.Call e refl) (λ f at. rw (shown room at).fields (place_escape (call_place room 0 h e))) h.fields h.at)
 
-  pub id_named : cell a b i kind_at ≡ var_kind → spell_rec (named_rec (expr_alias h.kind h.fields)) ≡ named_text item_word (bytes "_v" ++ decimal (cell a b i var_id_at)) []
+  -- a property or a function, either of which has its name there
+  pub own_in : (cell a b i kind_at ≡ prop_kind) ⊎ (cell a b i kind_at ≡ fn_kind) → TextAsked sheet a b i name_at
+  own_in e = elim e [ inl p ↦ prop_in p | inr q ↦ call_in room 0 h q ]
+
+  pub own_named : (cell a b i kind_at ≡ prop_kind) ⊎ (cell a b i kind_at ≡ fn_kind) → spell_rec (named_rec (expr_alias h.kind h.fields)) ≡ named_text Keyword.Item (text_at sheet a b i name_at) []
+  own_named e = elim e [ inl p ↦ prop_named p | inr q ↦ call_named q ]
+
+  pub id_named : cell a b i kind_at ≡ var_kind → spell_rec (named_rec (expr_alias h.kind h.fields)) ≡ named_text Keyword.Item (bytes "_v" ++ decimal (cell a b i var_id_at)) []
   unfolding kind_of first_kind nth kinds sames fields_of field_of
   id_named e = named_is _ _ (at_kind Expr.Var h.kind (λ k f. RecordAt sheet a b i expr k f → escape (expr_alias k f) ≡ bytes "_v" ++ decimal (cell a b i var_id_at)) (kind_is room h var_kind Expr.Var e refl) (λ f at. rw (shown room at).fields (id_escape (cell a b i var_id_at))) h.fields h.at)
 
-  pub none_named : (kind : ℕ) → kind ≡ cell a b i kind_at → Others kind named → spell_rec (named_rec (expr_alias h.kind h.fields)) ≡ named_text item_word (bytes "_") []
+  pub none_named : (kind : ℕ) → kind ≡ cell a b i kind_at → Others kind named → spell_rec (named_rec (expr_alias h.kind h.fields)) ≡ named_text Keyword.Item (bytes "_") []
   none_named kind e z = named_is _ _ (rw (kind_none h.kind (rw (e ∙ number_is room h) at z) h.fields) no_escape)
 
 -- ── an item ──
@@ -152,7 +151,7 @@ module _ {sheet : Bytes} {a b : List ℕ} {i : ℕ} (room : Roomy a b) (h : Item
   pub alias_in_law : (cell a b i item_alias_at ≡ 0 → ⊥) → TextAsked sheet a b i item_alias_at
   alias_in_law z = let p = alias_place z in record { low = h.at.low; from = p.from; to = p.to }
 
-  pub alias_named : (cell a b i item_alias_at ≡ 0 → ⊥) → spell_rec (named_rec (item_name h)) ≡ named_text item_word (text_at sheet a b i item_alias_at) []
+  pub alias_named : (cell a b i item_alias_at ≡ 0 → ⊥) → spell_rec (named_rec (item_name h)) ≡ named_text Keyword.Item (text_at sheet a b i item_alias_at) []
   unfolding alias_or
   alias_named z = named_is _ _ (rw (alias_is, alias_some sheet (cell a b i item_alias_at) (cell a b i (item_alias_at + 1)) z) (place_escape (alias_place z)))
 

@@ -1,11 +1,10 @@
 -- Names one after another, and the line of a pattern's element. Assumes nothing: every law is proved.
 use mathlib.Core.Path.{◌≡◌, refl, sym, ap, ◌∙◌}
-use Prim.Native.Nat.{ℕ, suc, ◌+◌, ◌-◌, ◌≤◌, ◌<◌}
+use Prim.Native.Nat.{ℕ, suc, ◌+◌, ◌-◌, ◌≤◌}
 use native.Mathlib.Omega.{arith}
 use mathlib.Core.Logic.{◌⊎◌, inl, inr}
 use mathlib.Core.List.{List, [], ◌∷◌, ◌++◌, append-nil, append_assoc}
 use lib.ListN.{length}
-use lib.Seq.{slice}
 use Rattle.model.specs.Text.{Bytes, tab, line_feed, behind, decimal, bytes, bytes_from}
 use Rattle.model.specs.Field.{Fields, spell, spell_flag, spell_fields}
 use Rattle.model.specs.Field
@@ -13,7 +12,8 @@ use Rattle.model.specs.Kind.{PatternElement, pattern_element, name}
 use Rattle.model.specs.Record.{rec, element_forms, keyword, plan_keyword, spell_rec, spell_recs}
 use Rattle.model.specs.Tree.{Trees, node, []ᵗ, ◌∷ᵗ◌, end}
 use Rattle.model.specs.Lower.{Recs}
-use Rattle.output.specs.Page.{Page, Puts}
+use Rattle.output.specs.declared.Page.{Page}
+use Rattle.output.specs.Page.{Puts}
 use Rattle.output.specs.Writes.{◌⨾◌, stay}
 use Rattle.words.specs.Words.{Roomy, cell, field_of, fields_of, max_records}
 use Rattle.words.specs.Held.{Held, HeldOf, RecordAt, PlaceAt, size, size_of}
@@ -21,9 +21,10 @@ use Rattle.words.specs.Cells.{shown}
 use Rattle.lower.specs.Render.{Notes, Ops, recs_over, render, render_of, spec_rec}
 use Rattle.words.specs.Numbers.{element_number}
 use Rattle.words.specs.Numbers
-use Rattle.plan_line.specs.Keywords.{word, letters, word_count, to_word, rel_word}
+use Rattle.plan_line.specs.Keywords.{word}
+use Rattle.plan_line.specs.declared.keyword.Keyword.{Keyword}
 use Rattle.plan_line.specs.Copy.{SomeRecord, Copied}
-use Rattle.plan_line.specs.Row.{row_text, rel_text, NamedAsked}
+use Rattle.plan_line.specs.Row.{row_text, rel_text}
 use Rattle.plan_sheet.specs.Due.{Names, no_names, name_more, names_recs, ElementAt, TextAsked, text_at}
 use Rattle.plan_line.proofs.RowLaws.{flag_decimal, behind_append, place_text, record_line, row_rec}
 use Rattle.plan_sheet.proofs.HeadLaws.{some_record, texts_at}
@@ -53,10 +54,9 @@ pub record NamesGoing (sheet : Bytes) (a b : List ℕ) (n i : ℕ) (start : Page
   pub some : Names sheet a b m at
   pub each : (h : Names sheet a b n i) → (o : Names sheet a b m at) × ((q : Page) → Puts (spell_recs (names_recs o)) p q → Puts (spell_recs (names_recs h)) start q)
   pub sum : at + m ≡ i + n
-  pub long : length p.bytes ≡ length start.bytes
 
 pub names_going : {sheet : Bytes} {a b : List ℕ} {n i : ℕ} {p : Page} → Names sheet a b n i → NamesGoing sheet a b n i p n i p
-names_going h = record { some = h; each = λ h. (h, λ q r. r); sum = refl; long = refl }
+names_going h = record { some = h; each = λ h. (h, λ q r. r); sum = refl }
 
 -- they end among the records
 pub names_end : {sheet : Bytes} {a b : List ℕ} {n i : ℕ} → Names sheet a b n i → (n ≡ 0) ⊎ (i + n ≤ max_records)
@@ -64,13 +64,12 @@ names_end no_names = inl refl
 names_end (name_more f h no_names) = inr (omega (arith, h.low))
 names_end (name_more f h (name_more g k c)) = inr (omega (arith, names_end (name_more g k c)))
 
-pub names_again : {sheet : Bytes} {a b : List ℕ} {n i m at : ℕ} {start p q : Page} → Roomy a b → (m ≡ 0 → ⊥) → NamesGoing sheet a b n i start m at p → Copied sheet a b at p q → length q.bytes ≡ length p.bytes → NamesGoing sheet a b n i start (m - 1) (at + 1) q
-names_again room z g w l =
+pub names_again : {sheet : Bytes} {a b : List ℕ} {n i m at : ℕ} {start p q : Page} → Roomy a b → (m ≡ 0 → ⊥) → NamesGoing sheet a b n i start m at p → Copied sheet a b at p q → NamesGoing sheet a b n i start (m - 1) (at + 1) q
+names_again room z g w =
     record {
       some = (names_step room g.some z g.some (λ q r. r) w).others;
       each = λ h. let s = names_step room h z (g.each h).0 (g.each h).1 w in (s.others, s.text);
       sum = omega (arith, g.sum);
-      long = l ∙ g.long;
     }
 
 no_more : {sheet : Bytes} {a b : List ℕ} {m at : ℕ} → m ≡ 0 → (o : Names sheet a b m at) → names_recs o ≡ []
@@ -116,11 +115,11 @@ module _ {sheet : Bytes} {a b : List ℕ} {i : ℕ} (room : Roomy a b) where
   pub element_number_law : (h : ElementAt sheet a b i) → cell a b i kind_at ≡ element_number h.kind
   element_number_law h = Numbers.element_number_law (cell a b i kind_at) h.kind (shown room h.at).kind
 
-  node_fields : (k : PatternElement) (f : Fields (element_forms k)) → RecordAt sheet a b i pattern_element k f → element_number k ≡ node_kind → spell_rec (spec_rec k f) ≡ row_text to_word (cell a b i node_labels_at ∷ cell a b i node_props_at ∷ [])
-  unfolding element_number spec_rec keyword plan_keyword word letters bytes bytes_from spell_fields spell fields_of field_of
+  node_fields : (k : PatternElement) (f : Fields (element_forms k)) → RecordAt sheet a b i pattern_element k f → element_number k ≡ node_kind → spell_rec (spec_rec k f) ≡ row_text Keyword.To (cell a b i node_labels_at ∷ cell a b i node_props_at ∷ [])
+  unfolding element_number spec_rec keyword plan_keyword word bytes bytes_from spell_fields spell fields_of field_of
   node_fields PatternElement.Node f at e =
       let s = shown room at in
-      row_rec _ to_word (cell a b i node_labels_at ∷ cell a b i node_props_at ∷ []) refl (rw s.fields (rw (flag_decimal (cell a b i node_props_at) s.flags.1.1.0)))
+      row_rec _ Keyword.To (cell a b i node_labels_at ∷ cell a b i node_props_at ∷ []) refl (rw s.fields (rw (flag_decimal (cell a b i node_props_at) s.flags.1.1.0)))
   node_fields PatternElement.Rel f at e = let z : ◌≡◌ {A = ℕ} rel_kind node_kind = e in absurd (omega arith)
 
   rel_place : (k : PatternElement) (f : Fields (element_forms k)) → RecordAt sheet a b i pattern_element k f → (element_number k ≡ node_kind → ⊥) → PlaceAt Field.length sheet (cell a b i rel_length_at) (cell a b i (rel_length_at + 1))
@@ -129,7 +128,7 @@ module _ {sheet : Bytes} {a b : List ℕ} {i : ℕ} (room : Roomy a b) where
   rel_place PatternElement.Rel f at e = (texts_at room at).1.1.1.0
 
   rel_fields : PlaceAt Field.length sheet (cell a b i rel_length_at) (cell a b i (rel_length_at + 1)) → (k : PatternElement) (f : Fields (element_forms k)) → RecordAt sheet a b i pattern_element k f → (element_number k ≡ node_kind → ⊥) → spell_rec (spec_rec k f) ≡ rel_text (cell a b i rel_types_at) (cell a b i rel_direction_at) (text_at sheet a b i rel_length_at) (cell a b i rel_props_at)
-  unfolding element_number spec_rec spell_rec keyword plan_keyword word letters bytes bytes_from spell_fields spell fields_of field_of rel_text behind
+  unfolding element_number spec_rec spell_rec keyword plan_keyword word bytes bytes_from spell_fields spell fields_of field_of rel_text behind
   rel_fields p PatternElement.Node f at e = absurd (e refl)
   rel_fields p PatternElement.Rel f at e =
       let s = shown room at in
@@ -141,11 +140,11 @@ module _ {sheet : Bytes} {a b : List ℕ} {i : ℕ} (room : Roomy a b) where
       ∙ rw (props, append-nil (decimal (cell a b i rel_props_at))) (ap (λ (x : Bytes). x ++ (tab ∷ decimal (cell a b i rel_props_at))) body) in
       let types : f.1.0 ≡ cell a b i rel_types_at = ap (λ (x : Fields (element_forms PatternElement.Rel)). x.1.0) s.fields in
       let direction : f.1.1.0 ≡ cell a b i rel_direction_at = ap (λ (x : Fields (element_forms PatternElement.Rel)). x.1.1.0) s.fields in
-      record_line (word rel_word) _
-      ∙ ap (λ (x : Bytes). word rel_word ++ x) (rw (tail, types, direction) (four (tab ∷ decimal (cell a b i rel_types_at)) (tab ∷ decimal (cell a b i rel_direction_at)) (tab ∷ len) (tab ∷ decimal (cell a b i rel_props_at)) (line_feed ∷ [])))
+      record_line (word Keyword.Rel) _
+      ∙ ap (λ (x : Bytes). word Keyword.Rel ++ x) (rw (tail, types, direction) (four (tab ∷ decimal (cell a b i rel_types_at)) (tab ∷ decimal (cell a b i rel_direction_at)) (tab ∷ len) (tab ∷ decimal (cell a b i rel_props_at)) (line_feed ∷ [])))
 
   module _ (h : ElementAt sheet a b i) where
-    pub node_line : cell a b i kind_at ≡ node_kind → spell_rec (spec_rec h.kind h.fields) ≡ row_text to_word (cell a b i node_labels_at ∷ cell a b i node_props_at ∷ [])
+    pub node_line : cell a b i kind_at ≡ node_kind → spell_rec (spec_rec h.kind h.fields) ≡ row_text Keyword.To (cell a b i node_labels_at ∷ cell a b i node_props_at ∷ [])
     node_line e = node_fields h.kind h.fields h.at (sym (element_number_law h) ∙ e)
 
     pub rel_in : (cell a b i kind_at ≡ node_kind → ⊥) → TextAsked sheet a b i rel_length_at
@@ -155,18 +154,3 @@ module _ {sheet : Bytes} {a b : List ℕ} {i : ℕ} (room : Roomy a b) where
     rel_line e =
         let n : element_number h.kind ≡ node_kind → ⊥ = λ x. e (element_number_law h ∙ x) in
         rel_fields (rel_place h.kind h.fields h.at n) h.kind h.fields h.at n
-
--- ── pieces of a line, by the words that were read ──
-
-pub number_as : {n m : ℕ} {g g' : Page} → n ≡ m → Puts (tab ∷ decimal n) g g' → Puts (tab ∷ decimal m) g g'
-number_as e p = rw e at p
-
-pub text_as : (sheet : Bytes) {s e x y : ℕ} {g g' : Page} → s ≡ x → e ≡ y → Puts (tab ∷ slice s e sheet) g g' → Puts (tab ∷ slice x y sheet) g g'
-text_as sheet p q w = rw (p, q) at w
-
-module _ {sheet : Bytes} {a b : List ℕ} {i c s e : ℕ} (from : s ≡ cell a b i c) (to : e ≡ cell a b i (c + 1)) (t : TextAsked sheet a b i c) where
-  pub text_in : (s ≤ e) × (e ≤ length sheet)
-  text_in = rw (from, to) (t.from, t.to)
-
-  pub named_in : {k : ℕ} → k < word_count → NamedAsked k sheet s e
-  named_in l = rw (from, to) (record { keyword = l; from = t.from; to = t.to })

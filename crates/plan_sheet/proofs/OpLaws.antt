@@ -13,7 +13,8 @@ use Rattle.model.specs.Kind.{ReadOp, Clause, clause, pattern_element}
 use Rattle.model.specs.Record.{Rec, one, all_shortest, forms, keyword, plan_keyword, op_keyword, spell_rec, spell_recs}
 use Rattle.model.specs.Tree.{Tree, node}
 use Rattle.model.specs.Lower.{Recs, op, source}
-use Rattle.output.specs.Page.{Page, Puts}
+use Rattle.output.specs.declared.Page.{Page}
+use Rattle.output.specs.Page.{Puts}
 use Rattle.output.specs.Writes.{◌⨾◌}
 use Rattle.words.specs.Words.{Roomy, cell, field_of, fields_of, max_records}
 use Rattle.words.specs.Held.{Held, PlaceAt}
@@ -24,7 +25,8 @@ use Rattle.context.specs.declared.op.Op.{Op}
 use Rattle.lower.specs.Side.{Side, side}
 use Rattle.lower.specs.Render.{Notes, Ops, spec_recs}
 use Rattle.lower.specs.Shows.{shift, InBounds, Shows, Stored, OverExpr, ByLabels, ByRel, ByShortest, ByPath, ByWith, ByItems, ByParted, ByKeys, ByCall, shows_all, shows_no_parts, shows_source, shows_filter, shows_expand, shows_short, shows_path, shows_optional, shows_with, shows_project, shows_aggregate, shows_order, shows_skip, shows_limit, shows_distinct, shows_unwind, shows_union, shows_call}
-use Rattle.plan_line.specs.Keywords.{word, letters, source_word, filter_word, expand_word, short_word, path_word, optional_word, with_word, project_word, agg_word, order_word, skip_word, limit_word, distinct_word, unwind_word, union_word, call_word}
+use Rattle.plan_line.specs.Keywords.{word}
+use Rattle.plan_line.specs.declared.keyword.Keyword.{Keyword}
 use Rattle.plan_line.specs.Row.{numbers_text, row_text, call_text}
 use Rattle.plan_sheet.specs.Due.{noted, Near, Tabled, SomePlan, OpShown, WroteFirst, Many, WroteMany, Element, WroteElement, WroteOp, TextAsked, NotesIn, text_at}
 use Rattle.plan_sheet.specs.Parted.{Items, WroteItems}
@@ -150,94 +152,94 @@ pub notes_in : {sheet : Bytes} {a b rest : List ℕ} {o : Op} → OpShown sheet 
 notes_in h = let w = h.stored.bounded in record { near = w.near; low = w.low }
 
 module _ {sheet : Bytes} {a b rest : List ℕ} {o : Op} (h : OpShown sheet a b rest o) where
-  all_line : o.kind ≡ source_all_kind → spell_recs (take 1 h.recs) ≡ row_text source_word (o.x ∷ 0 ∷ [])
-  unfolding source keyword plan_keyword op_keyword word letters bytes bytes_from spell_fields spell
-  all_line e = first_rec_law (of_kind source_all_kind e h.stored.shows) ∙ row_rec _ source_word (o.x ∷ 0 ∷ []) refl refl
+  all_line : o.kind ≡ source_all_kind → spell_recs (take 1 h.recs) ≡ row_text Keyword.Source (o.x ∷ 0 ∷ [])
+  unfolding source keyword plan_keyword op_keyword word bytes bytes_from spell_fields spell
+  all_line e = first_rec_law (of_kind source_all_kind e h.stored.shows) ∙ row_rec _ Keyword.Source (o.x ∷ 0 ∷ []) refl refl
 
-  no_parts_line : o.kind ≡ source_no_parts_kind → spell_recs (take 1 h.recs) ≡ row_text source_word (o.x ∷ 0 ∷ [])
-  unfolding source keyword plan_keyword op_keyword word letters bytes bytes_from spell_fields spell
-  no_parts_line e = first_rec_law (of_kind source_no_parts_kind e h.stored.shows) ∙ row_rec _ source_word (o.x ∷ 0 ∷ []) refl refl
+  no_parts_line : o.kind ≡ source_no_parts_kind → spell_recs (take 1 h.recs) ≡ row_text Keyword.Source (o.x ∷ 0 ∷ [])
+  unfolding source keyword plan_keyword op_keyword word bytes bytes_from spell_fields spell
+  no_parts_line e = first_rec_law (of_kind source_no_parts_kind e h.stored.shows) ∙ row_rec _ Keyword.Source (o.x ∷ 0 ∷ []) refl refl
 
   -- neither has labels
-  pub bare_line : o.kind ≤ source_no_parts_kind → spell_recs (take 1 h.recs) ≡ row_text source_word (o.x ∷ 0 ∷ [])
+  pub bare_line : o.kind ≤ source_no_parts_kind → spell_recs (take 1 h.recs) ≡ row_text Keyword.Source (o.x ∷ 0 ∷ [])
   bare_line l = elim (two o.kind source_all_kind (omega arith) l) [ inl e ↦ all_line e | inr e ↦ no_parts_line e ]
 
-  pub source_line : o.kind ≡ source_kind → spell_recs (take 1 h.recs) ≡ row_text source_word (o.x ∷ cell a b o.idx node_labels_at ∷ [])
-  unfolding source keyword plan_keyword op_keyword word letters bytes bytes_from spell_fields spell
+  pub source_line : o.kind ≡ source_kind → spell_recs (take 1 h.recs) ≡ row_text Keyword.Source (o.x ∷ cell a b o.idx node_labels_at ∷ [])
+  unfolding source keyword plan_keyword op_keyword word bytes bytes_from spell_fields spell
   source_line e =
       let s = of_kind source_kind e h.stored.shows in
       let m = names_made (shift (noted rest) o.base) h.ops o.left s.labels (o.idx + 1) s.held in
-      first_rec_law s.is ∙ row_rec _ source_word (o.x ∷ cell a b o.idx node_labels_at ∷ []) refl (rw (m.count, s.counted))
+      first_rec_law s.is ∙ row_rec _ Keyword.Source (o.x ∷ cell a b o.idx node_labels_at ∷ []) refl (rw (m.count, s.counted))
 
-  pub filter_line : o.kind ≡ filter_kind → spell_recs (take 1 h.recs) ≡ row_text filter_word (o.input ∷ [])
-  unfolding keyword plan_keyword op_keyword word letters bytes bytes_from spell_fields spell
-  filter_line e = first_rec_law (of_kind filter_kind e h.stored.shows).is ∙ row_rec _ filter_word (o.input ∷ []) refl refl
+  pub filter_line : o.kind ≡ filter_kind → spell_recs (take 1 h.recs) ≡ row_text Keyword.Filter (o.input ∷ [])
+  unfolding keyword plan_keyword op_keyword word bytes bytes_from spell_fields spell
+  filter_line e = first_rec_law (of_kind filter_kind e h.stored.shows).is ∙ row_rec _ Keyword.Filter (o.input ∷ []) refl refl
 
   module _ (c : o.kind ≡ expand_kind) where
     pub far_low : o.y < max_records
     far_low = let s = of_kind expand_kind c h.stored.shows in element_low sheet a b o.left o.y s.far s.held_far
 
-    pub expand_line : spell_recs (take 1 h.recs) ≡ row_text expand_word (o.input ∷ o.x ∷ note_of rest o.base o.idx ∷ note_of rest o.base o.y ∷ [])
-    unfolding keyword plan_keyword op_keyword word letters bytes bytes_from spell_fields spell
+    pub expand_line : spell_recs (take 1 h.recs) ≡ row_text Keyword.Expand (o.input ∷ o.x ∷ note_of rest o.base o.idx ∷ note_of rest o.base o.y ∷ [])
+    unfolding keyword plan_keyword op_keyword word bytes bytes_from spell_fields spell
     expand_line =
         let s = of_kind expand_kind c h.stored.shows in
-        first_rec_law s.is ∙ row_rec _ expand_word (o.input ∷ o.x ∷ note_of rest o.base o.idx ∷ note_of rest o.base o.y ∷ []) refl refl
+        first_rec_law s.is ∙ row_rec _ Keyword.Expand (o.input ∷ o.x ∷ note_of rest o.base o.idx ∷ note_of rest o.base o.y ∷ []) refl refl
 
-  pub short_line : o.kind ≡ shortest_path_kind → spell_recs (take 1 h.recs) ≡ row_text short_word (o.input ∷ note_of rest o.base (o.idx + 1) ∷ note_of rest o.base o.y ∷ note_of rest o.base o.idx ∷ one (eqb (cell a b o.idx part_shortest_at) all_shortest) ∷ [])
-  unfolding keyword plan_keyword op_keyword word letters bytes bytes_from spell_fields spell
+  pub short_line : o.kind ≡ shortest_path_kind → spell_recs (take 1 h.recs) ≡ row_text Keyword.Short (o.input ∷ note_of rest o.base (o.idx + 1) ∷ note_of rest o.base o.y ∷ note_of rest o.base o.idx ∷ one (eqb (cell a b o.idx part_shortest_at) all_shortest) ∷ [])
+  unfolding keyword plan_keyword op_keyword word bytes bytes_from spell_fields spell
   short_line c =
       let s = of_kind shortest_path_kind c h.stored.shows in
-      first_rec_law s.is ∙ row_rec _ short_word (o.input ∷ note_of rest o.base (o.idx + 1) ∷ note_of rest o.base o.y ∷ note_of rest o.base o.idx ∷ one (eqb (cell a b o.idx part_shortest_at) all_shortest) ∷ []) refl (rw s.is_all (rw (bool_decimal (eqb (cell a b o.idx part_shortest_at) all_shortest))))
+      first_rec_law s.is ∙ row_rec _ Keyword.Short (o.input ∷ note_of rest o.base (o.idx + 1) ∷ note_of rest o.base o.y ∷ note_of rest o.base o.idx ∷ one (eqb (cell a b o.idx part_shortest_at) all_shortest) ∷ []) refl (rw s.is_all (rw (bool_decimal (eqb (cell a b o.idx part_shortest_at) all_shortest))))
 
-  pub path_line : o.kind ≡ bind_path_kind → spell_recs (take 1 h.recs) ≡ row_text path_word (o.input ∷ o.y ∷ o.x ∷ [])
-  unfolding keyword plan_keyword op_keyword word letters bytes bytes_from spell_fields spell
-  path_line e = first_rec_law (of_kind bind_path_kind e h.stored.shows).is ∙ row_rec _ path_word (o.input ∷ o.y ∷ o.x ∷ []) refl refl
+  pub path_line : o.kind ≡ bind_path_kind → spell_recs (take 1 h.recs) ≡ row_text Keyword.Path (o.input ∷ o.y ∷ o.x ∷ [])
+  unfolding keyword plan_keyword op_keyword word bytes bytes_from spell_fields spell
+  path_line e = first_rec_law (of_kind bind_path_kind e h.stored.shows).is ∙ row_rec _ Keyword.Path (o.input ∷ o.y ∷ o.x ∷ []) refl refl
 
   -- ── of a clause ──
 
-  pub optional_line : o.kind ≡ optional_join_kind → spell_recs (take 1 h.recs) ≡ row_text optional_word (o.input ∷ [])
-  unfolding keyword plan_keyword op_keyword word letters bytes bytes_from spell_fields spell
-  optional_line e = first_rec_law (of_kind optional_join_kind e h.stored.shows).2 ∙ row_rec _ optional_word (o.input ∷ []) refl refl
+  pub optional_line : o.kind ≡ optional_join_kind → spell_recs (take 1 h.recs) ≡ row_text Keyword.Optional (o.input ∷ [])
+  unfolding keyword plan_keyword op_keyword word bytes bytes_from spell_fields spell
+  optional_line e = first_rec_law (of_kind optional_join_kind e h.stored.shows).2 ∙ row_rec _ Keyword.Optional (o.input ∷ []) refl refl
 
-  pub with_line : o.kind ≡ with_kind → spell_recs (take 1 h.recs) ≡ row_text with_word (o.input ∷ cell a b o.idx items_at ∷ cell a b o.idx with_filter_at ∷ [])
-  unfolding keyword plan_keyword op_keyword word letters bytes bytes_from spell_fields spell
+  pub with_line : o.kind ≡ with_kind → spell_recs (take 1 h.recs) ≡ row_text Keyword.With (o.input ∷ cell a b o.idx items_at ∷ cell a b o.idx with_filter_at ∷ [])
+  unfolding keyword plan_keyword op_keyword word bytes bytes_from spell_fields spell
   with_line e =
       let s = of_kind with_kind e h.stored.shows in
-      first_rec_law s.is ∙ row_rec _ with_word (o.input ∷ cell a b o.idx items_at ∷ cell a b o.idx with_filter_at ∷ []) refl (rw (s.counted, bool_decimal s.filtered, s.flagged))
+      first_rec_law s.is ∙ row_rec _ Keyword.With (o.input ∷ cell a b o.idx items_at ∷ cell a b o.idx with_filter_at ∷ []) refl (rw (s.counted, bool_decimal s.filtered, s.flagged))
 
-  pub project_line : o.kind ≡ project_kind → spell_recs (take 1 h.recs) ≡ row_text project_word (o.input ∷ cell a b o.idx items_at ∷ [])
-  unfolding keyword plan_keyword op_keyword word letters bytes bytes_from spell_fields spell
+  pub project_line : o.kind ≡ project_kind → spell_recs (take 1 h.recs) ≡ row_text Keyword.Project (o.input ∷ cell a b o.idx items_at ∷ [])
+  unfolding keyword plan_keyword op_keyword word bytes bytes_from spell_fields spell
   project_line e =
       let s = of_kind project_kind e h.stored.shows in
-      first_rec_law s.is ∙ row_rec _ project_word (o.input ∷ cell a b o.idx items_at ∷ []) refl (rw s.counted)
+      first_rec_law s.is ∙ row_rec _ Keyword.Project (o.input ∷ cell a b o.idx items_at ∷ []) refl (rw s.counted)
 
-  pub aggregate_line : o.kind ≡ aggregate_kind → spell_recs (take 1 h.recs) ≡ row_text agg_word (o.input ∷ o.x ∷ o.y ∷ [])
-  unfolding keyword plan_keyword op_keyword word letters bytes bytes_from spell_fields spell
-  aggregate_line e = first_rec_law (of_kind aggregate_kind e h.stored.shows).is ∙ row_rec _ agg_word (o.input ∷ o.x ∷ o.y ∷ []) refl refl
+  pub aggregate_line : o.kind ≡ aggregate_kind → spell_recs (take 1 h.recs) ≡ row_text Keyword.Agg (o.input ∷ o.x ∷ o.y ∷ [])
+  unfolding keyword plan_keyword op_keyword word bytes bytes_from spell_fields spell
+  aggregate_line e = first_rec_law (of_kind aggregate_kind e h.stored.shows).is ∙ row_rec _ Keyword.Agg (o.input ∷ o.x ∷ o.y ∷ []) refl refl
 
-  pub order_line : o.kind ≡ order_by_kind → spell_recs (take 1 h.recs) ≡ row_text order_word (o.input ∷ o.x ∷ [])
-  unfolding keyword plan_keyword op_keyword word letters bytes bytes_from spell_fields spell
-  order_line e = first_rec_law (of_kind order_by_kind e h.stored.shows).is ∙ row_rec _ order_word (o.input ∷ o.x ∷ []) refl refl
+  pub order_line : o.kind ≡ order_by_kind → spell_recs (take 1 h.recs) ≡ row_text Keyword.Order (o.input ∷ o.x ∷ [])
+  unfolding keyword plan_keyword op_keyword word bytes bytes_from spell_fields spell
+  order_line e = first_rec_law (of_kind order_by_kind e h.stored.shows).is ∙ row_rec _ Keyword.Order (o.input ∷ o.x ∷ []) refl refl
 
-  pub skip_line : o.kind ≡ skip_kind → spell_recs (take 1 h.recs) ≡ row_text skip_word (o.input ∷ [])
-  unfolding keyword plan_keyword op_keyword word letters bytes bytes_from spell_fields spell
-  skip_line e = first_rec_law (of_kind skip_kind e h.stored.shows).is ∙ row_rec _ skip_word (o.input ∷ []) refl refl
+  pub skip_line : o.kind ≡ skip_kind → spell_recs (take 1 h.recs) ≡ row_text Keyword.Skip (o.input ∷ [])
+  unfolding keyword plan_keyword op_keyword word bytes bytes_from spell_fields spell
+  skip_line e = first_rec_law (of_kind skip_kind e h.stored.shows).is ∙ row_rec _ Keyword.Skip (o.input ∷ []) refl refl
 
-  pub limit_line : o.kind ≡ limit_kind → spell_recs (take 1 h.recs) ≡ row_text limit_word (o.input ∷ [])
-  unfolding keyword plan_keyword op_keyword word letters bytes bytes_from spell_fields spell
-  limit_line e = first_rec_law (of_kind limit_kind e h.stored.shows).is ∙ row_rec _ limit_word (o.input ∷ []) refl refl
+  pub limit_line : o.kind ≡ limit_kind → spell_recs (take 1 h.recs) ≡ row_text Keyword.Limit (o.input ∷ [])
+  unfolding keyword plan_keyword op_keyword word bytes bytes_from spell_fields spell
+  limit_line e = first_rec_law (of_kind limit_kind e h.stored.shows).is ∙ row_rec _ Keyword.Limit (o.input ∷ []) refl refl
 
-  pub distinct_line : o.kind ≡ distinct_kind → spell_recs (take 1 h.recs) ≡ row_text distinct_word (o.input ∷ [])
-  unfolding keyword plan_keyword op_keyword word letters bytes bytes_from spell_fields spell
-  distinct_line e = first_rec_law (of_kind distinct_kind e h.stored.shows) ∙ row_rec _ distinct_word (o.input ∷ []) refl refl
+  pub distinct_line : o.kind ≡ distinct_kind → spell_recs (take 1 h.recs) ≡ row_text Keyword.Distinct (o.input ∷ [])
+  unfolding keyword plan_keyword op_keyword word bytes bytes_from spell_fields spell
+  distinct_line e = first_rec_law (of_kind distinct_kind e h.stored.shows) ∙ row_rec _ Keyword.Distinct (o.input ∷ []) refl refl
 
-  pub unwind_line : o.kind ≡ unwind_kind → spell_recs (take 1 h.recs) ≡ row_text unwind_word (o.input ∷ o.x ∷ [])
-  unfolding keyword plan_keyword op_keyword word letters bytes bytes_from spell_fields spell
-  unwind_line e = first_rec_law (of_kind unwind_kind e h.stored.shows).is ∙ row_rec _ unwind_word (o.input ∷ o.x ∷ []) refl refl
+  pub unwind_line : o.kind ≡ unwind_kind → spell_recs (take 1 h.recs) ≡ row_text Keyword.Unwind (o.input ∷ o.x ∷ [])
+  unfolding keyword plan_keyword op_keyword word bytes bytes_from spell_fields spell
+  unwind_line e = first_rec_law (of_kind unwind_kind e h.stored.shows).is ∙ row_rec _ Keyword.Unwind (o.input ∷ o.x ∷ []) refl refl
 
-  pub union_line : o.kind ≡ union_kind → spell_recs (take 1 h.recs) ≡ row_text union_word (o.input ∷ o.x ∷ o.y ∷ [])
-  unfolding keyword plan_keyword op_keyword word letters bytes bytes_from spell_fields spell
-  union_line e = first_rec_law (of_kind union_kind e h.stored.shows) ∙ row_rec _ union_word (o.input ∷ o.x ∷ o.y ∷ []) refl (rw (flag_decimal o.y (h.stored.bounded.flagged e)))
+  pub union_line : o.kind ≡ union_kind → spell_recs (take 1 h.recs) ≡ row_text Keyword.Union (o.input ∷ o.x ∷ o.y ∷ [])
+  unfolding keyword plan_keyword op_keyword word bytes bytes_from spell_fields spell
+  union_line e = first_rec_law (of_kind union_kind e h.stored.shows) ∙ row_rec _ Keyword.Union (o.input ∷ o.x ∷ o.y ∷ []) refl (rw (flag_decimal o.y (h.stored.bounded.flagged e)))
 
   pub is_call : bind_path_kind < o.kind → Others o.kind clause_ops → o.kind ≡ procedure_call_kind
   is_call l z = last_kind h.stored.shows l z
@@ -256,7 +258,7 @@ module _ {sheet : Bytes} {a b rest : List ℕ} {o : Op} (room : Roomy a b) (h : 
   procedure_in = record { low = h.stored.bounded.low; from = call_text_law.from; to = call_text_law.to }
 
   pub call_line : spell_recs (take 1 h.recs) ≡ call_text (call_input o) (text_at sheet a b o.idx call_name_at) (cell a b o.idx call_args_at) (cell a b o.idx call_yields_at) (cell a b o.idx call_optional_at)
-  unfolding spell_rec keyword plan_keyword op_keyword word letters bytes bytes_from spell_fields spell fields_of field_of call_text numbers_text
+  unfolding spell_rec keyword plan_keyword op_keyword word bytes bytes_from spell_fields spell fields_of field_of call_text numbers_text
   call_line =
       let s = of_kind procedure_call_kind e h.stored.shows in
       let r = shown room s.at in
@@ -265,8 +267,8 @@ module _ {sheet : Bytes} {a b rest : List ℕ} {o : Op} (room : Roomy a b) (h : 
       let yields : s.fields.1.1.0 ≡ cell a b o.idx call_yields_at = ap (λ (f : Fields (forms clause Clause.Call)). f.1.1.0) r.fields in
       let optional : spell_flag s.fields.1.1.1.0 ≡ decimal (cell a b o.idx call_optional_at) = rw r.fields (flag_decimal (cell a b o.idx call_optional_at) r.flags.1.1.1.0) in
       first_rec_law s.is
-      ∙ record_line (word call_word) _
-      ∙ ap (λ (t : Bytes). word call_word ++ t) (rw (name, args, yields, optional) (two_behind (spell_option (call_input o)) (text_at sheet a b o.idx call_name_at) (decimal (cell a b o.idx call_args_at) ∷ decimal (cell a b o.idx call_yields_at) ∷ decimal (cell a b o.idx call_optional_at) ∷ []) (line_feed ∷ [])))
+      ∙ record_line (word Keyword.Call) _
+      ∙ ap (λ (t : Bytes). word Keyword.Call ++ t) (rw (name, args, yields, optional) (two_behind (spell_option (call_input o)) (text_at sheet a b o.idx call_name_at) (decimal (cell a b o.idx call_args_at) ∷ decimal (cell a b o.idx call_yields_at) ∷ decimal (cell a b o.idx call_optional_at) ∷ []) (line_feed ∷ [])))
 
 -- ── a whole operator ──
 

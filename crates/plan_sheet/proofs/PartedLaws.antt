@@ -4,14 +4,14 @@ use Prim.Native.Nat.{ℕ, zero, suc, ◌+◌, ◌-◌, ◌<◌}
 use native.Mathlib.Omega.{arith}
 use mathlib.Core.Bool.{Bool, true, false, not, beq, false≢true}
 use mathlib.Core.List.{List, [], ◌∷◌, ◌++◌}
-use lib.ListN.{length}
 use Rattle.model.specs.Text.{Bytes, bytes, bytes_from}
 use Rattle.model.specs.Field.{Fields, text, spell, spell_fields}
 use Rattle.model.specs.Kind.{Expr, projection, expr, in_plan, agg_expr}
 use Rattle.model.specs.Record.{rec, expr_forms, keyword, plan_keyword, spell_rec, spell_recs}
 use Rattle.model.specs.Tree.{Tree, Trees, node, []ᵗ, ◌∷ᵗ◌, end, ◌▸◌}
 use Rattle.model.specs.Lower.{Recs}
-use Rattle.output.specs.Page.{Page, Puts}
+use Rattle.output.specs.declared.Page.{Page}
+use Rattle.output.specs.Page.{Puts}
 use Rattle.output.specs.Writes.{◌⨾◌, stay}
 use Rattle.words.specs.Words.{Roomy, cell, field_of, fields_of, max_records}
 use Rattle.words.specs.Held.{Held, HeldOf, RecordAt, PlaceAt, size}
@@ -22,7 +22,8 @@ use Rattle.lower.specs.Render.{Notes, Ops, Below, BelowOf, below_in, copies_belo
 use Rattle.lower.specs.Shows.{shift}
 use Rattle.words.specs.Count.{Ends}
 use Rattle.aggregate.specs.Names.{SomeExpr}
-use Rattle.plan_line.specs.Keywords.{word, letters, agg_fn_word}
+use Rattle.plan_line.specs.Keywords.{word}
+use Rattle.plan_line.specs.declared.keyword.Keyword.{Keyword}
 use Rattle.plan_sheet.specs.Due.{noted, SomePlan, One, Carried, carried_recs, carried_end, Many, WroteOne, WroteMany, WroteFirst, TextAsked, text_at}
 use Rattle.plan_sheet.specs.Parted.{agg_text, part_recs, parts_recs, Items, WrotePart, WroteParts, WroteItems}
 use Rattle.plan_line.proofs.RowLaws.{flag_decimal, named_rec_law, place_escape}
@@ -44,10 +45,10 @@ pub record Agg (sheet : Bytes) (a b : List ℕ) (N : Notes) (first below left i 
   pub text : (A : Ops) → spell_recs (agg_of N A t) ≡ agg_text sheet a b i ++ spell_recs (carried_recs A list)
 
 call_agg : (sheet : Bytes) (a b : List ℕ) (i : ℕ) → Roomy a b → (f : Fields (expr_forms Expr.Call)) → RecordAt sheet a b i expr Expr.Call f → spell_rec (rec (in_plan agg_expr) tt (f.0, (f.1.0, (f.1.1.0, tt)))) ≡ agg_text sheet a b i
-unfolding keyword plan_keyword word letters bytes bytes_from spell_fields spell fields_of field_of
+unfolding keyword plan_keyword word bytes bytes_from spell_fields spell fields_of field_of
 call_agg sheet a b i room f at =
     let s = shown room at in
-    named_rec_law _ agg_fn_word (text_at sheet a b i name_at) (cell a b i fn_args_at ∷ cell a b i fn_distinct_at ∷ []) refl (rw s.fields (rw (place_escape (texts_at room at).0, flag_decimal (cell a b i fn_distinct_at) s.flags.1.1.0)))
+    named_rec_law _ Keyword.AggFn (text_at sheet a b i name_at) (cell a b i fn_args_at ∷ cell a b i fn_distinct_at ∷ []) refl (rw s.fields (rw (place_escape (texts_at room at).0, flag_decimal (cell a b i fn_distinct_at) s.flags.1.1.0)))
 
 not-true : {X : Type 0} → false ≡ true → X
 not-true e = let z : ◌≡◌ {A = ℕ} 0 1 = cc in absurd (omega arith)
@@ -149,7 +150,6 @@ pub record PartsStill {sheet : Bytes} {a b os rest : List ℕ} {below base left 
 pub record PartsGoing (sheet : Bytes) (a b os rest : List ℕ) (below base left n i : ℕ) (aggs : Bool) (start : Page) (m at : ℕ) (p : Page) : Type 0 where
   pub some : Items sheet a b os rest below base left m at
   pub each : (h : Items sheet a b os rest below base left n i) → PartsStill aggs h start m at p
-  pub long : length p.bytes ≡ length start.bytes
 
 parts_more : (N : Notes) (A : Ops) (aggs : Bool) {n : ℕ} (p : Tree projection) (ps : Trees projection n) → parts_recs N A aggs (p ∷ᵗ ps) ≡ part_recs N A aggs (item_expr p) ++ parts_recs N A aggs ps
 unfolding parts_recs part_recs key_recs agg_recs
@@ -206,14 +206,13 @@ module _ {sheet : Bytes} {a b os rest : List ℕ} {below base left : ℕ} where
       })
 
   pub parts_going : {n i : ℕ} {aggs : Bool} {p : Page} → Items sheet a b os rest below base left n i → PartsGoing sheet a b os rest below base left n i aggs p n i p
-  parts_going h = record { some = h; each = λ h. record { others = h; text = λ q r. r }; long = refl }
+  parts_going h = record { some = h; each = λ h. record { others = h; text = λ q r. r } }
 
-  pub parts_again : {n i m at next : ℕ} {aggs : Bool} {start p q : Page} → (m ≡ 0 → ⊥) → PartsGoing sheet a b os rest below base left n i aggs start m at p → WrotePart sheet a b os rest below base left (at + 1) aggs p next q → length q.bytes ≡ length p.bytes → PartsGoing sheet a b os rest below base left n i aggs start (m - 1) next q
-  parts_again z g w l =
+  pub parts_again : {n i m at next : ℕ} {aggs : Bool} {start p q : Page} → (m ≡ 0 → ⊥) → PartsGoing sheet a b os rest below base left n i aggs start m at p → WrotePart sheet a b os rest below base left (at + 1) aggs p next q → PartsGoing sheet a b os rest below base left n i aggs start (m - 1) next q
+  parts_again z g w =
       record {
         some = (part_step z g.some (record { others = g.some; text = λ q r. r }) w).others;
         each = λ h. part_step z h (g.each h) w;
-        long = l ∙ g.long;
       }
 
   pub parts_done : {n i m at : ℕ} {aggs : Bool} {start p : Page} → m ≡ 0 → PartsGoing sheet a b os rest below base left n i aggs start m at p → WroteParts sheet a b os rest below base left n i aggs start p

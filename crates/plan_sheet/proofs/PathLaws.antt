@@ -5,14 +5,15 @@ use native.Mathlib.Omega.{arith}
 use mathlib.Core.Bool.{Bool, true, false}
 use mathlib.Core.List.{List, [], ◌∷◌, ◌++◌, append-nil, append_assoc}
 use Rattle.std.specs.Prelude.{Option, None, Some}
-use lib.ListN.{length, get_or}
+use lib.ListN.{get_or}
 use Rattle.model.specs.Text.{Bytes, bytes, bytes_from}
 use Rattle.model.specs.Field.{spell, spell_fields}
 use Rattle.model.specs.Kind.{PatternElement, pattern_element, in_plan, path_element}
 use Rattle.model.specs.Record.{rec, keyword, plan_keyword, spell_rec, spell_recs}
 use Rattle.model.specs.Tree.{Trees, node, []ᵗ, ◌∷ᵗ◌}
 use Rattle.model.specs.Lower.{path_elements}
-use Rattle.output.specs.Page.{Page, Puts}
+use Rattle.output.specs.declared.Page.{Page}
+use Rattle.output.specs.Page.{Puts}
 use Rattle.output.specs.Writes.{◌⨾◌, stay}
 use Rattle.words.specs.Words.{Roomy, cell, max_records}
 use Rattle.words.specs.Held.{Held, HeldOf, size}
@@ -21,7 +22,8 @@ use Rattle.lower.specs.Render.{Notes, kept_rel, kept_from}
 use Rattle.lower.specs.Shows.{shift}
 use Rattle.words.specs.Count.{Starts, Ends}
 use Rattle.words.specs.Numbers.{element_number}
-use Rattle.plan_line.specs.Keywords.{word, letters, element_word}
+use Rattle.plan_line.specs.Keywords.{word}
+use Rattle.plan_line.specs.declared.keyword.Keyword.{Keyword}
 use Rattle.plan_line.specs.Row.{row_text}
 use Rattle.plan_sheet.specs.Due.{noted, ElementAt}
 use Rattle.plan_sheet.specs.Path.{waits_of, WaitsLow, Stepped, Elements, WrotePath}
@@ -32,9 +34,9 @@ use Rattle.words.specs.Places.{kind_at, node_kind, rel_kind}
 
 -- ── a number ──
 
-number_line : (n : ℕ) → spell_recs (path_elements (n ∷ [])) ≡ row_text element_word (n ∷ [])
-unfolding path_elements spell_recs keyword plan_keyword word letters bytes bytes_from spell_fields spell
-number_line n = append-nil (spell_rec (rec (in_plan path_element) tt (n, tt))) ∙ row_rec (rec (in_plan path_element) tt (n, tt)) element_word (n ∷ []) refl refl
+number_line : (n : ℕ) → spell_recs (path_elements (n ∷ [])) ≡ row_text Keyword.Element (n ∷ [])
+unfolding path_elements spell_recs keyword plan_keyword word bytes bytes_from spell_fields spell
+number_line n = append-nil (spell_rec (rec (in_plan path_element) tt (n, tt))) ∙ row_rec (rec (in_plan path_element) tt (n, tt)) Keyword.Element (n ∷ []) refl refl
 
 path_append : (xs ys : List ℕ) → spell_recs (path_elements (xs ++ ys)) ≡ spell_recs (path_elements xs) ++ spell_recs (path_elements ys)
 unfolding path_elements spell_recs
@@ -50,7 +52,7 @@ module _ (rest : List ℕ) (base : ℕ) (path : Path) where
   unfolding waits_of kept_rel path_elements spell_recs
   none_waits e = rw e stay
 
-  pub kept : {i n : ℕ} {g g' : Page} → path.waits ≡ Some i → path.seen ≡ true → n ≡ note_of rest base i → Puts (row_text element_word (n ∷ [])) g g' → PutsKept g g'
+  pub kept : {i n : ℕ} {g g' : Page} → path.waits ≡ Some i → path.seen ≡ true → n ≡ note_of rest base i → Puts (row_text Keyword.Element (n ∷ [])) g g' → PutsKept g g'
   unfolding waits_of kept_rel
   kept {n = n} e t q w = rw (e, t, ← q, number_line n) w
 
@@ -58,7 +60,7 @@ module _ (rest : List ℕ) (base : ℕ) (path : Path) where
   unfolding waits_of kept_rel path_elements spell_recs
   not_kept e t = rw (e, t) stay
 
-  pub node_step_law : {i kind n o : ℕ} {g g' g'' : Page} → kind ≡ node_kind → PutsKept g g' → n ≡ note_of rest base i → Puts (row_text element_word (n ∷ [])) g' g'' → Stepped rest base i kind path (record { seen = true; waits = None; out = o }) g g''
+  pub node_step_law : {i kind n : ℕ} {g g' g'' : Page} → kind ≡ node_kind → PutsKept g g' → n ≡ note_of rest base i → Puts (row_text Keyword.Element (n ∷ [])) g' g'' → Stepped rest base i kind path (record { seen = true; waits = None }) g g''
   node_step_law {i} {n = n} e w q v =
       record {
         low = tt;
@@ -66,7 +68,7 @@ module _ (rest : List ℕ) (base : ℕ) (path : Path) where
         of_rel_law = λ x. absurd (x e);
       }
 
-  pub rel_step : {i kind o : ℕ} {g : Page} → (kind ≡ node_kind → ⊥) → i < max_records → Stepped rest base i kind path (record { seen = path.seen; waits = Some i; out = o }) g g
+  pub rel_step : {i kind : ℕ} {g : Page} → (kind ≡ node_kind → ⊥) → i < max_records → Stepped rest base i kind path (record { seen = path.seen; waits = Some i }) g g
   rel_step z l = record { low = l; of_node_law = λ x. absurd (z x); of_rel_law = λ x. (refl, refl, refl) }
 
 -- ── the loop ──
@@ -106,11 +108,10 @@ pub record Walking (sheet : Bytes) (a b rest : List ℕ) (base n i : ℕ) (start
   pub some : Elements sheet a b m at
   pub each : (h : Elements sheet a b n i) → Walked sheet a b rest base m at path (kept_from (shift (noted rest) base) false None h.trees) start p
   pub low : WaitsLow path.waits
-  pub long : length p.bytes ≡ length start.bytes
 
-pub walking : {sheet : Bytes} {a b rest : List ℕ} {base n i o : ℕ} {p : Page} → Elements sheet a b n i → Walking sheet a b rest base n i p n i (record { seen = false; waits = None; out = o }) p
+pub walking : {sheet : Bytes} {a b rest : List ℕ} {base n i : ℕ} {p : Page} → Elements sheet a b n i → Walking sheet a b rest base n i p n i (record { seen = false; waits = None }) p
 unfolding waits_of
-walking h = record { some = h; each = λ h. record { others = h; text = λ r v. v }; low = tt; long = refl }
+walking h = record { some = h; each = λ h. record { others = h; text = λ r v. v }; low = tt }
 
 first_element : (sheet : Bytes) (a b : List ℕ) (d i : ℕ) {n : ℕ} → (n ≡ 0 → ⊥) → (ts : Trees pattern_element n) → HeldOf sheet a b ts d i → Starts a b i × (i < max_records)
 unfolding Held
@@ -121,8 +122,8 @@ pub element_starts : {sheet : Bytes} {a b : List ℕ} {n i : ℕ} → (n ≡ 0 �
 element_starts {sheet = sheet} {a = a} {b = b} {i = i} z h = first_element sheet a b h.depth i z h.trees h.held
 
 module _ {sheet : Bytes} {a b rest : List ℕ} {base n i : ℕ} {start : Page} where
-  pub walk_on : {m at kind next : ℕ} {path path' : Path} {p q : Page} → Roomy a b → (m ≡ 0 → ⊥) → Walking sheet a b rest base n i start m at path p → kind ≡ cell a b at kind_at → Stepped rest base at kind path path' p q → Ends a b at next → length q.bytes ≡ length p.bytes → Walking sheet a b rest base n i start (m - 1) next path' q
-  walk_on room z g k s ends l =
+  pub walk_on : {m at kind next : ℕ} {path path' : Path} {p q : Page} → Roomy a b → (m ≡ 0 → ⊥) → Walking sheet a b rest base n i start m at path p → kind ≡ cell a b at kind_at → Stepped rest base at kind path path' p q → Ends a b at next → Walking sheet a b rest base n i start (m - 1) next path' q
+  walk_on room z g k s ends =
       record {
         some = (walk room k s ends z g.some.depth g.some.trees g.some.held).others;
         each = λ h.
@@ -130,7 +131,6 @@ module _ {sheet : Bytes} {a b rest : List ℕ} {base n i : ℕ} {start : Page} w
             let w = walk room k s ends z o.others.depth o.others.trees o.others.held in
             record { others = w.others; text = λ r v. o.text r (w.text r v) };
         low = s.low;
-        long = l ∙ g.long;
       }
 
 kept_end : (N : Notes) (seen : Bool) (waits : Option ℕ) {m : ℕ} → m ≡ 0 → (ts : Trees pattern_element m) → kept_from N seen waits ts ≡ []

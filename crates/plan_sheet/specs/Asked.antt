@@ -1,6 +1,6 @@
 -- What the writers of expressions, elements and items ask and what they promise, by the structs that they are given. Assumes nothing: these are definitions.
 use Rattle.std.specs.Prelude.{ℕ, ◌+◌, Bool, List}
-use Rattle.output.specs.Page.{Page}
+use Rattle.output.specs.declared.Page.{Page}
 use Rattle.words.specs.Words.{cell}
 use Rattle.words.specs.Places.{items_at}
 use Rattle.context.specs.declared.op.Op.{Op}

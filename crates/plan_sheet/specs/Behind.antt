@@ -5,7 +5,8 @@ use Rattle.model.specs.Field.{Fields}
 use Rattle.model.specs.Kind.{yield_item}
 use Rattle.model.specs.Record.{rec, forms, spell_recs}
 use Rattle.model.specs.Lower.{Recs, path_elements}
-use Rattle.output.specs.Page.{Page, Puts}
+use Rattle.output.specs.declared.Page.{Page}
+use Rattle.output.specs.Page.{Puts}
 use Rattle.words.specs.Words.{cell}
 use Rattle.words.specs.Held.{RecordAt}
 use Rattle.words.specs.Places.{items_at, with_filter_at, call_args_at, call_yields_at, node_labels_at, part_elements_at}

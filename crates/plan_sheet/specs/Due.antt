@@ -7,7 +7,8 @@ use Rattle.model.specs.Kind.{Expr, PatternElement, projection, order_item, patte
 use Rattle.model.specs.Record.{Rec, rec, forms, expr_forms, element_forms, spell_recs}
 use Rattle.model.specs.Tree.{Tree}
 use Rattle.model.specs.Lower.{Recs, expr_alias, alias_or}
-use Rattle.output.specs.Page.{Page, Puts}
+use Rattle.output.specs.declared.Page.{Page}
+use Rattle.output.specs.Page.{Puts}
 use Rattle.words.specs.Words.{Roomy, cell, max_records}
 use Rattle.words.specs.Places.{kind_at}
 use Rattle.words.specs.Held.{Held, RecordAt, size}

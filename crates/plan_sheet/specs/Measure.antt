@@ -5,7 +5,7 @@ use Rattle.model.specs.Record.{spell_rec}
 use Rattle.model.specs.Lower.{expr_head}
 use Rattle.words.specs.Words.{cell}
 use Rattle.words.specs.Places.{name_at, fn_args_at, list_predicate_kind_at, list_predicate_pred_at}
-use Rattle.plan_line.specs.Keywords.{fn_word, list_predicate_word}
+use Rattle.plan_line.specs.declared.keyword.Keyword.{Keyword}
 use Rattle.plan_line.specs.Row.{row_text, named_text}
 use Rattle.plan_sheet.specs.Due.{ExprAt, TextAsked, text_at}
 
@@ -27,11 +27,11 @@ null_line = 5
 
 -- the line of a function at record i, whatever sheet its name stands in
 pub record CallBytes (a b : List ℕ) (i r : ℕ) : Type 0 where
-  pub long : (sheet : Bytes) → TextAsked sheet a b i name_at → r ≡ length (named_text fn_word (text_at sheet a b i name_at) (cell a b i fn_args_at ∷ []))
+  pub long : (sheet : Bytes) → TextAsked sheet a b i name_at → r ≡ length (named_text Keyword.Fn (text_at sheet a b i name_at) (cell a b i fn_args_at ∷ []))
 
 -- the line of a list predicate at record i, whose variable has the number n
 pub record AnyBytes (a b : List ℕ) (i n r : ℕ) : Type 0 where
-  pub long : r ≡ length (row_text list_predicate_word (cell a b i list_predicate_kind_at ∷ n ∷ cell a b i list_predicate_pred_at ∷ []))
+  pub long : r ≡ length (row_text Keyword.ListPredicate (cell a b i list_predicate_kind_at ∷ n ∷ cell a b i list_predicate_pred_at ∷ []))
 
 -- the first line of an expression at record i, at which the number n is noted
 pub record HeadBytes (a b : List ℕ) (i n r : ℕ) : Type 0 where

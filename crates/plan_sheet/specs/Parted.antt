@@ -5,19 +5,20 @@ use Rattle.model.specs.Kind.{projection, expr}
 use Rattle.model.specs.Record.{spell_recs}
 use Rattle.model.specs.Tree.{Tree, Trees}
 use Rattle.model.specs.Lower.{Recs}
-use Rattle.output.specs.Page.{Page, Puts}
+use Rattle.output.specs.declared.Page.{Page}
+use Rattle.output.specs.Page.{Puts}
 use Rattle.words.specs.Words.{cell}
 use Rattle.words.specs.Held.{HeldOf, size}
 use Rattle.words.specs.Places.{name_at, fn_args_at, fn_distinct_at}
 use Rattle.lower.specs.Render.{Notes, Ops, render, BelowOf, is_aggregate, agg_of, key_recs, agg_recs}
 use Rattle.lower.specs.Shows.{shift}
-use Rattle.plan_line.specs.Keywords.{agg_fn_word}
+use Rattle.plan_line.specs.declared.keyword.Keyword.{Keyword}
 use Rattle.plan_line.specs.Row.{named_text}
 use Rattle.plan_sheet.specs.Due.{noted, text_at, Tabled, One}
 
 -- the line of the aggregate at record i
 abbrev pub agg_text : Bytes → List ℕ → List ℕ → ℕ → Bytes
-agg_text sheet a b i = named_text agg_fn_word (text_at sheet a b i name_at) (cell a b i fn_args_at ∷ cell a b i fn_distinct_at ∷ [])
+agg_text sheet a b i = named_text Keyword.AggFn (text_at sheet a b i name_at) (cell a b i fn_args_at ∷ cell a b i fn_distinct_at ∷ [])
 
 -- what an item's expression adds to the aggregates, or else to the keys
 unfoldable pub part_recs : Notes → Ops → (aggs : Bool) → Tree expr → Recs

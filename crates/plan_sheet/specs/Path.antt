@@ -5,7 +5,8 @@ use Rattle.model.specs.Kind.{pattern_element}
 use Rattle.model.specs.Record.{spell_recs}
 use Rattle.model.specs.Tree.{Trees}
 use Rattle.model.specs.Lower.{path_elements}
-use Rattle.output.specs.Page.{Page, Puts}
+use Rattle.output.specs.declared.Page.{Page}
+use Rattle.output.specs.Page.{Puts}
 use Rattle.words.specs.Places.{node_kind}
 use Rattle.words.specs.Held.{HeldOf}
 use Rattle.context.specs.Read.{note_of}

@@ -1,6 +1,5 @@
 // What stands behind the first line of an operator, but for copies: where its expressions, items and elements are, its labels, its path, its yields.
 ghost use Rattle.std.specs.Prelude.{◌≡◌, ◌+◌, ◌<◌};
-ghost use Rattle.output.specs.Page.{on};
 ghost use Rattle.words.specs.Words.{cell, max_records};
 ghost use Rattle.words.specs.Places.{call_yields_at};
 ghost use Rattle.plan_sheet.specs.Due.{NotedAsked};
@@ -12,6 +11,10 @@ use crate::write::{At, Run};
 use context::op;
 use context::op::Op;
 use context::read::note_of;
+use output::Page;
+use plan_line::copy::part;
+use plan_line::keyword::Keyword;
+use plan_line::row::put_named;
 use words::field;
 use words::records::Records;
 
@@ -89,37 +92,34 @@ pub fn items_of(r: &Records<'_>, w: Op, k: usize) -> Run
 }
 
 // The yields of a `call`, from record i on, with the numbers that are noted at them.
-fn put_yields(plan: &mut [u8], out: usize, s: &Source<'_>, w: Op, i: usize) -> usize
+fn put_yields(page: &mut Page<'_>, s: &Source<'_>, w: Op, i: usize)
     requires { NotedAsked w (Yields s.now.sheet.now s.now.records.a.now s.now.records.b.now (cell s.now.records.a.now s.now.records.b.now w.idx call_yields_at) i) }
-    ensures { WroteYields s.now.sheet.now s.now.records.a.now s.now.records.b.now s.now.rest.now w.base (cell s.now.records.a.now s.now.records.b.now w.idx call_yields_at) i (on plan.old out) (on plan.new result) }
+    ensures { WroteYields s.now.sheet.now s.now.records.a.now s.now.records.b.now s.now.rest.now w.base (cell s.now.records.a.now s.now.records.b.now w.idx call_yields_at) i page.old page.new }
 {
     let base = w.base as usize;
     let n = s.records.count(w.idx as usize, field::CALL_YIELDS);
     let end = i + n;
-    let mut o = out;
     for at in i..end {
         let from = s.records.word(at, field::YIELD_NAME);
         let to = s.records.word(at, field::YIELD_NAME + 1);
         let number = note_of(s.rest, base, at);
-        o = plan_line::row::put_named1(plan, o, plan_line::word::YIELD, s.sheet, from, to, number);
+        put_named(page, Keyword::Yield, part(s.sheet, from, to), &[number]);
     }
-    o
 }
 
 // What is behind the expressions of an operator, from record i on.
-pub fn put_tail(plan: &mut [u8], out: usize, s: &Source<'_>, w: Op, i: usize) -> usize
+pub fn put_tail(page: &mut Page<'_>, s: &Source<'_>, w: Op, i: usize)
     requires { NotedAsked w (SomeTail s.now.sheet.now s.now.records.a.now s.now.records.b.now s.now.rest.now w i) }
-    ensures { WroteTail s.now.sheet.now s.now.records.a.now s.now.records.b.now s.now.rest.now w i (on plan.old out) (on plan.new result) }
+    ensures { WroteTail s.now.sheet.now s.now.records.a.now s.now.records.b.now s.now.rest.now w i page.old page.new }
 {
     let kind = w.kind;
     match kind {
         op::SOURCE => {
             let labels = s.records.count(w.idx as usize, field::NODE_LABELS);
-            let v = crate::names::put_names(plan, out, s, i, labels);
-            v.out
+            crate::names::put_names(page, s, i, labels);
         }
-        op::BIND_PATH => crate::path::put_path(plan, out, s, w, i),
-        op::PROCEDURE_CALL => put_yields(plan, out, s, w, i),
-        _ => out,
+        op::BIND_PATH => crate::path::put_path(page, s, w, i),
+        op::PROCEDURE_CALL => put_yields(page, s, w, i),
+        _ => {}
     }
 }

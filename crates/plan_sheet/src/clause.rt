@@ -2,104 +2,98 @@
 ghost use Rattle.std.specs.Prelude.{[], ◌∷◌, ◌++◌, ◌<◌};
 ghost use Rattle.model.specs.Text.{tab, line_feed};
 ghost use Rattle.model.specs.Field.{spell_option};
-ghost use Rattle.output.specs.Page.{on, Puts};
+ghost use Rattle.output.specs.Page.{Puts};
 ghost use Rattle.words.specs.Words.{cell, max_records};
 ghost use Rattle.words.specs.Places.{items_at, with_filter_at, call_args_at, call_yields_at, call_optional_at, call_name_at};
 ghost use Rattle.context.specs.Ops.{bind_path_kind};
-ghost use Rattle.plan_line.specs.Keywords.{with_word, project_word};
 ghost use Rattle.plan_line.specs.Row.{numbers_text, row_text, call_text};
 ghost use Rattle.plan_sheet.specs.Due.{OpShown, WroteFirst, TextAsked, text_at};
 
 use crate::source::Source;
 use context::op;
 use context::op::Op;
+use output::Page;
+use plan_line::copy::part;
 use plan_line::field::put_text;
-use plan_line::{row, word};
+use plan_line::keyword::{Keyword, put_keyword};
+use plan_line::row::{put_end, put_row};
 use words::field;
 use words::records::Records;
 
 // A `with`: how many items it has, and whether it filters.
-fn put_with(plan: &mut [u8], out: usize, r: &Records<'_>, i: usize, input: u32) -> usize
+fn put_with(page: &mut Page<'_>, r: &Records<'_>, i: usize, input: u32)
     requires { i < max_records }
-    ensures { Puts (row_text with_word (input ∷ cell r.now.a.now r.now.b.now i items_at ∷ cell r.now.a.now r.now.b.now i with_filter_at ∷ [])) (on plan.old out) (on plan.new result) }
+    ensures { Puts (row_text Keyword.With (input ∷ cell r.now.a.now r.now.b.now i items_at ∷ cell r.now.a.now r.now.b.now i with_filter_at ∷ [])) page.old page.new }
 {
     let items = r.word(i, field::ITEMS);
     let filter = r.word(i, field::WITH_FILTER);
-    row::put_row3(plan, out, word::WITH, input, items, filter)
+    put_row(page, Keyword::With, &[input, items, filter]);
 }
 
 // A `return`: how many items it has.
-fn put_project(plan: &mut [u8], out: usize, r: &Records<'_>, i: usize, input: u32) -> usize
+fn put_project(page: &mut Page<'_>, r: &Records<'_>, i: usize, input: u32)
     requires { i < max_records }
-    ensures { Puts (row_text project_word (input ∷ cell r.now.a.now r.now.b.now i items_at ∷ [])) (on plan.old out) (on plan.new result) }
+    ensures { Puts (row_text Keyword.Project (input ∷ cell r.now.a.now r.now.b.now i items_at ∷ [])) page.old page.new }
 {
     let items = r.word(i, field::ITEMS);
-    row::put_row2(plan, out, word::PROJECT, input, items)
+    put_row(page, Keyword::Project, &[input, items]);
 }
 
 // The input of a procedure, or that it has none.
-fn put_input(plan: &mut [u8], out: usize, input: Option<usize>) -> usize
-    ensures { Puts (tab ∷ spell_option input) (on plan.old out) (on plan.new result) }
+#[tactic(auto, unfolding(model::specs::Field::spell_option))]
+fn put_input(page: &mut Page<'_>, input: Option<usize>)
+    ensures { Puts (tab ∷ spell_option input) page.old page.new }
 {
     match input {
-        None => {
-            let o = output::put_byte(plan, out, b'\t');
-            output::put_byte(plan, o, b'-')
-        }
-        Some(k) => output::put_tabbed(plan, out, k as u64),
+        None => page.put_part(b"\t-"),
+        Some(k) => page.put_tabbed(k as u64),
     }
 }
 
 // How many arguments and yields a `call` has and whether it is optional, up to the end of its line.
-fn put_counts(plan: &mut [u8], out: usize, r: &Records<'_>, i: usize) -> usize
+fn put_counts(page: &mut Page<'_>, r: &Records<'_>, i: usize)
     requires { i < max_records }
-    ensures { Puts (numbers_text (cell r.now.a.now r.now.b.now i call_args_at ∷ cell r.now.a.now r.now.b.now i call_yields_at ∷ cell r.now.a.now r.now.b.now i call_optional_at ∷ []) ++ (line_feed ∷ [])) (on plan.old out) (on plan.new result) }
+    ensures { Puts (numbers_text (cell r.now.a.now r.now.b.now i call_args_at ∷ cell r.now.a.now r.now.b.now i call_yields_at ∷ cell r.now.a.now r.now.b.now i call_optional_at ∷ []) ++ (line_feed ∷ [])) page.old page.new }
 {
     let args = r.word(i, field::CALL_ARGS);
     let yields = r.word(i, field::CALL_YIELDS);
     let optional = r.word(i, field::CALL_OPTIONAL);
-    row::put_end3(plan, out, args, yields, optional)
+    put_end(page, &[args, yields, optional]);
 }
 
 // A `call`: its input, its procedure's name, and its numbers.
-fn put_procedure(
-    plan: &mut [u8],
-    out: usize,
-    s: &Source<'_>,
-    i: usize,
-    input: Option<usize>,
-) -> usize
+fn put_procedure(page: &mut Page<'_>, s: &Source<'_>, i: usize, input: Option<usize>)
     requires { TextAsked s.now.sheet.now s.now.records.a.now s.now.records.b.now i call_name_at }
-    ensures { Puts (call_text input (text_at s.now.sheet.now s.now.records.a.now s.now.records.b.now i call_name_at) (cell s.now.records.a.now s.now.records.b.now i call_args_at) (cell s.now.records.a.now s.now.records.b.now i call_yields_at) (cell s.now.records.a.now s.now.records.b.now i call_optional_at)) (on plan.old out) (on plan.new result) }
+    ensures { Puts (call_text input (text_at s.now.sheet.now s.now.records.a.now s.now.records.b.now i call_name_at) (cell s.now.records.a.now s.now.records.b.now i call_args_at) (cell s.now.records.a.now s.now.records.b.now i call_yields_at) (cell s.now.records.a.now s.now.records.b.now i call_optional_at)) page.old page.new }
 {
     let from = s.records.word(i, field::CALL_NAME);
     let to = s.records.word(i, field::CALL_NAME + 1);
-    let o = plan_line::keyword::put_keyword(plan, out, word::CALL);
-    let p = put_input(plan, o, input);
-    let q = put_text(plan, p, s.sheet, from, to);
-    put_counts(plan, q, &s.records, i)
+    put_keyword(page, Keyword::Call);
+    put_input(page, input);
+    put_text(page, part(s.sheet, from, to));
+    put_counts(page, &s.records, i);
 }
 
 // The first line of an operator that is none of a pattern's.
-pub fn put_clause_op(plan: &mut [u8], out: usize, s: &Source<'_>, w: Op) -> usize
+pub fn put_clause_op(page: &mut Page<'_>, s: &Source<'_>, w: Op)
     requires op_shown { OpShown s.now.sheet.now s.now.records.a.now s.now.records.b.now s.now.rest.now w }
     requires bind_path_kind_lt_kind { bind_path_kind < w.kind }
-    ensures { WroteFirst s.now.sheet.now s.now.records.a.now s.now.records.b.now s.now.rest.now w (on plan.old out) (on plan.new result) }
+    ensures { WroteFirst s.now.sheet.now s.now.records.a.now s.now.records.b.now s.now.rest.now w page.old page.new }
 {
     let kind = w.kind;
     let idx = w.idx as usize;
     let input = w.input;
     match kind {
-        op::OPTIONAL_JOIN => row::put_row1(plan, out, word::OPTIONAL, input),
-        op::WITH => put_with(plan, out, &s.records, idx, input),
-        op::PROJECT => put_project(plan, out, &s.records, idx, input),
-        op::AGGREGATE => row::put_row3(plan, out, word::AGG, input, w.x, w.y),
-        op::ORDER_BY => row::put_row2(plan, out, word::ORDER, input, w.x),
-        op::SKIP => row::put_row1(plan, out, word::SKIP, input),
-        op::LIMIT => row::put_row1(plan, out, word::LIMIT, input),
-        op::DISTINCT => row::put_row1(plan, out, word::DISTINCT, input),
-        op::UNWIND => row::put_row2(plan, out, word::UNWIND, input, w.x),
-        op::UNION => row::put_row3(plan, out, word::UNION, input, w.x, w.y),
-        _ => put_procedure(plan, out, s, idx, op::call_input(w)),
+        op::OPTIONAL_JOIN => put_row(page, Keyword::Optional, &[input]),
+        op::WITH => put_with(page, &s.records, idx, input),
+        op::PROJECT => put_project(page, &s.records, idx, input),
+        op::AGGREGATE => put_row(page, Keyword::Agg, &[input, w.x, w.y]),
+        op::ORDER_BY => put_row(page, Keyword::Order, &[input, w.x]),
+        op::SKIP => put_row(page, Keyword::Skip, &[input]),
+        op::LIMIT => put_row(page, Keyword::Limit, &[input]),
+        op::DISTINCT => put_row(page, Keyword::Distinct, &[input]),
+        op::UNWIND => put_row(page, Keyword::Unwind, &[input, w.x]),
+        op::UNION => put_row(page, Keyword::Union, &[input, w.x, w.y]),
+        _ => put_procedure(page, s, idx, op::call_input(w)),
     }
 }

@@ -2,87 +2,87 @@
 ghost use Rattle.std.specs.Prelude.{[], ◌++◌, ◌+◌};
 ghost use Rattle.model.specs.Text.{bytes, decimal};
 ghost use Rattle.model.specs.Record.{spell_rec};
-ghost use Rattle.output.specs.Page.{on, Puts};
+ghost use Rattle.output.specs.Page.{Puts};
 ghost use Rattle.words.specs.Places.{name_at};
-ghost use Rattle.plan_line.specs.Keywords.{item_word};
 ghost use Rattle.plan_line.specs.Row.{named_text};
 ghost use Rattle.model.specs.Lower.{expr_alias};
 ghost use Rattle.plan_sheet.specs.Parted.{agg_text};
 ghost use Rattle.plan_sheet.specs.Due.{ExprAt, ItemAt, named_rec, item_name, TextAsked, text_at};
 
 use crate::source::Source;
-use output::put_byte;
-use plan_line::keyword::put_keyword;
-use plan_line::{row, word};
+use output::Page;
+use plan_line::copy::part;
+use plan_line::keyword::{Keyword, put_keyword};
+use plan_line::row::put_named;
 use words::{field, kind};
 
 // The name that record i has: an item's alias, a property, a function.
-fn put_own_name(plan: &mut [u8], out: usize, s: &Source<'_>, i: usize) -> usize
+fn put_own_name(page: &mut Page<'_>, s: &Source<'_>, i: usize)
     requires { TextAsked s.now.sheet.now s.now.records.a.now s.now.records.b.now i name_at }
-    ensures { Puts (named_text item_word (text_at s.now.sheet.now s.now.records.a.now s.now.records.b.now i name_at) []) (on plan.old out) (on plan.new result) }
+    ensures { Puts (named_text Keyword.Item (text_at s.now.sheet.now s.now.records.a.now s.now.records.b.now i name_at) []) page.old page.new }
 {
     let from = s.records.word(i, field::NAME);
     let to = s.records.word(i, field::NAME + 1);
-    row::put_named0(plan, out, word::ITEM, s.sheet, from, to)
+    put_named(page, Keyword::Item, part(s.sheet, from, to), &[]);
 }
 
 // `_v` and a variable's id.
-fn put_id_name(plan: &mut [u8], out: usize, id: u32) -> usize
-    ensures { Puts (named_text item_word (bytes "_v" ++ decimal id) []) (on plan.old out) (on plan.new result) }
+fn put_id_name(page: &mut Page<'_>, id: u32)
+    ensures { Puts (named_text Keyword.Item (bytes "_v" ++ decimal id) []) page.old page.new }
 {
-    let o = put_keyword(plan, out, word::ITEM);
-    let p = put_byte(plan, o, b'\t');
-    let q = put_byte(plan, p, b'_');
-    let r = put_byte(plan, q, b'v');
-    let t = output::put_decimal(plan, r, id as u64);
-    put_byte(plan, t, b'\n')
+    put_keyword(page, Keyword::Item);
+    page.put_part(b"\t_v");
+    page.put_decimal(u64::from(id));
+    page.put_byte(b'\n');
 }
 
 // `_` alone.
-fn put_no_name(plan: &mut [u8], out: usize) -> usize
-    ensures { Puts (named_text item_word (bytes "_") []) (on plan.old out) (on plan.new result) }
+#[tactic(auto, unfolding(model::specs::Text::bytes, model::specs::Text::bytes_from))]
+fn put_no_name(page: &mut Page<'_>)
+    ensures { Puts (named_text Keyword.Item (bytes "_") []) page.old page.new }
 {
-    let o = put_keyword(plan, out, word::ITEM);
-    let p = put_byte(plan, o, b'\t');
-    let q = put_byte(plan, p, b'_');
-    put_byte(plan, q, b'\n')
+    put_named(page, Keyword::Item, b"_", &[]);
 }
 
 // The name of an item without an alias, whose expression is at record i.
-fn put_synthesised(plan: &mut [u8], out: usize, s: &Source<'_>, i: usize) -> usize
+fn put_synthesised(page: &mut Page<'_>, s: &Source<'_>, i: usize)
     requires { ExprAt s.now.sheet.now s.now.records.a.now s.now.records.b.now i }
-    ensures { (h : ExprAt s.now.sheet.now s.now.records.a.now s.now.records.b.now i) → Puts (spell_rec (named_rec (expr_alias h.kind h.fields))) (on plan.old out) (on plan.new result) }
+    ensures { (h : ExprAt s.now.sheet.now s.now.records.a.now s.now.records.b.now i) → Puts (spell_rec (named_rec (expr_alias h.kind h.fields))) page.old page.new }
 {
     let kind = s.records.word(i, field::KIND);
     let id = s.records.word(i, field::VAR_ID);
     match kind {
-        kind::PROP => put_own_name(plan, out, s, i),
-        kind::VAR => put_id_name(plan, out, id),
-        kind::FN => put_own_name(plan, out, s, i),
-        _ => put_no_name(plan, out),
+        kind::PROP | kind::FN => put_own_name(page, s, i),
+        kind::VAR => put_id_name(page, id),
+        _ => put_no_name(page),
     }
 }
 
 // The item at record i.
-pub fn put_item(plan: &mut [u8], out: usize, s: &Source<'_>, i: usize) -> usize
+pub fn put_item(page: &mut Page<'_>, s: &Source<'_>, i: usize)
     requires { ItemAt s.now.sheet.now s.now.records.a.now s.now.records.b.now i }
-    ensures { (h : ItemAt s.now.sheet.now s.now.records.a.now s.now.records.b.now i) → Puts (spell_rec (named_rec (item_name h))) (on plan.old out) (on plan.new result) }
+    ensures { (h : ItemAt s.now.sheet.now s.now.records.a.now s.now.records.b.now i) → Puts (spell_rec (named_rec (item_name h))) page.old page.new }
 {
     let alias = s.records.word(i, field::ITEM_ALIAS);
     if alias != 0 {
-        return put_own_name(plan, out, s, i);
+        return put_own_name(page, s, i);
     }
-    put_synthesised(plan, out, s, i + 1)
+    put_synthesised(page, s, i + 1);
 }
 
 // An aggregate: its function's name, how many arguments it has, and whether they are distinct.
-pub fn put_agg(plan: &mut [u8], out: usize, s: &Source<'_>, i: usize) -> usize
+pub fn put_agg(page: &mut Page<'_>, s: &Source<'_>, i: usize)
     requires { TextAsked s.now.sheet.now s.now.records.a.now s.now.records.b.now i name_at }
-    ensures { Puts (agg_text s.now.sheet.now s.now.records.a.now s.now.records.b.now i) (on plan.old out) (on plan.new result) }
+    ensures { Puts (agg_text s.now.sheet.now s.now.records.a.now s.now.records.b.now i) page.old page.new }
 {
     let from = s.records.word(i, field::NAME);
     let to = s.records.word(i, field::NAME + 1);
     let args = s.records.word(i, field::FN_ARGS);
     let distinct = s.records.word(i, field::FN_DISTINCT);
-    row::put_named2(plan, out, word::AGG_FN, s.sheet, from, to, args, distinct)
+    put_named(
+        page,
+        Keyword::AggFn,
+        part(s.sheet, from, to),
+        &[args, distinct],
+    );
 }

@@ -1,15 +1,13 @@
 // How many bytes the first line of an expression has, and the line before one: what is only counted.
 ghost use Rattle.std.specs.Prelude.{◌≡◌, ◌<◌, length};
 ghost use Rattle.model.specs.Text.{Bytes};
-ghost use Rattle.output.specs.Page.{on};
 ghost use Rattle.words.specs.Words.{max_records};
 ghost use Rattle.words.specs.Places.{name_at};
 ghost use Rattle.plan_sheet.specs.Due.{ExprAt, SomeLine, WroteLine, TextAsked, KindAsked};
 ghost use Rattle.plan_sheet.specs.Measure.{AnyBytes, CallBytes, HeadBytes};
 
-use crate::head::Wrote;
 use crate::source::Source;
-use output::more;
+use output::Page;
 use plan_line::copy::line_bytes;
 use plan_line::field::number_bytes;
 use words::records::Records;
@@ -60,29 +58,26 @@ pub fn expr_bytes(r: &Records<'_>, i: usize, kind: u32, n: u32) -> usize
         kind::PAT => EXISTS_LINE,
         kind::LIST_PREDICATE => any_bytes(r, i, n),
         kind::UNRES | kind::UNDES => NULL_LINE,
-        _ => line_bytes(r.a, r.b, i),
+        _ => line_bytes(r, i),
     }
 }
 
-// The line before an expression, if record i is one, on an empty part of the slice.
-pub fn measure_before(plan: &mut [u8], out: usize, s: &Source<'_>, i: usize) -> Wrote
-    requires plan_len { length plan.old ≡ 0 }
+// The line before an expression, if record i is one, on an empty part of the slice. Apart from `put_before`, since a line that is copied there is not gone over here: its length stands in the record.
+pub fn measure_before(page: &mut Page<'_>, s: &Source<'_>, i: usize) -> usize
+    requires bytes_len { length page.old.bytes.now ≡ 0 }
     requires some_line { SomeLine s.now.sheet.now s.now.records.a.now s.now.records.b.now i }
-    ensures { WroteLine s.now.sheet.now s.now.records.a.now s.now.records.b.now i (on plan.old out) result.next (on plan.new result.out) }
+    ensures { WroteLine s.now.sheet.now s.now.records.a.now s.now.records.b.now i page.old result page.new }
 {
     let kind = s.records.word(i, field::KIND);
     match kind {
         kind::ENTRY | kind::KEY => {
-            let next = i + 1;
-            let bytes = line_bytes(s.records.a, s.records.b, i);
-            let o = more(out, bytes);
-            Wrote { next, out: o }
+            page.measure(line_bytes(&s.records, i));
+            i + 1
         }
         kind::ITEM => {
-            let next = i + 1;
-            let o = crate::item::put_item(plan, out, s, i);
-            Wrote { next, out: o }
+            crate::item::put_item(page, s, i);
+            i + 1
         }
-        _ => Wrote { next: i, out },
+        _ => i,
     }
 }

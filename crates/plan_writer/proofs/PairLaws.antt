@@ -7,11 +7,12 @@ use lib.ListN.{length, drop}
 use Rattle.model.specs.Record.{spell_recs}
 use Rattle.model.specs.Lower.{at}
 use Rattle.model.specs.Plan.{operator_recs, mapped_recs, first_rec, plan_recs, plan_sheet}
-use Rattle.output.specs.Page.{Page, Puts}
+use Rattle.output.specs.declared.Page.{Page}
+use Rattle.output.specs.Page.{Puts}
 use Rattle.output.specs.Writes.{◌⨾◌}
 use Rattle.context.specs.Tables.{vars_at}
 use Rattle.lower.specs.Render.{Ops}
-use Rattle.plan_line.specs.Keywords.{plan_word}
+use Rattle.plan_line.specs.declared.keyword.Keyword.{Keyword}
 use Rattle.plan_line.specs.Row.{row_text}
 use Rattle.plan_writer.specs.declared.pair.Counts.{Counts}
 use Rattle.plan_writer.specs.Whole.{ops_from, WroteOps, WroteVars}
@@ -28,7 +29,7 @@ parted m (suc n) A =
     let z : 0 + (m + n) ≡ m + n = omega arith in
     rw (e, z, parted m n A) (append_assoc (ops_from 0 m A) (ops_from m n A) (A (m + n)))
 
-pub pair_wrote : {L R : SideTables} {n : Counts} {p q r t u : Page} → Puts (row_text plan_word (n.ops ∷ n.mapped ∷ [])) p q → WroteOps L.sheet L.a L.b L.ops L.rest 0 n.first q r → WroteOps R.sheet R.a R.b R.ops R.rest n.first n.ops r t → WroteVars R.rest n.mapped t u → WrotePairSheet L R n p u
+pub pair_wrote : {L R : SideTables} {n : Counts} {p q r t u : Page} → Puts (row_text Keyword.Plan (n.ops ∷ n.mapped ∷ [])) p q → WroteOps L.sheet L.a L.b L.ops L.rest 0 n.first q r → WroteOps R.sheet R.a R.b R.ops R.rest n.first n.ops r t → WroteVars R.rest n.mapped t u → WrotePairSheet L R n p u
 unfolding plan_sheet plan_recs first_rec spell_recs
 pair_wrote {L} {R} {n} first on_left on_right vars s h =
     let A : Ops = λ k. at s.ops k in

@@ -12,11 +12,13 @@ use Rattle.model.specs.Kind.{in_plan, mapped, plan}
 use Rattle.model.specs.Record.{rec, keyword, plan_keyword, spell_rec, spell_recs}
 use Rattle.model.specs.Lower.{Recs, at}
 use Rattle.model.specs.Plan.{operator_recs, mapped_recs}
-use Rattle.output.specs.Page.{Page, Puts}
+use Rattle.output.specs.declared.Page.{Page}
+use Rattle.output.specs.Page.{Puts}
 use Rattle.output.specs.Writes.{◌⨾◌, stay}
 use Rattle.context.specs.Tables.{vars_of, vars_at}
 use Rattle.lower.specs.Render.{Ops}
-use Rattle.plan_line.specs.Keywords.{word, letters, variable_word, plan_word}
+use Rattle.plan_line.specs.Keywords.{word}
+use Rattle.plan_line.specs.declared.keyword.Keyword.{Keyword}
 use Rattle.plan_line.specs.Row.{row_text}
 use Rattle.plan_sheet.specs.Due.{SomePlan, WroteOp}
 use Rattle.plan_writer.specs.Whole.{ops_from, WroteOps, WroteVars}
@@ -48,7 +50,6 @@ pub record Writing (sheet : Bytes) (a b os rest : List ℕ) (first end : ℕ) (s
   pub begun : first ≤ k
   pub low : k - first ≤ end - first
   pub wrote : (h : SomePlan sheet a b os rest first end) → Puts (spell_recs (ops_from first (k - first) h.ops)) start p
-  pub long : length p.bytes ≡ length start.bytes
 
 -- the operators before number k + 1
 further : (first k : ℕ) (A : Ops) → first ≤ k → ops_from first (k + 1 - first) A ≡ ops_from first (k - first) A ++ A k
@@ -63,16 +64,15 @@ module _ {sheet : Bytes} {a b os rest : List ℕ} {first end : ℕ} {start : Pag
   unfolding ops_from spell_recs
   no_ops =
       let e : first - first ≡ 0 = omega arith in
-      record { begun = omega arith; low = omega arith; wrote = λ h. rw e stay; long = refl }
+      record { begun = omega arith; low = omega arith; wrote = λ h. rw e stay }
 
-  pub one_more : {k : ℕ} {p q : Page} → k < end → Writing sheet a b os rest first end start k p → WroteOp sheet a b os rest k p q → length q.bytes ≡ length p.bytes → Writing sheet a b os rest first end start (k + 1) q
+  pub one_more : {k : ℕ} {p q : Page} → k < end → Writing sheet a b os rest first end start k p → WroteOp sheet a b os rest k p q → Writing sheet a b os rest first end start (k + 1) q
   unfolding plan_at
-  one_more {k} l w v e =
+  one_more {k} l w v =
       record {
         begun = omega (arith, w.begun);
         low = omega (arith, w.begun);
         wrote = λ h. rw (further first k h.ops w.begun, spell_append (ops_from first (k - first) h.ops) (h.ops k)) (w.wrote h ⨾ v (plan_at w.begun l h));
-        long = e ∙ w.long;
       }
 
   pub all_ops : {k : ℕ} {p : Page} → end ≤ k → Writing sheet a b os rest first end start k p → WroteOps sheet a b os rest first end start p
@@ -80,28 +80,26 @@ module _ {sheet : Bytes} {a b os rest : List ℕ} {first end : ℕ} {start : Pag
 
 -- ── named variables ──
 
-variable_line : (number id : ℕ) → spell_rec (rec (in_plan mapped) tt (number, (id, tt))) ≡ row_text variable_word (number ∷ id ∷ [])
-unfolding keyword plan_keyword word letters bytes bytes_from spell_fields spell
-variable_line number id = row_rec _ variable_word (number ∷ id ∷ []) refl refl
+variable_line : (number id : ℕ) → spell_rec (rec (in_plan mapped) tt (number, (id, tt))) ≡ row_text Keyword.Variable (number ∷ id ∷ [])
+unfolding keyword plan_keyword word bytes bytes_from spell_fields spell
+variable_line number id = row_rec _ Keyword.Variable (number ∷ id ∷ []) refl refl
 
 pub record Listing (rest : List ℕ) (n : ℕ) (start : Page) (k : ℕ) (p : Page) : Type 0 where
   pub low : k ≤ n
   pub wrote : WroteVars rest k start p
-  pub long : length p.bytes ≡ length start.bytes
 
 module _ {rest : List ℕ} {n : ℕ} {start : Page} where
   pub no_vars : Listing rest n start 0 start
   unfolding vars_of mapped_recs spell_recs
-  no_vars = record { low = omega arith; wrote = stay; long = refl }
+  no_vars = record { low = omega arith; wrote = stay }
 
-  pub next_var_law : {k id number : ℕ} {p q : Page} → k < n → Listing rest n start k p → vars_of (suc k) (drop vars_at rest) ≡ (id, number) ∷ vars_of k (drop vars_at rest) → Puts (row_text variable_word (number ∷ id ∷ [])) p q → length q.bytes ≡ length p.bytes → Listing rest n start (k + 1) q
+  pub next_var_law : {k id number : ℕ} {p q : Page} → k < n → Listing rest n start k p → vars_of (suc k) (drop vars_at rest) ≡ (id, number) ∷ vars_of k (drop vars_at rest) → Puts (row_text Keyword.Variable (number ∷ id ∷ [])) p q → Listing rest n start (k + 1) q
   unfolding mapped_recs spell_recs
-  next_var_law {k} {id} {number} {p} {q} l w e v g =
+  next_var_law {k} {id} {number} {p} {q} l w e v =
       let line : Puts (spell_recs (rec (in_plan mapped) tt (number, (id, tt)) ∷ [])) p q = rw (append-nil (spell_rec (rec (in_plan mapped) tt (number, (id, tt)))), variable_line number id) v in
       rw (add-one k) (record {
         low = l;
         wrote = rw (e, spell_append (mapped_recs (vars_of k (drop vars_at rest))) (rec (in_plan mapped) tt (number, (id, tt)) ∷ [])) (w.wrote ⨾ line);
-        long = g ∙ w.long;
       })
 
   pub all_vars : {k : ℕ} {p : Page} → n ≤ k → Listing rest n start k p → WroteVars rest n start p
@@ -109,9 +107,9 @@ module _ {rest : List ℕ} {n : ℕ} {start : Page} where
 
 -- ── the whole ──
 
-pub first_line : (n m : ℕ) → spell_rec (rec (in_plan plan) tt (n, (m, tt))) ≡ row_text plan_word (n ∷ m ∷ [])
-unfolding keyword plan_keyword word letters bytes bytes_from spell_fields spell
-first_line n m = row_rec _ plan_word (n ∷ m ∷ []) refl refl
+pub first_line : (n m : ℕ) → spell_rec (rec (in_plan plan) tt (n, (m, tt))) ≡ row_text Keyword.Plan (n ∷ m ∷ [])
+unfolding keyword plan_keyword word bytes bytes_from spell_fields spell
+first_line n m = row_rec _ Keyword.Plan (n ∷ m ∷ []) refl refl
 
 pub vars_count : (n : ℕ) (vs : List ℕ) → length (vars_of n vs) ≡ n
 unfolding vars_of

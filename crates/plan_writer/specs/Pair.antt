@@ -4,7 +4,8 @@ use Rattle.model.specs.Text.{Bytes}
 use Rattle.model.specs.Lower.{LowerCtx, at}
 use Rattle.model.specs.Plan.{plan_sheet}
 use Rattle.model.specs.Call.{written}
-use Rattle.output.specs.Page.{Page, Puts}
+use Rattle.output.specs.declared.Page.{Page}
+use Rattle.output.specs.Page.{Puts}
 use Rattle.context.specs.Tables.{vars_of, vars_at, max_vars}
 use Rattle.plan_sheet.specs.Due.{Tabled, Room}
 use Rattle.plan_sheet.specs.declared.source.Source.{Source}

@@ -6,7 +6,8 @@ use Rattle.model.specs.Lower.{Recs, LowerCtx, at}
 use Rattle.model.specs.Plan.{mapped_recs, plan_sheet}
 use Rattle.model.specs.Refusal.{Refusal, Answer, accepted, values_of}
 use Rattle.model.specs.Call.{written}
-use Rattle.output.specs.Page.{Page, Puts}
+use Rattle.output.specs.declared.Page.{Page}
+use Rattle.output.specs.Page.{Puts}
 use Rattle.context.specs.Tables.{vars_of, vars_at, max_vars}
 use Rattle.lower.specs.Render.{Ops}
 use Rattle.plan_sheet.specs.Due.{Tabled, SomePlan}

@@ -2,41 +2,37 @@
 #![tactic(auto)]
 
 ghost use Rattle.std.specs.Prelude.{◌≤◌};
-ghost use Rattle.output.specs.Page.{on};
 ghost use Rattle.context.specs.Tables.{max_vars};
 ghost use Rattle.plan_sheet.specs.Due.{SomePlan};
 ghost use Rattle.plan_writer.specs.Whole.{SomeTables, WroteOps, WroteVars, WrotePlan};
 
 use crate::pair::{Counts, write_pair};
-use plan_line::row::put_row2;
-use plan_line::word;
+use output::Page;
+use plan_line::keyword::Keyword;
+use plan_line::row::put_row;
 use plan_sheet::source::Source;
 
 pub mod pair;
 
 // The operators from number `first` on and below `end`.
-fn write_ops(plan: &mut [u8], out: usize, s: &Source<'_>, first: usize, end: usize) -> usize
+fn write_ops(page: &mut Page<'_>, s: &Source<'_>, first: usize, end: usize)
     requires { SomePlan s.now.sheet.now s.now.records.a.now s.now.records.b.now s.now.ops.now s.now.rest.now first end }
-    ensures { WroteOps s.now.sheet.now s.now.records.a.now s.now.records.b.now s.now.ops.now s.now.rest.now first end (on plan.old out) (on plan.new result) }
+    ensures { WroteOps s.now.sheet.now s.now.records.a.now s.now.records.b.now s.now.ops.now s.now.rest.now first end page.old page.new }
 {
-    let mut o = out;
     for k in first..end {
-        o = plan_sheet::write::write_op(plan, o, s, k);
+        plan_sheet::write::write_op(page, s, k);
     }
-    o
 }
 
 // The first n named variables.
-fn write_vars(plan: &mut [u8], out: usize, s: &Source<'_>, n: usize) -> usize
+fn write_vars(page: &mut Page<'_>, s: &Source<'_>, n: usize)
     requires { n ≤ max_vars }
-    ensures { WroteVars s.now.rest.now n (on plan.old out) (on plan.new result) }
+    ensures { WroteVars s.now.rest.now n page.old page.new }
 {
-    let mut o = out;
     for k in 0..n {
         let v = context::read::variable(s.rest, k);
-        o = put_row2(plan, o, word::VARIABLE, v.number, v.id);
+        put_row(page, Keyword::Variable, &[v.number, v.id]);
     }
-    o
 }
 
 // The plan sheet of the tables of one sheet: no operator of it stands in a table to the left.

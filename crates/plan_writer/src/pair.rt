@@ -1,10 +1,10 @@
 // The plan sheet of two sheets, each with tables of its own: measured first, and written only if it fits.
-ghost use Rattle.output.specs.Page.{on};
 ghost use Rattle.plan_writer.specs.Pair.{tables_in, PairAsked, WrotePairSheet, WrotePair};
 
 use crate::{write_ops, write_vars};
-use plan_line::row::put_row2;
-use plan_line::word;
+use output::Page;
+use plan_line::keyword::Keyword;
+use plan_line::row::put_row;
 use plan_sheet::source::Source;
 
 // How many operators a plan has, the number of the first that is in the right's table, and how many named variables there are.
@@ -16,14 +16,14 @@ pub struct Counts {
 }
 
 // The first line, the operators of the left's table and then of the right's, and the right's named variables.
-fn write_sheet(plan: &mut [u8], left: &Source<'_>, right: &Source<'_>, n: Counts) -> usize
+fn write_sheet(page: &mut Page<'_>, left: &Source<'_>, right: &Source<'_>, n: Counts)
     requires { PairAsked (tables_in left.now) (tables_in right.now) n }
-    ensures { WrotePairSheet (tables_in left.now) (tables_in right.now) n (on plan.old 0) (on plan.new result) }
+    ensures { WrotePairSheet (tables_in left.now) (tables_in right.now) n page.old page.new }
 {
-    let o = put_row2(plan, 0, word::PLAN, n.ops as u32, n.mapped as u32);
-    let p = write_ops(plan, o, left, 0, n.first);
-    let q = write_ops(plan, p, right, n.first, n.ops);
-    write_vars(plan, q, right, n.mapped)
+    put_row(page, Keyword::Plan, &[n.ops as u32, n.mapped as u32]);
+    write_ops(page, left, 0, n.first);
+    write_ops(page, right, n.first, n.ops);
+    write_vars(page, right, n.mapped);
 }
 
 // The plan sheet of both tables: how many bytes it has, if it fits.
@@ -36,10 +36,16 @@ pub fn write_pair<'a>(
     requires { PairAsked (tables_in left.now) (tables_in right.now) n }
     ensures { WrotePair (tables_in left.now) (tables_in right.now) n bytes.old bytes.new result }
 {
-    let long = write_sheet(&mut bytes[0..0], left, right, n);
+    let mut measuring = Page {
+        bytes: &mut bytes[0..0],
+        out: 0,
+    };
+    write_sheet(&mut measuring, left, right, n);
+    let long = measuring.out;
     if bytes.len() < long {
         return None;
     }
-    let done = write_sheet(bytes, left, right, n);
-    Some(done)
+    let mut page = Page { bytes, out: 0 };
+    write_sheet(&mut page, left, right, n);
+    Some(page.out)
 }

@@ -5,12 +5,12 @@ use Rattle.model.specs.Kind.{Sort, ReadOp, expr, order_item}
 use Rattle.model.specs.Record.{Rec}
 use Rattle.model.specs.Tree.{Tree, Trees, []ᵗ, ◌∷ᵗ◌}
 use Rattle.model.specs.Lower.{Recs, Lowering, ◌>>=◌, ret, push, op, lower_expr, order_by, over_expr, lower_trailers}
-use Rattle.words.specs.Words.{cell, max_records}
+use Rattle.words.specs.Words.{cell, max_records, two32}
 use Rattle.words.specs.Held.{Held, HeldOf, size_of}
 use Rattle.words.specs.Places.{keys_at, skip_at, limit_at}
 use Rattle.words.specs.Fits.{trees_fits}
-use Rattle.context.specs.Tables.{deepest}
-use Rattle.context.specs.Ops.{order_by_op, skip_op, limit_op}
+use Rattle.context.specs.Tables.{CanPush, deepest}
+use Rattle.context.specs.Ops.{Fits, order_by_op, skip_op, limit_op}
 use Rattle.context.specs.declared.At.{At}
 use Rattle.context.specs.declared.LowerCtx.{LowerCtx}
 use Rattle.context.specs.declared.op.Op.{Op}
@@ -24,9 +24,11 @@ use Rattle.lower.specs.Carry.{plain_c, plain_size, plain_held}
 use Rattle.lower.specs.State.{sub_more, sub_within, blank_within, blank_behind, to_then, to_wider}
 use Rattle.projections.specs.Items.{keys_c, keys_lower, keys_size, keys_held, keys_render, keys_below}
 use Rattle.projections.specs.Ready.{Ready}
-use Rattle.projections.specs.Asked.{TailAsked}
+use Rattle.projections.specs.Asked.{ItemsAsked, TailAsked}
 use Rattle.projections.specs.Promises.{PushedIf, LowersOver, order_l, skip_l, limit_l, Tail, tail_size, SomeTail, LowersTail}
-use Rattle.projections.specs.Room.{twice_then}
+use Rattle.lower.specs.Asked.{ExprsAsked}
+use Rattle.lower.specs.Exprs.{room_after, can_push}
+use Rattle.projections.specs.Room.{twice_then, ready_room, ready_after, few, fits}
 use Rattle.projections.proofs.Pushing.{none_counted, some_counted, left_low, moved_if, pushed_if, pushed_if_as}
 
 -- ── trees that an operator stands over, or none ──
@@ -77,7 +79,7 @@ module _ {s : Sort} {a b : List ℕ} {n gap deep d i input e e' k : ℕ} {head :
 
 -- ── sort keys ──
 
-pub keys_some : {a b : List ℕ} {n d i : ℕ} → SomeTrees a b order_item n d i → SomeCarried a b n 1 (d - 1) i
+keys_some : {a b : List ℕ} {n d i : ℕ} → SomeTrees a b order_item n d i → SomeCarried a b n 1 (d - 1) i
 keys_some {a} {b} {d = d} {i = i} x = record { sheet = x.sheet; list = keys_c x.trees; held = keys_held x.sheet a b x.trees d i x.held }
 
 no_keys : {n : ℕ} (input : ℕ) (ts : Trees order_item n) (s : State) → n ≡ 0 → order_by input ts s ≡ (input, (lower_c (keys_c ts) s).1)
@@ -109,7 +111,7 @@ order_trails a b n d i input deep here = record {
 
 -- ── one expression ──
 
-pub expr_some : {a b : List ℕ} {n d i : ℕ} → SomeTrees a b expr n d i → SomeCarried a b n 0 d i
+expr_some : {a b : List ℕ} {n d i : ℕ} → SomeTrees a b expr n d i → SomeCarried a b n 0 d i
 expr_some {a} {b} {d = d} {i = i} x = record { sheet = x.sheet; list = plain_c x.trees; held = plain_held x.sheet a b x.trees d i x.held }
 
 no_expr : {n : ℕ} (input : ℕ) (r : Rec) (ts : Trees expr n) (s : State) → n ≡ 0 → over_expr r input ts s ≡ (input, (lower_c (plain_c ts) s).1)
@@ -167,25 +169,14 @@ module _ (a b : List ℕ) (n d i input : ℕ) (deep : d ≤ deepest) (here : i �
 -- ── the three ──
 
 module _ {a b : List ℕ} {n d i j : ℕ} where
-  pub tail_keys : n ≡ cell a b i keys_at → SomeTail a b d i j → SomeTrees a b order_item n d j
+  tail_keys : n ≡ cell a b i keys_at → SomeTail a b d i j → SomeTrees a b order_item n d j
   tail_keys e x = let t = x.tail in rw (e ∙ sym t.keys_counted) (record { sheet = x.sheet; trees = t.keys; held = t.held_keys })
 
-  pub skip_one : n ≡ cell a b i skip_at → SomeTail a b d i j → n ≤ 1
+  skip_one : n ≡ cell a b i skip_at → SomeTail a b d i j → n ≤ 1
   skip_one e x = let t = x.tail in rw (e ∙ sym t.skip_counted) t.skip_one
 
-  pub limit_one : n ≡ cell a b i limit_at → SomeTail a b d i j → n ≤ 1
+  limit_one : n ≡ cell a b i limit_at → SomeTail a b d i j → n ≤ 1
   limit_one e x = let t = x.tail in rw (e ∙ sym t.limit_counted) t.limit_one
-
-module _ {a b : List ℕ} {at : At} {i input n j e k : ℕ} {x : Op} {c : LowerCtx} {os : List ℕ} {m m₁ : Mem} where
-  pub keys_law : (g : TailAsked a b at i input m) → n ≡ cell a b i keys_at → LowersExprs a b n 1 (at.left - 1) 0 at.i e m m₁ → x ≡ order_by_op (at_place 0 at.i at.left) input n → (j ≡ e) × PushedIf (not (eqb n 0)) x input k m₁.ctx c m₁.ops os → LowersOver a b n at.left at.i j k (order_l n input) m (mem c os m₁.rest)
-  keys_law g cn it ex pi = trail_law (order_trails a b n at.left at.i input g.depth g.ready.here) (tail_keys cn g.tail) g.ready.here g.stands it (pushed_if_as ex pi.1) pi.0
-
-module _ {a b : List ℕ} {d i input n j e k : ℕ} {x : Op} {c : LowerCtx} {os : List ℕ} {m m₁ : Mem} (deep : d ≤ deepest) (r : Ready i m) (ts : SomeTrees a b expr n d i) (one : n ≤ 1) (stands : input < m.ctx.ops) (it : LowersExprs a b n 0 d 0 i e m m₁) where
-  pub skip_law : x ≡ skip_op (at_place 0 i d) input → (j ≡ e) × PushedIf (not (eqb n 0)) x input k m₁.ctx c m₁.ops os → LowersOver a b n d i j k (skip_l n input) m (mem c os m₁.rest)
-  skip_law ex pi = trail_law (skip_trails a b n d i input deep r.here one) ts r.here stands it (pushed_if_as ex pi.1) pi.0
-
-  pub limit_law : x ≡ limit_op (at_place 0 i d) input → (j ≡ e) × PushedIf (not (eqb n 0)) x input k m₁.ctx c m₁.ops os → LowersOver a b n d i j k (limit_l n input) m (mem c os m₁.rest)
-  limit_law ex pi = trail_law (limit_trails a b n d i input deep r.here one) ts r.here stands it (pushed_if_as ex pi.1) pi.0
 
 trailers_def : {x y z : ℕ} (input k₁ k₂ : ℕ) (keys : Trees order_item x) (skip : Trees expr y) (limit : Trees expr z) (s : State) →
     k₁ ≡ (order_by input keys s).0 →
@@ -201,7 +192,7 @@ module _ {a b : List ℕ} {n₁ e₁ k₁ : ℕ} {m m₁ : Mem} (d input i j : �
   keys_end : (sheet : Bytes) (t : Tail sheet a b d i j) → e₁ ≡ j + size_of t.keys
   keys_end sheet t = (keys_as t.keys_count t.keys_counted).next sheet t.keys t.held_keys
 
-  pub skip_some : {n₂ : ℕ} → n₂ ≡ cell a b i skip_at → SomeTail a b d i j → SomeTrees a b expr n₂ d e₁
+  skip_some : {n₂ : ℕ} → n₂ ≡ cell a b i skip_at → SomeTail a b d i j → SomeTrees a b expr n₂ d e₁
   skip_some c₂ x = let t = x.tail in rw (c₂ ∙ sym t.skip_counted, keys_end x.sheet t) (record { sheet = x.sheet; trees = t.skip; held = t.held_skip })
 
   held_skip : (sheet : Bytes) (t : Tail sheet a b d i j) → HeldOf sheet a b t.skip d e₁
@@ -211,7 +202,7 @@ module _ {a b : List ℕ} {n₁ e₁ k₁ : ℕ} {m m₁ : Mem} (d input i j : �
     skip_end : (sheet : Bytes) (t : Tail sheet a b d i j) → e₂ ≡ j + size_of t.keys + size_of t.skip
     skip_end sheet t = subst (λ (x : ℕ). (ts : Trees expr x) → HeldOf sheet a b ts d e₁ → e₂ ≡ e₁ + size_of ts) (c₂ ∙ sym t.skip_counted) (nx sheet) t.skip (held_skip sheet t) ∙ ap (λ (x : ℕ). x + size_of t.skip) (keys_end sheet t)
 
-    pub limit_some : {n₃ : ℕ} → n₃ ≡ cell a b i limit_at → SomeTail a b d i j → SomeTrees a b expr n₃ d e₂
+    limit_some : {n₃ : ℕ} → n₃ ≡ cell a b i limit_at → SomeTail a b d i j → SomeTrees a b expr n₃ d e₂
     limit_some c₃ x = let t = x.tail in rw (c₃ ∙ sym t.limit_counted, skip_end x.sheet t) (record { sheet = x.sheet; trees = t.limit; held = t.held_limit })
 
   module _ {n₂ e₂ k₂ : ℕ} {m₂ : Mem} (c₂ : n₂ ≡ cell a b i skip_at) (q : LowersOver a b n₂ d e₁ e₂ k₂ (skip_l n₂ k₁) m₁ m₂) where
@@ -246,5 +237,54 @@ module _ {a b : List ℕ} {n₁ e₁ k₁ : ℕ} {m m₁ : Mem} (d input i j : �
             low = l.low;
           }
 
-      pub tail_law : LowersTail a b d input i j e₃ k₃ m m₃
+      tail_law : LowersTail a b d input i j e₃ k₃ m m₃
       tail_law = record { moved = twice_then p.moved (twice_then q.moved l.moved); low = l.low; next = tail_next; run = tail_run }
+
+-- ── the three as the code has them, each behind the one before ──
+
+module _ {a b : List ℕ} {at : At} {i input n₁ : ℕ} {m : Mem} (g : TailAsked a b at i input m) (cn₁ : n₁ ≡ cell a b i keys_at) where
+  pub keys_asked : ItemsAsked a b (at_place 0 at.i at.left) n₁ m
+  keys_asked = record { items = keys_some (tail_keys cn₁ g.tail); room = ready_room g.ready (le_refl _) g.ready.here g.depth; depth = g.depth; pass = omega arith }
+
+  module _ {j₁ e₁ k₁ : ℕ} {x₁ : Op} {c₁ : LowerCtx} {os₁ : List ℕ} {m₁ : Mem} (it₁ : LowersExprs a b n₁ 1 (at.left - 1) 0 at.i e₁ m m₁) (ex₁ : x₁ ≡ order_by_op (at_place 0 at.i at.left) input n₁) (pi₁ : (j₁ ≡ e₁) × PushedIf (not (eqb n₁ 0)) x₁ input k₁ m₁.ctx c₁ m₁.ops os₁) where
+    ordered : LowersOver a b n₁ at.left at.i j₁ k₁ (order_l n₁ input) m (mem c₁ os₁ m₁.rest)
+    ordered = trail_law (order_trails a b n₁ at.left at.i input g.depth g.ready.here) (tail_keys cn₁ g.tail) g.ready.here g.stands it₁ (pushed_if_as ex₁ pi₁.1) pi₁.0
+
+    ready₁ : Ready j₁ (mem c₁ os₁ m₁.rest)
+    ready₁ = ready_after ordered.moved g.ready
+
+    module _ {n₂ : ℕ} (cn₂ : n₂ ≡ cell a b i skip_at) where
+      skips : SomeTrees a b expr n₂ at.left j₁
+      skips = skip_some at.left input i at.i cn₁ ordered cn₂ g.tail
+
+      pub skip_asked : ExprsAsked a b n₂ 0 (at_place 0 j₁ at.left) (mem c₁ os₁ m₁.rest)
+      skip_asked = record { tree = expr_some skips; room = ready_room ready₁ (le_refl _) ready₁.here g.depth; depth = g.depth; pass = omega arith }
+
+      module _ {j₂ e₂ k₂ : ℕ} {x₂ : Op} {c₂ : LowerCtx} {os₂ : List ℕ} {m₂ : Mem} (it₂ : LowersExprs a b n₂ 0 at.left 0 j₁ e₂ (mem c₁ os₁ m₁.rest) m₂) (ex₂ : x₂ ≡ skip_op (at_place 0 j₁ at.left) k₁) (pi₂ : (j₂ ≡ e₂) × PushedIf (not (eqb n₂ 0)) x₂ k₁ k₂ m₂.ctx c₂ m₂.ops os₂) where
+        skipped : LowersOver a b n₂ at.left j₁ j₂ k₂ (skip_l n₂ k₁) (mem c₁ os₁ m₁.rest) (mem c₂ os₂ m₂.rest)
+        skipped = trail_law (skip_trails a b n₂ at.left j₁ k₁ g.depth ready₁.here (skip_one cn₂ g.tail)) skips ready₁.here ordered.low it₂ (pushed_if_as ex₂ pi₂.1) pi₂.0
+
+        ready₂ : Ready j₂ (mem c₂ os₂ m₂.rest)
+        ready₂ = ready_after skipped.moved ready₁
+
+        -- what the limit's operator asks
+        pub limit_fits : Fits (at_place 0 j₂ at.left) × (k₂ < two32)
+        limit_fits = (fits (omega arith) ready₂.here g.depth, omega (arith, few ready₂, skipped.low))
+
+        module _ {n₃ : ℕ} (cn₃ : n₃ ≡ cell a b i limit_at) where
+          limits : SomeTrees a b expr n₃ at.left j₂
+          limits = limit_some at.left input i at.i cn₁ ordered cn₂ skipped.next cn₃ g.tail
+
+          pub limit_asked : ExprsAsked a b n₃ 0 (at_place 0 j₂ at.left) (mem c₂ os₂ m₂.rest)
+          limit_asked = record { tree = expr_some limits; room = ready_room ready₂ (le_refl _) ready₂.here g.depth; depth = g.depth; pass = omega arith }
+
+          module _ {e₃ : ℕ} {m₃ : Mem} (it₃ : LowersExprs a b n₃ 0 at.left 0 j₂ e₃ (mem c₂ os₂ m₂.rest) m₃) where
+            pub limit_pushes : CanPush m₃.ctx m₃.ops
+            limit_pushes = can_push (room_after it₃.moved (ready_room ready₂ (le_refl _) ready₂.here g.depth))
+
+            module _ {j₃ k₃ : ℕ} {x₃ : Op} {c₃ : LowerCtx} {os₃ : List ℕ} (ex₃ : x₃ ≡ limit_op (at_place 0 j₂ at.left) k₂) (pi₃ : (j₃ ≡ e₃) × PushedIf (not (eqb n₃ 0)) x₃ k₂ k₃ m₃.ctx c₃ m₃.ops os₃) where
+              limited : LowersOver a b n₃ at.left j₂ j₃ k₃ (limit_l n₃ k₂) (mem c₂ os₂ m₂.rest) (mem c₃ os₃ m₃.rest)
+              limited = trail_law (limit_trails a b n₃ at.left j₂ k₂ g.depth ready₂.here (limit_one cn₃ g.tail)) limits ready₂.here skipped.low it₃ (pushed_if_as ex₃ pi₃.1) pi₃.0
+
+              pub trailers_law : LowersTail a b at.left input i at.i j₃ k₃ m (mem c₃ os₃ m₃.rest)
+              trailers_law = tail_law at.left input i at.i cn₁ ordered cn₂ skipped cn₃ limited

@@ -10,13 +10,3 @@ word-kind-requires c = (Room.low (Room.some_tree c.requires.held), omega arith)
 
 pub returns-then-kind-eq-WRITE : goal.returns-then-kind-eq-WRITE
 returns-then-kind-eq-WRITE c = Clausing.write_law _ _ _ _ _ c.args.r.now.roomy (sym c.word-kind.ensures ∙ c.if-kind-eq-WRITE.true) (Room.low (Room.some_tree c.requires.held)) (Inputs.under_stands _ _ c.requires.stands)
-
-pub lower_reading_clause-s-requires : goal.lower_reading_clause-s-requires
-lower_reading_clause-s-requires c =
-    record {
-      held = c.requires.held;
-      reads = λ e. c.if-kind-eq-WRITE.false (c.word-kind.ensures ∙ e);
-      ready = c.requires.ready;
-      depth = c.requires.depth;
-      stands = c.requires.stands;
-    }

@@ -1,5 +1,4 @@
 -- `read_at` meets its contract: the words of an element. Assumes nothing.
-use native.Mathlib.Omega.{arith}
 use Prim.Native.Nat.{◌+◌}
 use mathlib.Core.Path.{ap}
 use Rattle.lower.proofs.read_at.Goals as goal

@@ -1,6 +1,5 @@
 -- `write_vars` meets its contract. Assumes nothing.
 use Rattle.plan_writer.proofs.WholeLaws
-use Rattle.output.specs.Writes.{same}
 use native.Mathlib.Omega.{arith}
 use Rattle.plan_writer.proofs.write_vars.Goals as goal
 
@@ -11,7 +10,7 @@ pub variable-v-requires : goal.variable-v-requires
 variable-v-requires c = (omega arith, c.args.s.now.room.in_rest)
 
 pub loop-k-preserved : goal.loop-k-preserved
-loop-k-preserved c = WholeLaws.next_var_law c.loop-k-test.true c.loop-k.invariant c.variable-v.ensures c.put_row2-o.ensures (same c.put_row2-o.ensures)
+loop-k-preserved c = WholeLaws.next_var_law c.loop-k-test.true c.loop-k.invariant c.variable-v.ensures c.put_row.ensures
 
 pub returns : goal.returns
 returns c = WholeLaws.all_vars c.loop-k-test.false c.loop-k.invariant

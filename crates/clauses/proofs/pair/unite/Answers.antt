@@ -4,9 +4,6 @@ use Rattle.context.specs.OpLaws.{pushed_as, under_more}
 use Rattle.clauses.proofs.Uniting.{union_as, unite_law}
 use Rattle.clauses.proofs.pair.unite.Goals as goal
 
-pub or_source_all-q-requires : goal.or_source_all-q-requires
-or_source_all-q-requires c = (record { few = omega (arith, c.requires.few); long = c.requires.long }, c.requires.left)
-
 pub or_source_all-s-requires : goal.or_source_all-s-requires
 or_source_all-s-requires c =
     let q = c.or_source_all-q.ensures.source [] in

@@ -1,6 +1,6 @@
 -- `clauses::reading::lower_call` meets its contract.
-use Rattle.std.proofs.Common.{[], arith}
-use Rattle.context.specs.OpLaws.{pushed_as, under_more}
+use Rattle.std.proofs.Common.{arith}
+use Rattle.context.specs.OpLaws.{pushed_as}
 use Rattle.projections.specs.Room
 use Rattle.clauses.proofs.Calling
 use Rattle.clauses.proofs.reading.lower_call.Goals as goal
@@ -26,16 +26,6 @@ lower_exprs-s-requires c =
 
 pub lower_yields-t-requires : goal.lower_yields-t-requires
 lower_yields-t-requires c = Calling.asked_yields c.args.r.now.roomy c.requires c.count-args.ensures.0 c.count-yields.ensures.0 c.lower_exprs-s.ensures
-
-pub procedure_call-requires : goal.procedure_call-requires
-procedure_call-requires c =
-    let l = Room.bounds c.requires in
-    (Room.fits (omega arith) (omega (arith, l.low)) (omega (arith, l.shallow)), under_more (omega (arith, l.few)) c.requires.stands)
-
-pub push-z-requires : goal.push-z-requires
-push-z-requires c =
-    let few = Room.few_after c.requires.ready c.lower_exprs-s.ensures.moved (omega arith) in
-    record { few = omega (arith, few, (c.lower_yields-t.ensures []).same); long = Room.ops_after c.requires.ready c.lower_exprs-s.ensures.moved (omega arith) }
 
 pub returns : goal.returns
 returns c =

@@ -1,6 +1,5 @@
 -- `clauses::reading::lower_match` meets its contract.
 use Rattle.std.proofs.Common.{le_refl, arith}
-use Rattle.context.specs.OpLaws.{under_more}
 use Rattle.projections.specs.Room
 use Rattle.clauses.proofs.Matching
 use Rattle.clauses.proofs.reading.lower_match.Goals as goal
@@ -22,17 +21,6 @@ lower_parts-s-requires c =
       room = Room.ready_room c.requires.ready (le_refl _) (omega (arith, l.low)) (omega (arith, l.shallow));
       depth = omega (arith, l.shallow);
       pass = omega arith;
-    }
-
-pub join_before-requires : goal.join_before-requires
-join_before-requires c =
-    let l = Room.bounds c.requires in
-    let few = Room.few_after c.requires.ready c.lower_parts-s.ensures.moved (le_refl _) in
-    record {
-      push = record { few = omega (arith, few); long = Room.ops_after c.requires.ready c.lower_parts-s.ensures.moved (le_refl _) };
-      low = c.lower_parts-s.ensures.low;
-      stands = under_more (omega (arith, l.few)) c.requires.stands;
-      here = l.low;
     }
 
 pub returns : goal.returns

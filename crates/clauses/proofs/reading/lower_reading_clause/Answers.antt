@@ -1,26 +1,11 @@
 -- `clauses::reading::lower_reading_clause` meets its contract.
-use Rattle.std.proofs.Common.{sym, ◌∙◌, arith, rules}
+use Rattle.std.proofs.Common.{arith, rules}
 use Rattle.projections.specs.Room
 use Rattle.clauses.proofs.Clausing
 use Rattle.clauses.proofs.reading.lower_reading_clause.Goals as goal
 
 pub word-kind-requires : goal.word-kind-requires
 word-kind-requires c = (Room.low (Room.some_tree c.requires.held), omega arith)
-
-pub lower_match-requires : goal.lower_match-requires
-lower_match-requires c = Clausing.asked c.requires (sym c.word-kind.ensures ∙ c.in-2.is)
-
-pub lower_where-requires : goal.lower_where-requires
-lower_where-requires c = Clausing.asked c.requires (sym c.word-kind.ensures ∙ c.in-3.is)
-
-pub lower_with-requires : goal.lower_with-requires
-lower_with-requires c = Clausing.asked c.requires (sym c.word-kind.ensures ∙ c.in-4.is)
-
-pub lower_return-requires : goal.lower_return-requires
-lower_return-requires c = record { asked = Clausing.asked c.requires (sym c.word-kind.ensures ∙ c.in-5.is); held = c.requires.held }
-
-pub lower_unwind-requires : goal.lower_unwind-requires
-lower_unwind-requires c = Clausing.asked c.requires (sym c.word-kind.ensures ∙ c.in-6.is)
 
 pub lower_call-requires : goal.lower_call-requires
 lower_call-requires c = Clausing.asked c.requires (Clausing.a_call_left c.args.r.now.roomy c.requires c.word-kind.ensures (search rules))

@@ -1,11 +1,7 @@
--- `put_times` meets its contract. The loop's invariant: the text is put i times. Assumes nothing.
+-- The text is put so many times as the loop has gone round. Assumes nothing.
 use Rattle.gate_cases.specs.Text.{again}
-use Rattle.output.specs.Page.{on, Puts}
-use Prim.Native.Nat.{◌≤◌, ◌-◌}
+use Rattle.output.specs.Page.{Puts}
 use Rattle.gate_cases.proofs.text.put_times.Given as goal
 
 abbrev pub invariant-loop-i : goal.invariant-loop-i
-invariant-loop-i l = (l.i ≤ l.times) × Puts (again l.i l.text) (on l.initial.page l.initial.o) (on l.page l.o)
-
-abbrev pub decreases-loop-i : goal.decreases-loop-i
-decreases-loop-i l = l.times - l.i
+invariant-loop-i l = Puts (again l._i l.text) l.initial.page l.page

@@ -7,8 +7,8 @@ pub count-labels-requires : goal.count-labels-requires
 count-labels-requires c =
     (c.requires.notes.low, omega arith)
 
-pub put_names-v-requires : goal.put_names-v-requires
-put_names-v-requires c =
+pub put_names-requires : goal.put_names-requires
+put_names-requires c =
     BehindLaws.labels_there c.in-2.is c.count-labels.ensures.0 c.requires.due
 
 pub put_path-requires : goal.put_path-requires
@@ -18,7 +18,7 @@ pub put_yields-requires : goal.put_yields-requires
 put_yields-requires c = record { notes = c.requires.notes; due = BehindLaws.yields_there c.in-17.is c.requires.due }
 
 pub returns-in-2 : goal.returns-in-2
-returns-in-2 c = BehindLaws.labels_wrote c.in-2.is c.count-labels.ensures.0 c.put_names-v.ensures
+returns-in-2 c = BehindLaws.labels_wrote c.in-2.is c.count-labels.ensures.0 c.put_names.ensures
 
 pub returns-in-6 : goal.returns-in-6
 returns-in-6 c = BehindLaws.path_wrote c.in-6.is c.put_path.ensures

@@ -2,7 +2,6 @@
 use Rattle.plan_sheet.proofs.BehindLaws
 use Rattle.plan_sheet.proofs.DueLaws.{due_yet}
 use Rattle.std.proofs.Math.Nat.{add-sub_cancel_left, sub-add-eq}
-use Rattle.output.specs.Writes.{same}
 use native.Mathlib.Omega.{arith}
 use Rattle.plan_sheet.proofs.behind.put_yields.Goals as goal
 
@@ -24,8 +23,8 @@ word-to-requires c = (BehindLaws.yield_low (due_yet c.loop-at-test.true) c.loop-
 pub note_of-number-requires : goal.note_of-number-requires
 note_of-number-requires c = (c.requires.notes.near, omega (arith, BehindLaws.yield_low (due_yet c.loop-at-test.true) c.loop-at.invariant.some), c.args.s.now.room.in_rest)
 
-pub put_named1-o-requires : goal.put_named1-o-requires
-put_named1-o-requires c = BehindLaws.yield_in c.args.s.now.records.roomy c.word-from.ensures c.word-to.ensures (due_yet c.loop-at-test.true) c.loop-at.invariant.some
+pub part-requires : goal.part-requires
+part-requires c = BehindLaws.yield_in c.args.s.now.records.roomy c.word-from.ensures c.word-to.ensures (due_yet c.loop-at-test.true) c.loop-at.invariant.some
 
 pub loop-at-preserved : goal.loop-at-preserved
 loop-at-preserved c =
@@ -38,8 +37,7 @@ loop-at-preserved c =
     c.word-from.ensures
     c.word-to.ensures
     c.note_of-number.ensures
-    c.put_named1-o.ensures
-    (same c.put_named1-o.ensures))
+    (rw c.part.ensures at c.put_named.ensures))
 
 pub returns : goal.returns
 returns c = rw c.count-n.ensures.0 at (BehindLaws.yields_done (omega arith) c.loop-at.invariant)

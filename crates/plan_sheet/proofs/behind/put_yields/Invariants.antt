@@ -1,8 +1,7 @@
 -- `put_yields` meets its contract. Assumes nothing.
 use Prim.Native.Nat.{◌-◌}
 use Rattle.plan_sheet.proofs.BehindLaws
-use Rattle.output.specs.Page.{on}
 use Rattle.plan_sheet.proofs.behind.put_yields.Given as goal
 
 abbrev pub invariant-loop-at : goal.invariant-loop-at
-invariant-loop-at l = BehindLaws.YieldsGoing l.s.sheet.now l.s.records.a.now l.s.records.b.now l.s.rest.now l.base l.n l.i (on l.initial.plan l.initial.o) (l.end - l.at) l.at (on l.plan l.o)
+invariant-loop-at l = BehindLaws.YieldsGoing l.s.sheet.now l.s.records.a.now l.s.records.b.now l.s.rest.now l.base l.n l.i l.initial.page (l.end - l.at) l.at l.page

@@ -9,32 +9,29 @@ pub word-kind-requires : goal.word-kind-requires
 word-kind-requires c =
     (HeadLaws.line_low c.requires.line, omega arith)
 
-pub overflow_add-next : goal.overflow_add-next
-overflow_add-next c = omega (arith, HeadLaws.line_low c.requires.line)
+pub overflow_add-result : goal.overflow_add-result
+overflow_add-result c = omega (arith, HeadLaws.line_low c.requires.line)
 
-pub put_copied-o-requires : goal.put_copied-o-requires
-put_copied-o-requires c =
-    record {
-      roomy = c.args.s.now.records.roomy;
-      some_record = HeadLaws.line_record c.requires.line;
-    }
+pub put_copied-requires : goal.put_copied-requires
+put_copied-requires c =
+    HeadLaws.line_record c.requires.line
 
-pub overflow_add-next-in-9 : goal.overflow_add-next-in-9
-overflow_add-next-in-9 c = omega (arith, HeadLaws.line_low c.requires.line)
+pub overflow_add-result-in-9 : goal.overflow_add-result-in-9
+overflow_add-result-in-9 c = omega (arith, HeadLaws.line_low c.requires.line)
 
-pub put_item-o-requires : goal.put_item-o-requires
-put_item-o-requires c =
+pub put_item-requires : goal.put_item-requires
+put_item-requires c =
     HeadLaws.item_there c.args.s.now.records.roomy (sym c.word-kind.ensures ∙ c.in-9.is) c.requires.line
 
 pub returns-in-16 : goal.returns-in-16
 returns-in-16 c =
     λ recs j l.
-    HeadLaws.same_put c.args.s.now.records.roomy (rw c.word-kind.ensures at c.in-16.is) l c.put_copied-o.ensures
+    HeadLaws.same_put c.args.s.now.records.roomy (rw c.word-kind.ensures at c.in-16.is) l c.put_copied.ensures
 
 pub returns-in-9 : goal.returns-in-9
 returns-in-9 c =
     λ recs j l.
-    HeadLaws.aliased_put c.args.s.now.records.roomy (sym c.word-kind.ensures ∙ c.in-9.is) l c.put_item-o.ensures
+    HeadLaws.aliased_put c.args.s.now.records.roomy (sym c.word-kind.ensures ∙ c.in-9.is) l c.put_item.ensures
 
 pub returns-in_default : goal.returns-in_default
 returns-in_default c =

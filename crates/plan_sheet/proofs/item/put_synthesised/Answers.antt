@@ -3,6 +3,7 @@ use Rattle.plan_sheet.proofs.HeadLaws
 use Rattle.plan_sheet.proofs.ItemLaws
 use mathlib.Core.Path.{sym, ◌∙◌}
 use native.Mathlib.Omega.{arith}
+use Rattle.std.proofs.lemmas.Bool.Decides.{nat_tests}
 use Rattle.plan_sheet.proofs.item.put_synthesised.Goals as goal
 
 pub word-kind-requires : goal.word-kind-requires
@@ -14,16 +15,13 @@ word-id-requires c =
     (c.requires.at.low, omega arith)
 
 pub put_own_name-requires : goal.put_own_name-requires
-put_own_name-requires c = ItemLaws.prop_in c.args.s.now.records.roomy c.requires (sym c.word-kind.ensures ∙ c.in-23.is)
-
-pub put_own_name-requires-in-34 : goal.put_own_name-requires-in-34
-put_own_name-requires-in-34 c = HeadLaws.call_in c.args.s.now.records.roomy 0 c.requires (sym c.word-kind.ensures ∙ c.in-34.is)
+put_own_name-requires c = ItemLaws.own_in c.args.s.now.records.roomy c.requires (rw c.word-kind.ensures at c.in-23.is)
 
 pub returns-in-23 : goal.returns-in-23
 returns-in-23 c =
     λ h.
     rw
-    (ItemLaws.prop_named c.args.s.now.records.roomy h (sym c.word-kind.ensures ∙ c.in-23.is))
+    (ItemLaws.own_named c.args.s.now.records.roomy h (rw c.word-kind.ensures at c.in-23.is))
     c.put_own_name.ensures
 
 pub returns-in-32 : goal.returns-in-32
@@ -32,13 +30,6 @@ returns-in-32 c =
     rw
     (ItemLaws.id_named c.args.s.now.records.roomy h (sym c.word-kind.ensures ∙ c.in-32.is))
     (rw c.word-id.ensures at c.put_id_name.ensures)
-
-pub returns-in-34 : goal.returns-in-34
-returns-in-34 c =
-    λ h.
-    rw
-    (ItemLaws.call_named c.args.s.now.records.roomy h (sym c.word-kind.ensures ∙ c.in-34.is))
-    c.put_own_name-in-34.ensures
 
 pub returns-in_default : goal.returns-in_default
 returns-in_default c =
@@ -49,5 +40,5 @@ returns-in_default c =
     h
     _
     c.word-kind.ensures
-    c.in_default.in_default-own.rest)
+    (HeadLaws.others c.word-kind.result ItemLaws.named (grind (arith, nat_tests))))
     c.put_no_name.ensures

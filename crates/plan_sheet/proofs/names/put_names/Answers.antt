@@ -12,12 +12,8 @@ overflow_add-next c = omega (arith, NameLaws.names_end c.requires)
 pub loop-at-init : goal.loop-at-init
 loop-at-init c = rw (add-sub_cancel_left c.args.i c.args.n) (NameLaws.names_going c.requires)
 
-pub put_copied-o-requires : goal.put_copied-o-requires
-put_copied-o-requires c =
-    record {
-      roomy = c.args.s.now.records.roomy;
-      some_record = NameLaws.first_record c.args.s.now.records.roomy (due_yet c.loop-at-test.true) c.loop-at.invariant.some;
-    }
+pub put_copied-requires : goal.put_copied-requires
+put_copied-requires c = NameLaws.first_record c.args.s.now.records.roomy (due_yet c.loop-at-test.true) c.loop-at.invariant.some
 
 pub loop-at-preserved : goal.loop-at-preserved
 loop-at-preserved c =
@@ -27,8 +23,7 @@ loop-at-preserved c =
     c.args.s.now.records.roomy
     (due_yet c.loop-at-test.true)
     c.loop-at.invariant
-    c.put_copied-o.ensures
-    (search))
+    c.put_copied.ensures)
 
 pub returns : goal.returns
 returns c = λ h. (refl, (NameLaws.names_done (omega arith) c.loop-at.invariant h).1)

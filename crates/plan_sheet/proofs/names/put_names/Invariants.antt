@@ -1,8 +1,7 @@
 -- `put_names` meets its contract. Assumes nothing.
 use Prim.Native.Nat.{◌-◌}
 use Rattle.plan_sheet.proofs.NameLaws
-use Rattle.output.specs.Page.{on}
 use Rattle.plan_sheet.proofs.names.put_names.Given as goal
 
 abbrev pub invariant-loop-at : goal.invariant-loop-at
-invariant-loop-at l = NameLaws.NamesGoing l.s.sheet.now l.s.records.a.now l.s.records.b.now l.n l.i (on l.initial.plan l.initial.o) (l.next - l.at) l.at (on l.plan l.o)
+invariant-loop-at l = NameLaws.NamesGoing l.s.sheet.now l.s.records.a.now l.s.records.b.now l.n l.i l.initial.page (l.next - l.at) l.at l.page

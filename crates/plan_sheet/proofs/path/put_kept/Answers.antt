@@ -22,7 +22,7 @@ returns-then-path c =
     c.in-Some.is
     c.if-path.true
     c.note_of-n.ensures
-    c.put_row1.ensures
+    c.put_row.ensures
 
-pub returns : goal.returns
-returns c = PathLaws.not_kept c.args.s.now.rest.now c.args.base c.args.path c.in-Some.is c.if-path.false
+pub returns-else-path : goal.returns-else-path
+returns-else-path c = PathLaws.not_kept c.args.s.now.rest.now c.args.base c.args.path c.in-Some.is c.if-path.false

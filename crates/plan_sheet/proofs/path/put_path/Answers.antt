@@ -31,8 +31,7 @@ loop-preserved c =
     c.loop.invariant
     c.word-kind.ensures
     c.put_step-path.ensures
-    c.skip-at.ensures
-    c.put_step-path.auto.plan)
+    c.skip-at.ensures)
 
 pub returns : goal.returns
 returns c = rw c.word-n.ensures at (PathLaws.walk_done (omega arith) c.loop.invariant)

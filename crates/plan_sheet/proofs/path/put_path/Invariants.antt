@@ -1,8 +1,7 @@
 -- `put_path` meets its contract. Assumes nothing.
 use Prim.Native.Nat.{◌-◌}
 use Rattle.plan_sheet.proofs.PathLaws
-use Rattle.output.specs.Page.{on}
 use Rattle.plan_sheet.proofs.path.put_path.Given as goal
 
 abbrev pub invariant-loop : goal.invariant-loop
-invariant-loop l = PathLaws.Walking l.s.sheet.now l.s.records.a.now l.s.records.b.now l.s.rest.now l.base l.n l.i (on l.initial.plan l.out) (l.n - l.counter) l.at l.path (on l.plan l.path.out)
+invariant-loop l = PathLaws.Walking l.s.sheet.now l.s.records.a.now l.s.records.b.now l.s.rest.now l.base l.n l.i l.initial.page (l.n - l.counter) l.at l.path l.page

@@ -13,9 +13,9 @@ returns-then-kind-eq-NODE c =
     c.args.base
     c.args.path
     c.if-kind-eq-NODE.true
-    c.put_kept-o.ensures
+    c.put_kept.ensures
     c.note_of-n.ensures
-    c.put_row1-p.ensures
+    c.put_row.ensures
 
 pub returns : goal.returns
 returns c = PathLaws.rel_step c.args.s.now.rest.now c.args.base c.args.path c.if-kind-eq-NODE.false c.requires.i_lt_max_records

@@ -1,12 +1,4 @@
--- `measure_exprs`, of the cycle.
--- `put_exprs`, of the cycle.
--- `write_element`, of the cycle.
--- `write_expr`, of the cycle.
--- `write_exprs`, of the cycle.
--- `write_items`, of the cycle.
--- `write_op`, of the cycle.
--- `write_part`, of the cycle.
--- `write_parts`, of the cycle.
+-- The writers of expressions, elements and operators, which call each other, meet their contracts. Assumes nothing.
 use Rattle.plan_sheet.proofs.DueLaws
 use Rattle.plan_sheet.proofs.DueLaws.{due_yet}
 use Rattle.std.proofs.Math.Nat.{sub-zero, sub-add-eq}
@@ -25,31 +17,34 @@ use Rattle.plan_sheet.proofs.write.+writer.Goals as goal
 pub measure_exprs-loop-due-init : goal.measure_exprs-loop-due-init
 measure_exprs-loop-due-init t c = DueLaws.going c.requires.exprs_asked.due
 
-pub measure_exprs-measure_before-line-requires : goal.measure_exprs-measure_before-line-requires
-measure_exprs-measure_before-line-requires t c =
+pub measure_exprs-measure_before-at-requires : goal.measure_exprs-measure_before-at-requires
+measure_exprs-measure_before-at-requires t c =
     record {
-      plan_len = c.loop-due.invariant.long ∙ c.requires.plan_len;
+      bytes_len = c.loop-due.invariant.long ∙ c.requires.bytes_len;
       some_line = DueLaws.some_line c.loop-due-test.true c.loop-due.invariant.some;
     }
 
 pub measure_exprs-word-kind-requires : goal.measure_exprs-word-kind-requires
 measure_exprs-word-kind-requires t c =
-    let one = DueLaws.one_there c.loop-due-test.true c.loop-due.invariant.some c.measure_before-line.ensures in
+    let one = DueLaws.one_there c.loop-due-test.true c.loop-due.invariant.some c.measure_before-at.ensures in
     (CycleLaws.one_low one, omega arith)
 
 pub measure_exprs-note_of-n-requires : goal.measure_exprs-note_of-n-requires
 measure_exprs-note_of-n-requires t c =
-    let one = DueLaws.one_there c.loop-due-test.true c.loop-due.invariant.some c.measure_before-line.ensures in
+    let one = DueLaws.one_there c.loop-due-test.true c.loop-due.invariant.some c.measure_before-at.ensures in
     (omega (arith, c.requires.exprs_asked.near.near), omega (arith, CycleLaws.one_low one), c.args.s.now.room.in_rest)
 
-pub measure_exprs-expr_bytes-bytes-requires : goal.measure_exprs-expr_bytes-bytes-requires
-measure_exprs-expr_bytes-bytes-requires t c =
-    let one = DueLaws.one_there c.loop-due-test.true c.loop-due.invariant.some c.measure_before-line.ensures in
+pub measure_exprs-expr_bytes-requires : goal.measure_exprs-expr_bytes-requires
+measure_exprs-expr_bytes-requires t c =
+    let one = DueLaws.one_there c.loop-due-test.true c.loop-due.invariant.some c.measure_before-at.ensures in
     record { at = (_, CycleLaws.one_at one); told = c.word-kind.ensures }
 
-pub measure_exprs-write_op-o-requires : goal.measure_exprs-write_op-o-requires
-measure_exprs-write_op-o-requires t c =
-    let one = DueLaws.one_there c.loop-due-test.true c.loop-due.invariant.some c.measure_before-line.ensures in
+pub measure_exprs-measure-requires : goal.measure_exprs-measure-requires
+measure_exprs-measure-requires t c = DueLaws.line_long c.loop-due-test.true c.loop-due.invariant.some c.measure_before-at.ensures ∙ c.loop-due.invariant.long ∙ c.requires.bytes_len
+
+pub measure_exprs-write_op-requires : goal.measure_exprs-write_op-requires
+measure_exprs-write_op-requires t c =
+    let one = DueLaws.one_there c.loop-due-test.true c.loop-due.invariant.some c.measure_before-at.ensures in
     let e = sym c.word-kind.ensures ∙ c.if-kind-eq-PAT.true in (
       omega (arith, CycleLaws.copy_low c.args.s.now.records.roomy e c.note_of-n.ensures one, c.decreases),
       CycleLaws.copy_plan c.args.s.now.records.roomy e c.note_of-n.ensures one,
@@ -57,40 +52,38 @@ measure_exprs-write_op-o-requires t c =
 
 pub measure_exprs-skip-i-requires : goal.measure_exprs-skip-i-requires
 measure_exprs-skip-i-requires t c =
-    let one = DueLaws.one_there c.loop-due-test.true c.loop-due.invariant.some c.measure_before-line.ensures in
+    let one = DueLaws.one_there c.loop-due-test.true c.loop-due.invariant.some c.measure_before-at.ensures in
     CycleLaws.starts one
 
 pub measure_exprs-loop-due-smaller-then-kind-eq-PAT : goal.measure_exprs-loop-due-smaller-then-kind-eq-PAT
 measure_exprs-loop-due-smaller-then-kind-eq-PAT t c =
-    let one = DueLaws.one_there c.loop-due-test.true c.loop-due.invariant.some c.measure_before-line.ensures in
+    let one = DueLaws.one_there c.loop-due-test.true c.loop-due.invariant.some c.measure_before-at.ensures in
     let few = FlatLaws.list_few c.loop-due.invariant.some.list c.loop-due-test.true in
-    let on_line = FlatLaws.behind_later c.loop-due-test.true c.loop-due.invariant.some c.measure_before-line.ensures in
+    let on_line = FlatLaws.behind_later c.loop-due-test.true c.loop-due.invariant.some c.measure_before-at.ensures in
     let later = FlatLaws.ends_later one c.skip-i.ensures in
     omega (arith, few, on_line, later)
 
 pub measure_exprs-loop-due-preserved-then-kind-eq-PAT : goal.measure_exprs-loop-due-preserved-then-kind-eq-PAT
 measure_exprs-loop-due-preserved-then-kind-eq-PAT t c =
     let e = sym c.word-kind.ensures ∙ c.if-kind-eq-PAT.true in
-    let empty = c.measure_before-line.auto.plan ∙ c.loop-due.invariant.long ∙ c.requires.plan_len in
     DueLaws.again
     c.loop-due-test.true
     c.loop-due.invariant
     (DueLaws.lined
-    c.measure_before-line.ensures
+    c.measure_before-at.ensures
     (λ h.
     CycleLaws.copy_wrote
     c.args.s.now.records.roomy
     e
     c.note_of-n.ensures
     h
-    (MeasureLaws.counted_head empty c.more-head.ensures c.expr_bytes-bytes.ensures)
-    c.write_op-o.ensures
+    (MeasureLaws.counted_head c.expr_bytes.ensures c.measure.ensures)
+    c.write_op.ensures
     c.skip-i.ensures))
-    (c.write_op-o.auto.plan ∙ c.measure_before-line.auto.plan)
 
 pub measure_exprs-children-below-requires : goal.measure_exprs-children-below-requires
 measure_exprs-children-below-requires t c =
-    let one = DueLaws.one_there c.loop-due-test.true c.loop-due.invariant.some c.measure_before-line.ensures in
+    let one = DueLaws.one_there c.loop-due-test.true c.loop-due.invariant.some c.measure_before-at.ensures in
     CycleLaws.one_low one
 
 pub measure_exprs-overflow_add-due : goal.measure_exprs-overflow_add-due
@@ -100,31 +93,26 @@ measure_exprs-overflow_add-due t c =
 
 pub measure_exprs-overflow_add-i : goal.measure_exprs-overflow_add-i
 measure_exprs-overflow_add-i t c =
-    let one = DueLaws.one_there c.loop-due-test.true c.loop-due.invariant.some c.measure_before-line.ensures in
+    let one = DueLaws.one_there c.loop-due-test.true c.loop-due.invariant.some c.measure_before-at.ensures in
     omega (arith, CycleLaws.one_low one)
 
 pub measure_exprs-loop-due-smaller : goal.measure_exprs-loop-due-smaller
 measure_exprs-loop-due-smaller t c =
     let few = FlatLaws.list_few c.loop-due.invariant.some.list c.loop-due-test.true in
-    let on_line = FlatLaws.behind_later c.loop-due-test.true c.loop-due.invariant.some c.measure_before-line.ensures in
+    let on_line = FlatLaws.behind_later c.loop-due-test.true c.loop-due.invariant.some c.measure_before-at.ensures in
     omega (arith, few, on_line)
 
 pub measure_exprs-loop-due-preserved : goal.measure_exprs-loop-due-preserved
 measure_exprs-loop-due-preserved t c =
-    let empty = c.measure_before-line.auto.plan ∙ c.loop-due.invariant.long ∙ c.requires.plan_len in
     FlatLaws.again_below
     c.args.s.now.records.roomy
     c.loop-due-test.true
-    c.measure_before-line.ensures
+    c.measure_before-at.ensures
     c.children-below.ensures.0
     (λ e. c.if-kind-eq-PAT.false (c.word-kind.ensures ∙ e))
     c.note_of-n.ensures
-    (MeasureLaws.counted_head empty c.more-head.ensures c.expr_bytes-bytes.ensures)
+    (MeasureLaws.counted_head c.expr_bytes.ensures c.measure.ensures)
     c.loop-due.invariant
-    c.measure_before-line.auto.plan
-
-pub measure_exprs-shape_of-plan : goal.measure_exprs-shape_of-plan
-measure_exprs-shape_of-plan t c = c.loop-due.invariant.long
 
 pub measure_exprs-returns : goal.measure_exprs-returns
 measure_exprs-returns t c = DueLaws.done c.loop-due-test.false c.loop-due.invariant
@@ -135,7 +123,7 @@ pub put_exprs-returns-then-run-eq0 : goal.put_exprs-returns-then-run-eq0
 put_exprs-returns-then-run-eq0 t c = DueLaws.none_wrote c.if-run-eq0.true
 
 pub put_exprs-measure_exprs-requires : goal.put_exprs-measure_exprs-requires
-put_exprs-measure_exprs-requires t c = (omega (arith, c.decreases), (c.if-plan-eq0.true, c.requires))
+put_exprs-measure_exprs-requires t c = (omega (arith, c.decreases), (c.if-page-eq0.true, c.requires))
 
 pub put_exprs-write_exprs-requires : goal.put_exprs-write_exprs-requires
 put_exprs-write_exprs-requires t c = (omega (arith, c.decreases), c.requires)
@@ -154,21 +142,21 @@ pub write_element-props_of-props-requires : goal.write_element-props_of-props-re
 write_element-props_of-props-requires t c =
     (CycleLaws.element_is c.args.s.now.records.roomy c.requires.due).at.at.low
 
-pub write_element-put_element-o-requires : goal.write_element-put_element-o-requires
-write_element-put_element-o-requires t c = record { at = (CycleLaws.element_is c.args.s.now.records.roomy c.requires.due).at; told = c.word-kind.ensures }
+pub write_element-put_element-requires : goal.write_element-put_element-requires
+write_element-put_element-requires t c = record { at = (CycleLaws.element_is c.args.s.now.records.roomy c.requires.due).at; told = c.word-kind.ensures }
 
 pub write_element-overflow_add-i : goal.write_element-overflow_add-i
 write_element-overflow_add-i t c = omega (arith, (CycleLaws.element_is c.args.s.now.records.roomy c.requires.due).at.at.low)
 
-pub write_element-put_names-w-requires : goal.write_element-put_names-w-requires
-write_element-put_names-w-requires t c =
+pub write_element-put_names-first-requires : goal.write_element-put_names-first-requires
+write_element-put_names-first-requires t c =
     CycleLaws.element_names c.args.s.now.records.roomy c.requires.due c.count-names.ensures.0
 
 pub write_element-overflow_sub-left : goal.write_element-overflow_sub-left
 write_element-overflow_sub-left t c = omega (arith, (CycleLaws.element_is c.args.s.now.records.roomy c.requires.due).deep)
 
-pub write_element-put_exprs-v-requires : goal.write_element-put_exprs-v-requires
-write_element-put_exprs-v-requires t c = (
+pub write_element-put_exprs-requires : goal.write_element-put_exprs-requires
+write_element-put_exprs-requires t c = (
   omega (arith, (CycleLaws.element_is c.args.s.now.records.roomy c.requires.due).deep, c.decreases),
   record {
     near = CycleLaws.nearer c.requires.near;
@@ -178,7 +166,7 @@ write_element-put_exprs-v-requires t c = (
         c.word-kind.ensures
         c.count-names.ensures.0
         c.props_of-props.ensures
-        c.put_names-w.ensures;
+        c.put_names-first.ensures;
   },
 )
 
@@ -191,80 +179,80 @@ write_element-returns t c =
     c.word-kind.ensures
     c.count-names.ensures.0
     c.props_of-props.ensures
-    c.put_names-w.ensures
-    c.put_element-o.ensures
-    c.put_exprs-v.ensures
+    c.put_names-first.ensures
+    c.put_element.ensures
+    c.put_exprs.ensures
 
 -- ── write_expr ──
 
-pub write_expr-put_before-line-requires : goal.write_expr-put_before-line-requires
-write_expr-put_before-line-requires t c =
+pub write_expr-put_before-i-requires : goal.write_expr-put_before-i-requires
+write_expr-put_before-i-requires t c =
     DueLaws.first_line c.requires.due
 
 pub write_expr-word-kind-requires : goal.write_expr-word-kind-requires
 write_expr-word-kind-requires t c =
-    let one = DueLaws.first_there c.requires.due c.put_before-line.ensures in
+    let one = DueLaws.first_there c.requires.due c.put_before-i.ensures in
     (CycleLaws.one_low one, omega arith)
 
 pub write_expr-note_of-n-requires : goal.write_expr-note_of-n-requires
 write_expr-note_of-n-requires t c =
-    let one = DueLaws.first_there c.requires.due c.put_before-line.ensures in
+    let one = DueLaws.first_there c.requires.due c.put_before-i.ensures in
     (omega (arith, c.requires.near.near), omega (arith, CycleLaws.one_low one), c.args.s.now.room.in_rest)
 
-pub write_expr-put_expr-o-requires : goal.write_expr-put_expr-o-requires
-write_expr-put_expr-o-requires t c =
-    let one = DueLaws.first_there c.requires.due c.put_before-line.ensures in
+pub write_expr-put_expr-requires : goal.write_expr-put_expr-requires
+write_expr-put_expr-requires t c =
+    let one = DueLaws.first_there c.requires.due c.put_before-i.ensures in
     record { at = CycleLaws.one_at one; told = c.word-kind.ensures }
 
-pub write_expr-overflow_add-next : goal.write_expr-overflow_add-next
-write_expr-overflow_add-next t c =
-    let one = DueLaws.first_there c.requires.due c.put_before-line.ensures in
+pub write_expr-overflow_add-result : goal.write_expr-overflow_add-result
+write_expr-overflow_add-result t c =
+    let one = DueLaws.first_there c.requires.due c.put_before-i.ensures in
     omega (arith, CycleLaws.one_low one)
 
 pub write_expr-returns-then-is_leaf : goal.write_expr-returns-then-is_leaf
 write_expr-returns-then-is_leaf t c =
     DueLaws.lined
-    c.put_before-line.ensures
-    (CycleLaws.leaf_wrote c.args.s.now.records.roomy c.word-kind.ensures (sym c.is_leaf.ensures ∙ c.if-is_leaf.true) c.note_of-n.ensures c.put_expr-o.ensures)
+    c.put_before-i.ensures
+    (CycleLaws.leaf_wrote c.args.s.now.records.roomy c.word-kind.ensures (sym c.is_leaf.ensures ∙ c.if-is_leaf.true) c.note_of-n.ensures c.put_expr.ensures)
 
-pub write_expr-write_op-p-requires : goal.write_expr-write_op-p-requires
-write_expr-write_op-p-requires t c =
-    let one = DueLaws.first_there c.requires.due c.put_before-line.ensures in
+pub write_expr-write_op-requires : goal.write_expr-write_op-requires
+write_expr-write_op-requires t c =
+    let one = DueLaws.first_there c.requires.due c.put_before-i.ensures in
     let e = sym c.word-kind.ensures ∙ c.if-kind-eq-PAT.true in (
       omega (arith, CycleLaws.copy_low c.args.s.now.records.roomy e c.note_of-n.ensures one, c.decreases),
       CycleLaws.copy_plan c.args.s.now.records.roomy e c.note_of-n.ensures one,
     )
 
-pub write_expr-skip-next-requires : goal.write_expr-skip-next-requires
-write_expr-skip-next-requires t c =
-    let one = DueLaws.first_there c.requires.due c.put_before-line.ensures in
+pub write_expr-skip-behind-requires : goal.write_expr-skip-behind-requires
+write_expr-skip-behind-requires t c =
+    let one = DueLaws.first_there c.requires.due c.put_before-i.ensures in
     CycleLaws.starts one
 
 pub write_expr-returns-then-kind-eq-PAT : goal.write_expr-returns-then-kind-eq-PAT
 write_expr-returns-then-kind-eq-PAT t c =
     let e = sym c.word-kind.ensures ∙ c.if-kind-eq-PAT.true in
     DueLaws.lined
-    c.put_before-line.ensures
-    (λ h. CycleLaws.copy_wrote c.args.s.now.records.roomy e c.note_of-n.ensures h c.put_expr-o.ensures c.write_op-p.ensures c.skip-next.ensures)
+    c.put_before-i.ensures
+    (λ h. CycleLaws.copy_wrote c.args.s.now.records.roomy e c.note_of-n.ensures h c.put_expr.ensures c.write_op.ensures c.skip-behind.ensures)
 
 pub write_expr-overflow_add-first : goal.write_expr-overflow_add-first
 write_expr-overflow_add-first t c =
-    let one = DueLaws.first_there c.requires.due c.put_before-line.ensures in
+    let one = DueLaws.first_there c.requires.due c.put_before-i.ensures in
     omega (arith, CycleLaws.one_low one)
 
 pub write_expr-overflow_sub-left : goal.write_expr-overflow_sub-left
 write_expr-overflow_sub-left t c =
-    let one = DueLaws.first_there c.requires.due c.put_before-line.ensures in
+    let one = DueLaws.first_there c.requires.due c.put_before-i.ensures in
     omega (arith, CycleLaws.one_deep one)
 
 pub write_expr-children-requires : goal.write_expr-children-requires
 write_expr-children-requires t c =
-    let one = DueLaws.first_there c.requires.due c.put_before-line.ensures in
+    let one = DueLaws.first_there c.requires.due c.put_before-i.ensures in
     CycleLaws.one_low one
 
 pub write_expr-write_exprs-requires : goal.write_expr-write_exprs-requires
 write_expr-write_exprs-requires t c =
-    let one = DueLaws.first_there c.requires.due c.put_before-line.ensures in (
+    let one = DueLaws.first_there c.requires.due c.put_before-i.ensures in (
       omega (arith, CycleLaws.one_deep one, c.decreases),
       record { near = CycleLaws.nearer c.requires.near; due = CycleLaws.kids c.args.s.now.records.roomy c.children.ensures.0 (λ e. c.if-kind-eq-PAT.false (c.word-kind.ensures ∙ e)) one },
     )
@@ -272,7 +260,7 @@ write_expr-write_exprs-requires t c =
 pub write_expr-returns : goal.write_expr-returns
 write_expr-returns t c =
     DueLaws.lined
-    c.put_before-line.ensures
+    c.put_before-i.ensures
     (λ h.
     CycleLaws.kids_wrote
     c.args.s.now.records.roomy
@@ -280,7 +268,7 @@ write_expr-returns t c =
     (λ e. c.if-kind-eq-PAT.false (c.word-kind.ensures ∙ e))
     h
     c.note_of-n.ensures
-    c.put_expr-o.ensures
+    c.put_expr.ensures
     c.write_exprs.ensures)
 
 -- ── write_exprs ──
@@ -288,41 +276,41 @@ write_expr-returns t c =
 pub write_exprs-loop-init : goal.write_exprs-loop-init
 write_exprs-loop-init t c = rw (sub-zero c.args.run.n) (DueLaws.going c.requires.due)
 
-pub write_exprs-write_expr-w-requires : goal.write_exprs-write_expr-w-requires
-write_exprs-write_expr-w-requires t c = (omega (arith, c.decreases), record { near = c.requires.near; due = DueLaws.first_one (due_yet c.loop-test.true) c.loop.invariant.some })
+pub write_exprs-write_expr-i-requires : goal.write_exprs-write_expr-i-requires
+write_exprs-write_expr-i-requires t c = (omega (arith, c.decreases), record { near = c.requires.near; due = DueLaws.first_one (due_yet c.loop-test.true) c.loop.invariant.some })
 
 pub write_exprs-loop-preserved : goal.write_exprs-loop-preserved
-write_exprs-loop-preserved t c = rw (sub-add-eq c.args.run.n c.loop.counter 1) (DueLaws.again (due_yet c.loop-test.true) c.loop.invariant c.write_expr-w.ensures c.write_expr-w.auto.plan)
+write_exprs-loop-preserved t c = rw (sub-add-eq c.args.run.n c.loop.counter 1) (DueLaws.again (due_yet c.loop-test.true) c.loop.invariant c.write_expr-i.ensures)
 
 pub write_exprs-returns : goal.write_exprs-returns
 write_exprs-returns t c = DueLaws.done (omega arith) c.loop.invariant
 
 -- ── write_items ──
 
-pub write_items-write_parts-o-requires : goal.write_items-write_parts-o-requires
-write_items-write_parts-o-requires t c = (omega (arith, c.decreases), c.requires)
-
 pub write_items-write_parts-requires : goal.write_items-write_parts-requires
 write_items-write_parts-requires t c = (omega (arith, c.decreases), c.requires)
 
+pub write_items-write_parts-requires-2 : goal.write_items-write_parts-requires-2
+write_items-write_parts-requires-2 t c = (omega (arith, c.decreases), c.requires)
+
 pub write_items-returns : goal.write_items-returns
-write_items-returns t c = PartedLaws.items_wrote c.write_parts-o.ensures c.write_parts.ensures
+write_items-returns t c = PartedLaws.items_wrote c.write_parts.ensures c.write_parts-2.ensures
 
 -- ── write_op ──
 
 pub write_op-read_op-w-requires : goal.write_op-read_op-w-requires
 write_op-read_op-w-requires t c = (omega (arith, c.requires.tabled.few), c.args.s.now.room.in_ops)
 
-pub write_op-put_op-o-requires : goal.write_op-put_op-o-requires
-write_op-put_op-o-requires t c = OpLaws.shown_at _ c.requires c.read_op-w.ensures
-
-pub write_op-write_element-p-requires : goal.write_op-write_element-p-requires
-write_op-write_element-p-requires t c =
-    let near = OpLaws.element_near _ c.requires c.read_op-w.ensures c.at_record-rel.ensures in
-    (omega (arith, c.decreases, near.0, near.1), OpLaws.element_asked _ c.requires c.read_op-w.ensures c.at_record-rel.ensures (OpLaws.rel_of _ c.requires c.read_op-w.ensures c.in-4.is))
+pub write_op-put_op-requires : goal.write_op-put_op-requires
+write_op-put_op-requires t c = OpLaws.shown_at _ c.requires c.read_op-w.ensures
 
 pub write_op-write_element-requires : goal.write_op-write_element-requires
 write_op-write_element-requires t c =
+    let near = OpLaws.element_near _ c.requires c.read_op-w.ensures c.at_record-rel.ensures in
+    (omega (arith, c.decreases, near.0, near.1), OpLaws.element_asked _ c.requires c.read_op-w.ensures c.at_record-rel.ensures (OpLaws.rel_of _ c.requires c.read_op-w.ensures c.in-4.is))
+
+pub write_op-write_element-requires-in-4 : goal.write_op-write_element-requires-in-4
+write_op-write_element-requires-in-4 t c =
     let near = OpLaws.element_near _ c.requires c.read_op-w.ensures c.at_record-far.ensures in
     (omega (arith, c.decreases, near.0, near.1), OpLaws.element_asked _ c.requires c.read_op-w.ensures c.at_record-far.ensures (OpLaws.far_of _ c.requires c.read_op-w.ensures c.in-4.is))
 
@@ -350,8 +338,8 @@ pub write_op-exprs_of-run-requires : goal.write_op-exprs_of-run-requires
 write_op-exprs_of-run-requires t c =
     (OpLaws.bounded_at _ c.requires c.read_op-w.ensures).low
 
-pub write_op-put_exprs-v-requires : goal.write_op-put_exprs-v-requires
-write_op-put_exprs-v-requires t c =
+pub write_op-put_exprs-next-requires : goal.write_op-put_exprs-next-requires
+write_op-put_exprs-next-requires t c =
     let near = OpLaws.run_near _ c.requires c.read_op-w.ensures c.exprs_of-run.ensures in
     (omega (arith, c.decreases, near.0, near.1), OpLaws.exprs_asked _ c.requires c.read_op-w.ensures c.exprs_of-run.ensures (BehindLaws.exprs_there _ c.requires c.read_op-w.ensures c.args.s.now.records.roomy c.in_default.in_default-own.rest))
 
@@ -366,7 +354,7 @@ write_op-put_tail-requires t c =
           c.read_op-w.ensures
           c.args.s.now.records.roomy
           c.in_default.in_default-own.rest
-          (OpLaws.exprs_written _ c.requires c.read_op-w.ensures c.exprs_of-run.ensures c.put_exprs-v.ensures);
+          (OpLaws.exprs_written _ c.requires c.read_op-w.ensures c.exprs_of-run.ensures c.put_exprs-next.ensures);
     }
 
 pub write_op-returns-in-4 : goal.write_op-returns-in-4
@@ -377,9 +365,9 @@ write_op-returns-in-4 t c =
     p
     c.read_op-w.ensures
     c.in-4.is
-    c.put_op-o.ensures
-    (OpLaws.element_written _ p c.read_op-w.ensures c.at_record-rel.ensures c.write_element-p.ensures)
-    (OpLaws.element_written _ p c.read_op-w.ensures c.at_record-far.ensures c.write_element.ensures)
+    c.put_op.ensures
+    (OpLaws.element_written _ p c.read_op-w.ensures c.at_record-rel.ensures c.write_element.ensures)
+    (OpLaws.element_written _ p c.read_op-w.ensures c.at_record-far.ensures c.write_element-in-4.ensures)
 
 pub write_op-returns-in-5 : goal.write_op-returns-in-5
 write_op-returns-in-5 t c =
@@ -389,11 +377,11 @@ write_op-returns-in-5 t c =
     p
     c.read_op-w.ensures
     c.in-5.is
-    c.put_op-o.ensures
+    c.put_op.ensures
     (OpLaws.element_written _ p c.read_op-w.ensures c.at_record-rel-in-5.ensures c.write_element-in-5.ensures)
 
 pub write_op-returns-in-7 : goal.write_op-returns-in-7
-write_op-returns-in-7 t c = λ p. OpLaws.optional_wrote _ p c.read_op-w.ensures c.in-7.is c.put_op-o.ensures c.write_op.ensures
+write_op-returns-in-7 t c = λ p. OpLaws.optional_wrote _ p c.read_op-w.ensures c.in-7.is c.put_op.ensures c.write_op.ensures
 
 pub write_op-returns-in-10 : goal.write_op-returns-in-10
 write_op-returns-in-10 t c =
@@ -403,7 +391,7 @@ write_op-returns-in-10 t c =
     p
     c.read_op-w.ensures
     c.in-10.is
-    c.put_op-o.ensures
+    c.put_op.ensures
     (OpLaws.items_written _ p c.read_op-w.ensures c.items_of-items.ensures c.write_items.ensures)
 
 pub write_op-returns-in_default : goal.write_op-returns-in_default
@@ -415,8 +403,8 @@ write_op-returns-in_default t c =
     c.read_op-w.ensures
     c.args.s.now.records.roomy
     c.in_default.in_default-own.rest
-    c.put_op-o.ensures
-    (OpLaws.exprs_written _ p c.read_op-w.ensures c.exprs_of-run.ensures c.put_exprs-v.ensures)
+    c.put_op.ensures
+    (OpLaws.exprs_written _ p c.read_op-w.ensures c.exprs_of-run.ensures c.put_exprs-next.ensures)
     c.put_tail.ensures
 
 -- ── write_part ──
@@ -425,15 +413,15 @@ pub write_part-is_aggregate-is-requires : goal.write_part-is_aggregate-is-requir
 write_part-is_aggregate-is-requires t c =
     PartedLaws.some_expr c.requires.due
 
-pub write_part-skip-next-requires : goal.write_part-skip-next-requires
-write_part-skip-next-requires t c =
+pub write_part-skip-requires : goal.write_part-skip-requires
+write_part-skip-requires t c =
     CycleLaws.starts c.requires.due
 
 pub write_part-returns-then-is-aggregates : goal.write_part-returns-then-is-aggregates
-write_part-returns-then-is-aggregates t c = PartedLaws.other_wrote _ c.is_aggregate-is.ensures c.if-is-aggregates.true c.skip-next.ensures
+write_part-returns-then-is-aggregates t c = PartedLaws.other_wrote _ c.is_aggregate-is.ensures c.if-is-aggregates.true c.skip.ensures
 
-pub write_part-put_agg-o-requires : goal.write_part-put_agg-o-requires
-write_part-put_agg-o-requires t c = PartedLaws.agg_in c.args.s.now.records.roomy c.is_aggregate-is.ensures c.if-is.true c.requires.due
+pub write_part-put_agg-requires : goal.write_part-put_agg-requires
+write_part-put_agg-requires t c = PartedLaws.agg_in c.args.s.now.records.roomy c.is_aggregate-is.ensures c.if-is.true c.requires.due
 
 pub write_part-overflow_add-first : goal.write_part-overflow_add-first
 write_part-overflow_add-first t c = omega (arith, CycleLaws.one_low c.requires.due)
@@ -462,7 +450,7 @@ write_part-returns-then-is t c =
     _
     c.if-is-aggregates.false
     c.count.ensures.0
-    c.put_agg-o.ensures
+    c.put_agg.ensures
     c.put_exprs.ensures
 
 pub write_part-write_expr-requires : goal.write_part-write_expr-requires
@@ -479,11 +467,11 @@ write_parts-loop-init t c = rw (sub-zero c.args.run.n) (PartedLaws.parts_going c
 pub write_parts-overflow_add-expr : goal.write_parts-overflow_add-expr
 write_parts-overflow_add-expr t c = omega (arith, CycleLaws.one_low (PartedLaws.item_one (due_yet c.loop-test.true) c.loop.invariant.some))
 
-pub write_parts-write_part-w-requires : goal.write_parts-write_part-w-requires
-write_parts-write_part-w-requires t c = (omega (arith, c.decreases), record { near = c.requires.near; due = PartedLaws.item_one (due_yet c.loop-test.true) c.loop.invariant.some })
+pub write_parts-write_part-i-requires : goal.write_parts-write_part-i-requires
+write_parts-write_part-i-requires t c = (omega (arith, c.decreases), record { near = c.requires.near; due = PartedLaws.item_one (due_yet c.loop-test.true) c.loop.invariant.some })
 
 pub write_parts-loop-preserved : goal.write_parts-loop-preserved
-write_parts-loop-preserved t c = rw (sub-add-eq c.args.run.n c.loop.counter 1) (PartedLaws.parts_again (due_yet c.loop-test.true) c.loop.invariant c.write_part-w.ensures c.write_part-w.auto.plan)
+write_parts-loop-preserved t c = rw (sub-add-eq c.args.run.n c.loop.counter 1) (PartedLaws.parts_again (due_yet c.loop-test.true) c.loop.invariant c.write_part-i.ensures)
 
 pub write_parts-returns : goal.write_parts-returns
 write_parts-returns t c = PartedLaws.parts_done (omega arith) c.loop.invariant

@@ -1,7 +1,6 @@
 -- The measures of the cycle and the invariants of its loops.
 use Rattle.plan_sheet.proofs.DueLaws
 use Rattle.plan_sheet.proofs.PartedLaws
-use Rattle.output.specs.Page.{on}
 use Rattle.words.specs.Words.{max_records}
 use Rattle.context.specs.Tables.{deepest}
 use Prim.Native.Nat.{ℕ, ◌-◌, ◌+◌, ◌*◌}
@@ -39,13 +38,13 @@ abbrev pub decreases-write_parts : goal.decreases-write_parts
 decreases-write_parts l = per_op * l.run.at.below + 3 * l.run.at.left + 2
 
 abbrev pub invariant-measure_exprs-loop-due : goal.invariant-measure_exprs-loop-due
-invariant-measure_exprs-loop-due l = DueLaws.Going l.s.sheet.now l.s.records.a.now l.s.records.b.now l.s.ops.now l.s.rest.now l.run.at.below l.run.at.base l.run.at.left l.run.n l.run.at.i (on l.initial.plan l.initial.o) l.due l.i (on l.plan l.o)
+invariant-measure_exprs-loop-due l = DueLaws.Going l.s.sheet.now l.s.records.a.now l.s.records.b.now l.s.ops.now l.s.rest.now l.run.at.below l.run.at.base l.run.at.left l.run.n l.run.at.i l.initial.page l.due l.i l.page
 
 abbrev pub decreases-measure_exprs-loop-due : goal.decreases-measure_exprs-loop-due
 decreases-measure_exprs-loop-due l = max_records - l.i
 
 abbrev pub invariant-write_exprs-loop : goal.invariant-write_exprs-loop
-invariant-write_exprs-loop l = DueLaws.Going l.s.sheet.now l.s.records.a.now l.s.records.b.now l.s.ops.now l.s.rest.now l.run.at.below l.run.at.base l.run.at.left l.run.n l.run.at.i (on l.initial.plan l.initial.o) (l.run.n - l.counter) l.i (on l.plan l.o)
+invariant-write_exprs-loop l = DueLaws.Going l.s.sheet.now l.s.records.a.now l.s.records.b.now l.s.ops.now l.s.rest.now l.run.at.below l.run.at.base l.run.at.left l.run.n l.run.at.i l.initial.page (l.run.n - l.counter) l.i l.page
 
 abbrev pub invariant-write_parts-loop : goal.invariant-write_parts-loop
-invariant-write_parts-loop l = PartedLaws.PartsGoing l.s.sheet.now l.s.records.a.now l.s.records.b.now l.s.ops.now l.s.rest.now l.run.at.below l.run.at.base l.run.at.left l.run.n l.run.at.i l.aggregates (on l.initial.plan l.initial.o) (l.run.n - l.counter) l.i (on l.plan l.o)
+invariant-write_parts-loop l = PartedLaws.PartsGoing l.s.sheet.now l.s.records.a.now l.s.records.b.now l.s.ops.now l.s.rest.now l.run.at.below l.run.at.base l.run.at.left l.run.n l.run.at.i l.aggregates l.initial.page (l.run.n - l.counter) l.i l.page

@@ -6,4 +6,4 @@ pub write_vars-requires : goal.write_vars-requires
 write_vars-requires c = c.requires.tables.few
 
 pub returns : goal.returns
-returns c = PairLaws.pair_wrote c.put_row2-o.ensures c.write_ops-p.ensures c.write_ops-q.ensures c.write_vars.ensures
+returns c = PairLaws.pair_wrote c.put_row.ensures c.write_ops.ensures c.write_ops-2.ensures c.write_vars.ensures

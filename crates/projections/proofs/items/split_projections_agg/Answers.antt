@@ -7,9 +7,6 @@ use Rattle.projections.proofs.items.split_projections_agg.Goals as goal
 pub loop-init : goal.loop-init
 loop-init c = PartLaws.start c.requires.items c.requires.room
 
-pub overflow_add-i : goal.overflow_add-i
-overflow_add-i c = omega (arith, c.loop.invariant.room.here)
-
 pub overflow_sub-less : goal.overflow_sub-less
 overflow_sub-less c = PartLaws.deep c.loop-test.true c.loop.invariant
 
