@@ -6,7 +6,8 @@ ghost use Rattle.words.specs.Words.{cell, max_records};
 ghost use Rattle.words.specs.Places.{node_kind, node_props_at, rel_props_at, node_labels_at, part_shortest_at};
 ghost use Rattle.context.specs.Read.{note_of};
 ghost use Rattle.plan_line.specs.Row.{row_text};
-ghost use Rattle.plan_sheet.specs.Due.{NotesIn, NotedAsked, OpShown, WroteFirst};
+ghost use Rattle.plan_sheet.specs.Due.{NotesIn, NotedAsked};
+ghost use Rattle.plan_sheet.specs.Asked.{OpIn, FirstWrote, word_of};
 
 use crate::source::Source;
 use context::op;
@@ -49,7 +50,7 @@ fn put_expand(page: &mut Page<'_>, s: &Source<'_>, w: Op)
 // The first line of a shortest part, which notes the path's number; its first node is the record behind it.
 fn put_short(page: &mut Page<'_>, s: &Source<'_>, w: Op)
     requires { NotedAsked w (w.y < max_records) }
-    ensures { Puts (row_text Keyword.Short (w.input ∷ note_of s.now.rest.now w.base (w.idx + 1) ∷ note_of s.now.rest.now w.base w.y ∷ note_of s.now.rest.now w.base w.idx ∷ one (eqb (cell s.now.records.a.now s.now.records.b.now w.idx part_shortest_at) all_shortest) ∷ [])) page.old page.new }
+    ensures { Puts (row_text Keyword.Short (w.input ∷ note_of s.now.rest.now w.base (w.idx + 1) ∷ note_of s.now.rest.now w.base w.y ∷ note_of s.now.rest.now w.base w.idx ∷ one (eqb (word_of s.now w.idx part_shortest_at) all_shortest) ∷ [])) page.old page.new }
 {
     let base = w.base as usize;
     let i = w.idx as usize;
@@ -71,8 +72,8 @@ fn put_source(page: &mut Page<'_>, r: &Records<'_>, i: usize, x: u32)
 
 // The first line of an operator: of a pattern's here, of a clause's there.
 pub fn put_op(page: &mut Page<'_>, s: &Source<'_>, w: Op)
-    requires { OpShown s.now.sheet.now s.now.records.a.now s.now.records.b.now s.now.rest.now w }
-    ensures { WroteFirst s.now.sheet.now s.now.records.a.now s.now.records.b.now s.now.rest.now w page.old page.new }
+    requires { OpIn s.now w }
+    ensures { FirstWrote s.now w page.old page.new }
 {
     let kind = w.kind;
     match kind {

@@ -3,10 +3,6 @@ use Rattle.plan_sheet.proofs.BehindLaws
 use native.Mathlib.Omega.{arith}
 use Rattle.plan_sheet.proofs.behind.put_tail.Goals as goal
 
-pub count-labels-requires : goal.count-labels-requires
-count-labels-requires c =
-    (c.requires.notes.low, omega arith)
-
 pub put_names-requires : goal.put_names-requires
 put_names-requires c =
     BehindLaws.labels_there c.in-2.is c.count-labels.ensures.0 c.requires.due

@@ -5,9 +5,6 @@ use Rattle.std.proofs.Math.Nat.{add-sub_cancel_left, sub-add-eq}
 use native.Mathlib.Omega.{arith}
 use Rattle.plan_sheet.proofs.behind.put_yields.Goals as goal
 
-pub count-n-requires : goal.count-n-requires
-count-n-requires c = (c.requires.notes.low, omega arith)
-
 pub overflow_add-end : goal.overflow_add-end
 overflow_add-end c = omega (arith, BehindLaws.yields_end c.requires.due, c.count-n.ensures.0)
 

@@ -3,9 +3,6 @@ use Rattle.plan_sheet.proofs.PathLaws
 use native.Mathlib.Omega.{arith}
 use Rattle.plan_sheet.proofs.path.put_step.Goals as goal
 
-pub note_of-n-requires : goal.note_of-n-requires
-note_of-n-requires c = (c.requires.step_asked.near, omega (arith, c.requires.i_lt_max_records), c.args.s.now.room.in_rest)
-
 pub returns-then-kind-eq-NODE : goal.returns-then-kind-eq-NODE
 returns-then-kind-eq-NODE c =
     PathLaws.node_step_law
