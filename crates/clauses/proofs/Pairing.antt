@@ -16,13 +16,9 @@ use Rattle.words.specs.Held.{Held}
 use Rattle.context.specs.Tables.{max_vars}
 use Rattle.lower.specs.Rep.{State, Mem, mem}
 use Rattle.lower.specs.Clauses.{both_passes}
-use Rattle.projections.specs.Ready.{max_found}
-use Rattle.clauses.specs.declared.pair.Operands.{Operands}
-use Rattle.clauses.specs.Statement.{forget, forgetting, StatementAsked, LowersFrom}
-use Rattle.clauses.specs.Pair.{union_of, UniteAsked, Unites, PairAsked, TwoTables, LowersPair}
-use Rattle.context.specs.OpLaws.{under_more}
-use Rattle.clauses.proofs.Room.{stands_under}
-use Rattle.clauses.proofs.Whole.{start, start_ready, ready_behind, begins, start_rep, start_blank}
+use Rattle.clauses.specs.Statement.{forget, forgetting, LowersFrom}
+use Rattle.clauses.specs.Pair.{union_of, Unites, PairAsked, TwoTables, LowersPair}
+use Rattle.clauses.proofs.Whole.{start, begins, start_rep, start_blank}
 
 -- ── two statements ──
 
@@ -40,18 +36,9 @@ leaves : (L : Lower.Lowering (Option ℕ)) {o : Option ℕ} (s : State) → (L s
 leaves L {o} s e = ap (λ (x : Option ℕ). (x, (L s).1)) e
 
 module _ {left right : Bytes} {la lb los lrs ra rb ros rrs : List ℕ} (g : PairAsked left la lb los lrs right ra rb ros rrs) where
-  pub left_asked : StatementAsked left la lb max_depth (mem start los lrs)
-  left_asked = let h = g.on_left in record { held = h.held; ready = start_ready start _ _ (omega arith) (omega arith) h.in_ops h.in_rest; depth = omega arith }
-
   module _ {e : ℕ} {o : Option ℕ} {m₁ : Mem} (p : LowersFrom left la lb max_depth e o (mem start los lrs) m₁) where
-    pub right_asked : StatementAsked right ra rb max_depth (mem (forgetting m₁.ctx) ros rrs)
-    right_asked = let h = g.on_right in record { held = h.held; ready = ready_behind ros rrs p h.in_ops h.in_rest; depth = omega arith }
-
     module _ {e' : ℕ} {o' : Option ℕ} {m₂ : Mem} (q : LowersFrom right ra rb max_depth e' o' (mem (forgetting m₁.ctx) ros rrs) m₂) where
-      pub few_behind : m₂.ctx.ops ≤ max_found
-      few_behind = let v = p.moved in let w = q.moved in omega (arith, v.few, v.here, w.few, w.here)
-
-      pub met_behind : m₂.ctx.mapped ≤ max_vars
+      met_behind : m₂.ctx.mapped ≤ max_vars
       met_behind = let w = q.moved in omega (arith, w.met, w.here)
 
       module _ (all : Bool) {k : ℕ} {m₃ : Mem} (z : Unites (union_of o o' all) k m₂ m₃) where
@@ -81,13 +68,3 @@ module _ {left right : Bytes} {la lb los lrs ra rb ros rrs : List ℕ} (g : Pair
           in_rest = rw (ap length z.rest ∙ q.moved.in_rest) g.on_right.in_rest;
           run = pair_run;
         }
-
-  -- what the union asks
-  pub unite_asked : {both : Operands} {e e' : ℕ} {m₁ m₂ : Mem} → LowersFrom left la lb max_depth e both.left (mem start los lrs) m₁ → LowersFrom right ra rb max_depth e' both.right (mem (forgetting m₁.ctx) ros rrs) m₂ → UniteAsked both 0 m₂.ctx m₂.ops
-  unite_asked {both} {m₁ = m₁} {m₂} p q = record {
-    few = few_behind p q;
-    long = rw q.moved.in_ops g.on_right.in_ops;
-    left = under_more q.moved.grow (stands_under m₁ both.left p.stands);
-    right = stands_under m₂ both.right q.stands;
-    here = omega arith;
-  }

@@ -93,10 +93,6 @@ start = record { ops = 0; numbers = 0; mapped = 0 }
 pub start_ready : (c : LowerCtx) (os rs : List ℕ) → c.ops ≤ max_start → c.numbers ≤ max_start → work_words ≤ length os → work_words ≤ length rs → Ready 1 (mem (forgetting c) os rs)
 start_ready c os rs lc ln lo lr = record { few = omega arith; low = omega arith; met = omega arith; here = omega arith; in_ops = lo; in_rest = lr; index = none_indexed (drop vars_at rs) }
 
--- so behind one statement from nothing, over tables of its own
-pub ready_behind : {sheet : Bytes} {a b : List ℕ} {d e : ℕ} {o : Option ℕ} {os rs : List ℕ} {m : Mem} (os' rs' : List ℕ) → LowersFrom sheet a b d e o (mem start os rs) m → work_words ≤ length os' → work_words ≤ length rs' → Ready 1 (mem (forgetting m.ctx) os' rs')
-ready_behind {m = m} os' rs' p lo lr = let v = p.moved in start_ready m.ctx os' rs' (omega (arith, v.few, v.here)) (omega (arith, v.low, v.here)) lo lr
-
 -- Tables of another sheet, whatever they hold, stand for a state without its variables: the operators that they hold begin behind those that there are.
 pub begins : (sheet : Bytes) (a b os rs : List ℕ) {S : Side} {W : Written} {s : State} {m : Mem} → Rep S W s m → Rep (side sheet a b m.ctx.ops) [] (forget s) (mem (forgetting m.ctx) os rs)
 unfolding vars_of

@@ -103,7 +103,7 @@ fn put_yields(page: &mut Page<'_>, s: &Source<'_>, w: Op, i: usize)
         let from = s.records.word(at, field::YIELD_NAME);
         let to = s.records.word(at, field::YIELD_NAME + 1);
         let number = note_of(s.rest, base, at);
-        put_named(page, Keyword::Yield, part(s.sheet, from, to), &[number]);
+        put_named(page, Keyword::Yield, part(s.sheet, from, to), [number]);
     }
 }
 

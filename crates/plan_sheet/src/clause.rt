@@ -27,7 +27,7 @@ fn put_with(page: &mut Page<'_>, r: &Records<'_>, i: usize, input: u32)
 {
     let items = r.word(i, field::ITEMS);
     let filter = r.word(i, field::WITH_FILTER);
-    put_row(page, Keyword::With, &[input, items, filter]);
+    put_row(page, Keyword::With, [input, items, filter]);
 }
 
 // A `return`: how many items it has.
@@ -36,7 +36,7 @@ fn put_project(page: &mut Page<'_>, r: &Records<'_>, i: usize, input: u32)
     ensures { Puts (row_text Keyword.Project (input ∷ cell r.now.a.now r.now.b.now i items_at ∷ [])) page.old page.new }
 {
     let items = r.word(i, field::ITEMS);
-    put_row(page, Keyword::Project, &[input, items]);
+    put_row(page, Keyword::Project, [input, items]);
 }
 
 // The input of a procedure, or that it has none.
@@ -58,7 +58,7 @@ fn put_counts(page: &mut Page<'_>, r: &Records<'_>, i: usize)
     let args = r.word(i, field::CALL_ARGS);
     let yields = r.word(i, field::CALL_YIELDS);
     let optional = r.word(i, field::CALL_OPTIONAL);
-    put_end(page, &[args, yields, optional]);
+    put_end(page, [args, yields, optional]);
 }
 
 // A `call`: its input, its procedure's name, and its numbers.
@@ -84,16 +84,16 @@ pub fn put_clause_op(page: &mut Page<'_>, s: &Source<'_>, w: Op)
     let idx = w.idx as usize;
     let input = w.input;
     match kind {
-        op::OPTIONAL_JOIN => put_row(page, Keyword::Optional, &[input]),
+        op::OPTIONAL_JOIN => put_row(page, Keyword::Optional, [input]),
         op::WITH => put_with(page, &s.records, idx, input),
         op::PROJECT => put_project(page, &s.records, idx, input),
-        op::AGGREGATE => put_row(page, Keyword::Agg, &[input, w.x, w.y]),
-        op::ORDER_BY => put_row(page, Keyword::Order, &[input, w.x]),
-        op::SKIP => put_row(page, Keyword::Skip, &[input]),
-        op::LIMIT => put_row(page, Keyword::Limit, &[input]),
-        op::DISTINCT => put_row(page, Keyword::Distinct, &[input]),
-        op::UNWIND => put_row(page, Keyword::Unwind, &[input, w.x]),
-        op::UNION => put_row(page, Keyword::Union, &[input, w.x, w.y]),
+        op::AGGREGATE => put_row(page, Keyword::Agg, [input, w.x, w.y]),
+        op::ORDER_BY => put_row(page, Keyword::Order, [input, w.x]),
+        op::SKIP => put_row(page, Keyword::Skip, [input]),
+        op::LIMIT => put_row(page, Keyword::Limit, [input]),
+        op::DISTINCT => put_row(page, Keyword::Distinct, [input]),
+        op::UNWIND => put_row(page, Keyword::Unwind, [input, w.x]),
+        op::UNION => put_row(page, Keyword::Union, [input, w.x, w.y]),
         _ => put_procedure(page, s, idx, op::call_input(w)),
     }
 }

@@ -25,7 +25,7 @@ fn put_call(page: &mut Page<'_>, s: &Source<'_>, i: usize)
     let from = s.records.word(i, field::NAME);
     let to = s.records.word(i, field::NAME + 1);
     let n = s.records.word(i, field::FN_ARGS);
-    put_named(page, Keyword::Fn, part(s.sheet, from, to), &[n]);
+    put_named(page, Keyword::Fn, part(s.sheet, from, to), [n]);
 }
 
 // A list predicate, whose variable has the number n.
@@ -35,7 +35,7 @@ fn put_any(page: &mut Page<'_>, r: &Records<'_>, i: usize, n: u32)
 {
     let x = r.word(i, field::LIST_PREDICATE_KIND);
     let z = r.word(i, field::LIST_PREDICATE_PRED);
-    put_row(page, Keyword::ListPredicate, &[x, n, z]);
+    put_row(page, Keyword::ListPredicate, [x, n, z]);
 }
 
 // The first line of the expression at record i, at which the number n is noted.
@@ -44,12 +44,12 @@ pub fn put_expr(page: &mut Page<'_>, s: &Source<'_>, i: usize, kind: u32, n: u32
     ensures { (h : ExprIn s.now i) → Puts (spell_rec (expr_head n h.kind h.fields)) page.old page.new }
 {
     match kind {
-        kind::VAR => put_row(page, Keyword::Var, &[n]),
+        kind::VAR => put_row(page, Keyword::Var, [n]),
         kind::INT => put_int(page, &s.records, i),
         kind::FN => put_call(page, s, i),
-        kind::PAT => put_row(page, Keyword::Exists, &[]),
+        kind::PAT => put_row(page, Keyword::Exists, []),
         kind::LIST_PREDICATE => put_any(page, &s.records, i, n),
-        kind::UNRES | kind::UNDES => put_row(page, Keyword::Null, &[]),
+        kind::UNRES | kind::UNDES => put_row(page, Keyword::Null, []),
         _ => put_copied(page, s.sheet, &s.records, i),
     }
 }

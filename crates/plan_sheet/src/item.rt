@@ -23,7 +23,7 @@ fn put_own_name(page: &mut Page<'_>, s: &Source<'_>, i: usize)
 {
     let from = s.records.word(i, field::NAME);
     let to = s.records.word(i, field::NAME + 1);
-    put_named(page, Keyword::Item, part(s.sheet, from, to), &[]);
+    put_named(page, Keyword::Item, part(s.sheet, from, to), []);
 }
 
 // `_v` and a variable's id.
@@ -41,7 +41,7 @@ fn put_id_name(page: &mut Page<'_>, id: u32)
 fn put_no_name(page: &mut Page<'_>)
     ensures { Puts (named_text Keyword.Item (bytes "_") []) page.old page.new }
 {
-    put_named(page, Keyword::Item, b"_", &[]);
+    put_named(page, Keyword::Item, b"_", []);
 }
 
 // The name of an item without an alias, whose expression is at record i.
@@ -83,6 +83,6 @@ pub fn put_agg(page: &mut Page<'_>, s: &Source<'_>, i: usize)
         page,
         Keyword::AggFn,
         part(s.sheet, from, to),
-        &[args, distinct],
+        [args, distinct],
     );
 }

@@ -55,7 +55,7 @@ fn put_node(page: &mut Page<'_>, r: &Records<'_>, i: usize)
 {
     let labels = r.word(i, field::NODE_LABELS);
     let props = r.word(i, field::NODE_PROPS);
-    put_row(page, Keyword::To, &[labels, props]);
+    put_row(page, Keyword::To, [labels, props]);
 }
 
 // The element at record i: a node, or else a rel.

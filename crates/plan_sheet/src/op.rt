@@ -44,7 +44,7 @@ fn put_expand(page: &mut Page<'_>, s: &Source<'_>, w: Op)
     let base = w.base as usize;
     let bind = note_of(s.rest, base, w.idx as usize);
     let to = note_of(s.rest, base, w.y as usize);
-    put_row(page, Keyword::Expand, &[w.input, w.x, bind, to]);
+    put_row(page, Keyword::Expand, [w.input, w.x, bind, to]);
 }
 
 // The first line of a shortest part, which notes the path's number; its first node is the record behind it.
@@ -58,7 +58,7 @@ fn put_short(page: &mut Page<'_>, s: &Source<'_>, w: Op)
     let to = note_of(s.rest, base, w.y as usize);
     let path = note_of(s.rest, base, i);
     let all = u32::from(s.records.word(i, field::PART_SHORTEST) == ALL_SHORTEST);
-    put_row(page, Keyword::Short, &[w.input, from, to, path, all]);
+    put_row(page, Keyword::Short, [w.input, from, to, path, all]);
 }
 
 // The first line of a source by labels.
@@ -67,7 +67,7 @@ fn put_source(page: &mut Page<'_>, r: &Records<'_>, i: usize, x: u32)
     ensures { Puts (row_text Keyword.Source (x ∷ cell r.now.a.now r.now.b.now i node_labels_at ∷ [])) page.old page.new }
 {
     let labels = r.word(i, field::NODE_LABELS);
-    put_row(page, Keyword::Source, &[x, labels]);
+    put_row(page, Keyword::Source, [x, labels]);
 }
 
 // The first line of an operator: of a pattern's here, of a clause's there.
@@ -77,12 +77,12 @@ pub fn put_op(page: &mut Page<'_>, s: &Source<'_>, w: Op)
 {
     let kind = w.kind;
     match kind {
-        op::SOURCE_ALL | op::SOURCE_NO_PARTS => put_row(page, Keyword::Source, &[w.x, 0]),
+        op::SOURCE_ALL | op::SOURCE_NO_PARTS => put_row(page, Keyword::Source, [w.x, 0]),
         op::SOURCE => put_source(page, &s.records, w.idx as usize, w.x),
-        op::FILTER => put_row(page, Keyword::Filter, &[w.input]),
+        op::FILTER => put_row(page, Keyword::Filter, [w.input]),
         op::EXPAND => put_expand(page, s, w),
         op::SHORTEST_PATH => put_short(page, s, w),
-        op::BIND_PATH => put_row(page, Keyword::Path, &[w.input, w.y, w.x]),
+        op::BIND_PATH => put_row(page, Keyword::Path, [w.input, w.y, w.x]),
         _ => crate::clause::put_clause_op(page, s, w),
     }
 }

@@ -36,7 +36,7 @@ fn put_kept(page: &mut Page<'_>, s: &Source<'_>, base: usize, path: Path)
     };
     if path.seen {
         let n = note_of(s.rest, base, i);
-        put_row(page, Keyword::Element, &[n]);
+        put_row(page, Keyword::Element, [n]);
     }
 }
 
@@ -56,7 +56,7 @@ fn put_step(
     if kind == kind::NODE {
         put_kept(page, s, base, path);
         let n = note_of(s.rest, base, i);
-        put_row(page, Keyword::Element, &[n]);
+        put_row(page, Keyword::Element, [n]);
         return Path {
             seen: true,
             waits: None,

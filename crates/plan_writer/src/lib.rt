@@ -31,7 +31,7 @@ fn write_vars(page: &mut Page<'_>, s: &Source<'_>, n: usize)
 {
     for k in 0..n {
         let v = context::read::variable(s.rest, k);
-        put_row(page, Keyword::Variable, &[v.number, v.id]);
+        put_row(page, Keyword::Variable, [v.number, v.id]);
     }
 }
 
