@@ -1,10 +1,10 @@
 // The lowering of two statements into one plan, each over tables of its own, and their union.
 ghost use Rattle.std.specs.Prelude.{◌≡◌, ℕ, List};
-ghost use Rattle.lower.specs.Rep.{mem};
+ghost use Rattle.lower.specs.Rep.{mem, in_tables};
 ghost use Rattle.clauses.specs.Pair.{union_of, UniteAsked, Unites, PairAsked, LowersPair};
 
 use crate::{EMPTY, lower_from};
-use context::{LowerCtx, op};
+use context::{LowerCtx, Tables, op};
 use words::Records;
 
 // What a union joins: an operator or none on each side, and whether it keeps all rows.
@@ -40,8 +40,7 @@ pub fn unite(ops: &mut [u32], ctx: LowerCtx, both: Operands, i: usize) -> United
 pub struct Side<'a> {
     pub sheet: &'a [u8],
     pub records: Records<'a>,
-    pub ops: &'a mut [u32],
-    pub rest: &'a mut [u32],
+    pub tables: Tables<'a>,
 }
 
 // How many operators the left statement has, and the state of both: the right's begin there.
@@ -53,16 +52,13 @@ pub struct Sides {
 
 // The statements of both sides, the left one from empty tables on, the right one behind its operators and numbers and with no variables. The union stands in the right's table, with its first record.
 pub fn lower_union_pair(left: &mut Side<'_>, right: &mut Side<'_>, all: bool) -> Sides
-    requires { PairAsked left.old.sheet.now left.old.records.a.now left.old.records.b.now left.old.ops.now left.old.rest.now right.old.sheet.now right.old.records.a.now right.old.records.b.now right.old.ops.now right.old.rest.now }
-    ensures lowered { LowersPair left.old.sheet.now left.old.records.a.now left.old.records.b.now left.new.ops.now left.new.rest.now right.old.sheet.now right.old.records.a.now right.old.records.b.now all result.first (mem result.ctx right.new.ops.now right.new.rest.now) }
-    ensures same_left { (left.new.ops.ghost_name ≡ left.old.ops.ghost_name) × (left.new.rest.ghost_name ≡ left.old.rest.ghost_name) }
-    ensures same_right { (right.new.ops.ghost_name ≡ right.old.ops.ghost_name) × (right.new.rest.ghost_name ≡ right.old.rest.ghost_name) }
+    requires { PairAsked left.old.sheet.now left.old.records.a.now left.old.records.b.now left.old.tables.ops.now left.old.tables.rest.now right.old.sheet.now right.old.records.a.now right.old.records.b.now right.old.tables.ops.now right.old.tables.rest.now }
+    ensures { LowersPair left.old.sheet.now left.old.records.a.now left.old.records.b.now left.new.tables.ops.now left.new.tables.rest.now right.old.sheet.now right.old.records.a.now right.old.records.b.now all result.first (in_tables result.ctx right.new.tables) }
 {
     let l = lower_from(
         left.sheet,
         &left.records,
-        left.ops,
-        left.rest,
+        &mut left.tables,
         EMPTY,
         words::MAX_DEPTH,
     );
@@ -70,8 +66,7 @@ pub fn lower_union_pair(left: &mut Side<'_>, right: &mut Side<'_>, all: bool) ->
     let r = lower_from(
         right.sheet,
         &right.records,
-        right.ops,
-        right.rest,
+        &mut right.tables,
         start,
         words::MAX_DEPTH,
     );
@@ -80,7 +75,7 @@ pub fn lower_union_pair(left: &mut Side<'_>, right: &mut Side<'_>, all: bool) ->
         right: r.op,
         all,
     };
-    let z = unite(right.ops, r.ctx, both, 0);
+    let z = unite(right.tables.ops, r.ctx, both, 0);
     Sides {
         first: l.ctx.ops,
         ctx: z.ctx,

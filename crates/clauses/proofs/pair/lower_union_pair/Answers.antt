@@ -2,5 +2,5 @@
 use Rattle.clauses.proofs.Pairing
 use Rattle.clauses.proofs.pair.lower_union_pair.Goals as goal
 
-pub returns-clause-lowered : goal.returns-clause-lowered
-returns-clause-lowered c = Pairing.pair_law c.requires c.lower_from-l.ensures c.lower_from-r.ensures _ (c.unite-z.ensures _)
+pub returns : goal.returns
+returns c = Pairing.pair_law c.requires c.lower_from-l.ensures c.lower_from-r.ensures _ (c.unite-z.ensures _)
