@@ -1,6 +1,5 @@
 // The lowering of two statements into one plan, each over tables of its own, and their union.
-ghost use Rattle.std.specs.Prelude.{◌≡◌, ℕ, List};
-ghost use Rattle.lower.specs.Rep.{mem, in_tables};
+ghost use Rattle.lower.specs.Rep.{in_tables};
 ghost use Rattle.clauses.specs.Pair.{union_of, UniteAsked, Unites, PairAsked, LowersPair};
 
 use crate::{EMPTY, lower_from};
@@ -23,20 +22,19 @@ pub struct United {
 }
 
 // The union of two operands, a source of everything for each that is missing, left before right. It is stored with record i, which it does not print.
-pub fn unite(ops: &mut [u32], ctx: LowerCtx, both: Operands, i: usize) -> United
-    requires { UniteAsked both i ctx ops.old }
-    ensures { (rest : List ℕ) → Unites (union_of both.left both.right both.all) result.op (mem ctx ops.old rest) (mem result.ctx ops.new rest) }
+pub fn unite(tables: &mut Tables<'_>, ctx: LowerCtx, both: Operands, i: usize) -> United
+    requires { UniteAsked both i ctx tables.old.ops.now }
+    ensures { Unites (union_of both.left both.right both.all) result.op (in_tables ctx tables.old) (in_tables result.ctx tables.new) }
 {
-    let q = lower::or_source_all(ops, ctx, both.left, i);
-    let s = lower::or_source_all(ops, q.ctx, both.right, i);
+    let q = lower::or_source_all(tables.ops, ctx, both.left, i);
+    let s = lower::or_source_all(tables.ops, q.ctx, both.right, i);
     let k = s.ctx.ops;
     let all = u32::from(both.all);
-    let z = s.ctx.push(ops, op::union(i, q.op, s.op, all));
+    let z = s.ctx.push(tables.ops, op::union(i, q.op, s.op, all));
     United { op: k, ctx: z }
 }
 
 // One side of a pair: its sheet, the records that hold it, and its own tables.
-#[derive(Drop)]
 pub struct Side<'a> {
     pub sheet: &'a [u8],
     pub records: Records<'a>,
@@ -75,7 +73,7 @@ pub fn lower_union_pair(left: &mut Side<'_>, right: &mut Side<'_>, all: bool) ->
         right: r.op,
         all,
     };
-    let z = unite(right.tables.ops, r.ctx, both, 0);
+    let z = unite(&mut right.tables, r.ctx, both, 0);
     Sides {
         first: l.ctx.ops,
         ctx: z.ctx,

@@ -24,4 +24,4 @@ push-z-requires c =
 pub returns : goal.returns
 returns c =
     let pushed = pushed_as (union_as _ c.from-all.ensures c.union.ensures) c.push-z.ensures in
-    λ rest. unite_law _ _ _ c.requires.here (c.or_source_all-q.ensures.source rest) (c.or_source_all-s.ensures.source rest) pushed c.push-z.auto.ops
+    unite_law _ _ _ c.requires.here (c.or_source_all-q.ensures.source _) (c.or_source_all-s.ensures.source _) pushed c.push-z.auto.ops
