@@ -4,12 +4,14 @@
 #![tactic(auto)]
 
 ghost use Rattle.std.specs.Prelude.{◌-◌, None};
-ghost use Rattle.model.specs.Kind.{union_arm, clause};
+ghost use Rattle.model.specs.Kind.{union_arm, clause, statement};
+ghost use Rattle.model.specs.Call.{max_depth};
+ghost use Rattle.words.specs.Held.{HeldSome};
 ghost use Rattle.lower.specs.Rep.{in_tables};
 ghost use Rattle.lower.specs.Clauses.{LowersClause};
 ghost use Rattle.clauses.specs.Asked.{TurnAsked, TurnsAsked};
 ghost use Rattle.clauses.specs.Steps.{LowersClauses, LowersArm, LowersArms};
-ghost use Rattle.clauses.specs.Statement.{StatementAsked, LowersFrom, WholeAsked, LowersStatement};
+ghost use Rattle.clauses.specs.Statement.{StatementAsked, LowersFrom, LowersStatement};
 
 use crate::pair::Operands;
 use context::{At, LowerCtx, Tables};
@@ -152,7 +154,7 @@ pub fn lower_from(
 
 // The statement that r holds, into empty tables.
 pub fn lower(sheet: &[u8], r: &Records<'_>, tables: &mut Tables<'_>) -> LowerCtx
-    requires { WholeAsked sheet.now r.now.a.now r.now.b.now tables.old.ops.now tables.old.rest.now }
+    requires { HeldSome sheet.now r.now.a.now r.now.b.now statement max_depth 0 }
     ensures { LowersStatement sheet.now r.now.a.now r.now.b.now (in_tables result tables.new) }
 {
     lower_from(sheet, r, tables, EMPTY, words::MAX_DEPTH).ctx

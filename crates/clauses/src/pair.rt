@@ -23,7 +23,7 @@ pub struct United {
 
 // The union of two operands, a source of everything for each that is missing, left before right. It is stored with record i, which it does not print.
 pub fn unite(tables: &mut Tables<'_>, ctx: LowerCtx, both: Operands, i: usize) -> United
-    requires { UniteAsked both i ctx tables.old.ops.now }
+    requires { UniteAsked both i ctx }
     ensures { Unites (union_of both.left both.right both.all) result.op (in_tables ctx tables.old) (in_tables result.ctx tables.new) }
 {
     let q = lower::or_source_all(tables.ops, ctx, both.left, i);
@@ -50,7 +50,7 @@ pub struct Sides {
 
 // The statements of both sides, the left one from empty tables on, the right one behind its operators and numbers and with no variables. The union stands in the right's table, with its first record.
 pub fn lower_union_pair(left: &mut Side<'_>, right: &mut Side<'_>, all: bool) -> Sides
-    requires { PairAsked left.old.sheet.now left.old.records.a.now left.old.records.b.now left.old.tables.ops.now left.old.tables.rest.now right.old.sheet.now right.old.records.a.now right.old.records.b.now right.old.tables.ops.now right.old.tables.rest.now }
+    requires { PairAsked left.old.sheet.now left.old.records.a.now left.old.records.b.now right.old.sheet.now right.old.records.a.now right.old.records.b.now }
     ensures { LowersPair left.old.sheet.now left.old.records.a.now left.old.records.b.now left.new.tables.ops.now left.new.tables.rest.now right.old.sheet.now right.old.records.a.now right.old.records.b.now all result.first (in_tables result.ctx right.new.tables) }
 {
     let l = lower_from(
