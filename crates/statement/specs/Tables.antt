@@ -1,5 +1,5 @@
 -- What the lowering leaves, as the writer wants it: a state that the tables stand for. Assumes nothing.
-use Rattle.std.specs.Prelude.{◌≡◌, ℕ, ◌≤◌, ◌<◌, List, length, Result, Ok, Err}
+use Rattle.std.specs.Prelude.{◌≡◌, ℕ, ◌≤◌, ◌<◌, List, length, Option, None, Some, ok_or, Result, Err, refl}
 use Rattle.std.proofs.Common.{sym, ap, subst}
 use Rattle.model.specs.Text.{Bytes}
 use Rattle.model.specs.Kind.{statement}
@@ -15,7 +15,6 @@ use Rattle.clauses.specs.Statement.{LowersStatement}
 use Rattle.plan_writer.specs.Promise.{tables_of}
 use Rattle.plan_writer.specs.Whole.{SomeTables, WrotePlan}
 use Rattle.plan_writer.specs.Whole
-use Rattle.plan_writer.specs.declared.Plan.{Plan}
 use Rattle.statement.specs.declared.Refusal.{Refusal}
 use Rattle.statement.specs.Answer.{answer_of}
 use Rattle.statement.specs.Lowering.{Gives, too_many, too_far, wrote}
@@ -44,6 +43,11 @@ module _ {sheet : Bytes} {a b : List ℕ} {m : Mem} where
 
 -- ── the plan, as it is answered ──
 
+as_written : (p : Option ℕ) → answer_of (ok_or p Refusal.NoRoom) ≡ Whole.answer_of p
+unfolding Whole.answer_of
+as_written None = refl
+as_written (Some n) = refl
+
 module _ {sheet : Bytes} {a b : List ℕ} {m : Mem} {W : Written} {s : LowerCtx} (r : Rep (side sheet a b 0) W s m) where
   pub full_ops : (slice : Bytes) → max_plan < m.ctx.ops → Gives slice slice (Err Refusal.PlanFull) (test_plan s)
   full_ops slice h = too_many slice s (rw (ops_count r) at h)
@@ -51,14 +55,9 @@ module _ {sheet : Bytes} {a b : List ℕ} {m : Mem} {W : Written} {s : LowerCtx}
   pub full_numbers : (slice : Bytes) → max_plan < m.ctx.numbers → Gives slice slice (Err Refusal.PlanFull) (test_plan s)
   full_numbers slice h = too_far slice s (rw (numbers_count r) at h)
 
-  module _ (slice slice' : Bytes) (p : Plan) (met : m.ctx.mapped ≤ max_vars) (ops : m.ctx.ops ≤ max_plan) (few_numbers : m.ctx.numbers ≤ max_plan) (w : WrotePlan sheet a b m.ops m.rest m.ctx.ops m.ctx.mapped slice slice' p) where
+  module _ (slice slice' : Bytes) (p : Option ℕ) (met : m.ctx.mapped ≤ max_vars) (ops : m.ctx.ops ≤ max_plan) (few_numbers : m.ctx.numbers ≤ max_plan) (w : WrotePlan sheet a b m.ops m.rest m.ctx.ops m.ctx.mapped slice slice' p) where
     told : (x : Result ℕ Refusal) → answer_of x ≡ Whole.answer_of p → Gives slice slice' x (test_plan s)
     told x e = wrote slice s slice' x (rw (ops_count r) at ops) (rw (numbers_count r) at few_numbers) (subst (λ (z : Values). ◌≡◌ {A = Outcome} (record { answer = z; slice = slice' }) (written (plan_sheet s) slice)) (sym e) (w s (tables_of r ops met)))
 
-    pub no_room : p ≡ Plan.NoRoom → Gives slice slice' (Err Refusal.NoRoom) (test_plan s)
-    unfolding Whole.answer_of
-    no_room e = told (Err Refusal.NoRoom) (rw e)
-
-    pub fitted : (n : ℕ) → p ≡ Plan.Written n → Gives slice slice' (Ok n) (test_plan s)
-    unfolding Whole.answer_of
-    fitted n e = told (Ok n) (rw e)
+    pub answered : (x : Result ℕ Refusal) → x ≡ ok_or p Refusal.NoRoom → Gives slice slice' x (test_plan s)
+    answered x e = told x (rw e (as_written p))

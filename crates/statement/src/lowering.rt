@@ -1,5 +1,5 @@
 // The lowering call: the sheet is read, checked and lowered, and its plan written if it fits.
-ghost use Rattle.std.specs.Prelude.{◌≡◌, ◌≤◌, false, List, [], ◌∷◌, ℕ, length};
+ghost use Rattle.std.specs.Prelude.{◌≡◌, ◌≤◌, false, List, ℕ, length};
 ghost use Rattle.model.specs.Kind.{statement};
 ghost use Rattle.model.specs.Tree.{Tree};
 ghost use Rattle.model.specs.Lower.{LowerCtx as State};
@@ -7,7 +7,6 @@ ghost use Rattle.model.specs.Call.{short, planned, test_plan, max_depth, work_wo
 ghost use Rattle.words.specs.Held.{Held, HeldSome};
 ghost use Rattle.lower.specs.Side.{side};
 ghost use Rattle.lower.specs.Rep.{mem, Rep, Written};
-ghost use Rattle.plan_sheet.specs.Due.{Room};
 ghost use Rattle.statement.specs.Work.{sizes};
 ghost use Rattle.statement.specs.Answer.{answer_of};
 ghost use Rattle.statement.specs.Lowering.{Gives, behind};
@@ -15,7 +14,8 @@ ghost use Rattle.statement.specs.Tables.{Lowered};
 
 use crate::{Refusal, Work};
 use context::LowerCtx;
-use plan_writer::{Plan, write_plan};
+use plan_sheet::source::Source;
+use plan_writer::write_plan;
 use precheck::precheck_statement;
 use sheet::reader::read_sheet;
 use words::{Records, RecordsMut};
@@ -26,18 +26,9 @@ pub const MAX_OPERATORS: usize = 2048;
 pub const MAX_NUMBERS: u32 = 2048;
 
 // Test 9, and then the plan of the tables.
-fn write_lowered(
-    sheet: &[u8],
-    a: &[u32],
-    b: &[u32],
-    ops: &[u32],
-    rest: &[u32],
-    ctx: LowerCtx,
-    plan: &mut [u8],
-) -> Result<usize, Refusal>
-    requires room { Room a.now b.now ops.now rest.now }
-    requires lowered { Lowered sheet.now a.now b.now (mem ctx ops.now rest.now) }
-    ensures { (W : Written) (s : State) → Rep (side sheet.now a.now b.now 0) W s (mem ctx ops.now rest.now) → Gives plan.old plan.new result (test_plan s) }
+fn write_lowered(s: &Source<'_>, ctx: LowerCtx, plan: &mut [u8]) -> Result<usize, Refusal>
+    requires { Lowered s.now.sheet.now s.now.records.a.now s.now.records.b.now (mem ctx s.now.ops.now s.now.rest.now) }
+    ensures { (W : Written) (t : State) → Rep (side s.now.sheet.now s.now.records.a.now s.now.records.b.now 0) W t (mem ctx s.now.ops.now s.now.rest.now) → Gives plan.old plan.new result (test_plan t) }
 {
     if MAX_OPERATORS < ctx.ops {
         return Err(Refusal::PlanFull);
@@ -45,10 +36,7 @@ fn write_lowered(
     if MAX_NUMBERS < ctx.numbers {
         return Err(Refusal::PlanFull);
     }
-    match write_plan(plan, sheet, a, b, ops, rest, ctx.ops, ctx.mapped) {
-        Plan::NoRoom => Err(Refusal::NoRoom),
-        Plan::Written(n) => Ok(n),
-    }
+    write_plan(plan, s, ctx.ops, ctx.mapped).ok_or(Refusal::NoRoom)
 }
 
 // The check and what is behind it, of a statement that the words hold.
@@ -64,8 +52,14 @@ fn lower_checked(
     ensures { (t : Tree statement) → Held sheet.now r.now.a.now r.now.b.now t max_depth 0 → Gives plan.old plan.new result (behind t) }
 {
     precheck_statement(r, words::MAX_DEPTH)?;
-    let ctx = clauses::lower(sheet, r.a, r.b, ops, rest);
-    write_lowered(sheet, r.a, r.b, ops, rest, ctx, plan)
+    let ctx = clauses::lower(sheet, r, ops, rest);
+    let source = Source {
+        sheet,
+        records: *r,
+        ops,
+        rest,
+    };
+    write_lowered(&source, ctx, plan)
 }
 
 // Tests 2 to 10, with work slices that are long enough.
