@@ -35,6 +35,7 @@ pub fn unite(tables: &mut Tables<'_>, ctx: LowerCtx, both: Operands, i: usize) -
 }
 
 // One side of a pair: its sheet, the records that hold it, and its own tables.
+#[derive(Drop)]
 pub struct Side<'a> {
     pub sheet: &'a [u8],
     pub records: Records<'a>,

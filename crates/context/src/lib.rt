@@ -47,6 +47,7 @@ pub struct LowerCtx {
 }
 
 // The tables that the lowering writes: the operators', and that of the notes with the variables behind them. That each has a work slice's words goes with them.
+#[derive(Drop)]
 pub struct Tables<'a> {
     pub ops: &'a mut [u32],
     pub rest: &'a mut [u32],

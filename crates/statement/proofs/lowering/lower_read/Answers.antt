@@ -14,8 +14,7 @@ returns-in_err-read_sheet c =
     λ work e. rw (p.1, p.2) (lower_unread work _ _ e c.if-sheet-gt-MAX_BYTES.false _ (rw c.in_err-read_sheet.was at c.read_sheet.ensures))
 
 pub lower_checked-requires : goal.lower_checked-requires
-lower_checked-requires c =
-    record { long = search rules; held_some = held_here _ (rw c.in_ok-read_sheet.was at c.read_sheet.ensures) c.shared.ensures }
+lower_checked-requires c = held_here _ (rw c.in_ok-read_sheet.was at c.read_sheet.ensures) c.shared.ensures
 
 pub returns : goal.returns
 returns c =
