@@ -34,12 +34,12 @@ pub fn unite(tables: &mut Tables<'_>, ctx: LowerCtx, both: Operands, i: usize) -
     United { op: k, ctx: z }
 }
 
-// One side of a pair: its sheet, the records that hold it, and its own tables.
+// One side of a pair: its sheet, the records that hold it, and its own tables, each for a lifetime of its own, as who makes one has them.
 #[derive(Drop)]
-pub struct Side<'a> {
-    pub sheet: &'a [u8],
+pub struct Side<'s, 'a, 't> {
+    pub sheet: &'s [u8],
     pub records: Records<'a>,
-    pub tables: Tables<'a>,
+    pub tables: Tables<'t>,
 }
 
 // How many operators the left statement has, and the state of both: the right's begin there.
@@ -50,7 +50,7 @@ pub struct Sides {
 }
 
 // The statements of both sides, the left one from empty tables on, the right one behind its operators and numbers and with no variables. The union stands in the right's table, with its first record.
-pub fn lower_union_pair(left: &mut Side<'_>, right: &mut Side<'_>, all: bool) -> Sides
+pub fn lower_union_pair(left: &mut Side<'_, '_, '_>, right: &mut Side<'_, '_, '_>, all: bool) -> Sides
     requires { PairAsked left.old.sheet.now left.old.records.a.now left.old.records.b.now right.old.sheet.now right.old.records.a.now right.old.records.b.now }
     ensures { LowersPair left.old.sheet.now left.old.records.a.now left.old.records.b.now left.new.tables.ops.now left.new.tables.rest.now right.old.sheet.now right.old.records.a.now right.old.records.b.now all result.first (in_tables result.ctx right.new.tables) }
 {
