@@ -21,7 +21,7 @@ use Rattle.context.specs.declared.LowerCtx.{LowerCtx}
 use Rattle.lower.specs.Side.{Side, side}
 use Rattle.lower.specs.Rep.{State, Mem, mem, Written, Rep}
 use Rattle.lower.specs.Clauses.{both_passes, BothBlank, Leaves}
-use Rattle.projections.specs.Ready.{max_start, Ready}
+use Rattle.projections.specs.Ready.{max_start}
 use Rattle.lower.specs.State.{to_then, to_wider}
 use Rattle.projections.specs.Room.{twice_then}
 use Rattle.projections.specs.Passes.{sub_turns, both_within, both_behind}

@@ -50,7 +50,11 @@ pub struct Sides {
 }
 
 // The statements of both sides, the left one from empty tables on, the right one behind its operators and numbers and with no variables. The union stands in the right's table, with its first record.
-pub fn lower_union_pair(left: &mut Side<'_, '_, '_>, right: &mut Side<'_, '_, '_>, all: bool) -> Sides
+pub fn lower_union_pair(
+    left: &mut Side<'_, '_, '_>,
+    right: &mut Side<'_, '_, '_>,
+    all: bool,
+) -> Sides
     requires { PairAsked left.old.sheet.now left.old.records.a.now left.old.records.b.now right.old.sheet.now right.old.records.a.now right.old.records.b.now }
     ensures { LowersPair left.old.sheet.now left.old.records.a.now left.old.records.b.now left.new.tables.ops.now left.new.tables.rest.now right.old.sheet.now right.old.records.a.now right.old.records.b.now all result.first (in_tables result.ctx right.new.tables) }
 {

@@ -31,7 +31,7 @@ use Rattle.union_pair.specs.declared.PairRefusal.{PairRefusal}
 use Rattle.union_pair.specs.PairAnswer.{fault_values, pair_answer_of}
 use Rattle.sides.specs.Fault.{on_side_of}
 use Rattle.sides.specs.Sides.{FailsOn, BothTested, read_sides, check_sides}
-use Rattle.union_pair.specs.PairCall.{PairGives, Stand, LoweredBoth, BothLong, bytes_of, behind_bytes}
+use Rattle.union_pair.specs.PairCall.{PairGives, Stand, LoweredBoth, bytes_of, behind_bytes}
 
 -- ── test 9, and the plan ──
 

@@ -1,6 +1,5 @@
 -- `lower_read` meets its contract: test 2, the reader's answer, or what the check and the lowering give. Assumes nothing.
 use Rattle.std.proofs.lemmas.Result.{err_from_is_err_and}
-use borrow.Author.Rules.{rules}
 use Rattle.statement.specs.Sizing.{held_here, held_as}
 use Rattle.statement.specs.Lowering.{lower_long, lower_unread, lower_tree}
 use Rattle.statement.proofs.lowering.lower_read.Goals as goal
