@@ -1,6 +1,6 @@
 // The lowering of a whole statement: its clauses one after another, then its union arms, over the tables of crate context.
 //
-// The sheet, its records and the tables are lent one by one, as the crates below take them. In one struct, lent to be written, they would be no plainer: each function would have to promise that the struct's references stay what they were, as `pair::lower_union_pair` does.
+// The sheet, its records and the tables are lent one by one, as the crates below take them. In one struct they would be no plainer: the tables are written, so that it would be lent to be written as a whole, and each function would have to promise that the sheet and the records in it stay what they were.
 #![tactic(auto)]
 
 ghost use Rattle.std.specs.Prelude.{◌-◌, None};
