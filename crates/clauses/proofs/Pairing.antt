@@ -5,7 +5,6 @@ use native.Mathlib.Omega.{arith}
 use mathlib.Core.Bool.{Bool}
 use mathlib.Core.List.{List, []}
 use Rattle.std.specs.Prelude.{Option}
-use lib.ListN.{length}
 use Rattle.model.specs.Call.{max_depth}
 use Rattle.model.specs.Text.{Bytes}
 use Rattle.model.specs.Kind.{statement}
@@ -16,9 +15,14 @@ use Rattle.words.specs.Held.{Held}
 use Rattle.context.specs.Tables.{max_vars}
 use Rattle.lower.specs.Rep.{State, Mem, mem}
 use Rattle.lower.specs.Clauses.{both_passes}
-use Rattle.clauses.specs.Statement.{forget, forgetting, LowersFrom}
-use Rattle.clauses.specs.Pair.{union_of, Unites, PairAsked, TwoTables, LowersPair}
-use Rattle.clauses.proofs.Whole.{start, begins, start_rep, start_blank}
+use Rattle.projections.specs.Ready.{max_found}
+use Rattle.clauses.specs.declared.pair.Operands.{Operands}
+use Rattle.clauses.specs.Statement.{forget, forgetting, StatementAsked, LowersFrom}
+use Rattle.clauses.specs.Pair.{union_of, UniteAsked, Unites, PairAsked, TwoTables, LowersPair}
+use Rattle.context.specs.OpLaws.{under_more}
+use Rattle.clauses.proofs.Room.{stands_under}
+use Rattle.clauses.proofs.Whole.{Long, start, begins, start_rep, start_blank}
+use Rattle.clauses.proofs.Whole
 
 -- ── two statements ──
 
@@ -35,10 +39,16 @@ pair_def t u all o o' s s' e e' = rw (e, e')
 leaves : (L : Lower.Lowering (Option ℕ)) {o : Option ℕ} (s : State) → (L s).0 ≡ o → L s ≡ (o, (L s).1)
 leaves L {o} s e = ap (λ (x : Option ℕ). (x, (L s).1)) e
 
-module _ {left right : Bytes} {la lb los lrs ra rb ros rrs : List ℕ} (g : PairAsked left la lb los lrs right ra rb ros rrs) where
+module _ {left right : Bytes} {la lb los lrs ra rb ros rrs : List ℕ} (g : PairAsked left la lb right ra rb) where
   module _ {e : ℕ} {o : Option ℕ} {m₁ : Mem} (p : LowersFrom left la lb max_depth e o (mem start los lrs) m₁) where
+    pub right_asked : Long ros rrs → StatementAsked right ra rb max_depth (mem (forgetting m₁.ctx) ros rrs)
+    right_asked l = let v = p.moved in Whole.asked m₁.ctx ros rrs g.on_right (omega (arith, v.few, v.here)) (omega (arith, v.low, v.here)) l
+
     module _ {e' : ℕ} {o' : Option ℕ} {m₂ : Mem} (q : LowersFrom right ra rb max_depth e' o' (mem (forgetting m₁.ctx) ros rrs) m₂) where
-      met_behind : m₂.ctx.mapped ≤ max_vars
+      pub few_behind : m₂.ctx.ops ≤ max_found
+      few_behind = let v = p.moved in let w = q.moved in omega (arith, v.few, v.here, w.few, w.here)
+
+      pub met_behind : m₂.ctx.mapped ≤ max_vars
       met_behind = let w = q.moved in omega (arith, w.met, w.here)
 
       module _ (all : Bool) {k : ℕ} {m₃ : Mem} (z : Unites (union_of o o' all) k m₂ m₃) where
@@ -62,9 +72,14 @@ module _ {left right : Bytes} {la lb los lrs ra rb ros rrs : List ℕ} (g : Pair
         pub pair_law : LowersPair left la lb m₁.ops m₁.rest right ra rb all m₁.ctx.ops m₃
         pair_law = record {
           met = rw z.mapped met_behind;
-          left_ops = rw p.moved.in_ops g.on_left.in_ops;
-          left_rest = rw p.moved.in_rest g.on_left.in_rest;
-          in_ops = rw (z.in_ops ∙ q.moved.in_ops) g.on_right.in_ops;
-          in_rest = rw (ap length z.rest ∙ q.moved.in_rest) g.on_right.in_rest;
           run = pair_run;
         }
+
+  -- what the union asks
+  pub unite_asked : {both : Operands} {e e' : ℕ} {m₁ m₂ : Mem} → LowersFrom left la lb max_depth e both.left (mem start los lrs) m₁ → LowersFrom right ra rb max_depth e' both.right (mem (forgetting m₁.ctx) ros rrs) m₂ → UniteAsked both 0 m₂.ctx
+  unite_asked {both} {m₁ = m₁} {m₂} p q = record {
+    few = few_behind p q;
+    left = under_more q.moved.grow (stands_under m₁ both.left p.stands);
+    right = stands_under m₂ both.right q.stands;
+    here = omega arith;
+  }

@@ -62,8 +62,7 @@ module _ (S : Sort) (turn : Turn S) (sheet : Bytes) (a b : List ℕ) (d : ℕ) w
         let y = q.next ts (rw x h.1) in
         omega arith
 
-    both_run : {first : ℕ} (t : Tree S) (ts : Trees S n) (W : Written) (s : State) → Leaves (side sheet a b first) W (λ s. turn t o s) o₁ (suc i) (suc j) s m m₁ → Leaves (side sheet a b first) (both_passes (suc i) (suc j) W) (λ s. in_turn turn ts o₁ s) o₂ (suc j) (suc e) (turn t o s).1 m₁ m₂ →
-        Leaves (side sheet a b first) W (λ s. in_turn turn (t ∷ᵗ ts) o s) o₂ (suc i) (suc e) s m m₂
+    both_run : {first : ℕ} (t : Tree S) (ts : Trees S n) (W : Written) (s : State) → Leaves (side sheet a b first) W (λ s. turn t o s) o₁ (suc i) (suc j) s m m₁ → Leaves (side sheet a b first) (both_passes (suc i) (suc j) W) (λ s. in_turn turn ts o₁ s) o₂ (suc j) (suc e) (turn t o s).1 m₁ m₂ → Leaves (side sheet a b first) W (λ s. in_turn turn (t ∷ᵗ ts) o s) o₂ (suc i) (suc e) s m m₂
     both_run t ts W s x y = let D = one_turn turn t ts o o₁ s x.gives in record { to = rw D (to_wider (sub_turns i j e p.moved.up q.moved.up) (to_then x.to y.to)); gives = ap (λ (z : Option ℕ × State). z.0) D ∙ y.gives }
 
     cons_run : {first : ℕ} (ts : Trees S (suc n)) → HeldOf sheet a b ts d i → (W : Written) (s : State) → Rep (side sheet a b first) W s m → BothBlank W (suc i) (suc e) → Leaves (side sheet a b first) W (λ s. in_turn turn ts o s) o₂ (suc i) (suc e) s m m₂

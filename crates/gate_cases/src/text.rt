@@ -8,6 +8,9 @@ ghost use Rattle.gate_cases.specs.Text.{again, max_file, place, sheet_of};
 use output::Page;
 use record::number::decimal;
 
+// How long a file of cases may be.
+pub const MAX_FILE: usize = 262144;
+
 // Where a byte stands next, from `at` on; behind a text it stands everywhere.
 pub fn next(text: &[u8], at: usize, byte: u8) -> usize
     ensures value { result ≡ place byte at text.now }

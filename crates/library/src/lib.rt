@@ -12,25 +12,17 @@ ghost use Rattle.library.specs.Told.{answer_words, noted, Told, Lowers};
 use statement::lowering::lower_statement;
 use statement::{Work, size_statement};
 use union_pair::lower_union_pair;
-use values::Values;
+use values::{VALUES, Values};
 
 // An answer has so many words.
-const ANSWER_WORDS: usize = 6;
+const ANSWER_WORDS: usize = VALUES;
 
 // The six words of an answer, at the start of a slice.
 fn put_answer(answer: &mut [usize], v: Values)
     requires { answer_words ≤ length answer.old }
     ensures { answer.new ≡ noted (told v) answer.old }
 {
-    let words = [
-        v.number as usize,
-        v.line as usize,
-        v.start as usize,
-        v.end as usize,
-        v.kind,
-        v.length,
-    ];
-    answer[..ANSWER_WORDS].copy_from_slice(&words);
+    answer[..ANSWER_WORDS].copy_from_slice(&v.words());
 }
 
 // The sizing call. False, with nothing written, if the answer has no room for six words.

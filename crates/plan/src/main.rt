@@ -2,6 +2,7 @@
 #![tactic(auto)]
 
 use input::read_full;
+use statement::Work;
 use std::io;
 use std::io::Write;
 use values::call::lower;
@@ -12,21 +13,18 @@ use values::text::write_refusal;
 fn show<W: Write>(
     out: &mut W,
     sheet: &[u8],
-    a: &mut [u32],
-    b: &mut [u32],
-    c: &mut [u32],
-    d: &mut [u32],
+    work: &mut Work<'_>,
     plan: &mut [u8],
 ) -> io::Result<()> {
-    let v = lower(sheet, a, b, c, d, plan);
-    if v.number != refusal::ACCEPTED {
-        let n = write_refusal(plan, b'\t', v);
-        out.write_all(b"refused")?;
-        out.write_all(&plan[0..n])?;
-        return out.write_all(b"\n");
+    let v = lower(sheet, work, plan);
+    if v.number == refusal::ACCEPTED {
+        return out.write_all(&plan[..v.length]);
     }
-    let n = v.length;
-    out.write_all(&plan[0..n])
+    out.write_all(b"refused")?;
+    if let Some(n) = write_refusal(plan, b'\t', v) {
+        out.write_all(&plan[..n])?;
+    }
+    out.write_all(b"\n")
 }
 
 // One byte more than a sheet may have, so that a longer one is refused however long it is.
@@ -42,14 +40,12 @@ fn main(rt: HostRuntime) -> io::Result<()> {
     let mut c = [0u32; words::WORK_WORDS];
     let mut d = [0u32; words::WORK_WORDS];
     let mut plan = [0u8; PLAN_BYTES];
+    let mut work = Work {
+        a: &mut a,
+        b: &mut b,
+        c: &mut c,
+        d: &mut d,
+    };
     let n = read_full(&mut rt.stdin(), &mut sheet)?;
-    show(
-        &mut rt.stdout(),
-        &sheet[0..n],
-        &mut a,
-        &mut b,
-        &mut c,
-        &mut d,
-        &mut plan,
-    )
+    show(&mut rt.stdout(), &sheet[..n], &mut work, &mut plan)
 }

@@ -7,7 +7,7 @@ use Rattle.model.specs.Kind.{Sort}
 use Rattle.model.specs.Lower.{Lowering}
 use Rattle.words.specs.Words.{max_records}
 use Rattle.words.specs.Held.{HeldSome, HeldMany}
-use Rattle.context.specs.Tables.{Pushed, deepest}
+use Rattle.context.specs.Tables.{CanPush, Pushed, deepest}
 use Rattle.context.specs.declared.At.{At}
 use Rattle.context.specs.declared.op.Op.{Op}
 use Rattle.context.specs.declared.LowerCtx.{LowerCtx}
@@ -96,3 +96,12 @@ module _ {o : ℕ} {L : Lowering ℕ} {k i : ℕ} {m m₁ : Mem} (g : Ready i m)
 -- behind it, at the first record below a clause
 pub clause_room : {k k₀ : ℕ} {a b : List ℕ} {at : At} {current : Option ℕ} {L : Lowering ℕ} {m m₁ : Mem} → ClauseAsked k a b at current m → OrSource m.ctx.ops L k₀ m m₁ → RoomFor (at.left - 1) (at.i + 1) m₁
 clause_room {at = at} g q = let l = bounds g in room_source g.ready q (at.left - 1) (le_refl _) (omega (arith, l.low)) (omega (arith, l.shallow))
+
+pub can_source : {i : ℕ} {m : Mem} → Ready i m → CanPush m.ctx m.ops
+can_source r = record { few = omega (arith, r.few, r.here); long = r.in_ops }
+
+-- ── room for an operator ──
+
+-- behind one more operator, another
+pub push_again : {d i : ℕ} {c : LowerCtx} {os : List ℕ} {x : Op} {m : Mem} → RoomFor d i m → Pushed m.ctx c m.ops os x → length os ≡ length m.ops → CanPush c os
+push_again g p l = record { few = omega (arith, g.few, g.here, p.count); long = rw l g.in_ops }

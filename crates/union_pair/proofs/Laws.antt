@@ -1,8 +1,7 @@
 -- The call with two sheets: its tests in order, from what both sides' tests, the lowering and the writer answer. Assumes nothing: these are laws with their proofs.
 use Rattle.std.proofs.Math.Path.{◌≡◌}
-use Rattle.std.specs.Prelude.{refl, ℕ, ◌<◌, ◌≤◌, Bool, true, false, ◌||◌, List, [], ◌∷◌, ◌++◌, cond, eqb, ltb, Result, Ok, Err}
+use Rattle.std.specs.Prelude.{refl, ℕ, ◌<◌, ◌≤◌, Bool, true, false, ◌||◌, List, [], ◌∷◌, ◌++◌, cond, ltb, Option, None, Some, ok_or, Result, Ok, Err}
 use Rattle.std.proofs.Common.{sym, ap, subst, ◌∙◌, arith}
-use Rattle.std.specs.Int.{from_bool}
 use Rattle.std.proofs.Math.Bool.{or-true, or_assoc}
 use Rattle.std.proofs.lemmas.Bool.{ltb-true, ltb-false}
 use borrow.Author.Tests.{lt-ltb, le-ltb}
@@ -14,7 +13,6 @@ use Rattle.model.specs.Lower.{at, lower_pair}
 use Rattle.model.specs.Plan.{plan_sheet}
 use Rattle.model.specs.Call.{short, test_work, test_bytes, test_plan, Outcome, written, max_bytes, max_depth, max_plan, work_words}
 use Rattle.model.specs.Pair.{refuse_side, then_sides, on_side, each, checked_sides, planned_pair, sides_outcome, pair_call}
-use Rattle.words.specs.Words.{Roomy}
 use Rattle.context.specs.Tables.{max_vars}
 use Rattle.lower.specs.Rep.{State, mem}
 use Rattle.clauses.specs.Pair.{PairAsked, LowersPair}
@@ -24,7 +22,6 @@ use Rattle.plan_writer.specs.PairPromise.{tabled_as}
 use Rattle.plan_writer.specs.Pair.{SideTables, side_tables, PairTables, WrotePair}
 use Rattle.plan_writer.specs.Pair
 use Rattle.plan_writer.specs.Whole
-use Rattle.plan_writer.specs.declared.Plan.{Plan}
 use Rattle.plan_writer.specs.declared.pair.Counts.{Counts}
 use Rattle.precheck.specs.declared.PlanLowerError.{PlanLowerError}
 use Rattle.sides.specs.declared.Fault.{Fault}
@@ -32,16 +29,20 @@ use Rattle.sides.specs.declared.Side.{Side}
 use Rattle.sides.specs.declared.SideFault.{SideFault}
 use Rattle.union_pair.specs.declared.PairRefusal.{PairRefusal}
 use Rattle.union_pair.specs.PairAnswer.{fault_values, pair_answer_of}
-use Rattle.statement.specs.Sizing.{Enough}
 use Rattle.sides.specs.Fault.{on_side_of}
 use Rattle.sides.specs.Sides.{FailsOn, BothTested, read_sides, check_sides}
-use Rattle.union_pair.specs.PairCall.{PairGives, Stand, LoweredBoth, BothSlices, bytes_of, behind_bytes}
+use Rattle.union_pair.specs.PairCall.{PairGives, Stand, LoweredBoth, bytes_of, behind_bytes}
 
 -- ── test 9, and the plan ──
 
 -- how many operators there are, the right's first one, and how many variables
 abbrev pub counts_of : Sides → Counts
 counts_of sides = record { first = sides.first; ops = sides.ctx.ops; mapped = sides.ctx.mapped }
+
+as_written : (p : Option ℕ) → pair_answer_of (ok_or p PairRefusal.NoRoom) ≡ Whole.answer_of p
+unfolding Whole.answer_of
+as_written None = refl
+as_written (Some n) = refl
 
 module _ {L R : SideTables} {sides : Sides} {s : State} (t : Stand L R sides s) where
   ops_count : sides.ctx.ops ≡ length s.ops
@@ -75,7 +76,7 @@ module _ {L R : SideTables} {sides : Sides} {s : State} (t : Stand L R sides s) 
       few = met;
     }
 
-    module _ (few_numbers : sides.ctx.numbers ≤ max_plan) (slice slice' : Bytes) (p : Plan) (w : WrotePair L R (counts_of sides) slice slice' p) where
+    module _ (few_numbers : sides.ctx.numbers ≤ max_plan) (slice slice' : Bytes) (p : Option ℕ) (w : WrotePair L R (counts_of sides) slice slice' p) where
       told : (x : Result ℕ PairRefusal) → pair_answer_of x ≡ Whole.answer_of p → PairGives slice slice' x (on_side whole_call (test_plan s))
       unfolding test_plan on_side sides_outcome
       told x e =
@@ -83,54 +84,28 @@ module _ {L R : SideTables} {sides : Sides} {s : State} (t : Stand L R sides s) 
           let h' : s.scope.next_var ≤ max_plan = rw numbers_count at few_numbers in
           rw (le-ltb max_plan (length s.ops) h, le-ltb max_plan s.scope.next_var h') (subst (λ (z : Values). ◌≡◌ {A = Outcome} (record { answer = z; slice = slice' }) (written (plan_sheet s) slice)) (sym e) (w s pair_tables))
 
-      pub no_room : p ≡ Plan.NoRoom → PairGives slice slice' (Err PairRefusal.NoRoom) (on_side whole_call (test_plan s))
-      unfolding Whole.answer_of
-      no_room e = told (Err PairRefusal.NoRoom) (rw e)
-
-      pub fitted : (n : ℕ) → p ≡ Plan.Written n → PairGives slice slice' (Ok n) (on_side whole_call (test_plan s))
-      unfolding Whole.answer_of
-      fitted n e = told (Ok n) (rw e)
+      pub answered : (x : Result ℕ PairRefusal) → x ≡ ok_or p PairRefusal.NoRoom → PairGives slice slice' x (on_side whole_call (test_plan s))
+      answered x e = told x (rw e (as_written p))
 
 pub asked : {L R : SideTables} {sides : Sides} → LoweredBoth L R sides → sides.ctx.ops ≤ max_plan → Pair.PairAsked L R (counts_of sides)
-asked l h = record { room = l.room; state = l.state; tables = pair_tables l.stand h l.met }
+asked l h = record { state = l.state; tables = pair_tables l.stand h l.met }
 
 -- ── the lowering of both ──
 
--- slices that hold records stay long enough, with other contents
-pub kept_words : {a b a' b' : List ℕ} → length a' ≡ length a → length b' ≡ length b → Roomy a b → Roomy a' b'
-kept_words ea eb r = record { first = rw ea r.first; second = rw eb r.second }
+-- what both sheets' words hold, by another name of the words
+pub tested_as : {left right : Bytes} {la lb ra rb la' lb' ra' rb' : List ℕ} → (la' ≡ la) × (lb' ≡ lb) → (ra' ≡ ra) × (rb' ≡ rb) → BothTested left la lb right ra rb → BothTested left la' lb' right ra' rb'
+tested_as e f b = rw (e.0, e.1, f.0, f.1) b
 
--- and so do all that reading changes
-pub kept_slices : {la lb lc ld ra rb rc rd la' lb' lc' ra' rb' rc' : List ℕ} → length la' ≡ length la → length lb' ≡ length lb → length lc' ≡ length lc → length ra' ≡ length ra → length rb' ≡ length rb → length rc' ≡ length rc → BothSlices la lb lc ld ra rb rc rd → BothSlices la' lb' lc' ld ra' rb' rc' rd
-kept_slices ela elb elc era erb erc (g, h) = (record { records = kept_words ela elb g.records; in_ops = rw elc g.in_ops; in_rest = g.in_rest }, record { records = kept_words era erb h.records; in_ops = rw erc h.in_ops; in_rest = h.in_rest })
+module _ {left right : Bytes} {la lb ra rb : List ℕ} (b : BothTested left la lb right ra rb) where
+  pub lowering_asked : PairAsked left la lb right ra rb
+  lowering_asked = record { on_left = record { tree = b.held.tree; is = b.held.on_left }; on_right = record { tree = b.held.tree₂; is = b.held.on_right } }
 
-flag_low : (all : Bool) → from_bool all ≤ 1
-flag_low true = omega arith
-flag_low false = omega arith
-
-flag_is : (all : Bool) → eqb (from_bool all) 1 ≡ all
-flag_is true = refl
-flag_is false = refl
-
-module _ {left right : Bytes} {la lb ra rb : List ℕ} (all : Bool) where
-  pub lowering_asked : {lc ld rc rd : List ℕ} {n : ℕ} → n ≡ from_bool all → BothSlices la lb lc ld ra rb rc rd → BothTested left la lb right ra rb → PairAsked left la lb lc ld right ra rb rc rd n
-  lowering_asked e g b = rw e (record {
-    on_left = record { words = g.0.records; held = record { tree = b.held.tree; is = b.held.on_left }; in_ops = g.0.in_ops; in_rest = g.0.in_rest };
-    on_right = record { words = g.1.records; held = record { tree = b.held.tree₂; is = b.held.on_right }; in_ops = g.1.in_ops; in_rest = g.1.in_rest };
-    flag = flag_low all;
-  })
-
-  module _ {n : ℕ} (e : n ≡ from_bool all) {los lrs ros rrs : List ℕ} {sides : Sides} (b : BothTested left la lb right ra rb) (l : LowersPair left la lb los lrs right ra rb n sides.first (mem sides.ctx ros rrs)) where
+  module _ {all : Bool} {los lrs ros rrs : List ℕ} {sides : Sides} (l : LowersPair left la lb los lrs right ra rb all sides.first (mem sides.ctx ros rrs)) where
     pub stands : Stand (side_tables left la lb los lrs) (side_tables right ra rb ros rrs) sides (lower_pair b.held.tree b.held.tree₂ all)
-    stands = rw (ap (λ k. eqb k 1) e ∙ flag_is all) at (l.run b.held.tree b.held.tree₂ b.held.on_left b.held.on_right)
+    stands = l.run b.held.tree b.held.tree₂ b.held.on_left b.held.on_right
 
-    pub lowered : Roomy la lb → Roomy ra rb → LoweredBoth (side_tables left la lb los lrs) (side_tables right ra rb ros rrs) sides
-    lowered words words₂ = record {
-      room = record { on_left = record { records = words; in_ops = l.left_ops; in_rest = l.left_rest }; on_right = record { records = words₂; in_ops = l.in_ops; in_rest = l.in_rest } };
-      met = l.met;
-      state = lower_pair b.held.tree b.held.tree₂ all;
-      stand = stands;
-    }
+    pub lowered : LoweredBoth (side_tables left la lb los lrs) (side_tables right ra rb ros rrs) sides
+    lowered = record { met = l.met; state = lower_pair b.held.tree b.held.tree₂ all; stand = stands }
 
 -- ── the tests in order ──
 
@@ -187,10 +162,6 @@ other_short v w e = short_append v w ∙ rw e (or-true (short v))
 
 pub none_short : (v w : List ℕ) → short v ≡ false → short w ≡ false → short (v ++ w) ≡ false
 none_short v w e f = short_append v w ∙ rw (e, f)
-
--- both sides' slices are long enough
-pub both_slices : (la lb lc ld ra rb rc rd : List ℕ) → Enough la lb lc ld → Enough ra rb rc rd → BothSlices la lb lc ld ra rb rc rd
-both_slices la lb lc ld ra rb rc rd l r = (record { records = record { first = l.first; second = l.second }; in_ops = l.third; in_rest = l.fourth }, record { records = record { first = r.first; second = r.second }; in_ops = r.third; in_rest = r.fourth })
 
 -- ── the call ──
 

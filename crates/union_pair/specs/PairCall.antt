@@ -5,14 +5,13 @@ use Rattle.std.proofs.Math.ListN.{length}
 use Rattle.model.specs.Text.{Bytes}
 use Rattle.model.specs.Side.{whole_call}
 use Rattle.model.specs.Lower.{LowerCtx, lower_pair}
-use Rattle.model.specs.Call.{test_plan, max_bytes, Outcome}
+use Rattle.model.specs.Call.{test_plan, max_bytes, work_words, Outcome}
 use Rattle.model.specs.Pair.{SideTest, then_sides, on_side, sides_outcome}
 use Rattle.context.specs.Tables.{max_vars}
 use Rattle.lower.specs.Rep.{State, mem}
 use Rattle.clauses.specs.Pair.{TwoTables}
 use Rattle.clauses.specs.declared.pair.Sides.{Sides}
-use Rattle.plan_sheet.specs.Due.{Room}
-use Rattle.plan_writer.specs.Pair.{SideTables, BothRoom}
+use Rattle.plan_writer.specs.Pair.{SideTables}
 use Rattle.sides.specs.declared.Fault.{Fault}
 use Rattle.sides.specs.declared.Side.{Side}
 use Rattle.sides.specs.declared.SideFault.{SideFault}
@@ -28,16 +27,18 @@ PairGives slice slice' x m = ◌≡◌ {A = Outcome} (record { answer = pair_ans
 abbrev pub Stand : (L R : SideTables) (sides : Sides) → State → Type 0
 Stand L R sides s = TwoTables L.sheet L.a L.b L.ops L.rest R.sheet R.a R.b sides.first s (mem sides.ctx R.ops R.rest)
 
--- room, tables that stand for some state, and no more variables than there is room for
+-- tables that stand for some state, and no more variables than there is room for
 pub record LoweredBoth (L R : SideTables) (sides : Sides) : Type 0 where
-  pub room : BothRoom L R
   pub met : sides.ctx.mapped ≤ max_vars
   pub state : State
   pub stand : Stand L R sides state
 
--- the slices of both sides are long enough for the lowering
-abbrev pub BothSlices : (la lb lc ld ra rb rc rd : List ℕ) → Type 0
-BothSlices la lb lc ld ra rb rc rd = Room la lb lc ld × Room ra rb rc rd
+-- the slices that the lowering of both writes are long enough
+pub record BothLong (lo lr ro rr : List ℕ) : Type 0 where
+  pub left_ops : work_words ≤ length lo
+  pub left_rest : work_words ≤ length lr
+  pub right_ops : work_words ≤ length ro
+  pub right_rest : work_words ≤ length rr
 
 -- test 2 of one side
 abbrev pub bytes_of : Side → Bytes → Result (Unit {0}) SideFault

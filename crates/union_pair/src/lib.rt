@@ -6,20 +6,22 @@ ghost use Rattle.model.specs.Side.{whole_call};
 ghost use Rattle.model.specs.Call.{test_plan, max_bytes};
 ghost use Rattle.model.specs.Pair.{on_side, pair_call};
 ghost use Rattle.lower.specs.Rep.{State};
-ghost use Rattle.plan_writer.specs.Pair.{side_tables};
+ghost use Rattle.plan_writer.specs.Pair.{tables_in};
 ghost use Rattle.union_pair.specs.declared.PairRefusal.TheVariants.{OfSide};
 ghost use Rattle.union_pair.specs.PairAnswer.{pair_answer_of};
-ghost use Rattle.union_pair.specs.PairCall.{PairGives, bytes_of, LoweredBoth, Stand, BothSlices, behind_bytes, works};
+ghost use Rattle.union_pair.specs.PairCall.{PairGives, bytes_of, LoweredBoth, Stand, BothLong, behind_bytes, works};
 
-use clauses::pair::{Sides, lower_union_pair as lower_both};
-use plan_writer::Plan;
+use clauses::pair::{Side as OneSide, Sides, lower_union_pair as lower_both};
+use context::Tables;
+use plan_sheet::source::Source;
 use plan_writer::pair::{Counts, write_pair};
 use sides::{Fault, Side, SideFault, test_sides};
 use statement::Work;
 use statement::lowering::{MAX_NUMBERS, MAX_OPERATORS};
+use words::RecordsMut;
 
 // How the call refuses two sheets: a refusal with its side where it is of one sheet.
-#[derive(Clone, Copy)]
+#[derive(Clone, Copy, Debug, PartialEq, Eq)]
 pub enum PairRefusal {
     ShortWork,
     OfSide(SideFault),
@@ -49,22 +51,14 @@ fn test_bytes(side: Side, sheet: &[u8]) -> Result<(), SideFault>
 }
 
 // Test 9, and then the plan of both tables.
-fn write_lowered(
-    left: &[u8],
-    la: &[u32],
-    lb: &[u32],
-    lops: &[u32],
-    lrest: &[u32],
-    right: &[u8],
-    ra: &[u32],
-    rb: &[u32],
-    rops: &[u32],
-    rrest: &[u32],
+fn write_lowered<'a>(
+    left: &Source<'a>,
+    right: &Source<'a>,
     sides: Sides,
     plan: &mut [u8],
 ) -> Result<usize, PairRefusal>
-    requires { LoweredBoth (side_tables left.now la.now lb.now lops.now lrest.now) (side_tables right.now ra.now rb.now rops.now rrest.now) sides }
-    ensures { (s : State) → Stand (side_tables left.now la.now lb.now lops.now lrest.now) (side_tables right.now ra.now rb.now rops.now rrest.now) sides s → PairGives plan.old plan.new result (on_side whole_call (test_plan s)) }
+    requires { LoweredBoth (tables_in left.now) (tables_in right.now) sides }
+    ensures { (s : State) → Stand (tables_in left.now) (tables_in right.now) sides s → PairGives plan.old plan.new result (on_side whole_call (test_plan s)) }
 {
     let ctx = sides.ctx;
     if MAX_OPERATORS < ctx.ops {
@@ -78,37 +72,65 @@ fn write_lowered(
         ops: ctx.ops,
         mapped: ctx.mapped,
     };
-    match write_pair(
-        plan, left, la, lb, lops, lrest, right, ra, rb, rops, rrest, n,
-    ) {
-        Plan::NoRoom => Err(PairRefusal::NoRoom),
-        Plan::Written(n) => Ok(n),
-    }
+    write_pair(plan, left, right, n).ok_or(PairRefusal::NoRoom)
 }
 
-// Tests 3 to 10, with sheets that are not too long and work slices that are long enough. The slices come one by one: of what lies behind one reference nothing can be read while another part of it is lent.
+// Tests 3 to 10, with sheets that are not too long and work slices that are long enough. A side's slices come one by one: of what lies behind one reference nothing can be read while another part of it is lent.
 fn lower_tested(
     left: &[u8],
     right: &[u8],
     all: bool,
-    la: &mut [u32],
-    lb: &mut [u32],
-    lc: &mut [u32],
-    ld: &mut [u32],
-    ra: &mut [u32],
-    rb: &mut [u32],
-    rc: &mut [u32],
-    rd: &mut [u32],
+    l: &mut RecordsMut<'_>,
+    left_ops: &mut [u32],
+    left_rest: &mut [u32],
+    r: &mut RecordsMut<'_>,
+    right_ops: &mut [u32],
+    right_rest: &mut [u32],
     plan: &mut [u8],
 ) -> Result<usize, PairRefusal>
     requires short { (length left.now ≤ max_bytes) × (length right.now ≤ max_bytes) }
-    requires both_slices { BothSlices la.old lb.old lc.old ld.old ra.old rb.old rc.old rd.old }
+    requires both_long { BothLong left_ops.old left_rest.old right_ops.old right_rest.old }
     ensures { PairGives plan.old plan.new result (behind_bytes left.now right.now all) }
 {
-    test_sides(left, la, lb, lc, right, ra, rb, rc)?;
-    let flag = u32::from(all);
-    let sides = lower_both(left, la, lb, lc, ld, right, ra, rb, rc, rd, flag);
-    write_lowered(left, la, lb, lc, ld, right, ra, rb, rc, rd, sides, plan)
+    test_sides(left, l, left_ops, right, r, right_ops)?;
+    let left_words = l.shared();
+    let right_words = r.shared();
+    let left_tables = Tables {
+        ops: left_ops,
+        rest: left_rest,
+    };
+    let right_tables = Tables {
+        ops: right_ops,
+        rest: right_rest,
+    };
+    let mut on_left = OneSide {
+        sheet: left,
+        records: left_words,
+        tables: left_tables,
+    };
+    let mut on_right = OneSide {
+        sheet: right,
+        records: right_words,
+        tables: right_tables,
+    };
+    let sides = lower_both(&mut on_left, &mut on_right, all);
+    let OneSide { tables, .. } = on_left;
+    let Tables { ops, rest, .. } = tables;
+    let from_left = Source {
+        sheet: left,
+        records: left_words,
+        ops,
+        rest,
+    };
+    let OneSide { tables, .. } = on_right;
+    let Tables { ops, rest, .. } = tables;
+    let from_right = Source {
+        sheet: right,
+        records: right_words,
+        ops,
+        rest,
+    };
+    write_lowered(&from_left, &from_right, sides, plan)
 }
 
 // The lowering call with two sheets: number, place, side, length and plan slice are those of the definition, for all arguments.
@@ -130,7 +152,18 @@ pub fn lower_union_pair(
     }
     test_bytes(Side::Left, left)?;
     test_bytes(Side::Right, right)?;
+    let mut on_left = RecordsMut { a: l.a, b: l.b };
+    let mut on_right = RecordsMut { a: r.a, b: r.b };
     lower_tested(
-        left, right, all, l.a, l.b, l.c, l.d, r.a, r.b, r.c, r.d, plan,
+        left,
+        right,
+        all,
+        &mut on_left,
+        l.c,
+        l.d,
+        &mut on_right,
+        r.c,
+        r.d,
+        plan,
     )
 }

@@ -1,5 +1,5 @@
 -- The struct of an answer's values as the model's answer, and what a side's fault is told by. Assumes nothing: these are definitions.
-use Rattle.std.specs.Prelude.{ℕ, ◌+◌, ◌*◌}
+use Rattle.std.specs.Prelude.{ℕ, ◌+◌, ◌*◌, List, [], ◌∷◌}
 use Rattle.model.specs.Refusal.{Answer}
 use Rattle.model.specs.Side.{side_step}
 use Rattle.precheck.specs.declared.PlanLowerError.{PlanLowerError}
@@ -11,6 +11,10 @@ use Rattle.values.specs.declared.Values.{Values}
 
 abbrev pub told : Values → Answer
 told v = record { number = v.number; line = v.line; start = v.start; end = v.end; kind = v.kind; length = v.length }
+
+-- number, line, start, end, kind and length
+abbrev pub words_of : Answer → List ℕ
+words_of a = a.number ∷ a.line ∷ a.start ∷ a.end ∷ a.kind ∷ a.length ∷ []
 
 -- a fault as the refusal of a single sheet
 abbrev pub refusal_of : Fault → Refusal

@@ -7,7 +7,7 @@ ghost use Rattle.precheck.specs.Answer.{span_of};
 ghost use Rattle.sides.specs.Fault.{side_number};
 ghost use Rattle.statement.specs.Answer.{answer_of, error_answer, refusal_answer};
 ghost use Rattle.union_pair.specs.PairAnswer.{fault_values, pair_refusal_answer, pair_answer_of};
-ghost use Rattle.values.specs.Told.{told, refusal_of, kind_on};
+ghost use Rattle.values.specs.Told.{told, words_of, refusal_of, kind_on};
 
 pub mod call;
 pub mod refusal;
@@ -21,7 +21,7 @@ use union_pair::PairRefusal;
 // What a side adds to the kind of a form.
 const SIDE_STEP: usize = 10;
 
-#[derive(Clone, Copy)]
+#[derive(Clone, Copy, Debug, PartialEq, Eq)]
 pub struct Values {
     pub number: u32,
     pub line: u32,
@@ -29,6 +29,25 @@ pub struct Values {
     pub end: u32,
     pub kind: usize,
     pub length: usize,
+}
+
+// An answer has so many values.
+pub const VALUES: usize = 6;
+
+impl Values {
+    // The values in document 01's order.
+    pub fn words(&self) -> [usize; VALUES]
+        ensures { result ≡ words_of (told self.now) }
+    {
+        [
+            self.number as usize,
+            self.line as usize,
+            self.start as usize,
+            self.end as usize,
+            self.kind,
+            self.length,
+        ]
+    }
 }
 
 // A refusal with a line, or with 0 for none.

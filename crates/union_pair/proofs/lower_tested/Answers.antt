@@ -1,7 +1,7 @@
 -- `lower_tested` meets its contract: the first fault of a side, or what the lowering and the writer give. Assumes nothing.
 use Rattle.std.proofs.lemmas.Result.{err_from_is_err_and}
 use Rattle.sides.proofs.Laws.{tested_passed, tested_failed}
-use Rattle.union_pair.proofs.Laws.{kept_words, kept_slices, lowering_asked, stands, lowered, failed, passed}
+use Rattle.union_pair.proofs.Laws.{tested_as, lowering_asked, stands, lowered, failed, passed}
 use Rattle.union_pair.proofs.lower_tested.Goals as goal
 
 pub returns-in_err-test_sides : goal.returns-in_err-test_sides
@@ -11,16 +11,15 @@ returns-in_err-test_sides c =
 
 pub lower_union_pair-sides-requires : goal.lower_union_pair-sides-requires
 lower_union_pair-sides-requires c =
-    let kept = c.test_sides.auto in
-    let g = kept_slices kept.la kept.lb kept.lc kept.ra kept.rb kept.rc c.requires.both_slices in
-    lowering_asked c.args.all c.from-flag.ensures g (tested_passed _ _ _ _ _ _ c.in_ok-test_sides.was c.test_sides.ensures)
+    let b = tested_as c.shared-left_words.ensures c.shared-right_words.ensures (tested_passed _ _ _ _ _ _ c.in_ok-test_sides.was c.test_sides.ensures) in
+    lowering_asked b
 
 pub write_lowered-requires : goal.write_lowered-requires
 write_lowered-requires c =
-    let kept = c.test_sides.auto in
-    lowered c.args.all c.from-flag.ensures (tested_passed _ _ _ _ _ _ c.in_ok-test_sides.was c.test_sides.ensures) c.lower_union_pair-sides.ensures (kept_words kept.la kept.lb c.requires.both_slices.0.records) (kept_words kept.ra kept.rb c.requires.both_slices.1.records)
+    let b = tested_as c.shared-left_words.ensures c.shared-right_words.ensures (tested_passed _ _ _ _ _ _ c.in_ok-test_sides.was c.test_sides.ensures) in
+    lowered b c.lower_union_pair-sides.ensures
 
 pub returns : goal.returns
 returns c =
-    let b = tested_passed _ _ _ _ _ _ c.in_ok-test_sides.was c.test_sides.ensures in
-    passed _ _ c.args.all _ b c.write_lowered.result (c.write_lowered.ensures _ (stands c.args.all c.from-flag.ensures b c.lower_union_pair-sides.ensures))
+    let b = tested_as c.shared-left_words.ensures c.shared-right_words.ensures (tested_passed _ _ _ _ _ _ c.in_ok-test_sides.was c.test_sides.ensures) in
+    passed _ _ c.args.all _ b c.write_lowered.result (c.write_lowered.ensures _ (stands b c.lower_union_pair-sides.ensures))

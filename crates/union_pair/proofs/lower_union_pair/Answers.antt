@@ -5,7 +5,7 @@ use Rattle.std.proofs.lemmas.Result.{err_from_is_err_and}
 use Rattle.sides.specs.declared.Side.{Side}
 use Rattle.statement.specs.Sizing.{enough}
 use Rattle.statement.specs.Work.{sizes}
-use Rattle.union_pair.proofs.Laws.{one_short, other_short, none_short, both_slices, refused_first, not_long, is_long, left_long, right_long, called}
+use Rattle.union_pair.proofs.Laws.{one_short, other_short, none_short, refused_first, not_long, is_long, left_long, right_long, called}
 use Rattle.union_pair.proofs.lower_union_pair.Goals as goal
 
 pub returns-then-not-long_enough : goal.returns-then-not-long_enough
@@ -28,11 +28,23 @@ returns-in_err-test_bytes-2 c =
     let l = is_long Side.Right c.args.right.now c.test_bytes-2.result c.test_bytes-2.ensures c.in_err-test_bytes-2.was in
     rw (p.1, p.2, l.1) (right_long _ _ _ _ _ s (not_long Side.Left c.args.left.now c.test_bytes.result c.test_bytes.ensures c.in_ok-test_bytes.was) l.0)
 
+pub invariant_of-on_left : goal.invariant_of-on_left
+invariant_of-on_left c =
+    let e = enough _ _ _ _ (not-true _ (sym c.long_enough.ensures ∙ c.if-not-long_enough.false)) in
+    record { roomy = record { first = e.first; second = e.second } }
+
+pub invariant_of-on_right : goal.invariant_of-on_right
+invariant_of-on_right c =
+    let e = enough _ _ _ _ (not-true _ (sym c.long_enough-2.ensures ∙ c.if-not-long_enough-2.false)) in
+    record { roomy = record { first = e.first; second = e.second } }
+
 pub lower_tested-requires : goal.lower_tested-requires
 lower_tested-requires c =
+    let e = enough _ _ _ _ (not-true _ (sym c.long_enough.ensures ∙ c.if-not-long_enough.false)) in
+    let f = enough _ _ _ _ (not-true _ (sym c.long_enough-2.ensures ∙ c.if-not-long_enough-2.false)) in
     record {
       short = (not_long Side.Left c.args.left.now c.test_bytes.result c.test_bytes.ensures c.in_ok-test_bytes.was, not_long Side.Right c.args.right.now c.test_bytes-2.result c.test_bytes-2.ensures c.in_ok-test_bytes-2.was);
-      both_slices = both_slices _ _ _ _ _ _ _ _ (enough _ _ _ _ (not-true _ (sym c.long_enough.ensures ∙ c.if-not-long_enough.false))) (enough _ _ _ _ (not-true _ (sym c.long_enough-2.ensures ∙ c.if-not-long_enough-2.false)));
+      both_long = record { left_ops = e.third; left_rest = e.fourth; right_ops = f.third; right_rest = f.fourth };
     }
 
 pub returns : goal.returns

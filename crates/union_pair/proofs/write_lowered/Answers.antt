@@ -1,5 +1,5 @@
 -- `write_lowered` meets its contract: test 9 by the counts, and then the writer's answer. Assumes nothing.
-use Rattle.union_pair.proofs.Laws.{full_ops, full_numbers, asked, no_room, fitted}
+use Rattle.union_pair.proofs.Laws.{full_ops, full_numbers, asked, answered}
 use native.Mathlib.Omega.{arith}
 use Rattle.union_pair.proofs.write_lowered.Goals as goal
 
@@ -12,8 +12,5 @@ returns-then-ctx-gt-MAX_NUMBERS c = λ s t. full_numbers t _ c.if-ctx-gt-MAX_NUM
 pub write_pair-requires : goal.write_pair-requires
 write_pair-requires c = asked c.requires c.if-ctx-gt-MAX_OPERATORS.false
 
-pub returns-in-NoRoom : goal.returns-in-NoRoom
-returns-in-NoRoom c = λ s t. no_room t c.if-ctx-gt-MAX_OPERATORS.false c.requires.met c.if-ctx-gt-MAX_NUMBERS.false _ _ _ c.write_pair.ensures c.in-NoRoom.is
-
-pub returns-in-Written : goal.returns-in-Written
-returns-in-Written c = λ s t. fitted t c.if-ctx-gt-MAX_OPERATORS.false c.requires.met c.if-ctx-gt-MAX_NUMBERS.false _ _ _ c.write_pair.ensures _ c.in-Written.is
+pub returns : goal.returns
+returns c = λ s t. answered t c.if-ctx-gt-MAX_OPERATORS.false c.requires.met c.if-ctx-gt-MAX_NUMBERS.false _ _ _ c.write_pair.ensures _ c.ok_or.ensures.value

@@ -1,7 +1,6 @@
 -- `put_item` meets its contract. Assumes nothing.
 use Rattle.plan_sheet.proofs.ItemLaws
 use mathlib.Core.Path.{sym, ◌∙◌}
-use native.Mathlib.Omega.{arith}
 use Rattle.plan_sheet.proofs.item.put_item.Goals as goal
 
 pub put_own_name-requires : goal.put_own_name-requires

@@ -10,9 +10,6 @@ put_expand-requires c =
       y_lt_max_records = OpLaws.far_low c.requires c.in-4.is;
     }
 
-pub put_short-requires : goal.put_short-requires
-put_short-requires c = record { notes = OpLaws.notes_in c.requires; due = c.requires.stored.bounded.far c.in-5.is }
-
 pub returns-in-0 : goal.returns-in-0
 returns-in-0 c = λ h. rw (OpLaws.bare_line h (omega arith)) c.put_row-in-0.ensures
 
@@ -30,4 +27,3 @@ returns-in-5 c = λ h. rw (OpLaws.short_line h c.in-5.is) c.put_short.ensures
 
 pub returns-in-6 : goal.returns-in-6
 returns-in-6 c = λ h. rw (OpLaws.path_line h c.in-6.is) c.put_row-in-6.ensures
-

@@ -1,6 +1,5 @@
 -- `put_step` meets its contract. Assumes nothing.
 use Rattle.plan_sheet.proofs.PathLaws
-use native.Mathlib.Omega.{arith}
 use Rattle.plan_sheet.proofs.path.put_step.Goals as goal
 
 pub returns-then-kind-eq-NODE : goal.returns-then-kind-eq-NODE
@@ -13,6 +12,3 @@ returns-then-kind-eq-NODE c =
     c.put_kept.ensures
     c.note_of-n.ensures
     c.put_row.ensures
-
-pub returns : goal.returns
-returns c = PathLaws.rel_step c.args.s.now.rest.now c.args.base c.args.path c.if-kind-eq-NODE.false c.requires.i_lt_max_records
