@@ -51,6 +51,10 @@ use Rattle.words.specs.Numbers.{Others}
 abbrev pub own_ways : List ℕ
 own_ways = aggregate_kind ∷ optional_join_kind ∷ shortest_path_kind ∷ expand_kind ∷ []
 
+-- the kinds that have something behind their expressions, likewise
+abbrev pub tails : List ℕ
+tails = procedure_call_kind ∷ bind_path_kind ∷ source_kind ∷ []
+
 -- ── yields ──
 
 -- the place of a yield's name, and its line
@@ -176,7 +180,7 @@ module _ {sheet : Bytes} {a b rest : List ℕ} {o : Op} {i : ℕ} where
         let v : (h : Names sheet a b (cell a b o.idx node_labels_at) i) → (next ≡ i + cell a b o.idx node_labels_at) × Puts (spell_recs (names_recs h)) g g' = rw q at w in
         labels_put e t (λ h. (v h).1)
 
-  pub nothing_wrote : {g : Page} → Others o.kind (procedure_call_kind ∷ bind_path_kind ∷ source_kind ∷ []) → WroteTail sheet a b rest o i g g
+  pub nothing_wrote : {g : Page} → Others o.kind tails → WroteTail sheet a b rest o i g g
   unfolding spell_recs
   nothing_wrote z recs (Behind.nothing p q r) = stay
   nothing_wrote z recs (Behind.labels q h) = absurd (z.0.0.1 q)
