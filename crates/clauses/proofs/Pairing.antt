@@ -5,7 +5,6 @@ use native.Mathlib.Omega.{arith}
 use mathlib.Core.Bool.{Bool}
 use mathlib.Core.List.{List, []}
 use Rattle.std.specs.Prelude.{Option}
-use lib.ListN.{length}
 use Rattle.model.specs.Call.{max_depth}
 use Rattle.model.specs.Text.{Bytes}
 use Rattle.model.specs.Kind.{statement}
@@ -22,7 +21,8 @@ use Rattle.clauses.specs.Statement.{forget, forgetting, StatementAsked, LowersFr
 use Rattle.clauses.specs.Pair.{union_of, UniteAsked, Unites, PairAsked, TwoTables, LowersPair}
 use Rattle.context.specs.OpLaws.{under_more}
 use Rattle.clauses.proofs.Room.{stands_under}
-use Rattle.clauses.proofs.Whole.{start, start_ready, ready_behind, begins, start_rep, start_blank}
+use Rattle.clauses.proofs.Whole.{Long, start, begins, start_rep, start_blank}
+use Rattle.clauses.proofs.Whole
 
 -- ── two statements ──
 
@@ -39,13 +39,10 @@ pair_def t u all o o' s s' e e' = rw (e, e')
 leaves : (L : Lower.Lowering (Option ℕ)) {o : Option ℕ} (s : State) → (L s).0 ≡ o → L s ≡ (o, (L s).1)
 leaves L {o} s e = ap (λ (x : Option ℕ). (x, (L s).1)) e
 
-module _ {left right : Bytes} {la lb los lrs ra rb ros rrs : List ℕ} (g : PairAsked left la lb los lrs right ra rb ros rrs) where
-  pub left_asked : StatementAsked left la lb max_depth (mem start los lrs)
-  left_asked = let h = g.on_left in record { held = h.held; ready = start_ready start _ _ (omega arith) (omega arith) h.in_ops h.in_rest; depth = omega arith }
-
+module _ {left right : Bytes} {la lb los lrs ra rb ros rrs : List ℕ} (g : PairAsked left la lb right ra rb) where
   module _ {e : ℕ} {o : Option ℕ} {m₁ : Mem} (p : LowersFrom left la lb max_depth e o (mem start los lrs) m₁) where
-    pub right_asked : StatementAsked right ra rb max_depth (mem (forgetting m₁.ctx) ros rrs)
-    right_asked = let h = g.on_right in record { held = h.held; ready = ready_behind ros rrs p h.in_ops h.in_rest; depth = omega arith }
+    pub right_asked : Long ros rrs → StatementAsked right ra rb max_depth (mem (forgetting m₁.ctx) ros rrs)
+    right_asked l = let v = p.moved in Whole.asked m₁.ctx ros rrs g.on_right (omega (arith, v.few, v.here)) (omega (arith, v.low, v.here)) l
 
     module _ {e' : ℕ} {o' : Option ℕ} {m₂ : Mem} (q : LowersFrom right ra rb max_depth e' o' (mem (forgetting m₁.ctx) ros rrs) m₂) where
       pub few_behind : m₂.ctx.ops ≤ max_found
@@ -75,18 +72,13 @@ module _ {left right : Bytes} {la lb los lrs ra rb ros rrs : List ℕ} (g : Pair
         pub pair_law : LowersPair left la lb m₁.ops m₁.rest right ra rb all m₁.ctx.ops m₃
         pair_law = record {
           met = rw z.mapped met_behind;
-          left_ops = rw p.moved.in_ops g.on_left.in_ops;
-          left_rest = rw p.moved.in_rest g.on_left.in_rest;
-          in_ops = rw (z.in_ops ∙ q.moved.in_ops) g.on_right.in_ops;
-          in_rest = rw (ap length z.rest ∙ q.moved.in_rest) g.on_right.in_rest;
           run = pair_run;
         }
 
   -- what the union asks
-  pub unite_asked : {both : Operands} {e e' : ℕ} {m₁ m₂ : Mem} → LowersFrom left la lb max_depth e both.left (mem start los lrs) m₁ → LowersFrom right ra rb max_depth e' both.right (mem (forgetting m₁.ctx) ros rrs) m₂ → UniteAsked both 0 m₂.ctx m₂.ops
+  pub unite_asked : {both : Operands} {e e' : ℕ} {m₁ m₂ : Mem} → LowersFrom left la lb max_depth e both.left (mem start los lrs) m₁ → LowersFrom right ra rb max_depth e' both.right (mem (forgetting m₁.ctx) ros rrs) m₂ → UniteAsked both 0 m₂.ctx
   unite_asked {both} {m₁ = m₁} {m₂} p q = record {
     few = few_behind p q;
-    long = rw q.moved.in_ops g.on_right.in_ops;
     left = under_more q.moved.grow (stands_under m₁ both.left p.stands);
     right = stands_under m₂ both.right q.stands;
     here = omega arith;

@@ -14,14 +14,14 @@ use Rattle.model.specs.Lower.{lower_clauses, lower_arms, empty, lower_statement}
 use Rattle.model.specs.Lower
 use Rattle.words.specs.Words.{Roomy, cell}
 use Rattle.words.specs.Places.{stmt_clauses_at, stmt_arms_at}
-use Rattle.words.specs.Held.{Held, HeldMany, size}
+use Rattle.words.specs.Held.{Held, HeldSome, HeldMany, size}
 use Rattle.context.specs.Tables.{vars_of, vars_at}
 use Rattle.context.specs.IndexLaws.{none_indexed}
 use Rattle.context.specs.declared.LowerCtx.{LowerCtx}
 use Rattle.lower.specs.Side.{Side, side}
 use Rattle.lower.specs.Rep.{State, Mem, mem, Written, Rep}
 use Rattle.lower.specs.Clauses.{both_passes, BothBlank, Leaves}
-use Rattle.projections.specs.Ready.{max_start, Ready}
+use Rattle.projections.specs.Ready.{max_start}
 use Rattle.lower.specs.State.{to_then, to_wider}
 use Rattle.projections.specs.Room.{twice_then}
 use Rattle.projections.specs.Passes.{sub_turns, both_within, both_behind}
@@ -89,13 +89,17 @@ forgets r = record { count = r.count; state = rw (ap (λ (z : State). z.scope.ne
 abbrev pub start : LowerCtx
 start = record { ops = 0; numbers = 0; mapped = 0 }
 
--- with no variables there is room for a statement, also behind another one
-pub start_ready : (c : LowerCtx) (os rs : List ℕ) → c.ops ≤ max_start → c.numbers ≤ max_start → work_words ≤ length os → work_words ≤ length rs → Ready 1 (mem (forgetting c) os rs)
-start_ready c os rs lc ln lo lr = record { few = omega arith; low = omega arith; met = omega arith; here = omega arith; in_ops = lo; in_rest = lr; index = none_indexed (drop vars_at rs) }
+-- both slices are as long as tables are
+abbrev pub Long : (os rs : List ℕ) → Type 0
+Long os rs = (work_words ≤ length os) × (work_words ≤ length rs)
 
--- so behind one statement from nothing, over tables of its own
-pub ready_behind : {sheet : Bytes} {a b : List ℕ} {d e : ℕ} {o : Option ℕ} {os rs : List ℕ} {m : Mem} (os' rs' : List ℕ) → LowersFrom sheet a b d e o (mem start os rs) m → work_words ≤ length os' → work_words ≤ length rs' → Ready 1 (mem (forgetting m.ctx) os' rs')
-ready_behind {m = m} os' rs' p lo lr = let v = p.moved in start_ready m.ctx os' rs' (omega (arith, v.few, v.here)) (omega (arith, v.low, v.here)) lo lr
+-- with no variables there is room for a statement, also behind another one's operators and numbers, over tables of its own
+pub asked : {sheet : Bytes} {a b : List ℕ} (c : LowerCtx) (os rs : List ℕ) → HeldSome sheet a b statement max_depth 0 → c.ops ≤ max_start → c.numbers ≤ max_start → Long os rs → StatementAsked sheet a b max_depth (mem (forgetting c) os rs)
+asked c os rs h lc ln l = record {
+  held = h;
+  ready = record { few = omega arith; low = omega arith; met = omega arith; here = omega arith; in_ops = l.0; in_rest = l.1; index = none_indexed (drop vars_at rs) };
+  depth = omega arith;
+}
 
 -- Tables of another sheet, whatever they hold, stand for a state without its variables: the operators that they hold begin behind those that there are.
 pub begins : (sheet : Bytes) (a b os rs : List ℕ) {S : Side} {W : Written} {s : State} {m : Mem} → Rep S W s m → Rep (side sheet a b m.ctx.ops) [] (forget s) (mem (forgetting m.ctx) os rs)
@@ -109,7 +113,7 @@ start_rep sheet a b os rs = record { count = refl; state = refl; from = le_refl 
 pub start_blank : (lo hi : ℕ) → BothBlank [] lo hi
 start_blank lo hi = record { first = record { at = λ q a b i. i }; second = record { at = λ q a b i. i } }
 
-module _ {sheet : Bytes} {a b : List ℕ} {e : ℕ} {o : Option ℕ} {os rs : List ℕ} {m : Mem} (lo : work_words ≤ length os) (lr : work_words ≤ length rs) (p : LowersFrom sheet a b max_depth e o (mem start os rs) m) where
+module _ {sheet : Bytes} {a b : List ℕ} {e : ℕ} {o : Option ℕ} {os rs : List ℕ} {m : Mem} (p : LowersFrom sheet a b max_depth e o (mem start os rs) m) where
   whole_run : (t : Tree statement) → Held sheet a b t max_depth 0 → Represented sheet a b t m
   unfolding lower_statement
   whole_run t hd =
@@ -119,4 +123,4 @@ module _ {sheet : Bytes} {a b : List ℕ} {e : ℕ} {o : Option ℕ} {os rs : Li
   pub whole_law : LowersStatement sheet a b m
   whole_law =
       let v = p.moved in
-      record { met = omega (arith, v.met, v.here); few = omega (arith, v.few, v.here); in_ops = rw v.in_ops lo; in_rest = rw v.in_rest lr; run = whole_run }
+      record { met = omega (arith, v.met, v.here); few = omega (arith, v.few, v.here); run = whole_run }

@@ -1,12 +1,12 @@
 -- What the lowering of two statements into one plan asks and promises. Assumes nothing: these are definitions.
 use Rattle.std.specs.Prelude.{◌≡◌, ℕ, ◌+◌, ◌≤◌, ◌<◌, Bool, List, [], ◌∷◌, length, Option}
-use Rattle.model.specs.Call.{work_words, max_depth}
+use Rattle.model.specs.Call.{max_depth}
 use Rattle.model.specs.Text.{Bytes}
 use Rattle.model.specs.Kind.{ReadOp, statement}
 use Rattle.model.specs.Tree.{Tree}
 use Rattle.model.specs.Lower.{Lowering, ◌>>=◌, op, push, or_source_all, at, lower_pair}
 use Rattle.words.specs.Words.{max_records}
-use Rattle.words.specs.Held.{Held}
+use Rattle.words.specs.Held.{Held, HeldSome}
 use Rattle.context.specs.Tables.{max_vars}
 use Rattle.context.specs.Ops.{Under}
 use Rattle.lower.specs.Side.{Side, side}
@@ -15,7 +15,6 @@ use Rattle.lower.specs.Rep.{State, Mem, mem, Written, Rep}
 use Rattle.lower.specs.Chains.{Sourced}
 use Rattle.projections.specs.Ready.{max_found}
 use Rattle.clauses.specs.declared.pair.Operands.{Operands}
-use Rattle.clauses.specs.Statement.{WholeAsked}
 
 -- ── two operands and their union ──
 
@@ -27,9 +26,8 @@ union_of left right all = do
   push (op ReadOp.Union (l, (r, (all, tt))) ∷ [])
 
 -- two operands, operators that there are or none, whose union is stored with record i; there is room for three operators more
-pub record UniteAsked (both : Operands) (i : ℕ) (c : LowerCtx) (ops : List ℕ) : Type 0 where
+pub record UniteAsked (both : Operands) (i : ℕ) (c : LowerCtx) : Type 0 where
   pub few : c.ops ≤ max_found
-  pub long : work_words ≤ length ops
   pub left : Under both.left c.ops
   pub right : Under both.right c.ops
   pub here : i < max_records
@@ -47,10 +45,10 @@ pub record Unites (L : Lowering ℕ) (k : ℕ) (m m' : Mem) : Type 0 where
 
 -- ── two statements ──
 
--- a statement on each side, and tables for each
-pub record PairAsked (left : Bytes) (la lb lops lrest : List ℕ) (right : Bytes) (ra rb rops rrest : List ℕ) : Type 0 where
-  pub on_left : WholeAsked left la lb lops lrest
-  pub on_right : WholeAsked right ra rb rops rrest
+-- a statement on each side
+pub record PairAsked (left : Bytes) (la lb : List ℕ) (right : Bytes) (ra rb : List ℕ) : Type 0 where
+  pub on_left : HeldSome left la lb statement max_depth 0
+  pub on_right : HeldSome right ra rb statement max_depth 0
 
 -- The tables of two sheets stand for the state s: those of the left for its operators before the right's first, as they were when the left was lowered, and those of the right for the others, the counts and the variables.
 pub record TwoTables (left : Bytes) (la lb lops lrest : List ℕ) (right : Bytes) (ra rb : List ℕ) (first : ℕ) (s : State) (m : Mem) : Type 0 where
@@ -66,8 +64,4 @@ pub record TwoTables (left : Bytes) (la lb lops lrest : List ℕ) (right : Bytes
 -- the statements that are held are lowered, the left one from nothing, and the counts stay within the tables' bounds
 pub record LowersPair (left : Bytes) (la lb lops lrest : List ℕ) (right : Bytes) (ra rb : List ℕ) (all : Bool) (first : ℕ) (m : Mem) : Type 0 where
   pub met : m.ctx.mapped ≤ max_vars
-  pub left_ops : work_words ≤ length lops
-  pub left_rest : work_words ≤ length lrest
-  pub in_ops : work_words ≤ length m.ops
-  pub in_rest : work_words ≤ length m.rest
   pub run : (t u : Tree statement) → Held left la lb t max_depth 0 → Held right ra rb u max_depth 0 → TwoTables left la lb lops lrest right ra rb first (lower_pair t u all) m

@@ -1,6 +1,6 @@
 -- What the lowering of a whole statement asks and promises, from any state on and from the empty one. Assumes nothing: these are definitions.
-use Rattle.std.specs.Prelude.{◌≡◌, ℕ, suc, ◌*◌, ◌≤◌, List, [], length, Option}
-use Rattle.model.specs.Call.{work_words, max_depth, record_operators}
+use Rattle.std.specs.Prelude.{◌≡◌, ℕ, suc, ◌*◌, ◌≤◌, List, [], Option}
+use Rattle.model.specs.Call.{max_depth, record_operators}
 use Rattle.model.specs.Text.{Bytes}
 use Rattle.model.specs.Kind.{statement}
 use Rattle.model.specs.Tree.{Tree}
@@ -41,12 +41,6 @@ pub record LowersFrom (sheet : Bytes) (a b : List ℕ) (d e : ℕ) (after : Opti
 
 -- ── from the empty state ──
 
--- a statement is held, and the tables' slices are long enough
-pub record WholeAsked (sheet : Bytes) (a b ops rest : List ℕ) : Type 0 where
-  pub held : HeldSome sheet a b statement max_depth 0
-  pub in_ops : work_words ≤ length ops
-  pub in_rest : work_words ≤ length rest
-
 -- the tables stand for what the definition makes of a tree
 pub record Represented (sheet : Bytes) (a b : List ℕ) (t : Tree statement) (m : Mem) : Type 0 where
   pub written : Written
@@ -56,6 +50,4 @@ pub record Represented (sheet : Bytes) (a b : List ℕ) (t : Tree statement) (m 
 pub record LowersStatement (sheet : Bytes) (a b : List ℕ) (m : Mem) : Type 0 where
   pub met : m.ctx.mapped ≤ max_vars
   pub few : m.ctx.ops ≤ record_operators * max_records
-  pub in_ops : work_words ≤ length m.ops
-  pub in_rest : work_words ≤ length m.rest
   pub run : (t : Tree statement) → Held sheet a b t max_depth 0 → Represented sheet a b t m

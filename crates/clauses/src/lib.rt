@@ -1,18 +1,20 @@
 // The lowering of a whole statement: its clauses one after another, then its union arms, over the tables of crate context.
 //
-// The sheet, its records and the tables are lent one by one, as the crates below take them. In one struct, lent to be written, they would be no plainer: each function would have to promise that the struct's references stay what they were, as `pair::lower_union_pair` does.
+// The sheet, its records and the tables are lent one by one, as the crates below take them. In one struct they would be no plainer: the tables are written, so that it would be lent to be written as a whole, and each function would have to promise that the sheet and the records in it stay what they were.
 #![tactic(auto)]
 
 ghost use Rattle.std.specs.Prelude.{◌-◌, None};
-ghost use Rattle.model.specs.Kind.{union_arm, clause};
-ghost use Rattle.lower.specs.Rep.{mem};
+ghost use Rattle.model.specs.Kind.{union_arm, clause, statement};
+ghost use Rattle.model.specs.Call.{max_depth};
+ghost use Rattle.words.specs.Held.{HeldSome};
+ghost use Rattle.lower.specs.Rep.{in_tables};
 ghost use Rattle.lower.specs.Clauses.{LowersClause};
 ghost use Rattle.clauses.specs.Asked.{TurnAsked, TurnsAsked};
 ghost use Rattle.clauses.specs.Steps.{LowersClauses, LowersArm, LowersArms};
-ghost use Rattle.clauses.specs.Statement.{StatementAsked, LowersFrom, WholeAsked, LowersStatement};
+ghost use Rattle.clauses.specs.Statement.{StatementAsked, LowersFrom, LowersStatement};
 
 use crate::pair::Operands;
-use context::{At, LowerCtx};
+use context::{At, LowerCtx, Tables};
 use lower::Current;
 use words::{Records, field, kind};
 
@@ -30,13 +32,12 @@ const EMPTY: LowerCtx = LowerCtx {
 fn lower_clause(
     sheet: &[u8],
     r: &Records<'_>,
-    ops: &mut [u32],
-    rest: &mut [u32],
+    tables: &mut Tables<'_>,
     cur: Current,
     left: usize,
 ) -> Current
-    requires { TurnAsked clause sheet.now r.now.a.now r.now.b.now left cur.next cur.op (mem cur.ctx ops.old rest.old) }
-    ensures { LowersClause sheet.now r.now.a.now r.now.b.now left cur.next result.next cur.op result.op (mem cur.ctx ops.old rest.old) (mem result.ctx ops.new rest.new) }
+    requires { TurnAsked clause sheet.now r.now.a.now r.now.b.now left cur.next cur.op (in_tables cur.ctx tables.old) }
+    ensures { LowersClause sheet.now r.now.a.now r.now.b.now left cur.next result.next cur.op result.op (in_tables cur.ctx tables.old) (in_tables result.ctx tables.new) }
 {
     let i = cur.next;
     let kind = r.word(i, field::KIND);
@@ -45,7 +46,7 @@ fn lower_clause(
         return Current { next, ..cur };
     }
     let at = At { base: 0, i, left };
-    let s = reading::lower_reading_clause(sheet, r, ops, rest, cur.ctx, cur.op, at);
+    let s = reading::lower_reading_clause(sheet, r, tables, cur.ctx, cur.op, at);
     Current {
         next: s.next,
         op: Some(s.op),
@@ -57,14 +58,13 @@ fn lower_clause(
 fn lower_clauses(
     sheet: &[u8],
     r: &Records<'_>,
-    ops: &mut [u32],
-    rest: &mut [u32],
+    tables: &mut Tables<'_>,
     ctx: LowerCtx,
     at: At,
     n: usize,
 ) -> Current
-    requires { TurnsAsked clause sheet.now r.now.a.now r.now.b.now n at.left at.i None (mem ctx ops.old rest.old) }
-    ensures { LowersClauses sheet.now r.now.a.now r.now.b.now n at.left at.i result.next None result.op (mem ctx ops.old rest.old) (mem result.ctx ops.new rest.new) }
+    requires { TurnsAsked clause sheet.now r.now.a.now r.now.b.now n at.left at.i None (in_tables ctx tables.old) }
+    ensures { LowersClauses sheet.now r.now.a.now r.now.b.now n at.left at.i result.next None result.op (in_tables ctx tables.old) (in_tables result.ctx tables.new) }
 {
     let mut cur = Current {
         next: at.i,
@@ -72,7 +72,7 @@ fn lower_clauses(
         ctx,
     };
     for _ in 0..n {
-        cur = lower_clause(sheet, r, ops, rest, cur, at.left);
+        cur = lower_clause(sheet, r, tables, cur, at.left);
     }
     cur
 }
@@ -81,13 +81,12 @@ fn lower_clauses(
 fn lower_arm(
     sheet: &[u8],
     r: &Records<'_>,
-    ops: &mut [u32],
-    rest: &mut [u32],
+    tables: &mut Tables<'_>,
     root: Current,
     left: usize,
 ) -> Current
-    requires { TurnAsked union_arm sheet.now r.now.a.now r.now.b.now left root.next root.op (mem root.ctx ops.old rest.old) }
-    ensures { LowersArm sheet.now r.now.a.now r.now.b.now left root.next result.next root.op result.op (mem root.ctx ops.old rest.old) (mem result.ctx ops.new rest.new) }
+    requires { TurnAsked union_arm sheet.now r.now.a.now r.now.b.now left root.next root.op (in_tables root.ctx tables.old) }
+    ensures { LowersArm sheet.now r.now.a.now r.now.b.now left root.next result.next root.op result.op (in_tables root.ctx tables.old) (in_tables result.ctx tables.new) }
 {
     let i = root.next;
     let all = r.word(i, field::ARM_ALL) == 1;
@@ -97,13 +96,13 @@ fn lower_arm(
         i: i + 1,
         left: left - 1,
     };
-    let below = lower_clauses(sheet, r, ops, rest, root.ctx, first, n);
+    let below = lower_clauses(sheet, r, tables, root.ctx, first, n);
     let both = Operands {
         left: root.op,
         right: below.op,
         all,
     };
-    let z = pair::unite(ops, below.ctx, both, i);
+    let z = pair::unite(tables, below.ctx, both, i);
     Current {
         next: below.next,
         op: Some(z.op),
@@ -115,18 +114,17 @@ fn lower_arm(
 fn lower_arms(
     sheet: &[u8],
     r: &Records<'_>,
-    ops: &mut [u32],
-    rest: &mut [u32],
+    tables: &mut Tables<'_>,
     head: Current,
     arms: usize,
     left: usize,
 ) -> Current
-    requires { TurnsAsked union_arm sheet.now r.now.a.now r.now.b.now arms left head.next head.op (mem head.ctx ops.old rest.old) }
-    ensures { LowersArms sheet.now r.now.a.now r.now.b.now arms left head.next result.next head.op result.op (mem head.ctx ops.old rest.old) (mem result.ctx ops.new rest.new) }
+    requires { TurnsAsked union_arm sheet.now r.now.a.now r.now.b.now arms left head.next head.op (in_tables head.ctx tables.old) }
+    ensures { LowersArms sheet.now r.now.a.now r.now.b.now arms left head.next result.next head.op result.op (in_tables head.ctx tables.old) (in_tables result.ctx tables.new) }
 {
     let mut root = head;
     for _ in 0..arms {
-        root = lower_arm(sheet, r, ops, rest, root, left);
+        root = lower_arm(sheet, r, tables, root, left);
     }
     root
 }
@@ -135,13 +133,12 @@ fn lower_arms(
 pub fn lower_from(
     sheet: &[u8],
     r: &Records<'_>,
-    ops: &mut [u32],
-    rest: &mut [u32],
+    tables: &mut Tables<'_>,
     ctx: LowerCtx,
     depth: usize,
 ) -> Current
-    requires { StatementAsked sheet.now r.now.a.now r.now.b.now depth (mem ctx ops.old rest.old) }
-    ensures { LowersFrom sheet.now r.now.a.now r.now.b.now depth result.next result.op (mem ctx ops.old rest.old) (mem result.ctx ops.new rest.new) }
+    requires { StatementAsked sheet.now r.now.a.now r.now.b.now depth (in_tables ctx tables.old) }
+    ensures { LowersFrom sheet.now r.now.a.now r.now.b.now depth result.next result.op (in_tables ctx tables.old) (in_tables result.ctx tables.new) }
 {
     let clauses = r.count(0, field::STMT_CLAUSES);
     let arms = r.count(0, field::STMT_ARMS);
@@ -151,14 +148,14 @@ pub fn lower_from(
         i: 1,
         left: less,
     };
-    let head = lower_clauses(sheet, r, ops, rest, ctx, at, clauses);
-    lower_arms(sheet, r, ops, rest, head, arms, less)
+    let head = lower_clauses(sheet, r, tables, ctx, at, clauses);
+    lower_arms(sheet, r, tables, head, arms, less)
 }
 
 // The statement that r holds, into empty tables.
-pub fn lower(sheet: &[u8], r: &Records<'_>, ops: &mut [u32], rest: &mut [u32]) -> LowerCtx
-    requires { WholeAsked sheet.now r.now.a.now r.now.b.now ops.old rest.old }
-    ensures { LowersStatement sheet.now r.now.a.now r.now.b.now (mem result ops.new rest.new) }
+pub fn lower(sheet: &[u8], r: &Records<'_>, tables: &mut Tables<'_>) -> LowerCtx
+    requires { HeldSome sheet.now r.now.a.now r.now.b.now statement max_depth 0 }
+    ensures { LowersStatement sheet.now r.now.a.now r.now.b.now (in_tables result tables.new) }
 {
-    lower_from(sheet, r, ops, rest, EMPTY, words::MAX_DEPTH).ctx
+    lower_from(sheet, r, tables, EMPTY, words::MAX_DEPTH).ctx
 }

@@ -1,10 +1,9 @@
 // The lowering of two statements into one plan, each over tables of its own, and their union.
-ghost use Rattle.std.specs.Prelude.{◌≡◌, ℕ, List};
-ghost use Rattle.lower.specs.Rep.{mem};
+ghost use Rattle.lower.specs.Rep.{in_tables};
 ghost use Rattle.clauses.specs.Pair.{union_of, UniteAsked, Unites, PairAsked, LowersPair};
 
 use crate::{EMPTY, lower_from};
-use context::{LowerCtx, op};
+use context::{LowerCtx, Tables, op};
 use words::Records;
 
 // What a union joins: an operator or none on each side, and whether it keeps all rows.
@@ -23,25 +22,24 @@ pub struct United {
 }
 
 // The union of two operands, a source of everything for each that is missing, left before right. It is stored with record i, which it does not print.
-pub fn unite(ops: &mut [u32], ctx: LowerCtx, both: Operands, i: usize) -> United
-    requires { UniteAsked both i ctx ops.old }
-    ensures { (rest : List ℕ) → Unites (union_of both.left both.right both.all) result.op (mem ctx ops.old rest) (mem result.ctx ops.new rest) }
+pub fn unite(tables: &mut Tables<'_>, ctx: LowerCtx, both: Operands, i: usize) -> United
+    requires { UniteAsked both i ctx }
+    ensures { Unites (union_of both.left both.right both.all) result.op (in_tables ctx tables.old) (in_tables result.ctx tables.new) }
 {
-    let q = lower::or_source_all(ops, ctx, both.left, i);
-    let s = lower::or_source_all(ops, q.ctx, both.right, i);
+    let q = lower::or_source_all(tables.ops, ctx, both.left, i);
+    let s = lower::or_source_all(tables.ops, q.ctx, both.right, i);
     let k = s.ctx.ops;
     let all = u32::from(both.all);
-    let z = s.ctx.push(ops, op::union(i, q.op, s.op, all));
+    let z = s.ctx.push(tables.ops, op::union(i, q.op, s.op, all));
     United { op: k, ctx: z }
 }
 
-// One side of a pair: its sheet, the records that hold it, and its own tables.
+// One side of a pair: its sheet, the records that hold it, and its own tables, each for a lifetime of its own, as who makes one has them.
 #[derive(Drop)]
-pub struct Side<'a> {
-    pub sheet: &'a [u8],
+pub struct Side<'s, 'a, 't> {
+    pub sheet: &'s [u8],
     pub records: Records<'a>,
-    pub ops: &'a mut [u32],
-    pub rest: &'a mut [u32],
+    pub tables: Tables<'t>,
 }
 
 // How many operators the left statement has, and the state of both: the right's begin there.
@@ -52,17 +50,18 @@ pub struct Sides {
 }
 
 // The statements of both sides, the left one from empty tables on, the right one behind its operators and numbers and with no variables. The union stands in the right's table, with its first record.
-pub fn lower_union_pair(left: &mut Side<'_>, right: &mut Side<'_>, all: bool) -> Sides
-    requires { PairAsked left.old.sheet.now left.old.records.a.now left.old.records.b.now left.old.ops.now left.old.rest.now right.old.sheet.now right.old.records.a.now right.old.records.b.now right.old.ops.now right.old.rest.now }
-    ensures lowered { LowersPair left.old.sheet.now left.old.records.a.now left.old.records.b.now left.new.ops.now left.new.rest.now right.old.sheet.now right.old.records.a.now right.old.records.b.now all result.first (mem result.ctx right.new.ops.now right.new.rest.now) }
-    ensures same_left { (left.new.ops.ghost_name ≡ left.old.ops.ghost_name) × (left.new.rest.ghost_name ≡ left.old.rest.ghost_name) }
-    ensures same_right { (right.new.ops.ghost_name ≡ right.old.ops.ghost_name) × (right.new.rest.ghost_name ≡ right.old.rest.ghost_name) }
+pub fn lower_union_pair(
+    left: &mut Side<'_, '_, '_>,
+    right: &mut Side<'_, '_, '_>,
+    all: bool,
+) -> Sides
+    requires { PairAsked left.old.sheet.now left.old.records.a.now left.old.records.b.now right.old.sheet.now right.old.records.a.now right.old.records.b.now }
+    ensures { LowersPair left.old.sheet.now left.old.records.a.now left.old.records.b.now left.new.tables.ops.now left.new.tables.rest.now right.old.sheet.now right.old.records.a.now right.old.records.b.now all result.first (in_tables result.ctx right.new.tables) }
 {
     let l = lower_from(
         left.sheet,
         &left.records,
-        left.ops,
-        left.rest,
+        &mut left.tables,
         EMPTY,
         words::MAX_DEPTH,
     );
@@ -70,8 +69,7 @@ pub fn lower_union_pair(left: &mut Side<'_>, right: &mut Side<'_>, all: bool) ->
     let r = lower_from(
         right.sheet,
         &right.records,
-        right.ops,
-        right.rest,
+        &mut right.tables,
         start,
         words::MAX_DEPTH,
     );
@@ -80,7 +78,7 @@ pub fn lower_union_pair(left: &mut Side<'_>, right: &mut Side<'_>, all: bool) ->
         right: r.op,
         all,
     };
-    let z = unite(right.ops, r.ctx, both, 0);
+    let z = unite(&mut right.tables, r.ctx, both, 0);
     Sides {
         first: l.ctx.ops,
         ctx: z.ctx,

@@ -3,14 +3,14 @@ ghost use Rattle.std.specs.Prelude.{ℕ, ◌≡◌, List, Some};
 ghost use Rattle.model.specs.Text.{Bytes};
 ghost use Rattle.model.specs.Lower.{optional_join};
 ghost use Rattle.words.specs.Places.{match_kind, where_kind, unwind_kind, call_kind};
-ghost use Rattle.lower.specs.Rep.{mem};
+ghost use Rattle.lower.specs.Rep.{mem, in_tables};
 ghost use Rattle.lower.specs.Chains.{OrSource};
 ghost use Rattle.lower.specs.Clauses.{LowersClause};
 ghost use Rattle.projections.specs.Asked.{ClauseAsked};
 ghost use Rattle.clauses.specs.Asked.{JoinAsked, ReadingAsked, YieldsAsked};
 ghost use Rattle.clauses.specs.Steps.{LowersYields};
 
-use context::{At, LowerCtx, op};
+use context::{At, LowerCtx, Tables, op};
 use lower::{Reached, Root};
 use words::{Records, field, kind};
 
@@ -57,14 +57,13 @@ fn join_before(
 // The `match` at a place: the root of its parts, as it goes with the operator before it.
 pub fn lower_match(
     r: &Records<'_>,
-    ops: &mut [u32],
-    rest: &mut [u32],
+    tables: &mut Tables<'_>,
     ctx: LowerCtx,
     current: Option<usize>,
     at: At,
 ) -> Root
-    requires { ClauseAsked match_kind r.now.a.now r.now.b.now at current (mem ctx ops.old rest.old) }
-    ensures { (sheet : Bytes) → LowersClause sheet r.now.a.now r.now.b.now at.left at.i result.next current (Some result.op) (mem ctx ops.old rest.old) (mem result.ctx ops.new rest.new) }
+    requires { ClauseAsked match_kind r.now.a.now r.now.b.now at current (in_tables ctx tables.old) }
+    ensures { (sheet : Bytes) → LowersClause sheet r.now.a.now r.now.b.now at.left at.i result.next current (Some result.op) (in_tables ctx tables.old) (in_tables result.ctx tables.new) }
 {
     let i = at.i;
     let optional = r.word(i, field::MATCH_OPTIONAL) == 1;
@@ -75,21 +74,20 @@ pub fn lower_match(
         i,
         left: less,
     };
-    let s = lower::lower_parts(r, ops, rest, ctx, parts, n);
-    join_before(ops, s, current, optional, i)
+    let s = lower::lower_parts(r, tables, ctx, parts, n);
+    join_before(tables.ops, s, current, optional, i)
 }
 
 // The `where` at a place.
 pub fn lower_where(
     r: &Records<'_>,
-    ops: &mut [u32],
-    rest: &mut [u32],
+    tables: &mut Tables<'_>,
     ctx: LowerCtx,
     current: Option<usize>,
     at: At,
 ) -> Root
-    requires { ClauseAsked where_kind r.now.a.now r.now.b.now at current (mem ctx ops.old rest.old) }
-    ensures { (sheet : Bytes) → LowersClause sheet r.now.a.now r.now.b.now at.left at.i result.next current (Some result.op) (mem ctx ops.old rest.old) (mem result.ctx ops.new rest.new) }
+    requires { ClauseAsked where_kind r.now.a.now r.now.b.now at current (in_tables ctx tables.old) }
+    ensures { (sheet : Bytes) → LowersClause sheet r.now.a.now r.now.b.now at.left at.i result.next current (Some result.op) (in_tables ctx tables.old) (in_tables result.ctx tables.new) }
 {
     let first = at.i + 1;
     let less = at.left - 1;
@@ -98,10 +96,10 @@ pub fn lower_where(
         i: first,
         left: less,
     };
-    let s = lower::lower_expr(r, ops, rest, ctx, below);
-    let q = lower::or_source_all(ops, s.ctx, current, s.next);
+    let s = lower::lower_expr(r, tables, ctx, below);
+    let q = lower::or_source_all(tables.ops, s.ctx, current, s.next);
     let k = q.ctx.ops;
-    let z = q.ctx.push(ops, op::over(op::FILTER, below, q.op));
+    let z = q.ctx.push(tables.ops, op::over(op::FILTER, below, q.op));
     Root {
         next: q.next,
         op: k,
@@ -112,28 +110,27 @@ pub fn lower_where(
 // The `unwind` at a place.
 pub fn lower_unwind(
     r: &Records<'_>,
-    ops: &mut [u32],
-    rest: &mut [u32],
+    tables: &mut Tables<'_>,
     ctx: LowerCtx,
     current: Option<usize>,
     at: At,
 ) -> Root
-    requires { ClauseAsked unwind_kind r.now.a.now r.now.b.now at current (mem ctx ops.old rest.old) }
-    ensures { (sheet : Bytes) → LowersClause sheet r.now.a.now r.now.b.now at.left at.i result.next current (Some result.op) (mem ctx ops.old rest.old) (mem result.ctx ops.new rest.new) }
+    requires { ClauseAsked unwind_kind r.now.a.now r.now.b.now at current (in_tables ctx tables.old) }
+    ensures { (sheet : Bytes) → LowersClause sheet r.now.a.now r.now.b.now at.left at.i result.next current (Some result.op) (in_tables ctx tables.old) (in_tables result.ctx tables.new) }
 {
     let id = r.word(at.i, field::UNWIND_VAR);
     let first = at.i + 1;
     let less = at.left - 1;
-    let q = lower::or_source_all(ops, ctx, current, first);
+    let q = lower::or_source_all(tables.ops, ctx, current, first);
     let below = At {
         base: 0,
         i: first,
         left: less,
     };
-    let s = lower::lower_expr(r, ops, rest, q.ctx, below);
-    let m = s.ctx.number(rest, id, first);
+    let s = lower::lower_expr(r, tables, q.ctx, below);
+    let m = s.ctx.number(tables.rest, id, first);
     let k = m.ctx.ops;
-    let z = m.ctx.push(ops, op::unwind(below, q.op, m.number));
+    let z = m.ctx.push(tables.ops, op::unwind(below, q.op, m.number));
     Root {
         next: s.next,
         op: k,
@@ -144,14 +141,13 @@ pub fn lower_unwind(
 // The `call` at a place.
 pub fn lower_call(
     r: &Records<'_>,
-    ops: &mut [u32],
-    rest: &mut [u32],
+    tables: &mut Tables<'_>,
     ctx: LowerCtx,
     current: Option<usize>,
     at: At,
 ) -> Root
-    requires { ClauseAsked call_kind r.now.a.now r.now.b.now at current (mem ctx ops.old rest.old) }
-    ensures { (sheet : Bytes) → LowersClause sheet r.now.a.now r.now.b.now at.left at.i result.next current (Some result.op) (mem ctx ops.old rest.old) (mem result.ctx ops.new rest.new) }
+    requires { ClauseAsked call_kind r.now.a.now r.now.b.now at current (in_tables ctx tables.old) }
+    ensures { (sheet : Bytes) → LowersClause sheet r.now.a.now r.now.b.now at.left at.i result.next current (Some result.op) (in_tables ctx tables.old) (in_tables result.ctx tables.new) }
 {
     let i = at.i;
     let args = r.count(i, field::CALL_ARGS);
@@ -164,10 +160,10 @@ pub fn lower_call(
         left: less,
     };
     let below = At { i: first, ..clause };
-    let s = lower::lower_exprs(r, ops, rest, ctx, below, args, 0);
-    let t = lower_yields(r, rest, s.ctx, s.next, yields);
+    let s = lower::lower_exprs(r, tables, ctx, below, args, 0);
+    let t = lower_yields(r, tables.rest, s.ctx, s.next, yields);
     let k = t.ctx.ops;
-    let z = t.ctx.push(ops, op::procedure_call(clause, current));
+    let z = t.ctx.push(tables.ops, op::procedure_call(clause, current));
     Root {
         next: t.next,
         op: k,
@@ -179,22 +175,21 @@ pub fn lower_call(
 pub fn lower_reading_clause(
     sheet: &[u8],
     r: &Records<'_>,
-    ops: &mut [u32],
-    rest: &mut [u32],
+    tables: &mut Tables<'_>,
     ctx: LowerCtx,
     current: Option<usize>,
     at: At,
 ) -> Root
-    requires { ReadingAsked sheet.now r.now.a.now r.now.b.now at current (mem ctx ops.old rest.old) }
-    ensures { LowersClause sheet.now r.now.a.now r.now.b.now at.left at.i result.next current (Some result.op) (mem ctx ops.old rest.old) (mem result.ctx ops.new rest.new) }
+    requires { ReadingAsked sheet.now r.now.a.now r.now.b.now at current (in_tables ctx tables.old) }
+    ensures { LowersClause sheet.now r.now.a.now r.now.b.now at.left at.i result.next current (Some result.op) (in_tables ctx tables.old) (in_tables result.ctx tables.new) }
 {
     let kind = r.word(at.i, field::KIND);
     match kind {
-        kind::MATCH => lower_match(r, ops, rest, ctx, current, at),
-        kind::WHERE => lower_where(r, ops, rest, ctx, current, at),
-        kind::WITH => projections::lower_with(r, ops, rest, ctx, current, at),
-        kind::RETURN => projections::lower_return(sheet, r, ops, rest, ctx, current, at),
-        kind::UNWIND => lower_unwind(r, ops, rest, ctx, current, at),
-        _ => lower_call(r, ops, rest, ctx, current, at),
+        kind::MATCH => lower_match(r, tables, ctx, current, at),
+        kind::WHERE => lower_where(r, tables, ctx, current, at),
+        kind::WITH => projections::lower_with(r, tables, ctx, current, at),
+        kind::RETURN => projections::lower_return(sheet, r, tables, ctx, current, at),
+        kind::UNWIND => lower_unwind(r, tables, ctx, current, at),
+        _ => lower_call(r, tables, ctx, current, at),
     }
 }

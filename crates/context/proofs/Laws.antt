@@ -1,18 +1,16 @@
 -- What the small steps of the lowering's state do to the words. Assumes nothing.
-use mathlib.Core.Path.{◌≡◌, refl, sym, ap, ◌∙◌}
-use mathlib.Core.List.{List, [], ◌∷◌, ◌++◌, append-nil}
+use mathlib.Core.Path.{◌≡◌, refl, sym, ◌∙◌}
+use mathlib.Core.List.{List, ◌++◌, append-nil}
 use Rattle.std.specs.Prelude.{Option, None, Some}
 use Prim.Native.Nat.{ℕ, zero, suc, ◌+◌, ◌*◌, ◌-◌, ◌≤◌, ◌<◌}
 use native.Mathlib.Numerals.{add-one, sub-one}
 use native.Mathlib.Omega.{arith}
-use lib.ListN.{length, take, drop, get_or, set, length-set}
+use lib.ListN.{length, take, drop, get_or, set}
 use lib.Seq.{take_all, get_or-set_same, get_or-set_other, drop-set-lt, drop_at, length-take-le, get_or-take}
 use lib.ListN.{get_or-append, length-drop, drop_of_length-le}
 use borrow.Author.Tests.{eq-eqb, ne_eqb}
-use borrow.Rule.Slice.PartMut.{put_mid}
-use Rattle.std.proofs.lemmas.List.{get_or-append-add}
 use Rattle.model.specs.Lower.{lookup, issue, map_var, numbered, fresh, endpoint_var}
-use Rattle.context.specs.Tables.{vars_of, named_words, number_word, Op, op_at, max_stored, op_words, kind_word, idx_word, input_word, x_word, y_word, left_word, base_word, Indexed, Issued, NoteWritten, Numbers, Pushed, vars_at}
+use Rattle.context.specs.Tables.{vars_of, named_words, number_word, Indexed, Issued, NoteWritten, Numbers, vars_at}
 use Rattle.context.specs.declared.LowerCtx.{LowerCtx}
 use Rattle.context.specs.declared.Numbered.{Numbered}
 use Rattle.model.specs.Call.{work_words}
@@ -87,78 +85,3 @@ unnamed_law b place c rest rest' r z f n =
 pub named_law : (b : Option ℕ) (id place : ℕ) (c : LowerCtx) (rest rest' : List ℕ) (r : Numbered) → b ≡ Some id → Numbers (map_var id) place c rest rest' r → Numbers (endpoint_var b) place c rest rest' r
 unfolding endpoint_var
 named_law b id place c rest rest' r z n = rw z n
-
--- ── operators ──
-
--- stores one after another, at b + j, b + suc j and so on
-unfoldable pub run : List ℕ → ℕ → ℕ → List ℕ → List ℕ
-run o b j [] = o
-run o b j (x ∷ xs) = run (set o (b + j) x) b (suc j) xs
-
-run_other : (o : List ℕ) (b j : ℕ) (xs : List ℕ) (p : ℕ) → p < b + j → get_or (run o b j xs) p 0 ≡ get_or o p 0
-unfolding run
-run_other o b j [] p h = refl
-run_other o b j (x ∷ xs) p h = run_other (set o (b + j) x) b (suc j) xs p (omega arith) ∙ get_or-set_other o (b + j) p x 0 (omega arith)
-
-run_at : (o : List ℕ) (b j : ℕ) (xs : List ℕ) (p : ℕ) → p < length xs → b + j + length xs ≤ length o → get_or (run o b j xs) (b + j + p) 0 ≡ get_or xs p 0
-unfolding run
-run_at o b j [] p h l = absurd (omega arith)
-run_at o b j (x ∷ xs) zero h l = let e : b + j + 0 ≡ b + j = omega arith in rw e (run_other (set o (b + j) x) b (suc j) xs (b + j) (omega arith) ∙ get_or-set_same o (b + j) x 0 (omega arith))
-run_at o b j (x ∷ xs) (suc p) h l =
-    let e : b + j + suc p ≡ b + suc j + p = omega arith in
-    let g : b + suc j + length xs ≤ length (set o (b + j) x) = rw length-set (omega arith) in
-    rw e (run_at (set o (b + j) x) b (suc j) xs p (omega arith) g)
-
--- the words of an operator, one after another
-abbrev words_of : Op → List ℕ
-words_of op = op.kind ∷ op.idx ∷ op.input ∷ op.x ∷ op.y ∷ op.left ∷ op.base ∷ []
-
--- the words from B on, and those behind the operators
-module _ (o : List ℕ) (B : ℕ) (l : B + op_words ≤ length o) where
-  abbrev behind : List ℕ
-  behind = take (length o - B) (drop B o)
-
-  behind_length : length behind ≡ length o - B
-  behind_length = length-take-le (length o - B) (drop B o) (rw length-drop (omega arith))
-
-  before_length : length (take B o) ≡ B
-  before_length = length-take-le B o (omega arith)
-
-  put_at : (ws rest : List ℕ) (j : ℕ) → j < length ws → get_or (take B o ++ (ws ++ rest)) (B + j) 0 ≡ get_or ws j 0
-  put_at ws rest j h = ap (λ (p : ℕ). get_or (take B o ++ (ws ++ rest)) (p + j) 0) (sym before_length) ∙ get_or-append-add (take B o) (ws ++ rest) j 0 ∙ get_or-append ws rest 0 j h
-
-  put_other : (ws : List ℕ) (q : ℕ) → q < B → get_or (take B o ++ ws) q 0 ≡ get_or o q 0
-  put_other ws q h = get_or-append (take B o) ws 0 q (rw before_length h) ∙ get_or-take B o q 0 h
-
--- an operator's words, from its first one that is used
-abbrev put_words : List ℕ → Op → List ℕ
-put_words ws op = set (set (set (set (set (set (set ws kind_word op.kind) idx_word op.idx) input_word op.input) x_word op.x) y_word op.y) left_word op.left) base_word op.base
-
-put_at_word : (ws : List ℕ) (op : Op) (p j : ℕ) → op_words ≤ length ws → p < 7 → j ≡ 1 + p → get_or (put_words ws op) j 0 ≡ get_or (words_of op) p 0
-unfolding run
-put_at_word ws op p j l h e = rw e (run_at ws 0 1 (words_of op) p h (omega arith))
-
-pub stored : (c : LowerCtx) (o : List ℕ) (op : Op) → c.ops < max_stored → work_words ≤ length o → Pushed c (record {
-  ops = c.ops + 1;
-  numbers = c.numbers;
-  mapped = c.mapped;
-}) o (put_mid (c.ops * op_words) (length o - c.ops * op_words) o (put_words (take (length o - c.ops * op_words) (drop (c.ops * op_words) o)) op)) op
-unfolding op_at
-stored c o op h g =
-    let B : ℕ = c.ops * op_words in
-    let room : B + op_words ≤ length o = omega arith in
-    let long : op_words ≤ length (behind o B room) = rw (behind_length o B room) (omega arith) in
-    let long' : op_words ≤ length (put_words (behind o B room) op) = simp length-set long in
-    let f : (p j : ℕ) → p < 7 → j ≡ 1 + p → get_or (put_mid B (length o - B) o (put_words (behind o B room) op)) (B + j) 0 ≡ get_or (words_of op) p 0 = λ p j h' e. put_at o B room (put_words (behind o B room) op) _ j (omega arith) ∙ put_at_word (behind o B room) op p j long h' e in
-    record {
-      count = refl;
-      numbers = refl;
-      mapped = refl;
-      here = λ _. rw (f 0 1 (omega arith) refl, f 1 2 (omega arith) refl, f 2 3 (omega arith) refl, f 3 4 (omega arith) refl, f 4 5 (omega arith) refl, f 5 6 (omega arith) refl, f 6 7 (omega arith) refl);
-      other = λ k l' l''.
-          let r : (j : ℕ) → j < 8 → get_or (put_mid B (length o - B) o (put_words (behind o B room) op)) (k * op_words + j) 0 ≡ get_or o (k * op_words + j) 0 = λ j h'. put_other o B room _ (k * op_words + j) (omega arith) in
-          rw (r 1 (omega arith), r 2 (omega arith), r 3 (omega arith), r 4 (omega arith), r 5 (omega arith), r 6 (omega arith), r 7 (omega arith));
-    }
-
-pub not_stored : (c : LowerCtx) (o : List ℕ) (x : Op) → max_stored ≤ c.ops → Pushed c (record { ops = c.ops + 1; numbers = c.numbers; mapped = c.mapped }) o o x
-not_stored c o x h = record { count = refl; numbers = refl; mapped = refl; here = λ l. absurd (omega arith); other = λ k l l'. refl }

@@ -4,7 +4,7 @@ use mathlib.Core.Bool.{Bool, true, false}
 use mathlib.Core.List.{List}
 use mathlib.Core.Logic.{◌⊎◌, inl, inr, ⊎_elim}
 use Prim.Native.Nat.{ℕ, zero, suc, ◌+◌, ◌*◌, ◌-◌, ◌/◌, ◌%◌, ◌≤◌, ◌<◌}
-use native.Mathlib.Numerals.{add-one, sub-one}
+use native.Mathlib.Numerals.{add-one}
 use native.Mathlib.Omega.{arith}
 use lib.ListN.{length, get_or, set, length-set}
 use lib.Dec.{eqb}
@@ -77,15 +77,6 @@ pub linked_none : (l : ℕ) → None ≡ linked l → l ≡ 0
 unfolding linked
 linked_none zero e = refl
 linked_none (suc p) e = absurd (none-some p e)
-
-pub names_none : {k l : ℕ} → k ≡ l → k ≡ 0 → None ≡ linked l
-unfolding linked
-names_none e z = rw (sym e ∙ z)
-
-pub names_some : {k l : ℕ} → k ≡ l → ((k ≡ 0) → ⊥) → Some (k - 1) ≡ linked l
-unfolding linked
-names_some {k = zero} e h = absurd (h refl)
-names_some {k = suc k} e h = rw (← e, sub-one)
 
 -- ── the way down ──
 

@@ -1,4 +1,5 @@
 // The variables' index in the work slice: a digital search tree, in which the bits of an id, the last one first, say the way down.
+// That the index is right for the first variables is asked by each function, and no ghost field of their words and count: a way down is a family (specs/Tables.Leads), so that antt finds no proof that the fact is a proposition, and cut down to one it no longer gives a way.
 ghost use Rattle.std.specs.Prelude.{◌≡◌, ◌+◌, ◌<◌, ◌≤◌, length, get_or, set, None};
 ghost use Rattle.model.specs.Lower.{lookup};
 ghost use Rattle.context.specs.Tables.{max_vars, max_indexed, links_at, var_words, half_word, vars_of, child_of, linked, with_half, IndexHeld, Descended, Joined, Entered};
@@ -13,6 +14,7 @@ struct End {
 }
 
 // A variable's child on the side that the last bit of `bits` names, if it has one. The left one is in the lower half of the variable's word of links, the right one in the upper half: its place and one, or 0 for none.
+#[tactic(auto, unfolding(crate::specs::Tables::half, crate::specs::Tables::linked))]
 fn child(vars: &[u32], p: usize, bits: u32) -> Option<usize>
     requires { (p < max_indexed) × (var_words ≤ length vars.now) }
     ensures { result ≡ linked (child_of vars.now p bits) }
@@ -30,6 +32,7 @@ fn child(vars: &[u32], p: usize, bits: u32) -> Option<usize>
 }
 
 // A variable that has no child on a side gets one there.
+#[tactic(auto, unfolding(crate::specs::Tables::half, crate::specs::Tables::with_half))]
 fn set_child(vars: &mut [u32], p: usize, bits: u32, link: u32)
     requires { (p < max_indexed) × (link < half_word) × (var_words ≤ length vars.old) × (child_of vars.old p bits ≡ 0) }
     ensures { vars.new ≡ set vars.old (links_at + p) (with_half (get_or vars.old (links_at + p) 0) bits link) }

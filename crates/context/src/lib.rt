@@ -46,6 +46,14 @@ pub struct LowerCtx {
     pub mapped: usize,
 }
 
+// The tables that the lowering writes: the operators', and that of the notes with the variables behind them. That each has a work slice's words goes with them.
+#[derive(Drop)]
+pub struct Tables<'a> {
+    pub ops: &'a mut [u32],
+    pub rest: &'a mut [u32],
+    ghost long: { (work_words ≤ length ops.now) × (work_words ≤ length rest.now) },
+}
+
 // Where something is lowered: the records from i on, how deep their trees may be, and where the notes of the pass begin.
 #[derive(Clone, Copy, Debug, PartialEq, Eq)]
 pub struct At {

@@ -138,7 +138,7 @@ pub fn over(kind: u32, at: At, input: usize) -> Op
     Op::at_place(kind, at, input as u32, 0, 0)
 }
 
-// The other kinds have a constructor each: what X_WORD and Y_WORD hold has its own name and type there.
+// The other kinds have a constructor each: what X_WORD and Y_WORD hold has its own name and type there. That a place fits into words is asked here and no fact of At: most places are made for the records below, and never stored.
 pub fn source(at: At, bind: u32) -> Op
     requires { Fits at }
     ensures { result ≡ source_op at bind }
@@ -209,6 +209,7 @@ pub fn union(i: usize, input: usize, right: usize, all: u32) -> Op
     Op::at_record(UNION, i as u32, input as u32, right as u32, all)
 }
 
+#[tactic(auto, unfolding(crate::specs::Ops::procedure_call_op))]
 pub fn procedure_call(at: At, current: Option<usize>) -> Op
     requires { Fits at × Under current two32 }
     ensures { result ≡ procedure_call_op at current }
@@ -220,6 +221,7 @@ pub fn procedure_call(at: At, current: Option<usize>) -> Op
 }
 
 // The operator before a stored call, if there is one: what `procedure_call` was given.
+#[tactic(auto, unfolding(crate::specs::Ops::input_if))]
 pub fn call_input(w: Op) -> Option<usize>
     ensures { result ≡ call_input w }
 {
@@ -230,6 +232,7 @@ pub fn call_input(w: Op) -> Option<usize>
 }
 
 // Operator k.
+#[tactic(auto, unfolding(crate::specs::Tables::op_at))]
 pub fn read_op(ops: &[u32], k: usize) -> Op
     requires { (k < max_stored) × (work_words ≤ length ops.now) }
     ensures { result ≡ op_at ops.now k }

@@ -6,6 +6,7 @@ use Rattle.model.specs.Lower
 use Rattle.words.specs.Words.{max_records}
 use Rattle.context.specs.Tables.{state_of, op_at, vars_at, max_stored, Indexed, deepest}
 use Rattle.context.specs.declared.LowerCtx.{LowerCtx}
+use Rattle.context.specs.declared.Tables.{Tables}
 use Rattle.context.specs.declared.At.{At}
 use Rattle.lower.specs.Side.{Side}
 use Rattle.lower.specs.Render.{Notes, Ops}
@@ -22,6 +23,10 @@ pub record Mem : Type 0 where
 
 abbrev pub mem : LowerCtx → List ℕ → List ℕ → Mem
 mem c os rs = record { ctx = c; ops = os; rest = rs }
+
+-- the same over the tables
+abbrev pub in_tables : LowerCtx → Tables → Mem
+in_tables c t = mem c t.ops.now t.rest.now
 
 -- where something is lowered
 abbrev pub at_place : (base i left : ℕ) → At

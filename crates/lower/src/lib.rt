@@ -1,4 +1,4 @@
-// The lowering of a statement that the words hold: operators, notes and variables into the tables. r holds the records, ops the operators, rest the notes and the variables; a place says at which record, how deep a tree may be, and where the pass's notes begin.
+// The lowering of a statement that the words hold: operators, notes and variables into the tables. r holds the records; a place says at which record, how deep a tree may be, and where the pass's notes begin.
 #![tactic(auto)]
 
 ghost use Rattle.std.specs.Prelude.{◌≡◌, ℕ, ◌+◌, ◌-◌, ◌<◌, List};
@@ -6,7 +6,7 @@ ghost use Rattle.model.specs.Kind.{expr, pattern_part, pattern_element};
 ghost use Rattle.model.specs.Lower.{root_of};
 ghost use Rattle.words.specs.Words.{cell, max_records, record_words, option_of};
 ghost use Rattle.words.specs.Places.{element_named_at, element_var_at};
-ghost use Rattle.lower.specs.Rep.{mem};
+ghost use Rattle.lower.specs.Rep.{mem, in_tables};
 ghost use Rattle.lower.specs.Pieces.{LowersExpr, LowersExprs};
 ghost use Rattle.lower.specs.Patterns.{LowersPart, LowersParts};
 ghost use Rattle.lower.specs.Chains.{last_of, LowersElement, LowersElements, LowersStart, LowersRel, SourceLeft, LowersChain, ReadAt, ElementAt, start_chain};
@@ -14,7 +14,7 @@ ghost use Rattle.lower.specs.Asked.{TreeAsked, ExprsAsked, BehindAsked, NodeAske
 ghost use Rattle.context.specs.Tables.{max_count, CanPush};
 ghost use Rattle.context.specs.Ops.{Under};
 
-use context::{At, LowerCtx, op};
+use context::{At, LowerCtx, Tables, op};
 use words::{Records, field, kind};
 
 // A special part has exactly node, rel, node.
@@ -97,6 +97,7 @@ pub type Root = Lowered<usize>;
 pub type Current = Lowered<Option<usize>>;
 
 // The variable of the part or the element at record i.
+#[tactic(auto, unfolding(words::specs::Words::option_of))]
 fn read_bind(r: &Records<'_>, i: usize) -> Option<u32>
     requires { i < max_records }
     ensures { result ≡ option_of (cell r.now.a.now r.now.b.now i element_named_at) (cell r.now.a.now r.now.b.now i element_var_at) }
@@ -148,13 +149,11 @@ pub fn or_source_all(ops: &mut [u32], ctx: LowerCtx, current: Option<usize>, nex
 }
 
 // The root of a chain so far, if it has one.
+#[tactic(auto, unfolding(model::specs::Lower::root_of))]
 fn root_of(last: Option<LastNode>) -> Option<usize>
     ensures { result ≡ root_of (last_of last) }
 {
-    match last {
-        Some(l) => Some(l.op),
-        None => None,
-    }
+    last.map(|l| l.op)
 }
 
 // A pattern of no parts, at record i: a source that does take a number.
@@ -173,15 +172,9 @@ fn lower_no_parts(ops: &mut [u32], ctx: LowerCtx, i: usize) -> Root
 
 // The expression at a place.
 #[cycle(lowering)]
-pub fn lower_expr(
-    r: &Records<'_>,
-    ops: &mut [u32],
-    rest: &mut [u32],
-    ctx: LowerCtx,
-    at: At,
-) -> Reached
-    requires { TreeAsked expr r.now.a.now r.now.b.now at (mem ctx ops.old rest.old) }
-    ensures { LowersExpr r.now.a.now r.now.b.now at.left at.base at.i result.next (mem ctx ops.old rest.old) (mem result.ctx ops.new rest.new) }
+pub fn lower_expr(r: &Records<'_>, tables: &mut Tables<'_>, ctx: LowerCtx, at: At) -> Reached
+    requires { TreeAsked expr r.now.a.now r.now.b.now at (in_tables ctx tables.old) }
+    ensures { LowersExpr r.now.a.now r.now.b.now at.left at.base at.i result.next (in_tables ctx tables.old) (in_tables result.ctx tables.new) }
 {
     let kind = r.word(at.i, field::KIND);
     let n = r.children(at.i);
@@ -192,16 +185,16 @@ pub fn lower_expr(
     match kind {
         kind::VAR => {
             let id = r.word(at.i, field::VAR_ID);
-            let m = ctx.number(rest, id, place);
+            let m = ctx.number(tables.rest, id, place);
             Reached {
                 next: kid,
                 ctx: m.ctx,
             }
         }
-        kind::MAP => lower_exprs(r, ops, rest, ctx, below, n, 1),
+        kind::MAP => lower_exprs(r, tables, ctx, below, n, 1),
         kind::PAT => {
-            let q = lower_parts(r, ops, rest, ctx, At { left, ..at }, n);
-            context::note(rest, place, q.op as u32);
+            let q = lower_parts(r, tables, ctx, At { left, ..at }, n);
+            context::note(tables.rest, place, q.op as u32);
             Reached {
                 next: q.next,
                 ctx: q.ctx,
@@ -209,10 +202,10 @@ pub fn lower_expr(
         }
         kind::LIST_PREDICATE => {
             let id = r.word(at.i, field::LIST_PREDICATE_VAR);
-            let m = ctx.number(rest, id, place);
-            lower_exprs(r, ops, rest, m.ctx, below, n, 0)
+            let m = ctx.number(tables.rest, id, place);
+            lower_exprs(r, tables, m.ctx, below, n, 0)
         }
-        _ => lower_exprs(r, ops, rest, ctx, below, n, 0),
+        _ => lower_exprs(r, tables, ctx, below, n, 0),
     }
 }
 
@@ -220,20 +213,19 @@ pub fn lower_expr(
 #[cycle(lowering)]
 pub fn lower_exprs(
     r: &Records<'_>,
-    ops: &mut [u32],
-    rest: &mut [u32],
+    tables: &mut Tables<'_>,
     ctx: LowerCtx,
     at: At,
     n: usize,
     gap: usize,
 ) -> Reached
-    requires { ExprsAsked r.now.a.now r.now.b.now n gap at (mem ctx ops.old rest.old) }
-    ensures { LowersExprs r.now.a.now r.now.b.now n gap at.left at.base at.i result.next (mem ctx ops.old rest.old) (mem result.ctx ops.new rest.new) }
+    requires { ExprsAsked r.now.a.now r.now.b.now n gap at (in_tables ctx tables.old) }
+    ensures { LowersExprs r.now.a.now r.now.b.now n gap at.left at.base at.i result.next (in_tables ctx tables.old) (in_tables result.ctx tables.new) }
 {
     let mut cur = Reached { next: at.i, ctx };
     for _ in 0..n {
         let i = cur.next + gap;
-        cur = lower_expr(r, ops, rest, cur.ctx, At { i, ..at });
+        cur = lower_expr(r, tables, cur.ctx, At { i, ..at });
     }
     cur
 }
@@ -242,95 +234,91 @@ pub fn lower_exprs(
 #[cycle(lowering)]
 pub fn lower_parts(
     r: &Records<'_>,
-    ops: &mut [u32],
-    rest: &mut [u32],
+    tables: &mut Tables<'_>,
     ctx: LowerCtx,
     at: At,
     n: usize,
 ) -> Root
-    requires { BehindAsked pattern_part r.now.a.now r.now.b.now n at (mem ctx ops.old rest.old) }
-    ensures { LowersParts r.now.a.now r.now.b.now n at.left at.base at.i result.next result.op (mem ctx ops.old rest.old) (mem result.ctx ops.new rest.new) }
+    requires { BehindAsked pattern_part r.now.a.now r.now.b.now n at (in_tables ctx tables.old) }
+    ensures { LowersParts r.now.a.now r.now.b.now n at.left at.base at.i result.next result.op (in_tables ctx tables.old) (in_tables result.ctx tables.new) }
 {
     if n == 0 {
-        return lower_no_parts(ops, ctx, at.i);
+        return lower_no_parts(tables.ops, ctx, at.i);
     }
     let first = at.i + 1;
-    let mut cur = lower_pattern_part(r, ops, rest, ctx, At { i: first, ..at });
+    let mut cur = lower_pattern_part(r, tables, ctx, At { i: first, ..at });
     for _ in 1..n {
         let i = cur.next;
-        cur = lower_pattern_part(r, ops, rest, cur.ctx, At { i, ..at });
+        cur = lower_pattern_part(r, tables, cur.ctx, At { i, ..at });
     }
     cur
 }
 
 // The part at a place: special only if it is a shortest part of exactly node, rel, node.
 #[cycle(lowering)]
-fn lower_pattern_part(
-    r: &Records<'_>,
-    ops: &mut [u32],
-    rest: &mut [u32],
-    ctx: LowerCtx,
-    at: At,
-) -> Root
-    requires { TreeAsked pattern_part r.now.a.now r.now.b.now at (mem ctx ops.old rest.old) }
-    ensures { LowersPart r.now.a.now r.now.b.now at.left at.base at.i result.next result.op (mem ctx ops.old rest.old) (mem result.ctx ops.new rest.new) }
+fn lower_pattern_part(r: &Records<'_>, tables: &mut Tables<'_>, ctx: LowerCtx, at: At) -> Root
+    requires { TreeAsked pattern_part r.now.a.now r.now.b.now at (in_tables ctx tables.old) }
+    ensures { LowersPart r.now.a.now r.now.b.now at.left at.base at.i result.next result.op (in_tables ctx tables.old) (in_tables result.ctx tables.new) }
 {
     let shortest = r.word(at.i, field::PART_SHORTEST);
     if shortest == 0 {
-        return lower_chain(r, ops, rest, ctx, at);
+        return lower_chain(r, tables, ctx, at);
     }
     let n = r.word(at.i, field::PART_ELEMENTS);
     if n != SPECIAL_ELEMENTS {
-        return lower_chain(r, ops, rest, ctx, at);
+        return lower_chain(r, tables, ctx, at);
     }
     let first = at.i + 1;
     let rel = r.skip(first);
     let Element::Node(near) = read_element(r, first) else {
-        return lower_chain(r, ops, rest, ctx, at);
+        return lower_chain(r, tables, ctx, at);
     };
     let far = r.skip(rel);
     let Element::Rel(between) = read_element(r, rel) else {
-        return lower_chain(r, ops, rest, ctx, at);
+        return lower_chain(r, tables, ctx, at);
     };
     let Element::Node(to) = read_element(r, far) else {
-        return lower_chain(r, ops, rest, ctx, at);
+        return lower_chain(r, tables, ctx, at);
     };
     let ends = NodeRelNode { near, rel, far, to };
-    lower_shortest_path_part(r, ops, rest, ctx, at, ends, between)
+    lower_shortest_path_part(r, tables, ctx, at, ends, between)
 }
 
 // The special shortest part at a place.
 #[cycle(lowering)]
 fn lower_shortest_path_part(
     r: &Records<'_>,
-    ops: &mut [u32],
-    rest: &mut [u32],
+    tables: &mut Tables<'_>,
     ctx: LowerCtx,
     at: At,
     ends: NodeRelNode,
     between: Read,
 ) -> Root
-    requires { SpecialAsked r.now.a.now r.now.b.now at ends between (mem ctx ops.old rest.old) }
-    ensures { LowersPart r.now.a.now r.now.b.now at.left at.base at.i result.next result.op (mem ctx ops.old rest.old) (mem result.ctx ops.new rest.new) }
+    requires { SpecialAsked r.now.a.now r.now.b.now at ends between (in_tables ctx tables.old) }
+    ensures { LowersPart r.now.a.now r.now.b.now at.left at.base at.i result.next result.op (in_tables ctx tables.old) (in_tables result.ctx tables.new) }
 {
     let base = at.base;
     let first = at.i + 1;
     let left = at.left - 1;
     let rel = ends.rel;
     let far = ends.far;
-    let from = ctx.endpoint_var(rest, ends.near.bind, base + (first + 1));
+    let from = ctx.endpoint_var(tables.rest, ends.near.bind, base + (first + 1));
     let near = At {
         i: first,
         left,
         ..at
     };
-    let q = start_node(r, ops, rest, from.ctx, near, from.number, ends.near);
-    let s = lower_rel_element(r, ops, rest, q.ctx, At { i: rel, left, ..at }, between);
-    let to = s.ctx.endpoint_var(rest, ends.to.bind, base + (far + 1));
+    let q = start_node(r, tables, from.ctx, near, from.number, ends.near);
+    let s = lower_rel_element(r, tables, q.ctx, At { i: rel, left, ..at }, between);
+    let to = s
+        .ctx
+        .endpoint_var(tables.rest, ends.to.bind, base + (far + 1));
     let bind = read_bind(r, at.i);
-    let path = to.ctx.endpoint_var(rest, bind, base + first);
+    let path = to.ctx.endpoint_var(tables.rest, bind, base + first);
     let whole = At { left, ..at };
-    let z = path.ctx.push(ops, op::shortest_path(whole, q.op, rel, far));
+    let z = path
+        .ctx
+        .push(tables.ops, op::shortest_path(whole, q.op, rel, far));
     let end = r.skip(far);
     Lowered {
         next: end,
@@ -341,26 +329,26 @@ fn lower_shortest_path_part(
 
 // The part at a place as a chain: its elements, then the path if it is named.
 #[cycle(lowering)]
-fn lower_chain(r: &Records<'_>, ops: &mut [u32], rest: &mut [u32], ctx: LowerCtx, at: At) -> Root
-    requires { TreeAsked pattern_part r.now.a.now r.now.b.now at (mem ctx ops.old rest.old) }
-    ensures { LowersChain r.now.a.now r.now.b.now at.left at.base at.i result.next result.op (mem ctx ops.old rest.old) (mem result.ctx ops.new rest.new) }
+fn lower_chain(r: &Records<'_>, tables: &mut Tables<'_>, ctx: LowerCtx, at: At) -> Root
+    requires { TreeAsked pattern_part r.now.a.now r.now.b.now at (in_tables ctx tables.old) }
+    ensures { LowersChain r.now.a.now r.now.b.now at.left at.base at.i result.next result.op (in_tables ctx tables.old) (in_tables result.ctx tables.new) }
 {
     let i = at.i;
     let n = r.count(i, field::PART_ELEMENTS);
     let less = at.left - 1;
     let below = At { left: less, ..at };
-    let ch = lower_elements(r, ops, rest, ctx, below, n);
+    let ch = lower_elements(r, tables, ctx, below, n);
     let root = root_of(ch.last);
-    let q = or_source_all(ops, ch.ctx, root, ch.next);
+    let q = or_source_all(tables.ops, ch.ctx, root, ch.next);
     let named = r.word(i, field::PART_NAMED);
     if named == 0 {
         return q;
     }
     let id = r.word(i, field::PART_VAR);
-    let m = q.ctx.number(rest, id, at.base + (i + 1));
+    let m = q.ctx.number(tables.rest, id, at.base + (i + 1));
     let z = m
         .ctx
-        .push(ops, op::bind_path(below, q.op, ch.kept, m.number));
+        .push(tables.ops, op::bind_path(below, q.op, ch.kept, m.number));
     Lowered {
         next: q.next,
         op: m.ctx.ops,
@@ -372,14 +360,13 @@ fn lower_chain(r: &Records<'_>, ops: &mut [u32], rest: &mut [u32], ctx: LowerCtx
 #[cycle(lowering)]
 fn lower_elements(
     r: &Records<'_>,
-    ops: &mut [u32],
-    rest: &mut [u32],
+    tables: &mut Tables<'_>,
     ctx: LowerCtx,
     at: At,
     n: usize,
 ) -> Chain
-    requires { BehindAsked pattern_element r.now.a.now r.now.b.now n at (mem ctx ops.old rest.old) }
-    ensures { LowersElements r.now.a.now r.now.b.now n at.left at.base (start_chain at.i ctx) result ops.old ops.new rest.old rest.new }
+    requires { BehindAsked pattern_element r.now.a.now r.now.b.now n at (in_tables ctx tables.old) }
+    ensures { LowersElements r.now.a.now r.now.b.now n at.left at.base (start_chain at.i ctx) result tables.old.ops.now tables.new.ops.now tables.old.rest.now tables.new.rest.now }
 {
     let first = at.i + 1;
     let mut ch = Chain {
@@ -390,7 +377,7 @@ fn lower_elements(
         kept: 0,
     };
     for _ in 0..n {
-        ch = lower_element(r, ops, rest, ch, at.base, at.left);
+        ch = lower_element(r, tables, ch, at.base, at.left);
     }
     ch
 }
@@ -399,14 +386,13 @@ fn lower_elements(
 #[cycle(lowering)]
 fn lower_element(
     r: &Records<'_>,
-    ops: &mut [u32],
-    rest: &mut [u32],
+    tables: &mut Tables<'_>,
     ch: Chain,
     base: usize,
     left: usize,
 ) -> Chain
-    requires { ChainAsked r.now.a.now r.now.b.now base left ch ops.old rest.old }
-    ensures { LowersElement r.now.a.now r.now.b.now left base ch result ops.old ops.new rest.old rest.new }
+    requires { ChainAsked r.now.a.now r.now.b.now base left ch tables.old.ops.now tables.old.rest.now }
+    ensures { LowersElement r.now.a.now r.now.b.now left base ch result tables.old.ops.now tables.new.ops.now tables.old.rest.now tables.new.rest.now }
 {
     let i = ch.next;
     match read_element(r, i) {
@@ -420,9 +406,9 @@ fn lower_element(
         }
         Element::Node(node) => {
             let (Some(rel), Some(origin)) = (ch.pending, ch.last) else {
-                return start_chain(r, ops, rest, ch, base, left, node);
+                return start_chain(r, tables, ch, base, left, node);
             };
-            expand_to(r, ops, rest, ch, base, left, Link { node, rel, origin })
+            expand_to(r, tables, ch, base, left, Link { node, rel, origin })
         }
     }
 }
@@ -431,19 +417,18 @@ fn lower_element(
 #[cycle(lowering)]
 fn start_chain(
     r: &Records<'_>,
-    ops: &mut [u32],
-    rest: &mut [u32],
+    tables: &mut Tables<'_>,
     ch: Chain,
     base: usize,
     left: usize,
     node: Read,
 ) -> Chain
-    requires { StartAsked r.now.a.now r.now.b.now base left ch node ops.old rest.old }
-    ensures { LowersElement r.now.a.now r.now.b.now left base ch result ops.old ops.new rest.old rest.new }
+    requires { StartAsked r.now.a.now r.now.b.now base left ch node tables.old.ops.now tables.old.rest.now }
+    ensures { LowersElement r.now.a.now r.now.b.now left base ch result tables.old.ops.now tables.new.ops.now tables.old.rest.now tables.new.rest.now }
 {
     let i = ch.next;
-    let m = ch.ctx.endpoint_var(rest, node.bind, base + (i + 1));
-    let q = start_node(r, ops, rest, m.ctx, At { base, i, left }, m.number, node);
+    let m = ch.ctx.endpoint_var(tables.rest, node.bind, base + (i + 1));
+    let q = start_node(r, tables, m.ctx, At { base, i, left }, m.number, node);
     let kept = ch.kept + 1;
     Chain {
         next: q.next,
@@ -461,36 +446,35 @@ fn start_chain(
 #[cycle(lowering)]
 fn expand_to(
     r: &Records<'_>,
-    ops: &mut [u32],
-    rest: &mut [u32],
+    tables: &mut Tables<'_>,
     ch: Chain,
     base: usize,
     left: usize,
     link: Link,
 ) -> Chain
-    requires { ExpandAsked r.now.a.now r.now.b.now base left ch link ops.old rest.old }
-    ensures { LowersElement r.now.a.now r.now.b.now left base ch result ops.old ops.new rest.old rest.new }
+    requires { ExpandAsked r.now.a.now r.now.b.now base left ch link tables.old.ops.now tables.old.rest.now }
+    ensures { LowersElement r.now.a.now r.now.b.now left base ch result tables.old.ops.now tables.new.ops.now tables.old.rest.now tables.new.rest.now }
 {
     let i = ch.next;
     let node = link.node;
     let origin = link.origin;
-    let m = ch.ctx.endpoint_var(rest, node.bind, base + (i + 1));
+    let m = ch.ctx.endpoint_var(tables.rest, node.bind, base + (i + 1));
     let place = At {
         base,
         i: link.rel.i,
         left,
     };
-    let s = lower_rel_element(r, ops, rest, m.ctx, place, link.rel.read);
+    let s = lower_rel_element(r, tables, m.ctx, place, link.rel.read);
     let less = left - 1;
     let below = At {
         base,
         i: node.first,
         left: less,
     };
-    let t = lower_exprs(r, ops, rest, s.ctx, below, node.props, 0);
+    let t = lower_exprs(r, tables, s.ctx, below, node.props, 0);
     let z = t
         .ctx
-        .push(ops, op::expand(place, origin.op, origin.number, i));
+        .push(tables.ops, op::expand(place, origin.op, origin.number, i));
     let kept = ch.kept + 2;
     Chain {
         next: t.next,
@@ -508,15 +492,14 @@ fn expand_to(
 #[cycle(lowering)]
 fn start_node(
     r: &Records<'_>,
-    ops: &mut [u32],
-    rest: &mut [u32],
+    tables: &mut Tables<'_>,
     ctx: LowerCtx,
     at: At,
     number: u32,
     node: Read,
 ) -> Root
-    requires { NodeAsked r.now.a.now r.now.b.now at node (mem ctx ops.old rest.old) }
-    ensures { LowersStart r.now.a.now r.now.b.now at.left at.base at.i number result.next result.op (mem ctx ops.old rest.old) (mem result.ctx ops.new rest.new) }
+    requires { NodeAsked r.now.a.now r.now.b.now at node (in_tables ctx tables.old) }
+    ensures { LowersStart r.now.a.now r.now.b.now at.left at.base at.i number result.next result.op (in_tables ctx tables.old) (in_tables result.ctx tables.new) }
 {
     let first = node.first;
     let less = at.left - 1;
@@ -527,7 +510,7 @@ fn start_node(
         ..at
     };
     let k = ctx.ops;
-    let p = ctx.push(ops, op::source(here, number));
+    let p = ctx.push(tables.ops, op::source(here, number));
     if node.props == 0 {
         return Lowered {
             next: first,
@@ -535,8 +518,8 @@ fn start_node(
             ctx: p,
         };
     }
-    let s = lower_expr(r, ops, rest, p, below);
-    let z = s.ctx.push(ops, op::over(op::FILTER, below, k));
+    let s = lower_expr(r, tables, p, below);
+    let z = s.ctx.push(tables.ops, op::over(op::FILTER, below, k));
     Lowered {
         next: s.next,
         op: s.ctx.ops,
@@ -548,22 +531,21 @@ fn start_node(
 #[cycle(lowering)]
 fn lower_rel_element(
     r: &Records<'_>,
-    ops: &mut [u32],
-    rest: &mut [u32],
+    tables: &mut Tables<'_>,
     ctx: LowerCtx,
     at: At,
     rel: Read,
 ) -> Reached
-    requires { RelAsked r.now.a.now r.now.b.now at rel (mem ctx ops.old rest.old) }
-    ensures { LowersRel r.now.a.now r.now.b.now at.left at.base at.i result.next ctx ops.old rest.old (mem result.ctx ops.new rest.new) }
+    requires { RelAsked r.now.a.now r.now.b.now at rel (in_tables ctx tables.old) }
+    ensures { LowersRel r.now.a.now r.now.b.now at.left at.base at.i result.next ctx tables.old.ops.now tables.old.rest.now (in_tables result.ctx tables.new) }
 {
     let i = at.i;
-    let m = ctx.endpoint_var(rest, rel.bind, at.base + (i + 1));
+    let m = ctx.endpoint_var(tables.rest, rel.bind, at.base + (i + 1));
     let less = at.left - 1;
     let below = At {
         i: rel.first,
         left: less,
         ..at
     };
-    lower_exprs(r, ops, rest, m.ctx, below, rel.props, 0)
+    lower_exprs(r, tables, m.ctx, below, rel.props, 0)
 }

@@ -55,6 +55,14 @@ pub spelled : {n r : ℕ} → Counted n r → decimal n ≡ tens r n
 unfolding decimal
 spelled {n} c = rw c.is (digits_tens max_digits c.before n c.few c.low c.high)
 
+-- a number of one digit
+pub one_digit : (n : ℕ) → n < 10 → decimal n ≡ (digit0 + n) ∷ []
+unfolding tens
+one_digit n few =
+    let short : Counted n 1 = record { before = 0; is = refl; few = omega arith; low = omega arith; high = omega arith } in
+    let rest : n % 10 ≡ n = omega arith in
+    rw (spelled short, rest)
+
 -- as many as its spelling has
 pub counted_long : {n r : ℕ} → Counted n r → r ≡ length (decimal n)
 counted_long {n} {r} c = rw (spelled c) (length_tens r n)

@@ -70,10 +70,28 @@ impl Page<'_> {
         self.out = end;
     }
 
-    // A number behind a tab: with one test for both, since each field of a line is put so.
+    // Two bytes, with one test for both.
+    fn put_two(&mut self, first: u8, second: u8)
+        ensures { Puts (first ∷ second ∷ []) self.old self.new }
+    {
+        let at = self.out;
+        let end = at.saturating_add(2);
+        if end <= self.bytes.len() {
+            let both = &mut self.bytes[at..at + 2];
+            both[0] = first;
+            both[1] = second;
+        }
+        self.out = end;
+    }
+
+    // A number behind a tab: with one test for both, since each field of a line is put so, and a shorter way for the many numbers that have one digit.
     pub fn put_tabbed(&mut self, n: u64)
         ensures { Puts (tab ∷ decimal n) self.old self.new }
     {
+        if n < TWO_DIGITS {
+            self.put_two(b'\t', b'0' + n as u8);
+            return;
+        }
         let at = self.out;
         let width = digit_count(n) + 1;
         let end = at.saturating_add(width);

@@ -1,5 +1,4 @@
 // The keywords of the plan sheet.
-ghost use Rattle.std.specs.Prelude.{◌≡◌};
 ghost use Rattle.output.specs.Page.{Puts};
 ghost use Rattle.plan_line.specs.Keywords.{word};
 
@@ -40,50 +39,41 @@ pub enum Keyword {
     Yield,
 }
 
-impl Keyword {
-    // As the plan sheet spells it.
-    #[tactic(auto, unfolding(crate::specs::Keywords::word, model::specs::Text::bytes, model::specs::Text::bytes_from))]
-    fn text(self) -> &'static [u8]
-        ensures { result.now ≡ word self }
-    {
-        match self {
-            Keyword::Null => b"null",
-            Keyword::Int => b"int",
-            Keyword::Var => b"var",
-            Keyword::Fn => b"fn",
-            Keyword::Exists => b"exists",
-            Keyword::ListPredicate => b"listp",
-            Keyword::Source => b"source",
-            Keyword::Expand => b"expand",
-            Keyword::Filter => b"filter",
-            Keyword::Project => b"project",
-            Keyword::Agg => b"agg",
-            Keyword::Order => b"order",
-            Keyword::Skip => b"skip",
-            Keyword::Limit => b"limit",
-            Keyword::Distinct => b"distinct",
-            Keyword::Unwind => b"unwind",
-            Keyword::Union => b"union",
-            Keyword::With => b"with",
-            Keyword::Optional => b"optional",
-            Keyword::Short => b"short",
-            Keyword::Path => b"path",
-            Keyword::Call => b"call",
-            Keyword::Plan => b"plan",
-            Keyword::Rel => b"rel",
-            Keyword::To => b"to",
-            Keyword::Item => b"item",
-            Keyword::AggFn => b"aggf",
-            Keyword::Element => b"e",
-            Keyword::Variable => b"v",
-            Keyword::Yield => b"yield",
-        }
-    }
-}
-
-// A keyword.
+// A keyword. Each arm puts its own bytes, so that they are stored as constants of a known length.
+#[tactic(auto, unfolding(crate::specs::Keywords::word, model::specs::Text::bytes, model::specs::Text::bytes_from))]
 pub fn put_keyword(page: &mut Page<'_>, k: Keyword)
     ensures { Puts (word k) page.old page.new }
 {
-    page.put_part(k.text());
+    match k {
+        Keyword::Null => page.put_part(b"null"),
+        Keyword::Int => page.put_part(b"int"),
+        Keyword::Var => page.put_part(b"var"),
+        Keyword::Fn => page.put_part(b"fn"),
+        Keyword::Exists => page.put_part(b"exists"),
+        Keyword::ListPredicate => page.put_part(b"listp"),
+        Keyword::Source => page.put_part(b"source"),
+        Keyword::Expand => page.put_part(b"expand"),
+        Keyword::Filter => page.put_part(b"filter"),
+        Keyword::Project => page.put_part(b"project"),
+        Keyword::Agg => page.put_part(b"agg"),
+        Keyword::Order => page.put_part(b"order"),
+        Keyword::Skip => page.put_part(b"skip"),
+        Keyword::Limit => page.put_part(b"limit"),
+        Keyword::Distinct => page.put_part(b"distinct"),
+        Keyword::Unwind => page.put_part(b"unwind"),
+        Keyword::Union => page.put_part(b"union"),
+        Keyword::With => page.put_part(b"with"),
+        Keyword::Optional => page.put_part(b"optional"),
+        Keyword::Short => page.put_part(b"short"),
+        Keyword::Path => page.put_part(b"path"),
+        Keyword::Call => page.put_part(b"call"),
+        Keyword::Plan => page.put_part(b"plan"),
+        Keyword::Rel => page.put_part(b"rel"),
+        Keyword::To => page.put_part(b"to"),
+        Keyword::Item => page.put_part(b"item"),
+        Keyword::AggFn => page.put_part(b"aggf"),
+        Keyword::Element => page.put_part(b"e"),
+        Keyword::Variable => page.put_part(b"v"),
+        Keyword::Yield => page.put_part(b"yield"),
+    }
 }

@@ -9,26 +9,26 @@ use crate::keyword::{Keyword, put_keyword};
 use output::Page;
 
 // Numbers, and the end of the line.
-pub fn put_end(page: &mut Page<'_>, numbers: &[u32])
-    ensures { Puts (numbers_text numbers.now ++ (line_feed ∷ [])) page.old page.new }
+pub fn put_end<const N: usize>(page: &mut Page<'_>, numbers: [u32; N])
+    ensures { Puts (numbers_text numbers.entry ++ (line_feed ∷ [])) page.old page.new }
 {
     for n in numbers {
-        put_number(page, *n);
+        put_number(page, n);
     }
     page.put_byte(b'\n');
 }
 
 // A keyword and numbers.
-pub fn put_row(page: &mut Page<'_>, k: Keyword, numbers: &[u32])
-    ensures { Puts (row_text k numbers.now) page.old page.new }
+pub fn put_row<const N: usize>(page: &mut Page<'_>, k: Keyword, numbers: [u32; N])
+    ensures { Puts (row_text k numbers.entry) page.old page.new }
 {
     put_keyword(page, k);
     put_end(page, numbers);
 }
 
 // A keyword, a name as the statement sheet spells it, and numbers.
-pub fn put_named(page: &mut Page<'_>, k: Keyword, name: &[u8], numbers: &[u32])
-    ensures { Puts (named_text k name.now numbers.now) page.old page.new }
+pub fn put_named<const N: usize>(page: &mut Page<'_>, k: Keyword, name: &[u8], numbers: [u32; N])
+    ensures { Puts (named_text k name.now numbers.entry) page.old page.new }
 {
     put_keyword(page, k);
     put_text(page, name);

@@ -1,12 +1,14 @@
 -- What the writers of expressions, elements and items ask and what they promise, by the structs that they are given. Assumes nothing: these are definitions.
 use Rattle.std.specs.Prelude.{ℕ, ◌+◌, Bool, List}
+use Rattle.model.specs.Text.{Bytes}
 use Rattle.output.specs.declared.Page.{Page}
 use Rattle.words.specs.Words.{cell}
 use Rattle.words.specs.Places.{items_at}
 use Rattle.context.specs.declared.op.Op.{Op}
-use Rattle.plan_sheet.specs.Behind.{many_of, first_of}
-use Rattle.plan_sheet.specs.Due.{Near, One, Many, Element, WroteMany, WroteElement}
-use Rattle.plan_sheet.specs.Parted.{Items, WrotePart, WroteParts, WroteItems}
+use Rattle.plan_sheet.specs.Behind.{many_of, first_of, Yields, WroteYields, SomeTail, WroteTail}
+use Rattle.plan_sheet.specs.Due.{Near, ExprAt, ItemAt, SomeLine, ElementAt, Names, OpShown, SomePlan, One, Many, Element, TextAsked, KindAsked, text_at, WroteLine, WroteFirst, WroteMany, WroteElement, WroteOp}
+use Rattle.plan_sheet.specs.Path.{Elements, WrotePath}
+use Rattle.plan_sheet.specs.Parted.{agg_text, Items, WrotePart, WroteParts, WroteItems}
 use Rattle.plan_sheet.specs.declared.write.At.{At}
 use Rattle.plan_sheet.specs.declared.write.Run.{Run}
 use Rattle.plan_sheet.specs.declared.source.Source.{Source}
@@ -15,6 +17,74 @@ use Rattle.plan_sheet.specs.declared.source.Source.{Source}
 pub record Asked (base left : ℕ) (Due : Type 0) : Type 0 where
   pub near : Near base left
   pub due : Due
+
+-- ── by what the writer reads ──
+
+-- word c of record i, and the text whose place begins there
+abbrev pub word_of : Source → (i c : ℕ) → ℕ
+word_of s i c = cell s.records.a.now s.records.b.now i c
+
+abbrev pub text_of : Source → (i c : ℕ) → Bytes
+text_of s i c = text_at s.sheet.now s.records.a.now s.records.b.now i c
+
+abbrev pub agg_text_of : Source → ℕ → Bytes
+agg_text_of s i = agg_text s.sheet.now s.records.a.now s.records.b.now i
+
+-- what stands there
+abbrev pub TextIn : Source → (i c : ℕ) → Type 0
+TextIn s i c = TextAsked s.sheet.now s.records.a.now s.records.b.now i c
+
+abbrev pub KindIn : Source → (i kind : ℕ) → Type 0 → Type 0
+KindIn s i kind X = KindAsked s.records.a.now s.records.b.now i kind X
+
+abbrev pub ExprIn : Source → ℕ → Type 0
+ExprIn s i = ExprAt s.sheet.now s.records.a.now s.records.b.now i
+
+abbrev pub ItemIn : Source → ℕ → Type 0
+ItemIn s i = ItemAt s.sheet.now s.records.a.now s.records.b.now i
+
+abbrev pub LineIn : Source → ℕ → Type 0
+LineIn s i = SomeLine s.sheet.now s.records.a.now s.records.b.now i
+
+abbrev pub ElementIn : Source → ℕ → Type 0
+ElementIn s i = ElementAt s.sheet.now s.records.a.now s.records.b.now i
+
+abbrev pub NamesIn : Source → (n i : ℕ) → Type 0
+NamesIn s n i = Names s.sheet.now s.records.a.now s.records.b.now n i
+
+abbrev pub YieldsIn : Source → (n i : ℕ) → Type 0
+YieldsIn s n i = Yields s.sheet.now s.records.a.now s.records.b.now n i
+
+abbrev pub ElementsIn : Source → (n i : ℕ) → Type 0
+ElementsIn s n i = Elements s.sheet.now s.records.a.now s.records.b.now n i
+
+abbrev pub OpIn : Source → Op → Type 0
+OpIn s o = OpShown s.sheet.now s.records.a.now s.records.b.now s.rest.now o
+
+abbrev pub TailIn : Source → Op → ℕ → Type 0
+TailIn s o i = SomeTail s.sheet.now s.records.a.now s.records.b.now s.rest.now o i
+
+abbrev pub PlanIn : Source → (from n : ℕ) → Type 0
+PlanIn s from n = SomePlan s.sheet.now s.records.a.now s.records.b.now s.ops.now s.rest.now from n
+
+-- that it is written
+abbrev pub LineWrote : Source → ℕ → Page → ℕ → Page → Type 0
+LineWrote s i p next q = WroteLine s.sheet.now s.records.a.now s.records.b.now i p next q
+
+abbrev pub YieldsWrote : Source → (base n i : ℕ) → Page → Page → Type 0
+YieldsWrote s base n i p q = WroteYields s.sheet.now s.records.a.now s.records.b.now s.rest.now base n i p q
+
+abbrev pub PathWrote : Source → (base n i : ℕ) → Page → Page → Type 0
+PathWrote s base n i p q = WrotePath s.sheet.now s.records.a.now s.records.b.now s.rest.now base n i p q
+
+abbrev pub FirstWrote : Source → Op → Page → Page → Type 0
+FirstWrote s o p q = WroteFirst s.sheet.now s.records.a.now s.records.b.now s.rest.now o p q
+
+abbrev pub TailWrote : Source → Op → ℕ → Page → Page → Type 0
+TailWrote s o i p q = WroteTail s.sheet.now s.records.a.now s.records.b.now s.rest.now o i p q
+
+abbrev pub OpWrote : Source → ℕ → Page → Page → Type 0
+OpWrote s k p q = WroteOp s.sheet.now s.records.a.now s.records.b.now s.ops.now s.rest.now k p q
 
 -- ── what operator k has behind its first line ──
 

@@ -1,10 +1,10 @@
 // What stands behind the first line of an operator, but for copies: where its expressions, items and elements are, its labels, its path, its yields.
 ghost use Rattle.std.specs.Prelude.{◌≡◌, ◌+◌, ◌<◌};
-ghost use Rattle.words.specs.Words.{cell, max_records};
+ghost use Rattle.words.specs.Words.{max_records};
 ghost use Rattle.words.specs.Places.{call_yields_at};
 ghost use Rattle.plan_sheet.specs.Due.{NotedAsked};
-ghost use Rattle.plan_sheet.specs.Asked.{exprs_of, items_of, at_record};
-ghost use Rattle.plan_sheet.specs.Behind.{many_of, first_of, Yields, WroteYields, SomeTail, WroteTail};
+ghost use Rattle.plan_sheet.specs.Asked.{exprs_of, items_of, at_record, TailIn, TailWrote, YieldsWrote, YieldsIn, word_of};
+ghost use Rattle.plan_sheet.specs.Behind.{many_of, first_of};
 
 use crate::source::Source;
 use crate::write::{At, Run};
@@ -93,8 +93,8 @@ pub fn items_of(r: &Records<'_>, w: Op, k: usize) -> Run
 
 // The yields of a `call`, from record i on, with the numbers that are noted at them.
 fn put_yields(page: &mut Page<'_>, s: &Source<'_>, w: Op, i: usize)
-    requires { NotedAsked w (Yields s.now.sheet.now s.now.records.a.now s.now.records.b.now (cell s.now.records.a.now s.now.records.b.now w.idx call_yields_at) i) }
-    ensures { WroteYields s.now.sheet.now s.now.records.a.now s.now.records.b.now s.now.rest.now w.base (cell s.now.records.a.now s.now.records.b.now w.idx call_yields_at) i page.old page.new }
+    requires { NotedAsked w (YieldsIn s.now (word_of s.now w.idx call_yields_at) i) }
+    ensures { YieldsWrote s.now w.base (word_of s.now w.idx call_yields_at) i page.old page.new }
 {
     let base = w.base as usize;
     let n = s.records.count(w.idx as usize, field::CALL_YIELDS);
@@ -103,14 +103,14 @@ fn put_yields(page: &mut Page<'_>, s: &Source<'_>, w: Op, i: usize)
         let from = s.records.word(at, field::YIELD_NAME);
         let to = s.records.word(at, field::YIELD_NAME + 1);
         let number = note_of(s.rest, base, at);
-        put_named(page, Keyword::Yield, part(s.sheet, from, to), &[number]);
+        put_named(page, Keyword::Yield, part(s.sheet, from, to), [number]);
     }
 }
 
 // What is behind the expressions of an operator, from record i on.
 pub fn put_tail(page: &mut Page<'_>, s: &Source<'_>, w: Op, i: usize)
-    requires { NotedAsked w (SomeTail s.now.sheet.now s.now.records.a.now s.now.records.b.now s.now.rest.now w i) }
-    ensures { WroteTail s.now.sheet.now s.now.records.a.now s.now.records.b.now s.now.rest.now w i page.old page.new }
+    requires { NotedAsked w (TailIn s.now w i) }
+    ensures { TailWrote s.now w i page.old page.new }
 {
     let kind = w.kind;
     match kind {

@@ -7,7 +7,7 @@ ghost use Rattle.words.specs.Words.{cell, max_records};
 ghost use Rattle.words.specs.Places.{items_at, with_filter_at, call_args_at, call_yields_at, call_optional_at, call_name_at};
 ghost use Rattle.context.specs.Ops.{bind_path_kind};
 ghost use Rattle.plan_line.specs.Row.{numbers_text, row_text, call_text};
-ghost use Rattle.plan_sheet.specs.Due.{OpShown, WroteFirst, TextAsked, text_at};
+ghost use Rattle.plan_sheet.specs.Asked.{OpIn, FirstWrote, TextIn, text_of, word_of};
 
 use crate::source::Source;
 use context::op;
@@ -27,7 +27,7 @@ fn put_with(page: &mut Page<'_>, r: &Records<'_>, i: usize, input: u32)
 {
     let items = r.word(i, field::ITEMS);
     let filter = r.word(i, field::WITH_FILTER);
-    put_row(page, Keyword::With, &[input, items, filter]);
+    put_row(page, Keyword::With, [input, items, filter]);
 }
 
 // A `return`: how many items it has.
@@ -36,7 +36,7 @@ fn put_project(page: &mut Page<'_>, r: &Records<'_>, i: usize, input: u32)
     ensures { Puts (row_text Keyword.Project (input ∷ cell r.now.a.now r.now.b.now i items_at ∷ [])) page.old page.new }
 {
     let items = r.word(i, field::ITEMS);
-    put_row(page, Keyword::Project, &[input, items]);
+    put_row(page, Keyword::Project, [input, items]);
 }
 
 // The input of a procedure, or that it has none.
@@ -58,13 +58,13 @@ fn put_counts(page: &mut Page<'_>, r: &Records<'_>, i: usize)
     let args = r.word(i, field::CALL_ARGS);
     let yields = r.word(i, field::CALL_YIELDS);
     let optional = r.word(i, field::CALL_OPTIONAL);
-    put_end(page, &[args, yields, optional]);
+    put_end(page, [args, yields, optional]);
 }
 
 // A `call`: its input, its procedure's name, and its numbers.
 fn put_procedure(page: &mut Page<'_>, s: &Source<'_>, i: usize, input: Option<usize>)
-    requires { TextAsked s.now.sheet.now s.now.records.a.now s.now.records.b.now i call_name_at }
-    ensures { Puts (call_text input (text_at s.now.sheet.now s.now.records.a.now s.now.records.b.now i call_name_at) (cell s.now.records.a.now s.now.records.b.now i call_args_at) (cell s.now.records.a.now s.now.records.b.now i call_yields_at) (cell s.now.records.a.now s.now.records.b.now i call_optional_at)) page.old page.new }
+    requires { TextIn s.now i call_name_at }
+    ensures { Puts (call_text input (text_of s.now i call_name_at) (word_of s.now i call_args_at) (word_of s.now i call_yields_at) (word_of s.now i call_optional_at)) page.old page.new }
 {
     let from = s.records.word(i, field::CALL_NAME);
     let to = s.records.word(i, field::CALL_NAME + 1);
@@ -76,24 +76,24 @@ fn put_procedure(page: &mut Page<'_>, s: &Source<'_>, i: usize, input: Option<us
 
 // The first line of an operator that is none of a pattern's.
 pub fn put_clause_op(page: &mut Page<'_>, s: &Source<'_>, w: Op)
-    requires op_shown { OpShown s.now.sheet.now s.now.records.a.now s.now.records.b.now s.now.rest.now w }
+    requires op_in { OpIn s.now w }
     requires bind_path_kind_lt_kind { bind_path_kind < w.kind }
-    ensures { WroteFirst s.now.sheet.now s.now.records.a.now s.now.records.b.now s.now.rest.now w page.old page.new }
+    ensures { FirstWrote s.now w page.old page.new }
 {
     let kind = w.kind;
     let idx = w.idx as usize;
     let input = w.input;
     match kind {
-        op::OPTIONAL_JOIN => put_row(page, Keyword::Optional, &[input]),
+        op::OPTIONAL_JOIN => put_row(page, Keyword::Optional, [input]),
         op::WITH => put_with(page, &s.records, idx, input),
         op::PROJECT => put_project(page, &s.records, idx, input),
-        op::AGGREGATE => put_row(page, Keyword::Agg, &[input, w.x, w.y]),
-        op::ORDER_BY => put_row(page, Keyword::Order, &[input, w.x]),
-        op::SKIP => put_row(page, Keyword::Skip, &[input]),
-        op::LIMIT => put_row(page, Keyword::Limit, &[input]),
-        op::DISTINCT => put_row(page, Keyword::Distinct, &[input]),
-        op::UNWIND => put_row(page, Keyword::Unwind, &[input, w.x]),
-        op::UNION => put_row(page, Keyword::Union, &[input, w.x, w.y]),
+        op::AGGREGATE => put_row(page, Keyword::Agg, [input, w.x, w.y]),
+        op::ORDER_BY => put_row(page, Keyword::Order, [input, w.x]),
+        op::SKIP => put_row(page, Keyword::Skip, [input]),
+        op::LIMIT => put_row(page, Keyword::Limit, [input]),
+        op::DISTINCT => put_row(page, Keyword::Distinct, [input]),
+        op::UNWIND => put_row(page, Keyword::Unwind, [input, w.x]),
+        op::UNION => put_row(page, Keyword::Union, [input, w.x, w.y]),
         _ => put_procedure(page, s, idx, op::call_input(w)),
     }
 }

@@ -6,7 +6,7 @@ ghost use Rattle.words.specs.Words.{cell, max_records};
 ghost use Rattle.words.specs.Places.{fn_args_at, list_predicate_kind_at, list_predicate_pred_at, name_at};
 ghost use Rattle.plan_line.specs.Row.{row_text, named_text};
 ghost use Rattle.model.specs.Lower.{expr_head};
-ghost use Rattle.plan_sheet.specs.Due.{ExprAt, SomeLine, WroteLine, TextAsked, KindAsked, text_at};
+ghost use Rattle.plan_sheet.specs.Asked.{TextIn, text_of, ExprIn, LineIn, LineWrote, KindIn, word_of};
 
 use crate::source::Source;
 use output::Page;
@@ -19,13 +19,13 @@ use words::{field, kind};
 
 // A function's name and how many arguments it has.
 fn put_call(page: &mut Page<'_>, s: &Source<'_>, i: usize)
-    requires { TextAsked s.now.sheet.now s.now.records.a.now s.now.records.b.now i name_at }
-    ensures { Puts (named_text Keyword.Fn (text_at s.now.sheet.now s.now.records.a.now s.now.records.b.now i name_at) (cell s.now.records.a.now s.now.records.b.now i fn_args_at ∷ [])) page.old page.new }
+    requires { TextIn s.now i name_at }
+    ensures { Puts (named_text Keyword.Fn (text_of s.now i name_at) (word_of s.now i fn_args_at ∷ [])) page.old page.new }
 {
     let from = s.records.word(i, field::NAME);
     let to = s.records.word(i, field::NAME + 1);
     let n = s.records.word(i, field::FN_ARGS);
-    put_named(page, Keyword::Fn, part(s.sheet, from, to), &[n]);
+    put_named(page, Keyword::Fn, part(s.sheet, from, to), [n]);
 }
 
 // A list predicate, whose variable has the number n.
@@ -35,29 +35,29 @@ fn put_any(page: &mut Page<'_>, r: &Records<'_>, i: usize, n: u32)
 {
     let x = r.word(i, field::LIST_PREDICATE_KIND);
     let z = r.word(i, field::LIST_PREDICATE_PRED);
-    put_row(page, Keyword::ListPredicate, &[x, n, z]);
+    put_row(page, Keyword::ListPredicate, [x, n, z]);
 }
 
 // The first line of the expression at record i, at which the number n is noted.
 pub fn put_expr(page: &mut Page<'_>, s: &Source<'_>, i: usize, kind: u32, n: u32)
-    requires { KindAsked s.now.records.a.now s.now.records.b.now i kind (ExprAt s.now.sheet.now s.now.records.a.now s.now.records.b.now i) }
-    ensures { (h : ExprAt s.now.sheet.now s.now.records.a.now s.now.records.b.now i) → Puts (spell_rec (expr_head n h.kind h.fields)) page.old page.new }
+    requires { KindIn s.now i kind (ExprIn s.now i) }
+    ensures { (h : ExprIn s.now i) → Puts (spell_rec (expr_head n h.kind h.fields)) page.old page.new }
 {
     match kind {
-        kind::VAR => put_row(page, Keyword::Var, &[n]),
+        kind::VAR => put_row(page, Keyword::Var, [n]),
         kind::INT => put_int(page, &s.records, i),
         kind::FN => put_call(page, s, i),
-        kind::PAT => put_row(page, Keyword::Exists, &[]),
+        kind::PAT => put_row(page, Keyword::Exists, []),
         kind::LIST_PREDICATE => put_any(page, &s.records, i, n),
-        kind::UNRES | kind::UNDES => put_row(page, Keyword::Null, &[]),
+        kind::UNRES | kind::UNDES => put_row(page, Keyword::Null, []),
         _ => put_copied(page, s.sheet, &s.records, i),
     }
 }
 
 // The line before an expression, if record i is one: a map's name, a sort key, or an item's name. Answers the expression's record.
 pub fn put_before(page: &mut Page<'_>, s: &Source<'_>, i: usize) -> usize
-    requires { SomeLine s.now.sheet.now s.now.records.a.now s.now.records.b.now i }
-    ensures { WroteLine s.now.sheet.now s.now.records.a.now s.now.records.b.now i page.old result page.new }
+    requires { LineIn s.now i }
+    ensures { LineWrote s.now i page.old result page.new }
 {
     let kind = s.records.word(i, field::KIND);
     match kind {

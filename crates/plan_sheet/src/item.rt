@@ -6,8 +6,8 @@ ghost use Rattle.output.specs.Page.{Puts};
 ghost use Rattle.words.specs.Places.{name_at};
 ghost use Rattle.plan_line.specs.Row.{named_text};
 ghost use Rattle.model.specs.Lower.{expr_alias};
-ghost use Rattle.plan_sheet.specs.Parted.{agg_text};
-ghost use Rattle.plan_sheet.specs.Due.{ExprAt, ItemAt, named_rec, item_name, TextAsked, text_at};
+ghost use Rattle.plan_sheet.specs.Due.{named_rec, item_name};
+ghost use Rattle.plan_sheet.specs.Asked.{TextIn, text_of, ExprIn, ItemIn, agg_text_of};
 
 use crate::source::Source;
 use output::Page;
@@ -18,12 +18,12 @@ use words::{field, kind};
 
 // The name that record i has: an item's alias, a property, a function.
 fn put_own_name(page: &mut Page<'_>, s: &Source<'_>, i: usize)
-    requires { TextAsked s.now.sheet.now s.now.records.a.now s.now.records.b.now i name_at }
-    ensures { Puts (named_text Keyword.Item (text_at s.now.sheet.now s.now.records.a.now s.now.records.b.now i name_at) []) page.old page.new }
+    requires { TextIn s.now i name_at }
+    ensures { Puts (named_text Keyword.Item (text_of s.now i name_at) []) page.old page.new }
 {
     let from = s.records.word(i, field::NAME);
     let to = s.records.word(i, field::NAME + 1);
-    put_named(page, Keyword::Item, part(s.sheet, from, to), &[]);
+    put_named(page, Keyword::Item, part(s.sheet, from, to), []);
 }
 
 // `_v` and a variable's id.
@@ -41,13 +41,13 @@ fn put_id_name(page: &mut Page<'_>, id: u32)
 fn put_no_name(page: &mut Page<'_>)
     ensures { Puts (named_text Keyword.Item (bytes "_") []) page.old page.new }
 {
-    put_named(page, Keyword::Item, b"_", &[]);
+    put_named(page, Keyword::Item, b"_", []);
 }
 
 // The name of an item without an alias, whose expression is at record i.
 fn put_synthesised(page: &mut Page<'_>, s: &Source<'_>, i: usize)
-    requires { ExprAt s.now.sheet.now s.now.records.a.now s.now.records.b.now i }
-    ensures { (h : ExprAt s.now.sheet.now s.now.records.a.now s.now.records.b.now i) → Puts (spell_rec (named_rec (expr_alias h.kind h.fields))) page.old page.new }
+    requires { ExprIn s.now i }
+    ensures { (h : ExprIn s.now i) → Puts (spell_rec (named_rec (expr_alias h.kind h.fields))) page.old page.new }
 {
     let kind = s.records.word(i, field::KIND);
     let id = s.records.word(i, field::VAR_ID);
@@ -60,8 +60,8 @@ fn put_synthesised(page: &mut Page<'_>, s: &Source<'_>, i: usize)
 
 // The item at record i.
 pub fn put_item(page: &mut Page<'_>, s: &Source<'_>, i: usize)
-    requires { ItemAt s.now.sheet.now s.now.records.a.now s.now.records.b.now i }
-    ensures { (h : ItemAt s.now.sheet.now s.now.records.a.now s.now.records.b.now i) → Puts (spell_rec (named_rec (item_name h))) page.old page.new }
+    requires { ItemIn s.now i }
+    ensures { (h : ItemIn s.now i) → Puts (spell_rec (named_rec (item_name h))) page.old page.new }
 {
     let alias = s.records.word(i, field::ITEM_ALIAS);
     if alias != 0 {
@@ -72,8 +72,8 @@ pub fn put_item(page: &mut Page<'_>, s: &Source<'_>, i: usize)
 
 // An aggregate: its function's name, how many arguments it has, and whether they are distinct.
 pub fn put_agg(page: &mut Page<'_>, s: &Source<'_>, i: usize)
-    requires { TextAsked s.now.sheet.now s.now.records.a.now s.now.records.b.now i name_at }
-    ensures { Puts (agg_text s.now.sheet.now s.now.records.a.now s.now.records.b.now i) page.old page.new }
+    requires { TextIn s.now i name_at }
+    ensures { Puts (agg_text_of s.now i) page.old page.new }
 {
     let from = s.records.word(i, field::NAME);
     let to = s.records.word(i, field::NAME + 1);
@@ -83,6 +83,6 @@ pub fn put_agg(page: &mut Page<'_>, s: &Source<'_>, i: usize)
         page,
         Keyword::AggFn,
         part(s.sheet, from, to),
-        &[args, distinct],
+        [args, distinct],
     );
 }

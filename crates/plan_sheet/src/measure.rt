@@ -1,10 +1,12 @@
 // How many bytes the first line of an expression has, and the line before one: what is only counted.
+// Apart from the functions of `head` that write these lines: with both passes as their callers those were no longer put in place, 90 instructions a record more (docs/PERFORMANCE.md, step 9).
 ghost use Rattle.std.specs.Prelude.{◌≡◌, ◌<◌, length};
 ghost use Rattle.model.specs.Text.{Bytes};
 ghost use Rattle.words.specs.Words.{max_records};
 ghost use Rattle.words.specs.Places.{name_at};
-ghost use Rattle.plan_sheet.specs.Due.{ExprAt, SomeLine, WroteLine, TextAsked, KindAsked};
+ghost use Rattle.plan_sheet.specs.Due.{ExprAt, TextAsked, KindAsked};
 ghost use Rattle.plan_sheet.specs.Measure.{AnyBytes, CallBytes, HeadBytes};
+ghost use Rattle.plan_sheet.specs.Asked.{LineIn, LineWrote};
 
 use crate::source::Source;
 use output::Page;
@@ -62,11 +64,11 @@ pub fn expr_bytes(r: &Records<'_>, i: usize, kind: u32, n: u32) -> usize
     }
 }
 
-// The line before an expression, if record i is one, on an empty part of the slice. Apart from `put_before`, since a line that is copied there is not gone over here: its length stands in the record.
+// The line before an expression, if record i is one, on an empty part of the slice. Answers the expression's record.
 pub fn measure_before(page: &mut Page<'_>, s: &Source<'_>, i: usize) -> usize
     requires bytes_len { length page.old.bytes.now ≡ 0 }
-    requires some_line { SomeLine s.now.sheet.now s.now.records.a.now s.now.records.b.now i }
-    ensures { WroteLine s.now.sheet.now s.now.records.a.now s.now.records.b.now i page.old result page.new }
+    requires some_line { LineIn s.now i }
+    ensures { LineWrote s.now i page.old result page.new }
 {
     let kind = s.records.word(i, field::KIND);
     match kind {

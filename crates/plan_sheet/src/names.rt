@@ -4,9 +4,10 @@ ghost use Rattle.model.specs.Record.{spell_rec, spell_recs};
 ghost use Rattle.output.specs.Page.{Puts};
 ghost use Rattle.words.specs.Words.{cell, max_records};
 ghost use Rattle.lower.specs.Render.{spec_rec};
-ghost use Rattle.plan_sheet.specs.Due.{Names, names_recs, ElementAt, TextAsked, KindAsked, text_at};
+ghost use Rattle.plan_sheet.specs.Due.{Names, names_recs};
 ghost use Rattle.words.specs.Places.{node_labels_at, node_props_at, rel_types_at, rel_direction_at, rel_length_at, rel_props_at};
 ghost use Rattle.plan_line.specs.Row.{row_text, rel_text};
+ghost use Rattle.plan_sheet.specs.Asked.{TextIn, text_of, NamesIn, ElementIn, KindIn, word_of};
 
 use crate::source::Source;
 use output::Page;
@@ -19,8 +20,8 @@ use words::{field, kind};
 
 // The n names from record i on. Answers the record behind them.
 pub fn put_names(page: &mut Page<'_>, s: &Source<'_>, i: usize, n: usize) -> usize
-    requires { Names s.now.sheet.now s.now.records.a.now s.now.records.b.now n i }
-    ensures { (h : Names s.now.sheet.now s.now.records.a.now s.now.records.b.now n i) → (result ≡ i + n) × Puts (spell_recs (names_recs h)) page.old page.new }
+    requires { NamesIn s.now n i }
+    ensures { (h : NamesIn s.now n i) → (result ≡ i + n) × Puts (spell_recs (names_recs h)) page.old page.new }
 {
     let next = i + n;
     for at in i..next {
@@ -31,8 +32,8 @@ pub fn put_names(page: &mut Page<'_>, s: &Source<'_>, i: usize, n: usize) -> usi
 
 // A rel without its variable and its span.
 fn put_rel(page: &mut Page<'_>, s: &Source<'_>, i: usize)
-    requires { TextAsked s.now.sheet.now s.now.records.a.now s.now.records.b.now i rel_length_at }
-    ensures { Puts (rel_text (cell s.now.records.a.now s.now.records.b.now i rel_types_at) (cell s.now.records.a.now s.now.records.b.now i rel_direction_at) (text_at s.now.sheet.now s.now.records.a.now s.now.records.b.now i rel_length_at) (cell s.now.records.a.now s.now.records.b.now i rel_props_at)) page.old page.new }
+    requires { TextIn s.now i rel_length_at }
+    ensures { Puts (rel_text (word_of s.now i rel_types_at) (word_of s.now i rel_direction_at) (text_of s.now i rel_length_at) (word_of s.now i rel_props_at)) page.old page.new }
 {
     let types = s.records.word(i, field::REL_TYPES);
     let direction = s.records.word(i, field::REL_DIRECTION);
@@ -54,13 +55,13 @@ fn put_node(page: &mut Page<'_>, r: &Records<'_>, i: usize)
 {
     let labels = r.word(i, field::NODE_LABELS);
     let props = r.word(i, field::NODE_PROPS);
-    put_row(page, Keyword::To, &[labels, props]);
+    put_row(page, Keyword::To, [labels, props]);
 }
 
 // The element at record i: a node, or else a rel.
 pub fn put_element(page: &mut Page<'_>, s: &Source<'_>, i: usize, kind: u32)
-    requires { KindAsked s.now.records.a.now s.now.records.b.now i kind (ElementAt s.now.sheet.now s.now.records.a.now s.now.records.b.now i) }
-    ensures { (h : ElementAt s.now.sheet.now s.now.records.a.now s.now.records.b.now i) → Puts (spell_rec (spec_rec h.kind h.fields)) page.old page.new }
+    requires { KindIn s.now i kind (ElementIn s.now i) }
+    ensures { (h : ElementIn s.now i) → Puts (spell_rec (spec_rec h.kind h.fields)) page.old page.new }
 {
     if kind == kind::NODE {
         return put_node(page, &s.records, i);

@@ -6,7 +6,8 @@ ghost use Rattle.words.specs.Words.{cell, max_records};
 ghost use Rattle.words.specs.Places.{node_kind, node_props_at, rel_props_at, node_labels_at, part_shortest_at};
 ghost use Rattle.context.specs.Read.{note_of};
 ghost use Rattle.plan_line.specs.Row.{row_text};
-ghost use Rattle.plan_sheet.specs.Due.{NotesIn, NotedAsked, OpShown, WroteFirst};
+ghost use Rattle.plan_sheet.specs.Due.{NotesIn, NotedAsked};
+ghost use Rattle.plan_sheet.specs.Asked.{OpIn, FirstWrote, word_of};
 
 use crate::source::Source;
 use context::op;
@@ -43,13 +44,13 @@ fn put_expand(page: &mut Page<'_>, s: &Source<'_>, w: Op)
     let base = w.base as usize;
     let bind = note_of(s.rest, base, w.idx as usize);
     let to = note_of(s.rest, base, w.y as usize);
-    put_row(page, Keyword::Expand, &[w.input, w.x, bind, to]);
+    put_row(page, Keyword::Expand, [w.input, w.x, bind, to]);
 }
 
 // The first line of a shortest part, which notes the path's number; its first node is the record behind it.
 fn put_short(page: &mut Page<'_>, s: &Source<'_>, w: Op)
     requires { NotedAsked w (w.y < max_records) }
-    ensures { Puts (row_text Keyword.Short (w.input ∷ note_of s.now.rest.now w.base (w.idx + 1) ∷ note_of s.now.rest.now w.base w.y ∷ note_of s.now.rest.now w.base w.idx ∷ one (eqb (cell s.now.records.a.now s.now.records.b.now w.idx part_shortest_at) all_shortest) ∷ [])) page.old page.new }
+    ensures { Puts (row_text Keyword.Short (w.input ∷ note_of s.now.rest.now w.base (w.idx + 1) ∷ note_of s.now.rest.now w.base w.y ∷ note_of s.now.rest.now w.base w.idx ∷ one (eqb (word_of s.now w.idx part_shortest_at) all_shortest) ∷ [])) page.old page.new }
 {
     let base = w.base as usize;
     let i = w.idx as usize;
@@ -57,7 +58,7 @@ fn put_short(page: &mut Page<'_>, s: &Source<'_>, w: Op)
     let to = note_of(s.rest, base, w.y as usize);
     let path = note_of(s.rest, base, i);
     let all = u32::from(s.records.word(i, field::PART_SHORTEST) == ALL_SHORTEST);
-    put_row(page, Keyword::Short, &[w.input, from, to, path, all]);
+    put_row(page, Keyword::Short, [w.input, from, to, path, all]);
 }
 
 // The first line of a source by labels.
@@ -66,22 +67,22 @@ fn put_source(page: &mut Page<'_>, r: &Records<'_>, i: usize, x: u32)
     ensures { Puts (row_text Keyword.Source (x ∷ cell r.now.a.now r.now.b.now i node_labels_at ∷ [])) page.old page.new }
 {
     let labels = r.word(i, field::NODE_LABELS);
-    put_row(page, Keyword::Source, &[x, labels]);
+    put_row(page, Keyword::Source, [x, labels]);
 }
 
 // The first line of an operator: of a pattern's here, of a clause's there.
 pub fn put_op(page: &mut Page<'_>, s: &Source<'_>, w: Op)
-    requires { OpShown s.now.sheet.now s.now.records.a.now s.now.records.b.now s.now.rest.now w }
-    ensures { WroteFirst s.now.sheet.now s.now.records.a.now s.now.records.b.now s.now.rest.now w page.old page.new }
+    requires { OpIn s.now w }
+    ensures { FirstWrote s.now w page.old page.new }
 {
     let kind = w.kind;
     match kind {
-        op::SOURCE_ALL | op::SOURCE_NO_PARTS => put_row(page, Keyword::Source, &[w.x, 0]),
+        op::SOURCE_ALL | op::SOURCE_NO_PARTS => put_row(page, Keyword::Source, [w.x, 0]),
         op::SOURCE => put_source(page, &s.records, w.idx as usize, w.x),
-        op::FILTER => put_row(page, Keyword::Filter, &[w.input]),
+        op::FILTER => put_row(page, Keyword::Filter, [w.input]),
         op::EXPAND => put_expand(page, s, w),
         op::SHORTEST_PATH => put_short(page, s, w),
-        op::BIND_PATH => put_row(page, Keyword::Path, &[w.input, w.y, w.x]),
+        op::BIND_PATH => put_row(page, Keyword::Path, [w.input, w.y, w.x]),
         _ => crate::clause::put_clause_op(page, s, w),
     }
 }

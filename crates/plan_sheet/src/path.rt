@@ -3,12 +3,13 @@ ghost use Rattle.std.specs.Prelude.{◌<◌};
 ghost use Rattle.model.specs.Record.{spell_recs};
 ghost use Rattle.model.specs.Lower.{path_elements};
 ghost use Rattle.output.specs.Page.{Puts};
-ghost use Rattle.words.specs.Words.{cell, max_records};
+ghost use Rattle.words.specs.Words.{max_records};
 ghost use Rattle.words.specs.Places.{part_elements_at};
 ghost use Rattle.lower.specs.Render.{kept_rel};
 ghost use Rattle.lower.specs.Shows.{shift};
 ghost use Rattle.plan_sheet.specs.Due.{noted, NotedAsked};
-ghost use Rattle.plan_sheet.specs.Path.{waits_of, StepAsked, Stepped, Elements, WrotePath};
+ghost use Rattle.plan_sheet.specs.Path.{waits_of, StepAsked, Stepped};
+ghost use Rattle.plan_sheet.specs.Asked.{PathWrote, ElementsIn, word_of};
 
 use crate::source::Source;
 use context::op::Op;
@@ -18,7 +19,7 @@ use plan_line::keyword::Keyword;
 use plan_line::row::put_row;
 use words::{field, kind};
 
-// So far: whether there was a node, and the record of the rel that waits for its far node, if one does.
+// So far: whether there was a node, and the record of the rel that waits for its far node, if one does. Neither tells the other: a rel may wait before any node and behind one.
 #[derive(Clone, Copy)]
 pub struct Path {
     pub seen: bool,
@@ -35,7 +36,7 @@ fn put_kept(page: &mut Page<'_>, s: &Source<'_>, base: usize, path: Path)
     };
     if path.seen {
         let n = note_of(s.rest, base, i);
-        put_row(page, Keyword::Element, &[n]);
+        put_row(page, Keyword::Element, [n]);
     }
 }
 
@@ -55,7 +56,7 @@ fn put_step(
     if kind == kind::NODE {
         put_kept(page, s, base, path);
         let n = note_of(s.rest, base, i);
-        put_row(page, Keyword::Element, &[n]);
+        put_row(page, Keyword::Element, [n]);
         return Path {
             seen: true,
             waits: None,
@@ -69,8 +70,8 @@ fn put_step(
 
 // The elements of a part, from record i on.
 pub fn put_path(page: &mut Page<'_>, s: &Source<'_>, w: Op, i: usize)
-    requires { NotedAsked w (Elements s.now.sheet.now s.now.records.a.now s.now.records.b.now (cell s.now.records.a.now s.now.records.b.now w.idx part_elements_at) i) }
-    ensures { WrotePath s.now.sheet.now s.now.records.a.now s.now.records.b.now s.now.rest.now w.base (cell s.now.records.a.now s.now.records.b.now w.idx part_elements_at) i page.old page.new }
+    requires { NotedAsked w (ElementsIn s.now (word_of s.now w.idx part_elements_at) i) }
+    ensures { PathWrote s.now w.base (word_of s.now w.idx part_elements_at) i page.old page.new }
 {
     let base = w.base as usize;
     let mut at = i;

@@ -1,7 +1,6 @@
 // Expressions, elements of patterns and operators, with the operators that they copy.
 ghost use Rattle.std.specs.Prelude.{◌≡◌, ◌+◌, length};
-ghost use Rattle.plan_sheet.specs.Due.{SomePlan, WroteOp};
-ghost use Rattle.plan_sheet.specs.Asked.{ExprAsked, ExprWrote, ExprsAsked, ExprsWrote, ElementAsked, ElementWrote, PartAsked, PartWrote, PartsAsked, PartsWrote, ItemsAsked, ItemsWrote};
+ghost use Rattle.plan_sheet.specs.Asked.{ExprAsked, ExprWrote, ExprsAsked, ExprsWrote, ElementAsked, ElementWrote, PartAsked, PartWrote, PartsAsked, PartsWrote, ItemsAsked, ItemsWrote, PlanIn, OpWrote};
 
 use crate::behind::{at_record, exprs_of, items_of, put_tail};
 use crate::measure::{expr_bytes, measure_before};
@@ -73,6 +72,7 @@ fn write_exprs(page: &mut Page<'_>, s: &Source<'_>, run: Run) -> usize
 }
 
 // Expressions, each behind its line if it has one, on an empty part of the slice: counted from record to record, what is below one before those behind it.
+// Apart from `write_exprs`, which calls itself for what is below one, since a call for each costs 48 instructions a record more. `due` grows, so that no `for` fits.
 #[cycle(writer)]
 fn measure_exprs(page: &mut Page<'_>, s: &Source<'_>, run: Run) -> usize
     requires bytes_len { length page.old.bytes.now ≡ 0 }
@@ -193,8 +193,8 @@ fn write_items(page: &mut Page<'_>, s: &Source<'_>, run: Run)
 // Operator k.
 #[cycle(writer)]
 pub fn write_op(page: &mut Page<'_>, s: &Source<'_>, k: usize)
-    requires { SomePlan s.now.sheet.now s.now.records.a.now s.now.records.b.now s.now.ops.now s.now.rest.now k (k + 1) }
-    ensures { WroteOp s.now.sheet.now s.now.records.a.now s.now.records.b.now s.now.ops.now s.now.rest.now k page.old page.new }
+    requires { PlanIn s.now k (k + 1) }
+    ensures { OpWrote s.now k page.old page.new }
 {
     let w = op::read_op(s.ops, k);
     crate::op::put_op(page, s, w);

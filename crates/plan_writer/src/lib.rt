@@ -3,7 +3,7 @@
 
 ghost use Rattle.std.specs.Prelude.{◌≤◌};
 ghost use Rattle.context.specs.Tables.{max_vars};
-ghost use Rattle.plan_sheet.specs.Due.{SomePlan};
+ghost use Rattle.plan_sheet.specs.Asked.{PlanIn};
 ghost use Rattle.plan_writer.specs.Whole.{SomeTables, WroteOps, WroteVars, WrotePlan};
 
 use crate::pair::{Counts, write_pair};
@@ -16,7 +16,7 @@ pub mod pair;
 
 // The operators from number `first` on and below `end`.
 fn write_ops(page: &mut Page<'_>, s: &Source<'_>, first: usize, end: usize)
-    requires { SomePlan s.now.sheet.now s.now.records.a.now s.now.records.b.now s.now.ops.now s.now.rest.now first end }
+    requires { PlanIn s.now first end }
     ensures { WroteOps s.now.sheet.now s.now.records.a.now s.now.records.b.now s.now.ops.now s.now.rest.now first end page.old page.new }
 {
     for k in first..end {
@@ -31,7 +31,7 @@ fn write_vars(page: &mut Page<'_>, s: &Source<'_>, n: usize)
 {
     for k in 0..n {
         let v = context::read::variable(s.rest, k);
-        put_row(page, Keyword::Variable, &[v.number, v.id]);
+        put_row(page, Keyword::Variable, [v.number, v.id]);
     }
 }
 

@@ -1,16 +1,16 @@
-// The lowering of a `with` or a `return` into the tables. r holds the records, ops the operators, rest the notes and the variables; a clause's place has no pass of its own.
+// The lowering of a `with` or a `return` into the tables. r holds the records; a clause's place has no pass of its own.
 #![tactic(auto)]
 
 ghost use Rattle.std.specs.Prelude.{◌≡◌, List, ℕ, Some};
 ghost use Rattle.words.specs.Places.{with_kind};
 ghost use Rattle.context.specs.Tables.{CanPush};
-ghost use Rattle.lower.specs.Rep.{mem};
+ghost use Rattle.lower.specs.Rep.{in_tables};
 ghost use Rattle.lower.specs.Clauses.{LowersClause};
 ghost use Rattle.projections.specs.Asked.{ClauseAsked, ReturnAsked};
 ghost use Rattle.projections.specs.Promises.{PushedIf};
 
 use context::op::Op;
-use context::{At, LowerCtx, op};
+use context::{At, LowerCtx, Tables, op};
 use lower::{Reached, Root};
 use words::{Records, field};
 
@@ -42,14 +42,13 @@ fn push_if(ops: &mut [u32], s: Reached, wanted: bool, x: Op, input: usize) -> Ro
 // The `with` at a place, behind the operator before it.
 pub fn lower_with(
     r: &Records<'_>,
-    ops: &mut [u32],
-    rest: &mut [u32],
+    tables: &mut Tables<'_>,
     ctx: LowerCtx,
     current: Option<usize>,
     at: At,
 ) -> Root
-    requires { ClauseAsked with_kind r.now.a.now r.now.b.now at current (mem ctx ops.old rest.old) }
-    ensures { (sheet : List ℕ) → LowersClause sheet r.now.a.now r.now.b.now at.left at.i result.next current (Some result.op) (mem ctx ops.old rest.old) (mem result.ctx ops.new rest.new) }
+    requires { ClauseAsked with_kind r.now.a.now r.now.b.now at current (in_tables ctx tables.old) }
+    ensures { (sheet : List ℕ) → LowersClause sheet r.now.a.now r.now.b.now at.left at.i result.next current (Some result.op) (in_tables ctx tables.old) (in_tables result.ctx tables.new) }
 {
     let i = at.i;
     let items = r.count(i, field::ITEMS);
@@ -61,35 +60,34 @@ pub fn lower_with(
         i,
         left: less,
     };
-    let q = lower::or_source_all(ops, ctx, current, first);
+    let q = lower::or_source_all(tables.ops, ctx, current, first);
     let below = At { i: first, ..clause };
-    let s = items::lower_items(r, ops, rest, q.ctx, below, items);
+    let s = items::lower_items(r, tables, q.ctx, below, items);
     let predicate = At {
         i: s.next,
         ..clause
     };
-    let t = lower::lower_exprs(r, ops, rest, s.ctx, predicate, filter, 0);
+    let t = lower::lower_exprs(r, tables, s.ctx, predicate, filter, 0);
     let k = t.ctx.ops;
-    let z = t.ctx.push(ops, op::over(op::WITH, clause, q.op));
+    let z = t.ctx.push(tables.ops, op::over(op::WITH, clause, q.op));
     let behind = At {
         i: t.next,
         ..clause
     };
-    trailers::lower_trailers(r, ops, rest, z, k, i, behind)
+    trailers::lower_trailers(r, tables, z, k, i, behind)
 }
 
 // The `return` at a place, behind the operator before it.
 pub fn lower_return(
     sheet: &[u8],
     r: &Records<'_>,
-    ops: &mut [u32],
-    rest: &mut [u32],
+    tables: &mut Tables<'_>,
     ctx: LowerCtx,
     current: Option<usize>,
     at: At,
 ) -> Root
-    requires { ReturnAsked sheet.now r.now.a.now r.now.b.now at current (mem ctx ops.old rest.old) }
-    ensures { LowersClause sheet.now r.now.a.now r.now.b.now at.left at.i result.next current (Some result.op) (mem ctx ops.old rest.old) (mem result.ctx ops.new rest.new) }
+    requires { ReturnAsked sheet.now r.now.a.now r.now.b.now at current (in_tables ctx tables.old) }
+    ensures { LowersClause sheet.now r.now.a.now r.now.b.now at.left at.i result.next current (Some result.op) (in_tables ctx tables.old) (in_tables result.ctx tables.new) }
 {
     let i = at.i;
     let n = r.count(i, field::ITEMS);
@@ -100,11 +98,11 @@ pub fn lower_return(
         i,
         left: less,
     };
-    let p = passes::first_pass(sheet, r, ops, rest, ctx, current, clause, n);
-    let q = passes::second_pass(r, ops, rest, p.ctx, p.op, distinct, clause, n);
+    let p = passes::first_pass(sheet, r, tables, ctx, current, clause, n);
+    let q = passes::second_pass(r, tables, p.ctx, p.op, distinct, clause, n);
     let behind = At {
         i: q.next,
         ..clause
     };
-    trailers::lower_trailers(r, ops, rest, q.ctx, q.op, i, behind)
+    trailers::lower_trailers(r, tables, q.ctx, q.op, i, behind)
 }

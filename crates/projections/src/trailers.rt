@@ -1,39 +1,38 @@
 // What trails a `with` or a `return`: order, skip, limit.
-ghost use Rattle.lower.specs.Rep.{mem};
+ghost use Rattle.lower.specs.Rep.{in_tables};
 ghost use Rattle.projections.specs.Asked.{TailAsked};
 ghost use Rattle.projections.specs.Promises.{LowersTail};
 
 use crate::{items, push_if};
-use context::{At, LowerCtx, op};
+use context::{At, LowerCtx, Tables, op};
 use lower::Root;
 use words::{Records, field};
 
 // Order, skip and limit of the clause at record i, from a place on; each that has no keys or no expression leaves the operator that it would stand over.
 pub fn lower_trailers(
     r: &Records<'_>,
-    ops: &mut [u32],
-    rest: &mut [u32],
+    tables: &mut Tables<'_>,
     ctx: LowerCtx,
     input: usize,
     i: usize,
     at: At,
 ) -> Root
-    requires { TailAsked r.now.a.now r.now.b.now at i input (mem ctx ops.old rest.old) }
-    ensures { LowersTail r.now.a.now r.now.b.now at.left input i at.i result.next result.op (mem ctx ops.old rest.old) (mem result.ctx ops.new rest.new) }
+    requires { TailAsked r.now.a.now r.now.b.now at i input (in_tables ctx tables.old) }
+    ensures { LowersTail r.now.a.now r.now.b.now at.left input i at.i result.next result.op (in_tables ctx tables.old) (in_tables result.ctx tables.new) }
 {
     let keys = r.count(i, field::KEYS);
     let skip = r.count(i, field::SKIP);
     let limit = r.count(i, field::LIMIT);
     let first = At { base: 0, ..at };
-    let s = items::lower_items(r, ops, rest, ctx, first, keys);
+    let s = items::lower_items(r, tables, ctx, first, keys);
     let x = op::order_by(first, input, keys);
-    let p = push_if(ops, s, keys != 0, x, input);
+    let p = push_if(tables.ops, s, keys != 0, x, input);
     let second = At { i: p.next, ..first };
-    let t = lower::lower_exprs(r, ops, rest, p.ctx, second, skip, 0);
+    let t = lower::lower_exprs(r, tables, p.ctx, second, skip, 0);
     let y = op::over(op::SKIP, second, p.op);
-    let q = push_if(ops, t, skip != 0, y, p.op);
+    let q = push_if(tables.ops, t, skip != 0, y, p.op);
     let third = At { i: q.next, ..first };
-    let u = lower::lower_exprs(r, ops, rest, q.ctx, third, limit, 0);
+    let u = lower::lower_exprs(r, tables, q.ctx, third, limit, 0);
     let z = op::over(op::LIMIT, third, q.op);
-    push_if(ops, u, limit != 0, z, q.op)
+    push_if(tables.ops, u, limit != 0, z, q.op)
 }

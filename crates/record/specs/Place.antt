@@ -1,4 +1,4 @@
--- Places in a sheet: where a line ends, where a piece of it ends, and what is read of the piece at a place. Assumes nothing: these are definitions.
+-- Places in a sheet: where a line ends, where a piece of it ends, and what is read of the piece at a place. Assumes nothing: these are definitions, and the proof that a line has its line feed in one way.
 use Rattle.std.specs.Prelude.{◌≡◌, Bool, true, false, cond, ℕ, ◌≤◌, ◌<◌, eqb, ltb, length, get_or, Option, None, Some, refl}
 use Rattle.std.specs.Coded.{le_prop}
 use Rattle.std.proofs.Common.{arith}

@@ -13,7 +13,7 @@ ghost use Rattle.statement.specs.Lowering.{Gives, behind};
 ghost use Rattle.statement.specs.Tables.{Lowered};
 
 use crate::{Refusal, Work};
-use context::LowerCtx;
+use context::{LowerCtx, Tables};
 use plan_sheet::source::Source;
 use plan_writer::write_plan;
 use precheck::precheck_statement;
@@ -43,21 +43,19 @@ fn write_lowered(s: &Source<'_>, ctx: LowerCtx, plan: &mut [u8]) -> Result<usize
 fn lower_checked(
     sheet: &[u8],
     r: &Records<'_>,
-    ops: &mut [u32],
-    rest: &mut [u32],
+    tables: &mut Tables<'_>,
     plan: &mut [u8],
 ) -> Result<usize, Refusal>
-    requires long { (work_words ≤ length ops.old) × (work_words ≤ length rest.old) }
-    requires held_some { HeldSome sheet.now r.now.a.now r.now.b.now statement max_depth 0 }
+    requires { HeldSome sheet.now r.now.a.now r.now.b.now statement max_depth 0 }
     ensures { (t : Tree statement) → Held sheet.now r.now.a.now r.now.b.now t max_depth 0 → Gives plan.old plan.new result (behind t) }
 {
     precheck_statement(r, words::MAX_DEPTH)?;
-    let ctx = clauses::lower(sheet, r, ops, rest);
+    let ctx = clauses::lower(sheet, r, tables);
     let source = Source {
         sheet,
         records: *r,
-        ops,
-        rest,
+        ops: tables.ops,
+        rest: tables.rest,
     };
     write_lowered(&source, ctx, plan)
 }
@@ -77,7 +75,8 @@ fn lower_read(
         return Err(Refusal::LongSheet);
     }
     read_sheet(sheet, records, c, words::MAX_DEPTH)?;
-    lower_checked(sheet, &records.shared(), c, d, plan)
+    let mut tables = Tables { ops: c, rest: d };
+    lower_checked(sheet, &records.shared(), &mut tables, plan)
 }
 
 // The lowering call: number, place, length and plan slice are those of the definition, for all arguments.

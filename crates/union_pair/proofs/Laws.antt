@@ -31,7 +31,7 @@ use Rattle.union_pair.specs.declared.PairRefusal.{PairRefusal}
 use Rattle.union_pair.specs.PairAnswer.{fault_values, pair_answer_of}
 use Rattle.sides.specs.Fault.{on_side_of}
 use Rattle.sides.specs.Sides.{FailsOn, BothTested, read_sides, check_sides}
-use Rattle.union_pair.specs.PairCall.{PairGives, Stand, LoweredBoth, BothLong, bytes_of, behind_bytes}
+use Rattle.union_pair.specs.PairCall.{PairGives, Stand, LoweredBoth, bytes_of, behind_bytes}
 
 -- ── test 9, and the plan ──
 
@@ -97,12 +97,8 @@ pub tested_as : {left right : Bytes} {la lb ra rb la' lb' ra' rb' : List ℕ} �
 tested_as e f b = rw (e.0, e.1, f.0, f.1) b
 
 module _ {left right : Bytes} {la lb ra rb : List ℕ} (b : BothTested left la lb right ra rb) where
-  -- slices stay long enough, with other contents
-  pub lowering_asked : {lo lr ro rr lo' ro' : List ℕ} → length lo' ≡ length lo → length ro' ≡ length ro → BothLong lo lr ro rr → PairAsked left la lb lo' lr right ra rb ro' rr
-  lowering_asked e f g = record {
-    on_left = record { held = record { tree = b.held.tree; is = b.held.on_left }; in_ops = rw e g.left_ops; in_rest = g.left_rest };
-    on_right = record { held = record { tree = b.held.tree₂; is = b.held.on_right }; in_ops = rw f g.right_ops; in_rest = g.right_rest };
-  }
+  pub lowering_asked : PairAsked left la lb right ra rb
+  lowering_asked = record { on_left = record { tree = b.held.tree; is = b.held.on_left }; on_right = record { tree = b.held.tree₂; is = b.held.on_right } }
 
   module _ {all : Bool} {los lrs ros rrs : List ℕ} {sides : Sides} (l : LowersPair left la lb los lrs right ra rb all sides.first (mem sides.ctx ros rrs)) where
     pub stands : Stand (side_tables left la lb los lrs) (side_tables right ra rb ros rrs) sides (lower_pair b.held.tree b.held.tree₂ all)

@@ -12,6 +12,7 @@ ghost use Rattle.union_pair.specs.PairAnswer.{pair_answer_of};
 ghost use Rattle.union_pair.specs.PairCall.{PairGives, bytes_of, LoweredBoth, Stand, BothLong, behind_bytes, works};
 
 use clauses::pair::{Side as OneSide, Sides, lower_union_pair as lower_both};
+use context::Tables;
 use plan_sheet::source::Source;
 use plan_writer::pair::{Counts, write_pair};
 use sides::{Fault, Side, SideFault, test_sides};
@@ -94,27 +95,35 @@ fn lower_tested(
     test_sides(left, l, left_ops, right, r, right_ops)?;
     let left_words = l.shared();
     let right_words = r.shared();
+    let left_tables = Tables {
+        ops: left_ops,
+        rest: left_rest,
+    };
+    let right_tables = Tables {
+        ops: right_ops,
+        rest: right_rest,
+    };
     let mut on_left = OneSide {
         sheet: left,
         records: left_words,
-        ops: left_ops,
-        rest: left_rest,
+        tables: left_tables,
     };
     let mut on_right = OneSide {
         sheet: right,
         records: right_words,
-        ops: right_ops,
-        rest: right_rest,
+        tables: right_tables,
     };
     let sides = lower_both(&mut on_left, &mut on_right, all);
-    let OneSide { ops, rest, .. } = on_left;
+    let OneSide { tables, .. } = on_left;
+    let Tables { ops, rest, .. } = tables;
     let from_left = Source {
         sheet: left,
         records: left_words,
         ops,
         rest,
     };
-    let OneSide { ops, rest, .. } = on_right;
+    let OneSide { tables, .. } = on_right;
+    let Tables { ops, rest, .. } = tables;
     let from_right = Source {
         sheet: right,
         records: right_words,

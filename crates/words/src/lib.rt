@@ -1,9 +1,6 @@
 // Words that hold records: where a record's words stand.
 #![tactic(auto)]
 
-ghost use Rattle.std.specs.Prelude.{◌≡◌, ◌<◌};
-ghost use Rattle.words.specs.Words.{Roomy, cell, max_records, record_words};
-
 pub use records::{Records, RecordsMut};
 
 pub mod field;
@@ -43,13 +40,3 @@ pub const TWO_32: u64 = 4294967296;
 
 // The second word of a negative number has this bit.
 pub const TOP_BIT: u32 = 2147483648;
-
-// Word c of record i.
-pub fn word(a: &[u32], b: &[u32], i: usize, c: usize) -> u32
-    requires i_lt_max_records { i < max_records }
-    requires c_lt_record_words { c < record_words }
-    requires roomy { Roomy a.now b.now }
-    ensures { result ≡ cell a.now b.now i c }
-{
-    Records { a, b }.word(i, c)
-}

@@ -76,31 +76,3 @@ impl RecordsMut<'_> {
         }
     }
 }
-
-// Word c of record i, as a count.
-pub fn count(a: &[u32], b: &[u32], i: usize, c: usize) -> usize
-    requires i_lt_max_records { i < max_records }
-    requires c_lt_record_words { c < record_words }
-    requires roomy { Roomy a.now b.now }
-    ensures { (result ≡ cell a.now b.now i c) × (result < two32) }
-{
-    Records { a, b }.count(i, c)
-}
-
-// How many children record i has.
-pub fn children(a: &[u32], b: &[u32], i: usize) -> usize
-    requires i_lt_max_records { i < max_records }
-    requires roomy { Roomy a.now b.now }
-    ensures { (result ≡ count_at a.now b.now i) × (result < two32) }
-{
-    Records { a, b }.children(i)
-}
-
-// The record behind the tree that stands at record i.
-pub fn skip(a: &[u32], b: &[u32], i: usize) -> usize
-    requires roomy { Roomy a.now b.now }
-    requires starts { Starts a.now b.now i }
-    ensures { Ends a.now b.now i result }
-{
-    Records { a, b }.skip(i)
-}

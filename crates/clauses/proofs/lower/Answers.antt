@@ -1,6 +1,10 @@
 -- `clauses::lower` meets its contract.
+use Rattle.std.proofs.Common.{arith}
 use Rattle.clauses.proofs.Whole
 use Rattle.clauses.proofs.lower.Goals as goal
 
+pub lower_from-requires : goal.lower_from-requires
+lower_from-requires c = Whole.asked Whole.start _ _ c.requires (omega arith) (omega arith) c.args.tables.now.long
+
 pub returns : goal.returns
-returns c = Whole.whole_law c.requires.in_ops c.requires.in_rest c.lower_from.ensures
+returns c = Whole.whole_law c.lower_from.ensures

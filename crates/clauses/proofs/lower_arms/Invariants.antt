@@ -15,8 +15,8 @@ invariant-loop l =
     l.r.a.now
     l.r.b.now
     l.left
-    (λ e o m'. LowersArms l.sheet l.r.a.now l.r.b.now l.arms l.left l.initial.root.next e l.initial.root.op o (mem l.initial.root.ctx l.initial.ops l.initial.rest) m')
+    (λ e o m'. LowersArms l.sheet l.r.a.now l.r.b.now l.arms l.left l.initial.root.next e l.initial.root.op o (mem l.initial.root.ctx l.initial.tables.ops.now l.initial.tables.rest.now) m')
     (l.arms - l.counter)
     l.root.next
     l.root.op
-    (mem l.root.ctx l.ops l.rest)
+    (mem l.root.ctx l.tables.ops.now l.tables.rest.now)

@@ -15,8 +15,8 @@ invariant-loop l =
     l.r.a.now
     l.r.b.now
     l.at.left
-    (λ e o m'. LowersClauses l.sheet l.r.a.now l.r.b.now l.n l.at.left l.at.i e None o (mem l.initial.cur.ctx l.initial.ops l.initial.rest) m')
+    (λ e o m'. LowersClauses l.sheet l.r.a.now l.r.b.now l.n l.at.left l.at.i e None o (mem l.initial.cur.ctx l.initial.tables.ops.now l.initial.tables.rest.now) m')
     (l.n - l.counter)
     l.cur.next
     l.cur.op
-    (mem l.cur.ctx l.ops l.rest)
+    (mem l.cur.ctx l.tables.ops.now l.tables.rest.now)

@@ -27,17 +27,10 @@ use Rattle.context.specs.OpLaws.{pushed_as}
 use Rattle.lower.proofs.Reading.{endpoint_read, exprs_read, var_read}
 use mathlib.Core.Path.{refl, ◌∙◌, sym}
 use native.Mathlib.Omega.{arith}
-use mathlib.Core.Logic.{inl, inr}
 use native.Mathlib.Nat.{le_refl}
 use Rattle.lower.proofs.+lowering.Goals as goal
 
 -- ── expand_to ──
-
-pub expand_to-overflow_add-i : goal.expand_to-overflow_add-i
-expand_to-overflow_add-i t c = omega (arith, Room.chain_bounds c.requires.chain)
-
-pub expand_to-overflow_add-base : goal.expand_to-overflow_add-base
-expand_to-overflow_add-base t c = omega (arith, Room.chain_bounds c.requires.chain)
 
 pub expand_to-endpoint_var-m-requires : goal.expand_to-endpoint_var-m-requires
 expand_to-endpoint_var-m-requires t c =
@@ -110,16 +103,6 @@ expand_to-lower_exprs-t-requires t c =
       },
     )
 
-pub expand_to-expand-requires : goal.expand_to-expand-requires
-expand_to-expand-requires t c =
-    let l₀ = Room.low c.requires.chain.tree in
-    let l₂ = c.requires.chain.depth in
-    let q = c.requires.chain.bounded.from in
-    let fr = Room.from_rel c.args.ch c.requires.waits in
-    let g = Room.few_ops c.requires.chain.room in
-    let q' = c.requires.chain.bounded.last.op _ c.requires.has in
-    (Room.fits c.requires.chain.pass (omega arith) (omega arith), omega arith, omega arith)
-
 pub expand_to-push-z-requires : goal.expand_to-push-z-requires
 expand_to-push-z-requires t c =
     let l₀ =
@@ -144,21 +127,6 @@ expand_to-push-z-requires t c =
     c.lower_rel_element-s.ensures
     (omega arith)
     (omega arith)))
-
-pub expand_to-overflow_add-kept : goal.expand_to-overflow_add-kept
-expand_to-overflow_add-kept t c =
-    let q = c.requires.chain.bounded.kept in
-    let q' = c.requires.chain.bounded.next in
-    omega arith
-
-pub expand_to-shape_of-ops : goal.expand_to-shape_of-ops
-expand_to-shape_of-ops t c = c.push-z.auto.ops ∙ c.lower_exprs-t.auto.ops ∙ c.lower_rel_element-s.auto.ops
-
-pub expand_to-shape_of-rest : goal.expand_to-shape_of-rest
-expand_to-shape_of-rest t c =
-    c.lower_exprs-t.auto.rest ∙
-    c.lower_rel_element-s.auto.rest ∙
-    c.endpoint_var-m.auto.rest
 
 pub expand_to-returns : goal.expand_to-returns
 expand_to-returns t c =
@@ -207,9 +175,6 @@ lower_chain-lower_elements-ch-requires t c =
           (Exprs.room_from (omega arith) (omega arith) (omega arith) c.requires.room),
     )
 
-pub lower_chain-root_of-root-requires : goal.lower_chain-root_of-root-requires
-lower_chain-root_of-root-requires t c = tt
-
 pub lower_chain-or_source_all-q-requires : goal.lower_chain-or_source_all-q-requires
 lower_chain-or_source_all-q-requires t c =
     let l = Room.bounds c.requires in
@@ -228,16 +193,6 @@ lower_chain-or_source_all-q-requires t c =
       Chaining.root_under c.root_of-root.ensures c.lower_elements-ch.ensures.bounded.last,
     )
 
-pub lower_chain-word-named-requires : goal.lower_chain-word-named-requires
-lower_chain-word-named-requires t c =
-    (Room.low c.requires.tree, omega arith)
-
-pub lower_chain-shape_of-ops-then-named-eq0 : goal.lower_chain-shape_of-ops-then-named-eq0
-lower_chain-shape_of-ops-then-named-eq0 t c = c.or_source_all-q.auto.ops ∙ c.lower_elements-ch.auto.ops
-
-pub lower_chain-shape_of-rest-then-named-eq0 : goal.lower_chain-shape_of-rest-then-named-eq0
-lower_chain-shape_of-rest-then-named-eq0 t c = c.lower_elements-ch.auto.rest
-
 pub lower_chain-returns-then-named-eq0 : goal.lower_chain-returns-then-named-eq0
 lower_chain-returns-then-named-eq0 t c =
     rw
@@ -252,16 +207,6 @@ lower_chain-returns-then-named-eq0 t c =
     (Chaining.source_as c.root_of-root.ensures (c.or_source_all-q.ensures.source _))
     (c.or_source_all-q.ensures.since _ c.lower_elements-ch.ensures.moved.grow (Chaining.root_since c.root_of-root.ensures (Chaining.start_since _ c.lower_elements-ch.ensures)))
     (sym c.word-named.ensures ∙ c.if-named-eq0.true))
-
-pub lower_chain-word-id-requires : goal.lower_chain-word-id-requires
-lower_chain-word-id-requires t c =
-    (Room.low c.requires.tree, omega arith)
-
-pub lower_chain-overflow_add-i : goal.lower_chain-overflow_add-i
-lower_chain-overflow_add-i t c = omega (arith, Room.bounds c.requires)
-
-pub lower_chain-overflow_add-at : goal.lower_chain-overflow_add-at
-lower_chain-overflow_add-at t c = omega (arith, Room.bounds c.requires)
 
 pub lower_chain-number-m-requires : goal.lower_chain-number-m-requires
 lower_chain-number-m-requires t c =
@@ -328,12 +273,6 @@ lower_chain-push-z-requires t c =
           c.requires.room)).in_ops;
     }
 
-pub lower_chain-shape_of-ops : goal.lower_chain-shape_of-ops
-lower_chain-shape_of-ops t c = c.push-z.auto.ops ∙ c.or_source_all-q.auto.ops ∙ c.lower_elements-ch.auto.ops
-
-pub lower_chain-shape_of-rest : goal.lower_chain-shape_of-rest
-lower_chain-shape_of-rest t c = c.number-m.auto.rest ∙ c.lower_elements-ch.auto.rest
-
 pub lower_chain-returns : goal.lower_chain-returns
 lower_chain-returns t c =
     rw
@@ -360,37 +299,6 @@ pub lower_element-read_element-requires : goal.lower_element-read_element-requir
 lower_element-read_element-requires t c =
     Room.low c.requires.tree
 
-pub lower_element-skip-end-requires : goal.lower_element-skip-end-requires
-lower_element-skip-end-requires t c =
-    Part.starts c.requires.tree
-
-pub lower_element-start_chain-requires : goal.lower_element-start_chain-requires
-lower_element-start_chain-requires t c = (
-  omega arith,
-  record { chain = c.requires; is = (Part.node_read c.read_element.ensures c.in-Node.is).is; read = (Part.node_read c.read_element.ensures c.in-Node.is).read; anew = elim c.in_default.branch [ goal.lower_element-in_default-via-in-Some+in_default w ↦ inr w.in_default.is-1 | goal.lower_element-in_default-via-in_default w ↦ inl w.in_default.is-0 ] },
-)
-
-pub lower_element-shape_of-ops-in_default : goal.lower_element-shape_of-ops-in_default
-lower_element-shape_of-ops-in_default t c = c.start_chain.auto.ops
-
-pub lower_element-shape_of-rest-in_default : goal.lower_element-shape_of-rest-in_default
-lower_element-shape_of-rest-in_default t c = c.start_chain.auto.rest
-
-pub lower_element-returns-in_default : goal.lower_element-returns-in_default
-lower_element-returns-in_default t c = c.start_chain.ensures
-
-pub lower_element-expand_to-requires : goal.lower_element-expand_to-requires
-lower_element-expand_to-requires t c = (
-  omega arith,
-  record {
-    chain = c.requires;
-    is = (Part.node_read c.read_element.ensures c.in-Node.is).is;
-    read = (Part.node_read c.read_element.ensures c.in-Node.is).read;
-    waits = c.in-Some-Some.is-0;
-    has = c.in-Some-Some.is-1;
-  },
-)
-
 pub lower_element-returns-in-Rel : goal.lower_element-returns-in-Rel
 lower_element-returns-in-Rel t c =
     Linking.rel_law
@@ -410,19 +318,7 @@ lower_element-returns-in-Rel t c =
     (Part.rel_read c.read_element.ensures c.in-Rel.is).read
     c.requires.tree
 
-pub lower_element-shape_of-ops : goal.lower_element-shape_of-ops
-lower_element-shape_of-ops t c = c.expand_to.auto.ops
-
-pub lower_element-shape_of-rest : goal.lower_element-shape_of-rest
-lower_element-shape_of-rest t c = c.expand_to.auto.rest
-
-pub lower_element-returns-in-Some-Some : goal.lower_element-returns-in-Some-Some
-lower_element-returns-in-Some-Some t c = c.expand_to.ensures
-
 -- ── lower_elements ──
-
-pub lower_elements-overflow_add-first : goal.lower_elements-overflow_add-first
-lower_elements-overflow_add-first t c = omega (arith, c.requires.tree.low)
 
 pub lower_elements-loop-init : goal.lower_elements-loop-init
 lower_elements-loop-init t c =
@@ -451,12 +347,6 @@ lower_elements-lower_element-ch-requires t c = (
 pub lower_elements-loop-preserved : goal.lower_elements-loop-preserved
 lower_elements-loop-preserved t c = Links.again c.loop-test.true c.loop.invariant c.lower_element-ch.ensures
 
-pub lower_elements-shape_of-ops : goal.lower_elements-shape_of-ops
-lower_elements-shape_of-ops t c = (Links.done c.loop-test.false c.loop.invariant).moved.in_ops
-
-pub lower_elements-shape_of-rest : goal.lower_elements-shape_of-rest
-lower_elements-shape_of-rest t c = (Links.done c.loop-test.false c.loop.invariant).moved.in_rest
-
 pub lower_elements-returns : goal.lower_elements-returns
 lower_elements-returns t c = Links.done c.loop-test.false c.loop.invariant
 
@@ -469,12 +359,6 @@ lower_expr-word-kind-requires t c =
 pub lower_expr-children-n-requires : goal.lower_expr-children-n-requires
 lower_expr-children-n-requires t c =
     Room.low c.requires.tree
-
-pub lower_expr-overflow_add-kid : goal.lower_expr-overflow_add-kid
-lower_expr-overflow_add-kid t c = omega (arith, Room.bounds c.requires)
-
-pub lower_expr-overflow_add-place : goal.lower_expr-overflow_add-place
-lower_expr-overflow_add-place t c = omega (arith, Room.bounds c.requires)
 
 pub lower_expr-overflow_sub-left : goal.lower_expr-overflow_sub-left
 lower_expr-overflow_sub-left t c = omega (arith, Room.bounds c.requires)
@@ -517,19 +401,6 @@ lower_expr-lower_parts-q-requires t c =
           })
           (Exprs.room_from (omega arith) (omega arith) (omega arith) c.requires.room),
     )
-
-pub lower_expr-overflow_cast-q : goal.lower_expr-overflow_cast-q
-lower_expr-overflow_cast-q t c =
-    let p = c.lower_parts-q.ensures.low in
-    let v = c.lower_parts-q.ensures.moved.few in
-    let h = c.lower_parts-q.ensures.moved.here in
-    let g = Room.few_ops c.requires.room in
-    omega arith
-
-pub lower_expr-note-requires : goal.lower_expr-note-requires
-lower_expr-note-requires t c =
-    let l = Room.bounds c.requires in
-    (omega arith, rw c.lower_parts-q.ensures.moved.in_rest c.requires.room.in_rest)
 
 pub lower_expr-word-id-requires-in-36 : goal.lower_expr-word-id-requires-in-36
 lower_expr-word-id-requires-in-36 t c =
@@ -582,9 +453,6 @@ lower_expr-lower_exprs-requires-in_default t c =
           (Exprs.room_from (omega arith) (omega arith) (omega arith) c.requires.room),
     )
 
-pub lower_expr-shape_of-rest-in-32 : goal.lower_expr-shape_of-rest-in-32
-lower_expr-shape_of-rest-in-32 t c = c.number-m.auto.rest
-
 pub lower_expr-returns-in-32 : goal.lower_expr-returns-in-32
 lower_expr-returns-in-32 t c =
     let l = Room.bounds c.requires in
@@ -598,12 +466,6 @@ lower_expr-returns-in-32 t c =
     c.number-m.auto.rest
     (Exprs.nil_law c.args.r.now.a.now c.args.r.now.b.now _ _ _ _ _ (omega arith))
 
-pub lower_expr-shape_of-ops-in-33 : goal.lower_expr-shape_of-ops-in-33
-lower_expr-shape_of-ops-in-33 t c = c.lower_exprs.auto.ops
-
-pub lower_expr-shape_of-rest-in-33 : goal.lower_expr-shape_of-rest-in-33
-lower_expr-shape_of-rest-in-33 t c = c.lower_exprs.auto.rest
-
 pub lower_expr-returns-in-33 : goal.lower_expr-returns-in-33
 lower_expr-returns-in-33 t c =
     let l = Room.bounds c.requires in
@@ -612,12 +474,6 @@ lower_expr-returns-in-33 t c =
     c.children-n.ensures.0
     (omega arith)
     c.lower_exprs.ensures
-
-pub lower_expr-shape_of-ops-in-35 : goal.lower_expr-shape_of-ops-in-35
-lower_expr-shape_of-ops-in-35 t c = c.lower_parts-q.auto.ops
-
-pub lower_expr-shape_of-rest-in-35 : goal.lower_expr-shape_of-rest-in-35
-lower_expr-shape_of-rest-in-35 t c = c.note.auto.rest ∙ c.lower_parts-q.auto.rest
 
 pub lower_expr-returns-in-35 : goal.lower_expr-returns-in-35
 lower_expr-returns-in-35 t c =
@@ -631,12 +487,6 @@ lower_expr-returns-in-35 t c =
     c.note.ensures
     c.note.auto.rest
 
-pub lower_expr-shape_of-ops-in-36 : goal.lower_expr-shape_of-ops-in-36
-lower_expr-shape_of-ops-in-36 t c = c.lower_exprs-in-36.auto.ops
-
-pub lower_expr-shape_of-rest-in-36 : goal.lower_expr-shape_of-rest-in-36
-lower_expr-shape_of-rest-in-36 t c = c.lower_exprs-in-36.auto.rest ∙ c.number-m-in-36.auto.rest
-
 pub lower_expr-returns-in-36 : goal.lower_expr-returns-in-36
 lower_expr-returns-in-36 t c =
     Named.naming_law
@@ -648,12 +498,6 @@ lower_expr-returns-in-36 t c =
     (var_read c.word-id-in-36.ensures c.number-m-in-36.ensures)
     c.number-m-in-36.auto.rest
     c.lower_exprs-in-36.ensures
-
-pub lower_expr-shape_of-ops-in_default : goal.lower_expr-shape_of-ops-in_default
-lower_expr-shape_of-ops-in_default t c = c.lower_exprs-in_default.auto.ops
-
-pub lower_expr-shape_of-rest-in_default : goal.lower_expr-shape_of-rest-in_default
-lower_expr-shape_of-rest-in_default t c = c.lower_exprs-in_default.auto.rest
 
 pub lower_expr-returns-in_default : goal.lower_expr-returns-in_default
 lower_expr-returns-in_default t c =
@@ -691,33 +535,13 @@ lower_exprs-lower_expr-cur-requires t c =
 pub lower_exprs-loop-preserved : goal.lower_exprs-loop-preserved
 lower_exprs-loop-preserved t c = Exprs.again c.loop-test.true c.loop.invariant c.lower_expr-cur.ensures
 
-pub lower_exprs-shape_of-ops : goal.lower_exprs-shape_of-ops
-lower_exprs-shape_of-ops t c = (Exprs.done c.loop-test.false c.loop.invariant).moved.in_ops
-
-pub lower_exprs-shape_of-rest : goal.lower_exprs-shape_of-rest
-lower_exprs-shape_of-rest t c = (Exprs.done c.loop-test.false c.loop.invariant).moved.in_rest
-
 pub lower_exprs-returns : goal.lower_exprs-returns
 lower_exprs-returns t c = Exprs.done c.loop-test.false c.loop.invariant
 
 -- ── lower_parts ──
 
-pub lower_parts-lower_no_parts-requires : goal.lower_parts-lower_no_parts-requires
-lower_parts-lower_no_parts-requires t c =
-    let y = c.requires.room.low in
-    let h = c.requires.tree.low in
-    (Exprs.can_push c.requires.room, omega arith, h)
-
-pub lower_parts-shape_of-ops-then-n-eq0 : goal.lower_parts-shape_of-ops-then-n-eq0
-lower_parts-shape_of-ops-then-n-eq0 t c = c.lower_no_parts.auto.ops
-
 pub lower_parts-returns-then-n-eq0 : goal.lower_parts-returns-then-n-eq0
 lower_parts-returns-then-n-eq0 t c = rw c.if-n-eq0.true (c.lower_no_parts.ensures.1 c.args.r.now.a.now c.args.r.now.b.now _ _ _)
-
-pub lower_parts-overflow_add-first : goal.lower_parts-overflow_add-first
-lower_parts-overflow_add-first t c =
-    let h = c.requires.tree.low in
-    omega arith
 
 pub lower_parts-lower_pattern_part-cur-requires : goal.lower_parts-lower_pattern_part-cur-requires
 lower_parts-lower_pattern_part-cur-requires t c =
@@ -744,12 +568,6 @@ lower_parts-lower_pattern_part-cur-requires-in-loop t c = (omega arith, Room.ask
 pub lower_parts-loop-preserved : goal.lower_parts-loop-preserved
 lower_parts-loop-preserved t c = Parts.again c.loop-test.true c.loop.invariant c.lower_pattern_part-cur-in-loop.ensures
 
-pub lower_parts-shape_of-ops : goal.lower_parts-shape_of-ops
-lower_parts-shape_of-ops t c = (Parts.done c.loop-test.false c.loop.invariant).moved.in_ops ∙ c.lower_pattern_part-cur.auto.ops
-
-pub lower_parts-shape_of-rest : goal.lower_parts-shape_of-rest
-lower_parts-shape_of-rest t c = (Parts.done c.loop-test.false c.loop.invariant).moved.in_rest ∙ c.lower_pattern_part-cur.auto.rest
-
 pub lower_parts-returns : goal.lower_parts-returns
 lower_parts-returns t c =
     Parts.first_done
@@ -764,15 +582,6 @@ pub lower_pattern_part-word-shortest-requires : goal.lower_pattern_part-word-sho
 lower_pattern_part-word-shortest-requires t c =
     (Room.low c.requires.tree, omega arith)
 
-pub lower_pattern_part-lower_chain-requires : goal.lower_pattern_part-lower_chain-requires
-lower_pattern_part-lower_chain-requires t c = (omega arith, c.requires)
-
-pub lower_pattern_part-shape_of-ops-then-shortest-eq0 : goal.lower_pattern_part-shape_of-ops-then-shortest-eq0
-lower_pattern_part-shape_of-ops-then-shortest-eq0 t c = c.lower_chain.auto.ops
-
-pub lower_pattern_part-shape_of-rest-then-shortest-eq0 : goal.lower_pattern_part-shape_of-rest-then-shortest-eq0
-lower_pattern_part-shape_of-rest-then-shortest-eq0 t c = c.lower_chain.auto.rest
-
 pub lower_pattern_part-returns-then-shortest-eq0 : goal.lower_pattern_part-returns-then-shortest-eq0
 lower_pattern_part-returns-then-shortest-eq0 t c =
     Part.chain_part
@@ -783,23 +592,11 @@ pub lower_pattern_part-word-n-requires : goal.lower_pattern_part-word-n-requires
 lower_pattern_part-word-n-requires t c =
     (Room.low c.requires.tree, omega arith)
 
-pub lower_pattern_part-lower_chain-requires-then-n-ne-SPECIAL_ELEMENTS : goal.lower_pattern_part-lower_chain-requires-then-n-ne-SPECIAL_ELEMENTS
-lower_pattern_part-lower_chain-requires-then-n-ne-SPECIAL_ELEMENTS t c = (omega arith, c.requires)
-
-pub lower_pattern_part-shape_of-ops-then-n-ne-SPECIAL_ELEMENTS : goal.lower_pattern_part-shape_of-ops-then-n-ne-SPECIAL_ELEMENTS
-lower_pattern_part-shape_of-ops-then-n-ne-SPECIAL_ELEMENTS t c = c.lower_chain-then-n-ne-SPECIAL_ELEMENTS.auto.ops
-
-pub lower_pattern_part-shape_of-rest-then-n-ne-SPECIAL_ELEMENTS : goal.lower_pattern_part-shape_of-rest-then-n-ne-SPECIAL_ELEMENTS
-lower_pattern_part-shape_of-rest-then-n-ne-SPECIAL_ELEMENTS t c = c.lower_chain-then-n-ne-SPECIAL_ELEMENTS.auto.rest
-
 pub lower_pattern_part-returns-then-n-ne-SPECIAL_ELEMENTS : goal.lower_pattern_part-returns-then-n-ne-SPECIAL_ELEMENTS
 lower_pattern_part-returns-then-n-ne-SPECIAL_ELEMENTS t c =
     Part.chain_part
     (Part.not_three _ _ c.args.r.now.roomy (λ e. c.if-n-ne-SPECIAL_ELEMENTS.true (c.word-n.ensures ∙ e)))
     c.lower_chain-then-n-ne-SPECIAL_ELEMENTS.ensures
-
-pub lower_pattern_part-overflow_add-first : goal.lower_pattern_part-overflow_add-first
-lower_pattern_part-overflow_add-first t c = omega (arith, Room.bounds c.requires)
 
 pub lower_pattern_part-skip-rel-requires : goal.lower_pattern_part-skip-rel-requires
 lower_pattern_part-skip-rel-requires t c =
@@ -808,15 +605,6 @@ lower_pattern_part-skip-rel-requires t c =
 pub lower_pattern_part-read_element-requires : goal.lower_pattern_part-read_element-requires
 lower_pattern_part-read_element-requires t c =
     Room.low (Part.first_some _ _ c.args.r.now.roomy (sym c.word-n.ensures ∙ c.if-n-ne-SPECIAL_ELEMENTS.false) c.requires.tree)
-
-pub lower_pattern_part-lower_chain-requires-in_default : goal.lower_pattern_part-lower_chain-requires-in_default
-lower_pattern_part-lower_chain-requires-in_default t c = (omega arith, c.requires)
-
-pub lower_pattern_part-shape_of-ops-in_default : goal.lower_pattern_part-shape_of-ops-in_default
-lower_pattern_part-shape_of-ops-in_default t c = c.lower_chain-in_default.auto.ops
-
-pub lower_pattern_part-shape_of-rest-in_default : goal.lower_pattern_part-shape_of-rest-in_default
-lower_pattern_part-shape_of-rest-in_default t c = c.lower_chain-in_default.auto.rest
 
 pub lower_pattern_part-returns-in_default : goal.lower_pattern_part-returns-in_default
 lower_pattern_part-returns-in_default t c =
@@ -852,15 +640,6 @@ lower_pattern_part-read_element-requires-2 t c =
     c.skip-rel.ensures
     c.requires.tree)
 
-pub lower_pattern_part-lower_chain-requires-in_default-read_element : goal.lower_pattern_part-lower_chain-requires-in_default-read_element
-lower_pattern_part-lower_chain-requires-in_default-read_element t c = (omega arith, c.requires)
-
-pub lower_pattern_part-shape_of-ops-in_default-read_element : goal.lower_pattern_part-shape_of-ops-in_default-read_element
-lower_pattern_part-shape_of-ops-in_default-read_element t c = c.lower_chain-in_default-read_element.auto.ops
-
-pub lower_pattern_part-shape_of-rest-in_default-read_element : goal.lower_pattern_part-shape_of-rest-in_default-read_element
-lower_pattern_part-shape_of-rest-in_default-read_element t c = c.lower_chain-in_default-read_element.auto.rest
-
 pub lower_pattern_part-returns-in_default-read_element : goal.lower_pattern_part-returns-in_default-read_element
 lower_pattern_part-returns-in_default-read_element t c =
     Part.chain_part
@@ -885,18 +664,6 @@ lower_pattern_part-read_element-requires-3 t c =
     c.skip-rel.ensures
     c.skip-far.ensures
     c.requires.tree)
-
-pub lower_pattern_part-lower_chain-requires-in_default-read_element-2 : goal.lower_pattern_part-lower_chain-requires-in_default-read_element-2
-lower_pattern_part-lower_chain-requires-in_default-read_element-2 t c = (
-  omega (arith, c.decreases),
-  c.requires,
-)
-
-pub lower_pattern_part-shape_of-ops-in_default-read_element-2 : goal.lower_pattern_part-shape_of-ops-in_default-read_element-2
-lower_pattern_part-shape_of-ops-in_default-read_element-2 t c = c.lower_chain-in_default-read_element-2.auto.ops
-
-pub lower_pattern_part-shape_of-rest-in_default-read_element-2 : goal.lower_pattern_part-shape_of-rest-in_default-read_element-2
-lower_pattern_part-shape_of-rest-in_default-read_element-2 t c = c.lower_chain-in_default-read_element-2.auto.rest
 
 pub lower_pattern_part-returns-in_default-read_element-2 : goal.lower_pattern_part-returns-in_default-read_element-2
 lower_pattern_part-returns-in_default-read_element-2 t c =
@@ -943,22 +710,10 @@ lower_pattern_part-lower_shortest_path_part-requires t c = (
   },
 )
 
-pub lower_pattern_part-shape_of-ops : goal.lower_pattern_part-shape_of-ops
-lower_pattern_part-shape_of-ops t c = c.lower_shortest_path_part.auto.ops
-
-pub lower_pattern_part-shape_of-rest : goal.lower_pattern_part-shape_of-rest
-lower_pattern_part-shape_of-rest t c = c.lower_shortest_path_part.auto.rest
-
 pub lower_pattern_part-returns : goal.lower_pattern_part-returns
 lower_pattern_part-returns t c = c.lower_shortest_path_part.ensures
 
 -- ── lower_rel_element ──
-
-pub lower_rel_element-overflow_add-i : goal.lower_rel_element-overflow_add-i
-lower_rel_element-overflow_add-i t c = omega (arith, Room.element_bounds c.requires.asked)
-
-pub lower_rel_element-overflow_add-at : goal.lower_rel_element-overflow_add-at
-lower_rel_element-overflow_add-at t c = omega (arith, Room.element_bounds c.requires.asked)
 
 pub lower_rel_element-endpoint_var-m-requires : goal.lower_rel_element-endpoint_var-m-requires
 lower_rel_element-endpoint_var-m-requires t c =
@@ -994,12 +749,6 @@ lower_rel_element-lower_exprs-requires t c =
           (omega arith)),
     )
 
-pub lower_rel_element-shape_of-ops : goal.lower_rel_element-shape_of-ops
-lower_rel_element-shape_of-ops t c = c.lower_exprs.auto.ops
-
-pub lower_rel_element-shape_of-rest : goal.lower_rel_element-shape_of-rest
-lower_rel_element-shape_of-rest t c = c.lower_exprs.auto.rest ∙ c.endpoint_var-m.auto.rest
-
 pub lower_rel_element-returns : goal.lower_rel_element-returns
 lower_rel_element-returns t c =
     Room.rel_done
@@ -1013,26 +762,8 @@ lower_rel_element-returns t c =
 
 -- ── lower_shortest_path_part ──
 
-pub lower_shortest_path_part-overflow_add-first : goal.lower_shortest_path_part-overflow_add-first
-lower_shortest_path_part-overflow_add-first t c =
-    let l = Room.bounds c.requires.part in
-    let l₄ = Room.low (Asking.first_of_law c.args.r.now.roomy c.requires).tree in
-    omega arith
-
 pub lower_shortest_path_part-overflow_sub-left : goal.lower_shortest_path_part-overflow_sub-left
 lower_shortest_path_part-overflow_sub-left t c =
-    let l = Room.bounds c.requires.part in
-    let l₄ = Room.low (Asking.first_of_law c.args.r.now.roomy c.requires).tree in
-    omega arith
-
-pub lower_shortest_path_part-overflow_add-first-2 : goal.lower_shortest_path_part-overflow_add-first-2
-lower_shortest_path_part-overflow_add-first-2 t c =
-    let l = Room.bounds c.requires.part in
-    let l₄ = Room.low (Asking.first_of_law c.args.r.now.roomy c.requires).tree in
-    omega arith
-
-pub lower_shortest_path_part-overflow_add-base : goal.lower_shortest_path_part-overflow_add-base
-lower_shortest_path_part-overflow_add-base t c =
     let l = Room.bounds c.requires.part in
     let l₄ = Room.low (Asking.first_of_law c.args.r.now.roomy c.requires).tree in
     omega arith
@@ -1081,15 +812,6 @@ lower_shortest_path_part-lower_rel_element-s-requires t c = (
   },
 )
 
-pub lower_shortest_path_part-overflow_add-far : goal.lower_shortest_path_part-overflow_add-far
-lower_shortest_path_part-overflow_add-far t c =
-    let l₃ = c.requires.part.pass in
-    let l₄ =
-    Room.low
-    (Asking.far_of c.args.r.now.roomy c.requires).tree
-    in
-    omega arith
-
 pub lower_shortest_path_part-overflow_add-base-2 : goal.lower_shortest_path_part-overflow_add-base-2
 lower_shortest_path_part-overflow_add-base-2 t c =
     let l₃ = c.requires.part.pass in
@@ -1130,16 +852,6 @@ lower_shortest_path_part-endpoint_var-to-requires t c =
     c.requires.part.pass
     (omega arith)
     refl
-
-pub lower_shortest_path_part-read_bind-bind-requires : goal.lower_shortest_path_part-read_bind-bind-requires
-lower_shortest_path_part-read_bind-bind-requires t c =
-    Room.low c.requires.part.tree
-
-pub lower_shortest_path_part-overflow_add-base-3 : goal.lower_shortest_path_part-overflow_add-base-3
-lower_shortest_path_part-overflow_add-base-3 t c =
-    let l = Room.bounds c.requires.part in
-    let l₄ = Room.low (Asking.first_of_law c.args.r.now.roomy c.requires).tree in
-    omega arith
 
 pub lower_shortest_path_part-endpoint_var-path-requires : goal.lower_shortest_path_part-endpoint_var-path-requires
 lower_shortest_path_part-endpoint_var-path-requires t c =
@@ -1231,17 +943,6 @@ lower_shortest_path_part-skip-end-requires t c =
     Part.starts
     (Asking.far_of c.args.r.now.roomy c.requires).tree
 
-pub lower_shortest_path_part-shape_of-ops : goal.lower_shortest_path_part-shape_of-ops
-lower_shortest_path_part-shape_of-ops t c = c.push-z.auto.ops ∙ c.lower_rel_element-s.auto.ops ∙ c.start_node-q.auto.ops
-
-pub lower_shortest_path_part-shape_of-rest : goal.lower_shortest_path_part-shape_of-rest
-lower_shortest_path_part-shape_of-rest t c =
-    c.endpoint_var-path.auto.rest ∙
-    c.endpoint_var-to.auto.rest ∙
-    c.lower_rel_element-s.auto.rest ∙
-    c.start_node-q.auto.rest ∙
-    c.endpoint_var-from.auto.rest
-
 pub lower_shortest_path_part-returns : goal.lower_shortest_path_part-returns
 lower_shortest_path_part-returns t c =
     Special.special_law
@@ -1279,12 +980,6 @@ lower_shortest_path_part-returns t c =
 
 -- ── start_chain ──
 
-pub start_chain-overflow_add-i : goal.start_chain-overflow_add-i
-start_chain-overflow_add-i t c = omega (arith, Room.chain_bounds c.requires.chain)
-
-pub start_chain-overflow_add-base : goal.start_chain-overflow_add-base
-start_chain-overflow_add-base t c = omega (arith, Room.chain_bounds c.requires.chain)
-
 pub start_chain-endpoint_var-m-requires : goal.start_chain-endpoint_var-m-requires
 start_chain-endpoint_var-m-requires t c =
     let l = Room.chain_bounds c.requires.chain in
@@ -1313,18 +1008,6 @@ start_chain-start_node-q-requires t c = (
   },
 )
 
-pub start_chain-overflow_add-kept : goal.start_chain-overflow_add-kept
-start_chain-overflow_add-kept t c =
-    let q = c.requires.chain.bounded.kept in
-    let q' = c.requires.chain.bounded.next in
-    omega arith
-
-pub start_chain-shape_of-ops : goal.start_chain-shape_of-ops
-start_chain-shape_of-ops t c = c.start_node-q.auto.ops
-
-pub start_chain-shape_of-rest : goal.start_chain-shape_of-rest
-start_chain-shape_of-rest t c = c.start_node-q.auto.rest ∙ c.endpoint_var-m.auto.rest
-
 pub start_chain-returns : goal.start_chain-returns
 start_chain-returns t c =
     Linking.start_law
@@ -1346,18 +1029,6 @@ start_chain-returns t c =
 
 pub start_node-overflow_sub-less : goal.start_node-overflow_sub-less
 start_node-overflow_sub-less t c = omega (arith, Room.element_bounds c.requires.asked)
-
-pub start_node-source-requires : goal.start_node-source-requires
-start_node-source-requires t c =
-    let l₀ = Room.low c.requires.asked.tree.tree in
-    let l₂ = c.requires.asked.depth in
-    Room.fits c.requires.asked.pass (omega arith) (omega arith)
-
-pub start_node-push-p-requires : goal.start_node-push-p-requires
-start_node-push-p-requires t c = Exprs.can_push c.requires.asked.room
-
-pub start_node-shape_of-ops-then-node-eq0 : goal.start_node-shape_of-ops-then-node-eq0
-start_node-shape_of-ops-then-node-eq0 t c = c.push-p.auto.ops
 
 pub start_node-returns-then-node-eq0 : goal.start_node-returns-then-node-eq0
 start_node-returns-then-node-eq0 t c =
@@ -1400,30 +1071,6 @@ start_node-lower_expr-s-requires t c =
           (omega arith)
           (omega arith)),
     )
-
-pub start_node-over-requires : goal.start_node-over-requires
-start_node-over-requires t c =
-    let l₀ = Room.names_low c.args.r.now.roomy c.requires.asked.tree.tree in
-    let l₂ = c.requires.asked.depth in
-    let n₀ = c.requires.read.first in
-    let g = Room.few_ops c.requires.asked.room in
-    (Room.fits c.requires.asked.pass (omega arith) (omega arith), omega arith)
-
-pub start_node-push-z-requires : goal.start_node-push-z-requires
-start_node-push-z-requires t c =
-    let l₀ = Room.names_low c.args.r.now.roomy c.requires.asked.tree.tree in
-    let l = Room.element_bounds c.requires.asked in
-    let n₀ = c.requires.read.first in
-    Exprs.can_push
-    (Exprs.room_after
-    c.lower_expr-s.ensures.moved
-    (Room.pushed_on c.requires.asked.room _ _ c.push-p.ensures c.push-p.auto.ops (le_refl _) (omega arith) (omega arith)))
-
-pub start_node-shape_of-ops : goal.start_node-shape_of-ops
-start_node-shape_of-ops t c = c.push-z.auto.ops ∙ c.lower_expr-s.auto.ops ∙ c.push-p.auto.ops
-
-pub start_node-shape_of-rest : goal.start_node-shape_of-rest
-start_node-shape_of-rest t c = c.lower_expr-s.auto.rest
 
 pub start_node-returns : goal.start_node-returns
 start_node-returns t c =

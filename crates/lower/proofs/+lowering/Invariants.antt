@@ -45,13 +45,13 @@ abbrev pub decreases-start_node : goal.decreases-start_node
 decreases-start_node l = 8 * l.at.left + 1
 
 abbrev pub invariant-lower_elements-loop : goal.invariant-lower_elements-loop
-invariant-lower_elements-loop l = Links.Remaining l.r.a.now l.r.b.now l.at.left l.at.base (λ ch' os' rs'. LowersElements l.r.a.now l.r.b.now l.n l.at.left l.at.base l.initial.ch ch' l.initial.ops os' l.initial.rest rs') (l.n - l.counter) l.ch l.ops l.rest
+invariant-lower_elements-loop l = Links.Remaining l.r.a.now l.r.b.now l.at.left l.at.base (λ ch' os' rs'. LowersElements l.r.a.now l.r.b.now l.n l.at.left l.at.base l.initial.ch ch' l.initial.tables.ops.now os' l.initial.tables.rest.now rs') (l.n - l.counter) l.ch l.tables.ops.now l.tables.rest.now
 
 abbrev pub invariant-lower_exprs-loop : goal.invariant-lower_exprs-loop
-invariant-lower_exprs-loop l = Exprs.Remaining l.r.a.now l.r.b.now l.gap l.at.left l.at.base (λ e m'. LowersExprs l.r.a.now l.r.b.now l.n l.gap l.at.left l.at.base l.at.i e (mem l.initial.cur.ctx l.initial.ops l.initial.rest) m') (l.n - l.counter) l.cur.next (mem l.cur.ctx l.ops l.rest)
+invariant-lower_exprs-loop l = Exprs.Remaining l.r.a.now l.r.b.now l.gap l.at.left l.at.base (λ e m'. LowersExprs l.r.a.now l.r.b.now l.n l.gap l.at.left l.at.base l.at.i e (mem l.initial.cur.ctx l.initial.tables.ops.now l.initial.tables.rest.now) m') (l.n - l.counter) l.cur.next (mem l.cur.ctx l.tables.ops.now l.tables.rest.now)
 
 abbrev pub invariant-lower_parts-loop : goal.invariant-lower_parts-loop
 invariant-lower_parts-loop l =
     Parts.Remaining l.r.a.now l.r.b.now l.at.left l.at.base
-    (λ e k m'. Parts.LowersFurther l.r.a.now l.r.b.now (l.n - 1) l.at.left l.at.base l.initial.cur.next e l.initial.cur.op k (mem l.initial.cur.ctx l.initial.ops l.initial.rest) m')
-    (l.n - l.counter) l.cur.next l.cur.op (mem l.cur.ctx l.ops l.rest)
+    (λ e k m'. Parts.LowersFurther l.r.a.now l.r.b.now (l.n - 1) l.at.left l.at.base l.initial.cur.next e l.initial.cur.op k (mem l.initial.cur.ctx l.initial.tables.ops.now l.initial.tables.rest.now) m')
+    (l.n - l.counter) l.cur.next l.cur.op (mem l.cur.ctx l.tables.ops.now l.tables.rest.now)

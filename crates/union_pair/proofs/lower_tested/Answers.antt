@@ -12,20 +12,14 @@ returns-in_err-test_sides c =
 pub lower_union_pair-sides-requires : goal.lower_union_pair-sides-requires
 lower_union_pair-sides-requires c =
     let b = tested_as c.shared-left_words.ensures c.shared-right_words.ensures (tested_passed _ _ _ _ _ _ c.in_ok-test_sides.was c.test_sides.ensures) in
-    lowering_asked b c.test_sides.auto.left_stack c.test_sides.auto.right_stack c.requires.both_long
-
-pub invariant_of-from_left : goal.invariant_of-from_left
-invariant_of-from_left c = record { room = record { records = c.shared-left_words.result.roomy; in_ops = c.lower_union_pair-sides.ensures.lowered.left_ops; in_rest = c.lower_union_pair-sides.ensures.lowered.left_rest } }
-
-pub invariant_of-from_right : goal.invariant_of-from_right
-invariant_of-from_right c = record { room = record { records = c.shared-right_words.result.roomy; in_ops = c.lower_union_pair-sides.ensures.lowered.in_ops; in_rest = c.lower_union_pair-sides.ensures.lowered.in_rest } }
+    lowering_asked b
 
 pub write_lowered-requires : goal.write_lowered-requires
 write_lowered-requires c =
     let b = tested_as c.shared-left_words.ensures c.shared-right_words.ensures (tested_passed _ _ _ _ _ _ c.in_ok-test_sides.was c.test_sides.ensures) in
-    lowered b c.lower_union_pair-sides.ensures.lowered
+    lowered b c.lower_union_pair-sides.ensures
 
 pub returns : goal.returns
 returns c =
     let b = tested_as c.shared-left_words.ensures c.shared-right_words.ensures (tested_passed _ _ _ _ _ _ c.in_ok-test_sides.was c.test_sides.ensures) in
-    passed _ _ c.args.all _ b c.write_lowered.result (c.write_lowered.ensures _ (stands b c.lower_union_pair-sides.ensures.lowered))
+    passed _ _ c.args.all _ b c.write_lowered.result (c.write_lowered.ensures _ (stands b c.lower_union_pair-sides.ensures))

@@ -37,7 +37,7 @@ unwind-requires c =
 pub push-z-requires : goal.push-z-requires
 push-z-requires c =
     let few = Inputs.few_sourced c.requires.ready (c.or_source_all-q.ensures.source _) c.lower_expr-s.ensures.moved (omega arith) in
-    record { few = omega (arith, few, c.number-m.ensures.issued.ops); long = rw (c.lower_expr-s.auto.ops ∙ c.or_source_all-q.auto.ops) c.requires.ready.in_ops }
+    record { few = omega (arith, few, c.number-m.ensures.issued.ops); long = rw (c.lower_expr-s.ensures.moved.in_ops ∙ c.or_source_all-q.auto.ops) c.requires.ready.in_ops }
 
 pub returns : goal.returns
 returns c =

@@ -1,10 +1,17 @@
 -- `push` meets its contract: the operator is stored, or only counted. Assumes nothing.
-use Rattle.context.proofs.Laws
+use mathlib.Core.Path.{refl}
 use native.Mathlib.Omega.{arith}
+use Rattle.std.proofs.lemmas.Grind.{common_steps}
+use Rattle.context.specs.Tables.{op_at}
 use Rattle.context.proofs.LowerCtx.push.Goals as goal
 
-pub returns-then-k-ge-MAX_STORED : goal.returns-then-k-ge-MAX_STORED
-returns-then-k-ge-MAX_STORED c = Laws.not_stored _ _ _ c.if-k-ge-MAX_STORED.true
-
 pub returns : goal.returns
-returns c = Laws.stored _ _ _ (omega arith) c.requires.long
+unfolding op_at
+returns c =
+    record {
+      count = refl;
+      numbers = refl;
+      mapped = refl;
+      here = λ l. grind (arith, common_steps);
+      other = λ k l l'. grind (arith, common_steps);
+    }

@@ -4,9 +4,6 @@ use native.Mathlib.Omega.{arith}
 use mathlib.Core.Path.{sym, ◌∙◌}
 use Rattle.context.proofs.index.descend.Goals as goal
 
-pub loop-p-init : goal.loop-p-init
-loop-p-init c = Tree.descends_start _ _ _ (Tree.all_indexed _ _ c.requires.1 c.requires.2.index) c.requires.0
-
 pub loop-p-smaller : goal.loop-p-smaller
 loop-p-smaller c =
     let s = Tree.descends_on _ _ _ (Tree.all_indexed _ _ c.requires.1 c.requires.2.index) _ _ _ c.loop-p.invariant c.loop-p-test.true (sym c.in-Some.is ∙ c.child.ensures) in
@@ -17,6 +14,3 @@ loop-p-preserved c = (Tree.descends_on _ _ _ (Tree.all_indexed _ _ c.requires.1 
 
 pub returns-in_default : goal.returns-in_default
 returns-in_default c = record { way = c.loop-p.invariant; end = λ _. Tree.linked_none _ (sym c.in_default.is ∙ c.child.ensures) }
-
-pub returns-after-loop-p : goal.returns-after-loop-p
-returns-after-loop-p c = record { way = c.loop-p.invariant; end = λ h. absurd (h c.loop-p-test.false) }

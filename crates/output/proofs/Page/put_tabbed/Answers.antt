@@ -2,10 +2,13 @@
 use Rattle.std.proofs.Common.{◌∷◌, ◌+◌, refl, arith}
 use Rattle.model.specs.Text.{tab, decimal}
 use Rattle.output.specs.Writes.{counted, stored, replaced}
-use Rattle.output.specs.Wide.{counted_long}
+use Rattle.output.specs.Wide.{counted_long, one_digit}
 use Rattle.output.proofs.Storing.{part_long, behind_tab}
 use Rattle.output.proofs.Page.put_tabbed.Goals as goal
 use Rattle.output.proofs.Page.put_tabbed.Goals.{then-end-self, else-end-self}
+
+pub returns-then-n-lt-TWO_DIGITS : goal.returns-then-n-lt-TWO_DIGITS
+returns-then-n-lt-TWO_DIGITS c = rw (one_digit _ c.if-n-lt-TWO_DIGITS.true) c.put_two.ensures
 
 pub returns : goal.returns
 returns c =

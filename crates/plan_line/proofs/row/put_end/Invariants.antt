@@ -5,4 +5,4 @@ use Rattle.plan_line.specs.Row.{numbers_text}
 use Rattle.plan_line.proofs.row.put_end.Given as goal
 
 abbrev pub invariant-loop-n : goal.invariant-loop-n
-invariant-loop-n l = Puts (numbers_text (take l.n-index l.numbers)) l.initial.page l.page
+invariant-loop-n g l = Puts (numbers_text (take l.n-index l.n-items)) l.initial.page l.page

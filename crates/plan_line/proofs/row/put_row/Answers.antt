@@ -5,4 +5,4 @@ use Rattle.plan_line.proofs.row.put_row.Goals as goal
 
 pub returns : goal.returns
 unfolding row_text
-returns c = c.put_keyword.ensures ⨾ c.put_end.ensures
+returns g c = c.put_keyword.ensures ⨾ c.put_end.ensures

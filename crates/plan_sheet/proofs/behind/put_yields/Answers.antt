@@ -5,23 +5,8 @@ use Rattle.std.proofs.Math.Nat.{add-sub_cancel_left, sub-add-eq}
 use native.Mathlib.Omega.{arith}
 use Rattle.plan_sheet.proofs.behind.put_yields.Goals as goal
 
-pub count-n-requires : goal.count-n-requires
-count-n-requires c = (c.requires.notes.low, omega arith)
-
-pub overflow_add-end : goal.overflow_add-end
-overflow_add-end c = omega (arith, BehindLaws.yields_end c.requires.due, c.count-n.ensures.0)
-
 pub loop-at-init : goal.loop-at-init
 loop-at-init c = rw (add-sub_cancel_left c.args.i c.count-n.result) (BehindLaws.yields_going (rw c.count-n.ensures.0 c.requires.due))
-
-pub word-from-requires : goal.word-from-requires
-word-from-requires c = (BehindLaws.yield_low (due_yet c.loop-at-test.true) c.loop-at.invariant.some, omega arith)
-
-pub word-to-requires : goal.word-to-requires
-word-to-requires c = (BehindLaws.yield_low (due_yet c.loop-at-test.true) c.loop-at.invariant.some, omega arith)
-
-pub note_of-number-requires : goal.note_of-number-requires
-note_of-number-requires c = (c.requires.notes.near, omega (arith, BehindLaws.yield_low (due_yet c.loop-at-test.true) c.loop-at.invariant.some), c.args.s.now.room.in_rest)
 
 pub part-requires : goal.part-requires
 part-requires c = BehindLaws.yield_in c.args.s.now.records.roomy c.word-from.ensures c.word-to.ensures (due_yet c.loop-at-test.true) c.loop-at.invariant.some

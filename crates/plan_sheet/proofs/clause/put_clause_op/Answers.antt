@@ -2,17 +2,9 @@
 use Rattle.plan_sheet.proofs.OpLaws
 use Rattle.plan_sheet.proofs.clause.put_clause_op.Goals as goal
 
-pub put_with-requires : goal.put_with-requires
-put_with-requires c =
-    c.requires.op_shown.stored.bounded.low
-
-pub put_project-requires : goal.put_project-requires
-put_project-requires c =
-    c.requires.op_shown.stored.bounded.low
-
 pub put_procedure-requires : goal.put_procedure-requires
 put_procedure-requires c =
-    let shown = c.requires.op_shown in
+    let shown = c.requires.op_in in
     OpLaws.procedure_in c.args.s.now.records.roomy shown (OpLaws.is_call shown c.requires.bind_path_kind_lt_kind c.in_default.in_default-own.rest)
 
 pub returns-in-7 : goal.returns-in-7
@@ -52,5 +44,5 @@ returns-in_default c =
     (OpLaws.call_line
     c.args.s.now.records.roomy
     h
-    (OpLaws.is_call c.requires.op_shown c.requires.bind_path_kind_lt_kind c.in_default.in_default-own.rest))
+    (OpLaws.is_call c.requires.op_in c.requires.bind_path_kind_lt_kind c.in_default.in_default-own.rest))
     (rw c.call_input.ensures at c.put_procedure.ensures)

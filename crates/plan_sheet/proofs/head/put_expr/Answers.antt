@@ -5,18 +5,8 @@ use Rattle.plan_sheet.proofs.HeadLaws
 use mathlib.Core.Path.{sym, ◌∙◌}
 use Rattle.plan_sheet.proofs.head.put_expr.Goals as goal
 
-pub put_int-requires : goal.put_int-requires
-put_int-requires c = c.requires.at.at.low
-
 pub put_call-requires : goal.put_call-requires
 put_call-requires c = HeadLaws.call_in c.args.s.now.records.roomy 0 c.requires.at (sym c.requires.told ∙ c.in-34.is)
-
-pub put_any-requires : goal.put_any-requires
-put_any-requires c =
-    c.requires.at.at.low
-
-pub put_copied-requires : goal.put_copied-requires
-put_copied-requires c = HeadLaws.some_record c.requires.at.at
 
 pub returns-in-32 : goal.returns-in-32
 returns-in-32 c = λ h. rw (HeadLaws.var_head c.args.s.now.records.roomy _ h (sym c.requires.told ∙ c.in-32.is)) c.put_row.ensures

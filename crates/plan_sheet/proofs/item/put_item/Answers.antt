@@ -1,12 +1,7 @@
 -- `put_item` meets its contract. Assumes nothing.
 use Rattle.plan_sheet.proofs.ItemLaws
 use mathlib.Core.Path.{sym, ◌∙◌}
-use native.Mathlib.Omega.{arith}
 use Rattle.plan_sheet.proofs.item.put_item.Goals as goal
-
-pub word-alias-requires : goal.word-alias-requires
-word-alias-requires c =
-    (c.requires.at.low, omega arith)
 
 pub put_own_name-requires : goal.put_own_name-requires
 put_own_name-requires c = ItemLaws.alias_in_law c.args.s.now.records.roomy c.requires (λ e. c.if-alias-ne0.true (c.word-alias.ensures ∙ e))
@@ -17,13 +12,6 @@ returns-then-alias-ne0 c =
     rw
     (ItemLaws.alias_named c.args.s.now.records.roomy h (λ e. c.if-alias-ne0.true (c.word-alias.ensures ∙ e)))
     c.put_own_name.ensures
-
-pub overflow_add-i : goal.overflow_add-i
-overflow_add-i c = omega (arith, c.requires.at.low)
-
-pub put_synthesised-requires : goal.put_synthesised-requires
-put_synthesised-requires c =
-    c.requires.expr
 
 pub returns : goal.returns
 returns c =

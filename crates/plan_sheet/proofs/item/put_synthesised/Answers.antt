@@ -6,14 +6,6 @@ use native.Mathlib.Omega.{arith}
 use Rattle.std.proofs.lemmas.Bool.Decides.{nat_tests}
 use Rattle.plan_sheet.proofs.item.put_synthesised.Goals as goal
 
-pub word-kind-requires : goal.word-kind-requires
-word-kind-requires c =
-    (c.requires.at.low, omega arith)
-
-pub word-id-requires : goal.word-id-requires
-word-id-requires c =
-    (c.requires.at.low, omega arith)
-
 pub put_own_name-requires : goal.put_own_name-requires
 put_own_name-requires c = ItemLaws.own_in c.args.s.now.records.roomy c.requires (rw c.word-kind.ensures at c.in-23.is)
 

@@ -6,19 +6,9 @@ use native.Mathlib.Omega.{arith}
 use Rattle.std.proofs.lemmas.Bool.Decides.{nat_tests}
 use Rattle.plan_sheet.proofs.measure.measure_before.Goals as goal
 
-pub word-kind-requires : goal.word-kind-requires
-word-kind-requires c =
-    (HeadLaws.line_low c.requires.some_line.line, omega arith)
-
-pub overflow_add-result : goal.overflow_add-result
-overflow_add-result c = omega (arith, HeadLaws.line_low c.requires.some_line.line)
-
 pub line_bytes-requires : goal.line_bytes-requires
 line_bytes-requires c =
     (_, HeadLaws.line_record c.requires.some_line.line)
-
-pub overflow_add-result-in-9 : goal.overflow_add-result-in-9
-overflow_add-result-in-9 c = omega (arith, HeadLaws.line_low c.requires.some_line.line)
 
 pub put_item-requires : goal.put_item-requires
 put_item-requires c =

@@ -3,10 +3,6 @@ use Rattle.plan_sheet.proofs.NameLaws
 use mathlib.Core.Path.{sym, ◌∙◌}
 use Rattle.plan_sheet.proofs.names.put_element.Goals as goal
 
-pub put_node-requires : goal.put_node-requires
-put_node-requires c =
-    c.requires.at.at.low
-
 pub returns-then-kind-eq-NODE : goal.returns-then-kind-eq-NODE
 returns-then-kind-eq-NODE c = λ h. rw (NameLaws.node_line c.args.s.now.records.roomy h (sym c.requires.told ∙ c.if-kind-eq-NODE.true)) c.put_node.ensures
 

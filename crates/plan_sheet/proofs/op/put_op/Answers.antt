@@ -3,25 +3,11 @@ use native.Mathlib.Omega.{arith}
 use Rattle.plan_sheet.proofs.OpLaws
 use Rattle.plan_sheet.proofs.op.put_op.Goals as goal
 
-pub put_source-requires : goal.put_source-requires
-put_source-requires c =
-    c.requires.stored.bounded.low
-
 pub put_expand-requires : goal.put_expand-requires
 put_expand-requires c =
     record {
       notes_in = OpLaws.notes_in c.requires;
       y_lt_max_records = OpLaws.far_low c.requires c.in-4.is;
-    }
-
-pub put_short-requires : goal.put_short-requires
-put_short-requires c = record { notes = OpLaws.notes_in c.requires; due = c.requires.stored.bounded.far c.in-5.is }
-
-pub put_clause_op-requires : goal.put_clause_op-requires
-put_clause_op-requires c =
-    record {
-      op_shown = c.requires;
-      bind_path_kind_lt_kind = omega arith;
     }
 
 pub returns-in-0 : goal.returns-in-0
@@ -41,6 +27,3 @@ returns-in-5 c = λ h. rw (OpLaws.short_line h c.in-5.is) c.put_short.ensures
 
 pub returns-in-6 : goal.returns-in-6
 returns-in-6 c = λ h. rw (OpLaws.path_line h c.in-6.is) c.put_row-in-6.ensures
-
-pub returns-in_default : goal.returns-in_default
-returns-in_default c = c.put_clause_op.ensures

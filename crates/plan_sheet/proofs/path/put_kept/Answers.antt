@@ -1,17 +1,9 @@
 -- `put_kept` meets its contract. Assumes nothing.
 use Rattle.plan_sheet.proofs.PathLaws
-use Rattle.plan_sheet.specs.Path.{WaitsLow}
-use mathlib.Core.Path.{subst}
-use native.Mathlib.Omega.{arith}
 use Rattle.plan_sheet.proofs.path.put_kept.Goals as goal
 
 pub returns-in_default : goal.returns-in_default
 returns-in_default c = PathLaws.none_waits c.args.s.now.rest.now c.args.base c.args.path c.in_default.is
-
-pub note_of-n-requires : goal.note_of-n-requires
-note_of-n-requires c =
-    let low = subst WaitsLow c.in-Some.is c.requires.low in
-    (c.requires.near, omega (arith, low), c.args.s.now.room.in_rest)
 
 pub returns-then-path : goal.returns-then-path
 returns-then-path c =

@@ -1,10 +1,6 @@
 -- `put_step` meets its contract. Assumes nothing.
 use Rattle.plan_sheet.proofs.PathLaws
-use native.Mathlib.Omega.{arith}
 use Rattle.plan_sheet.proofs.path.put_step.Goals as goal
-
-pub note_of-n-requires : goal.note_of-n-requires
-note_of-n-requires c = (c.requires.step_asked.near, omega (arith, c.requires.i_lt_max_records), c.args.s.now.room.in_rest)
 
 pub returns-then-kind-eq-NODE : goal.returns-then-kind-eq-NODE
 returns-then-kind-eq-NODE c =
@@ -16,6 +12,3 @@ returns-then-kind-eq-NODE c =
     c.put_kept.ensures
     c.note_of-n.ensures
     c.put_row.ensures
-
-pub returns : goal.returns
-returns c = PathLaws.rel_step c.args.s.now.rest.now c.args.base c.args.path c.if-kind-eq-NODE.false c.requires.i_lt_max_records

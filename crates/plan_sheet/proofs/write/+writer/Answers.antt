@@ -122,12 +122,6 @@ measure_exprs-returns t c = DueLaws.done c.loop-due-test.false c.loop-due.invari
 pub put_exprs-returns-then-run-eq0 : goal.put_exprs-returns-then-run-eq0
 put_exprs-returns-then-run-eq0 t c = DueLaws.none_wrote c.if-run-eq0.true
 
-pub put_exprs-measure_exprs-requires : goal.put_exprs-measure_exprs-requires
-put_exprs-measure_exprs-requires t c = (omega (arith, c.decreases), (c.if-page-eq0.true, c.requires))
-
-pub put_exprs-write_exprs-requires : goal.put_exprs-write_exprs-requires
-put_exprs-write_exprs-requires t c = (omega (arith, c.decreases), c.requires)
-
 -- ── write_element ──
 
 pub write_element-word-kind-requires : goal.write_element-word-kind-requires
@@ -287,19 +281,10 @@ write_exprs-returns t c = DueLaws.done (omega arith) c.loop.invariant
 
 -- ── write_items ──
 
-pub write_items-write_parts-requires : goal.write_items-write_parts-requires
-write_items-write_parts-requires t c = (omega (arith, c.decreases), c.requires)
-
-pub write_items-write_parts-requires-2 : goal.write_items-write_parts-requires-2
-write_items-write_parts-requires-2 t c = (omega (arith, c.decreases), c.requires)
-
 pub write_items-returns : goal.write_items-returns
 write_items-returns t c = PartedLaws.items_wrote c.write_parts.ensures c.write_parts-2.ensures
 
 -- ── write_op ──
-
-pub write_op-read_op-w-requires : goal.write_op-read_op-w-requires
-write_op-read_op-w-requires t c = (omega (arith, c.requires.tabled.few), c.args.s.now.room.in_ops)
 
 pub write_op-put_op-requires : goal.write_op-put_op-requires
 write_op-put_op-requires t c = OpLaws.shown_at _ c.requires c.read_op-w.ensures

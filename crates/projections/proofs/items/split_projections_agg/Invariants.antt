@@ -6,4 +6,4 @@ use Rattle.projections.proofs.PartLaws
 use Rattle.projections.proofs.items.split_projections_agg.Given as goal
 
 abbrev pub invariant-loop : goal.invariant-loop
-invariant-loop l = PartLaws.Remaining l.sheet l.r.a.now l.r.b.now l.n l.at.left (λ e g m'. LowersSplit l.sheet l.r.a.now l.r.b.now l.n l.at.left l.at.i e g (mem l.initial.cur.ctx l.initial.ops l.initial.rest) m') (l.n - l.counter) l.cur.next l.aggs (mem l.cur.ctx l.ops l.rest)
+invariant-loop l = PartLaws.Remaining l.sheet l.r.a.now l.r.b.now l.n l.at.left (λ e g m'. LowersSplit l.sheet l.r.a.now l.r.b.now l.n l.at.left l.at.i e g (mem l.initial.cur.ctx l.initial.tables.ops.now l.initial.tables.rest.now) m') (l.n - l.counter) l.cur.next l.aggs (mem l.cur.ctx l.tables.ops.now l.tables.rest.now)

@@ -9,14 +9,11 @@ returns-in_err-precheck_statement c =
     let p = err_from_is_err_and c.from_residual.result c.from_residual.ensures.1 in
     λ t h. rw (p.1, p.2) (tree_refused _ t _ (rw c.in_err-precheck_statement.was at (c.precheck_statement.ensures _ t h)))
 
-pub lower-ctx-requires : goal.lower-ctx-requires
-lower-ctx-requires c = record { held = c.requires.held_some; in_ops = c.requires.long.0; in_rest = c.requires.long.1 }
-
 pub invariant_of-source : goal.invariant_of-source
-invariant_of-source c = record { room = record { records = c.args.r.now.roomy; in_ops = c.lower-ctx.ensures.in_ops; in_rest = c.lower-ctx.ensures.in_rest } }
+invariant_of-source c = record { room = record { records = c.args.r.now.roomy; in_ops = c.lower-ctx.new.tables.long.0; in_rest = c.lower-ctx.new.tables.long.1 } }
 
 pub write_lowered-requires : goal.write_lowered-requires
-write_lowered-requires c = lowered c.requires.held_some c.lower-ctx.ensures
+write_lowered-requires c = lowered c.requires c.lower-ctx.ensures
 
 pub returns : goal.returns
 returns c = λ t h.

@@ -1,6 +1,5 @@
 -- `lower_read` meets its contract: test 2, the reader's answer, or what the check and the lowering give. Assumes nothing.
 use Rattle.std.proofs.lemmas.Result.{err_from_is_err_and}
-use borrow.Author.Rules.{rules}
 use Rattle.statement.specs.Sizing.{held_here, held_as}
 use Rattle.statement.specs.Lowering.{lower_long, lower_unread, lower_tree}
 use Rattle.statement.proofs.lowering.lower_read.Goals as goal
@@ -14,8 +13,7 @@ returns-in_err-read_sheet c =
     λ work e. rw (p.1, p.2) (lower_unread work _ _ e c.if-sheet-gt-MAX_BYTES.false _ (rw c.in_err-read_sheet.was at c.read_sheet.ensures))
 
 pub lower_checked-requires : goal.lower_checked-requires
-lower_checked-requires c =
-    record { long = search rules; held_some = held_here _ (rw c.in_ok-read_sheet.was at c.read_sheet.ensures) c.shared.ensures }
+lower_checked-requires c = held_here _ (rw c.in_ok-read_sheet.was at c.read_sheet.ensures) c.shared.ensures
 
 pub returns : goal.returns
 returns c =
