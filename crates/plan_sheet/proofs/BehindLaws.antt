@@ -1,6 +1,6 @@
 -- What stands behind an operator's first line: its expressions by their number and place, then its labels, path or yields. Assumes nothing: every law is proved.
 use mathlib.Core.Path.{◌≡◌, refl, sym, ap, subst, ◌∙◌}
-use Prim.Native.Nat.{ℕ, suc, ◌+◌, ◌-◌, ◌≤◌, ◌<◌}
+use Prim.Native.Nat.{ℕ, suc, ◌+◌, ◌-◌, ◌≤◌}
 use native.Mathlib.Omega.{arith}
 use mathlib.Core.Bool.{false}
 use mathlib.Core.Logic.{◌⊎◌, inl, inr}
@@ -51,6 +51,10 @@ use Rattle.words.specs.Numbers.{Others}
 abbrev pub own_ways : List ℕ
 own_ways = aggregate_kind ∷ optional_join_kind ∷ shortest_path_kind ∷ expand_kind ∷ []
 
+-- the kinds that have something behind their expressions, likewise
+abbrev pub tails : List ℕ
+tails = procedure_call_kind ∷ bind_path_kind ∷ source_kind ∷ []
+
 -- ── yields ──
 
 -- the place of a yield's name, and its line
@@ -64,10 +68,6 @@ yield_line {sheet} {a} {b} {i} n room h = named_rec_law _ Keyword.Yield (text_at
 pub yield_in : {sheet : Bytes} {a b : List ℕ} {n i s e : ℕ} → Roomy a b → s ≡ cell a b i yield_name_at → e ≡ cell a b i (yield_name_at + 1) → (n ≡ 0 → ⊥) → Yields sheet a b n i → (s ≤ e) × (e ≤ length sheet)
 yield_in room p q z no_yields = absurd (z refl)
 yield_in room p q z (yield_more f h c) = let y = yield_place room h in rw (p, q) (y.from, y.to)
-
-pub yield_low : {sheet : Bytes} {a b : List ℕ} {n i : ℕ} → (n ≡ 0 → ⊥) → Yields sheet a b n i → i < max_records
-yield_low z no_yields = absurd (z refl)
-yield_low z (yield_more f h c) = h.low
 
 -- they end among the records
 pub yields_end : {sheet : Bytes} {a b : List ℕ} {n i : ℕ} → Yields sheet a b n i → (n ≡ 0) ⊎ (i + n ≤ max_records)
@@ -156,15 +156,6 @@ module _ {sheet : Bytes} {a b rest : List ℕ} {o : Op} {i : ℕ} where
   tail_yields e (Behind.path q h) = absurd (omega arith)
   tail_yields e (Behind.yields q h) = h
 
-  pub labels_there : {n : ℕ} → o.kind ≡ source_kind → n ≡ cell a b o.idx node_labels_at → SomeTail sheet a b rest o i → Names sheet a b n i
-  labels_there e q s = rw q (tail_labels e s.tail)
-
-  pub path_there : o.kind ≡ bind_path_kind → SomeTail sheet a b rest o i → Elements sheet a b (cell a b o.idx part_elements_at) i
-  path_there e s = tail_path e s.tail
-
-  pub yields_there : o.kind ≡ procedure_call_kind → SomeTail sheet a b rest o i → Yields sheet a b (cell a b o.idx call_yields_at) i
-  yields_there e s = tail_yields e s.tail
-
   module _ {g g' : Page} where
     labels_put : {recs : Recs} → o.kind ≡ source_kind → Tail sheet a b rest o i recs → ((h : Names sheet a b (cell a b o.idx node_labels_at) i) → Puts (spell_recs (names_recs h)) g g') → Puts (spell_recs recs) g g'
     labels_put e (Behind.nothing x y z) w = absurd (x e)
@@ -189,13 +180,7 @@ module _ {sheet : Bytes} {a b rest : List ℕ} {o : Op} {i : ℕ} where
         let v : (h : Names sheet a b (cell a b o.idx node_labels_at) i) → (next ≡ i + cell a b o.idx node_labels_at) × Puts (spell_recs (names_recs h)) g g' = rw q at w in
         labels_put e t (λ h. (v h).1)
 
-    pub path_wrote : o.kind ≡ bind_path_kind → WrotePath sheet a b rest o.base (cell a b o.idx part_elements_at) i g g' → WroteTail sheet a b rest o i g g'
-    path_wrote e w recs t = path_put e t w
-
-    pub yields_wrote : o.kind ≡ procedure_call_kind → WroteYields sheet a b rest o.base (cell a b o.idx call_yields_at) i g g' → WroteTail sheet a b rest o i g g'
-    yields_wrote e w recs t = yields_put e t w
-
-  pub nothing_wrote : {g : Page} → Others o.kind (procedure_call_kind ∷ bind_path_kind ∷ source_kind ∷ []) → WroteTail sheet a b rest o i g g
+  pub nothing_wrote : {g : Page} → Others o.kind tails → WroteTail sheet a b rest o i g g
   unfolding spell_recs
   nothing_wrote z recs (Behind.nothing p q r) = stay
   nothing_wrote z recs (Behind.labels q h) = absurd (z.0.0.1 q)

@@ -1,6 +1,6 @@
 -- What the words of a record say of its line in the plan. Assumes nothing: every law is proved.
 use mathlib.Core.Path.{◌≡◌, refl, sym, subst, ◌∙◌}
-use Prim.Native.Nat.{ℕ, ◌+◌, ◌≤◌, ◌<◌}
+use Prim.Native.Nat.{ℕ, ◌+◌, ◌≤◌}
 use native.Mathlib.Omega.{arith}
 use mathlib.Core.Bool.{Bool, true, false, cond, false≢true}
 use mathlib.Core.Logic.{◌⊎◌, inl, inr}
@@ -17,7 +17,7 @@ use Rattle.model.specs.Lower.{Recs, expr_head}
 use Rattle.output.specs.declared.Page.{Page}
 use Rattle.output.specs.Page.{Puts}
 use Rattle.output.specs.Writes.{stay}
-use Rattle.words.specs.Words.{Roomy, cell, kind_of, first_kind, nth, field_of, fields_of, int_of, max_records}
+use Rattle.words.specs.Words.{Roomy, cell, kind_of, first_kind, nth, field_of, fields_of, int_of}
 use Rattle.words.specs.Held.{RecordAt, Texts, PlaceAt}
 use Rattle.words.specs.Places.{kind_at, item_kind, key_kind, entry_kind, null_kind, int_kind, var_kind, fn_kind, pat_kind, list_predicate_kind, unres_kind, undes_kind, name_at, int_low_at, int_high_at, fn_args_at, list_predicate_kind_at, list_predicate_pred_at}
 use Rattle.words.specs.Cells.{cells, part_cells, shown, numbered, number_of}
@@ -92,9 +92,6 @@ module _ {sheet : Bytes} {a b : List ℕ} {i : ℕ} where
   line_record (Line.named h) = some_record h
   line_record (Line.keyed h) = some_record h
   line_record (Line.aliased h) = some_record h.at
-
-  pub line_low : {recs : Recs} {j : ℕ} → Line sheet a b i recs j → i < max_records
-  line_low l = (line_record l).at.low
 
 module _ {sheet : Bytes} {a b : List ℕ} {i : ℕ} (room : Roomy a b) where
   -- so, read off the words one by one

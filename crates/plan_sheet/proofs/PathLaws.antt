@@ -68,9 +68,6 @@ module _ (rest : List ℕ) (base : ℕ) (path : Path) where
         of_rel_law = λ x. absurd (x e);
       }
 
-  pub rel_step : {i kind : ℕ} {g : Page} → (kind ≡ node_kind → ⊥) → i < max_records → Stepped rest base i kind path (record { seen = path.seen; waits = Some i }) g g
-  rel_step z l = record { low = l; of_node_law = λ x. absurd (z x); of_rel_law = λ x. (refl, refl, refl) }
-
 -- ── the loop ──
 
 -- what is behind an element, of which the numbers `before` were due

@@ -7,7 +7,7 @@ use Rattle.model.specs.Call.{written}
 use Rattle.output.specs.declared.Page.{Page}
 use Rattle.output.specs.Page.{Puts}
 use Rattle.context.specs.Tables.{vars_of, vars_at, max_vars}
-use Rattle.plan_sheet.specs.Due.{Tabled, Room}
+use Rattle.plan_sheet.specs.Due.{Tabled}
 use Rattle.plan_sheet.specs.declared.source.Source.{Source}
 use Rattle.plan_writer.specs.declared.pair.Counts.{Counts}
 use Rattle.plan_writer.specs.Whole.{answer_of}
@@ -26,11 +26,6 @@ side_tables sheet a b ops rest = record { sheet = sheet; a = a; b = b; ops = ops
 -- those that the writer reads
 abbrev pub tables_in : Source → SideTables
 tables_in s = side_tables s.sheet.now s.records.a.now s.records.b.now s.ops.now s.rest.now
-
--- the slices of both are long enough
-pub record BothRoom (L R : SideTables) : Type 0 where
-  pub on_left : Room L.a L.b L.ops L.rest
-  pub on_right : Room R.a R.b R.ops R.rest
 
 -- the operators before number `first` stand in the left's table and the others in the right's, and the variables are the right's
 pub record PairTables (L R : SideTables) (n : Counts) (s : LowerCtx) : Type 0 where

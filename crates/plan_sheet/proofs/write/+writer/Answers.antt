@@ -10,6 +10,8 @@ use Rattle.plan_sheet.proofs.BehindLaws
 use Rattle.plan_sheet.proofs.OpLaws
 use mathlib.Core.Path.{sym, ◌∙◌}
 use native.Mathlib.Omega.{arith}
+use Rattle.std.proofs.lemmas.Bool.Decides.{nat_tests}
+use Rattle.plan_sheet.proofs.HeadLaws.{others}
 use Rattle.plan_sheet.proofs.write.+writer.Goals as goal
 
 -- ── measure_exprs ──
@@ -326,7 +328,7 @@ write_op-exprs_of-run-requires t c =
 pub write_op-put_exprs-next-requires : goal.write_op-put_exprs-next-requires
 write_op-put_exprs-next-requires t c =
     let near = OpLaws.run_near _ c.requires c.read_op-w.ensures c.exprs_of-run.ensures in
-    (omega (arith, c.decreases, near.0, near.1), OpLaws.exprs_asked _ c.requires c.read_op-w.ensures c.exprs_of-run.ensures (BehindLaws.exprs_there _ c.requires c.read_op-w.ensures c.args.s.now.records.roomy c.in_default.in_default-own.rest))
+    (omega (arith, c.decreases, near.0, near.1), OpLaws.exprs_asked _ c.requires c.read_op-w.ensures c.exprs_of-run.ensures (BehindLaws.exprs_there _ c.requires c.read_op-w.ensures c.args.s.now.records.roomy (others c.read_op-w.result.kind BehindLaws.own_ways (grind (arith, nat_tests)))))
 
 pub write_op-put_tail-requires : goal.write_op-put_tail-requires
 write_op-put_tail-requires t c =
@@ -338,7 +340,7 @@ write_op-put_tail-requires t c =
           c.requires
           c.read_op-w.ensures
           c.args.s.now.records.roomy
-          c.in_default.in_default-own.rest
+          (others c.read_op-w.result.kind BehindLaws.own_ways (grind (arith, nat_tests)))
           (OpLaws.exprs_written _ c.requires c.read_op-w.ensures c.exprs_of-run.ensures c.put_exprs-next.ensures);
     }
 
@@ -387,7 +389,7 @@ write_op-returns-in_default t c =
     p
     c.read_op-w.ensures
     c.args.s.now.records.roomy
-    c.in_default.in_default-own.rest
+    (others c.read_op-w.result.kind BehindLaws.own_ways (grind (arith, nat_tests)))
     c.put_op.ensures
     (OpLaws.exprs_written _ p c.read_op-w.ensures c.exprs_of-run.ensures c.put_exprs-next.ensures)
     c.put_tail.ensures
