@@ -2,15 +2,13 @@
 #![tactic(auto)]
 
 ghost use Rattle.std.specs.Prelude.{◌≤◌, ◌<◌, length, IfOk};
-ghost use Rattle.model.specs.Call.{max_bytes};
-ghost use Rattle.gate_calls.specs.Slices.{WorkSlices};
+ghost use Rattle.model.specs.Call.{max_bytes, work_words};
 
-use gate_cases::text::{build_sheet, next, put_times};
+use gate_cases::text::{build_sheet, next};
 use input::read_full;
 use library::{dresserhawk_lower, dresserhawk_size};
-use output::{put_byte, put_decimal};
-use record::Decimal;
 use record::number::decimal;
+use statement::Work;
 use std::io;
 use std::io::Write;
 
@@ -33,26 +31,10 @@ const SHORT_ANSWER: usize = 5;
 // Behind a label stand a bar, the digit and another bar.
 const DIGIT_BYTES: usize = 3;
 
-// A page for a word and the blank before it.
-const WORD_PAGE: usize = 32;
-
-// A word behind a blank.
-fn say_word<W: Write>(out: &mut W, word: usize) -> io::Result<()> {
-    let mut page = [0u8; WORD_PAGE];
-    let o = put_byte(&mut page, 0, b' ');
-    let n = put_decimal(&mut page, o, word as u64);
-    if n <= page.len() {
-        out.write_all(&page[0..n])?;
-    }
-    Ok(())
-}
-
-// All of a slice.
+// All of a slice, a blank before each word.
 fn say_words<W: Write>(out: &mut W, words: &[usize]) -> io::Result<()> {
-    let mut i = 0;
-    while i < words.len() {
-        say_word(out, words[i])?;
-        i += 1;
+    for word in words {
+        write!(out, " {word}")?;
     }
     Ok(())
 }
@@ -67,38 +49,15 @@ fn say<W: Write>(
 ) -> io::Result<()> {
     out.write_all(label)?;
     out.write_all(call)?;
-    if written {
-        out.write_all(b" true")?;
-    } else {
-        out.write_all(b" false")?;
-    }
+    write!(out, " {written}")?;
     say_words(out, answer)?;
     out.write_all(b"\n")
 }
 
 // The first bytes of a slice.
 fn say_slice<W: Write>(out: &mut W, slice: &[u8]) -> io::Result<()> {
-    if slice.len() > SHOWN {
-        out.write_all(&slice[0..SHOWN])?;
-    } else {
-        out.write_all(slice)?;
-    }
+    out.write_all(&slice[..slice.len().min(SHOWN)])?;
     out.write_all(b"\n")
-}
-
-// The sizing call on a sheet.
-fn show_size<W: Write>(
-    out: &mut W,
-    label: &[u8],
-    sheet: &[u8],
-    a: &mut [u32],
-    b: &mut [u32],
-    c: &mut [u32],
-    d: &mut [u32],
-    answer: &mut [usize],
-) -> io::Result<()> {
-    let written = dresserhawk_size(sheet, a, b, c, d, answer);
-    say(out, label, b" size", written, answer)
 }
 
 // The lowering call on a sheet, and what it left in the plan slice.
@@ -106,14 +65,11 @@ fn show_lower<W: Write>(
     out: &mut W,
     label: &[u8],
     sheet: &[u8],
-    a: &mut [u32],
-    b: &mut [u32],
-    c: &mut [u32],
-    d: &mut [u32],
+    work: &mut Work<'_>,
     plan: &mut [u8],
     answer: &mut [usize],
 ) -> io::Result<()> {
-    let written = dresserhawk_lower(sheet, a, b, c, d, plan, answer);
+    let written = dresserhawk_lower(sheet, work, plan, answer);
     say(out, label, b" lower", written, answer)?;
     say_slice(out, plan)
 }
@@ -123,10 +79,7 @@ fn show<W: Write>(
     out: &mut W,
     head: &[u8],
     sheet: &[u8],
-    a: &mut [u32],
-    b: &mut [u32],
-    c: &mut [u32],
-    d: &mut [u32],
+    work: &mut Work<'_>,
     plan: &mut [u8],
     answer: &mut [usize],
 ) -> io::Result<()> {
@@ -135,16 +88,34 @@ fn show<W: Write>(
     if from > head.len() {
         return Ok(());
     }
-    let label = &head[0..end];
-    let Decimal::Is(bytes) = decimal(&head[from..head.len()], PAGE as u64) else {
-        return show_size(out, label, sheet, a, b, c, d, answer);
+    let label = &head[..end];
+    let Some(bytes) = decimal(&head[from..], PAGE as u64) else {
+        let written = dresserhawk_size(sheet, work, answer);
+        return say(out, label, b" size", written, answer);
     };
     let n = bytes as usize;
     if n > plan.len() {
         return Ok(());
     }
-    put_times(plan, 0, b"#", bytes);
-    show_lower(out, label, sheet, a, b, c, d, &mut plan[0..n], answer)
+    plan[..n].fill(b'#');
+    show_lower(out, label, sheet, work, &mut plan[..n], answer)
+}
+
+// A work slice that is long enough. The four are lent one by one, since parts of slices that stand in one struct cannot be lent at once.
+type Slice = [u32; words::WORK_WORDS];
+
+// How many words the work slice of a digit is lent with: a word less if it is the short one, and none in the case of 5.
+fn lent(short: u8, slice: u8) -> usize
+    ensures { result ≤ work_words }
+{
+    if short == b'5' {
+        return 0;
+    }
+    if short == slice {
+        SHORT
+    } else {
+        words::WORK_WORDS
+    }
 }
 
 // The same with what is short: from 1 to 4 a work slice, by a word; 5 all of them, which have no words; 6 the answer slice, which has no room for an answer.
@@ -153,44 +124,25 @@ fn show_with<W: Write>(
     short: u8,
     head: &[u8],
     sheet: &[u8],
-    a: &mut [u32],
-    b: &mut [u32],
-    c: &mut [u32],
-    d: &mut [u32],
+    a: &mut Slice,
+    b: &mut Slice,
+    c: &mut Slice,
+    d: &mut Slice,
     plan: &mut [u8],
-) -> io::Result<()>
-    requires { WorkSlices a.old b.old c.old d.old }
-{
-    let answer: &mut [usize] = &mut [UNTOUCHED; ANSWER_WORDS];
-    match short {
-        b'1' => show(out, head, sheet, &mut a[0..SHORT], b, c, d, plan, answer),
-        b'2' => show(out, head, sheet, a, &mut b[0..SHORT], c, d, plan, answer),
-        b'3' => show(out, head, sheet, a, b, &mut c[0..SHORT], d, plan, answer),
-        b'4' => show(out, head, sheet, a, b, c, &mut d[0..SHORT], plan, answer),
-        b'5' => show(
-            out,
-            head,
-            sheet,
-            &mut a[0..0],
-            &mut b[0..0],
-            &mut c[0..0],
-            &mut d[0..0],
-            plan,
-            answer,
-        ),
-        b'6' => show(
-            out,
-            head,
-            sheet,
-            a,
-            b,
-            c,
-            d,
-            plan,
-            &mut answer[0..SHORT_ANSWER],
-        ),
-        _ => show(out, head, sheet, a, b, c, d, plan, answer),
-    }
+) -> io::Result<()> {
+    let mut work = Work {
+        a: &mut a[..lent(short, b'1')],
+        b: &mut b[..lent(short, b'2')],
+        c: &mut c[..lent(short, b'3')],
+        d: &mut d[..lent(short, b'4')],
+    };
+    let mut answer = [UNTOUCHED; ANSWER_WORDS];
+    let n = if short == b'6' {
+        SHORT_ANSWER
+    } else {
+        ANSWER_WORDS
+    };
+    show(out, head, sheet, &mut work, plan, &mut answer[..n])
 }
 
 // The case that begins at `at`; and where the next one does.
@@ -199,14 +151,13 @@ fn show_case<W: Write>(
     list: &[u8],
     at: usize,
     page: &mut [u8],
-    a: &mut [u32],
-    b: &mut [u32],
-    c: &mut [u32],
-    d: &mut [u32],
+    a: &mut Slice,
+    b: &mut Slice,
+    c: &mut Slice,
+    d: &mut Slice,
     plan: &mut [u8],
 ) -> io::Result<usize>
-    requires at_in_bounds { (at < length list.now) × (length list.now ≤ max_bytes) }
-    requires work_slices { WorkSlices a.old b.old c.old d.old }
+    requires { (at < length list.now) × (length list.now ≤ max_bytes) }
     ensures { IfOk result (λ next. at < next) }
 {
     let label = next(list, at, b'|');
@@ -216,18 +167,9 @@ fn show_case<W: Write>(
     if end >= list.len() {
         return Ok(after);
     }
-    let n = build_sheet(&list[room + 1..end], page);
-    show_with(
-        out,
-        list[label + 1],
-        &list[at..room],
-        &page[0..n],
-        a,
-        b,
-        c,
-        d,
-        plan,
-    )?;
+    let n = build_sheet(&list[room + 1..end], page).unwrap_or(0);
+    let short = list[label + 1];
+    show_with(out, short, &list[at..room], &page[..n], a, b, c, d, plan)?;
     Ok(after)
 }
 
@@ -236,14 +178,13 @@ fn show_list<W: Write>(
     out: &mut W,
     list: &[u8],
     page: &mut [u8],
-    a: &mut [u32],
-    b: &mut [u32],
-    c: &mut [u32],
-    d: &mut [u32],
+    a: &mut Slice,
+    b: &mut Slice,
+    c: &mut Slice,
+    d: &mut Slice,
     plan: &mut [u8],
 ) -> io::Result<()>
-    requires list_len_bound { length list.now ≤ max_bytes }
-    requires work_slices { WorkSlices a.old b.old c.old d.old }
+    requires { length list.now ≤ max_bytes }
 {
     let mut at = 0;
     while at < list.len() {
@@ -263,7 +204,7 @@ fn main(rt: HostRuntime) -> io::Result<()> {
     let n = read_full(&mut rt.stdin(), &mut list)?;
     show_list(
         &mut rt.stdout(),
-        &list[0..n],
+        &list[..n],
         &mut page,
         &mut a,
         &mut b,

@@ -2,17 +2,16 @@
 #![tactic(auto)]
 
 ghost use Rattle.std.specs.Prelude.{◌≤◌, ◌<◌, length};
-ghost use Rattle.gate_pairs.specs.File.{file_bytes};
+ghost use Rattle.gate_cases.specs.Text.{max_file};
 
-use gate_cases::text::{build_sheet, sheet_end};
+use gate_cases::text::{MAX_FILE, build_sheet, sheet_end};
 use input::read_full;
+use statement::Work;
 use std::io;
 use std::io::Write;
 use union_pair::lower_union_pair;
-use values::pair::{values_of_pair, write_pair_values};
-
-// A file may have so many bytes.
-const FILE_BYTES: usize = 131072;
+use values::Values;
+use values::text::write_values;
 
 // A pair's line: the flag and a line feed.
 const HEAD_BYTES: usize = 2;
@@ -41,32 +40,25 @@ fn show<W: Write>(
     left: &[u8],
     right: &[u8],
     all: bool,
-    la: &mut [u32],
-    lb: &mut [u32],
-    lc: &mut [u32],
-    ld: &mut [u32],
-    ra: &mut [u32],
-    rb: &mut [u32],
-    rc: &mut [u32],
-    rd: &mut [u32],
+    l: &mut Work<'_>,
+    r: &mut Work<'_>,
     plan: &mut [u8],
 ) -> io::Result<()> {
-    let v = values_of_pair(lower_union_pair(
-        left, right, all, la, lb, lc, ld, ra, rb, rc, rd, plan,
-    ));
+    let v = Values::from(lower_union_pair(left, right, all, l, r, plan));
     let n = v.length;
     let mut line = [0u8; VALUES_BYTES];
-    let k = write_pair_values(&mut line, b' ', v);
     out.write_all(b"answer")?;
-    out.write_all(&line[0..k])?;
+    if let Some(k) = write_values(&mut line, b' ', v) {
+        out.write_all(&line[..k])?;
+    }
     out.write_all(b"\n")?;
     if n <= plan.len() {
-        return say_plan(out, &plan[0..n]);
+        return say_plan(out, &plan[..n]);
     }
     Ok(())
 }
 
-// The same of two texts that stand for sheets, with a page for each.
+// The same of two texts that stand for sheets.
 fn show_texts<W: Write>(
     out: &mut W,
     left_text: &[u8],
@@ -74,14 +66,8 @@ fn show_texts<W: Write>(
     all: bool,
     left: &mut [u8],
     right: &mut [u8],
-    la: &mut [u32],
-    lb: &mut [u32],
-    lc: &mut [u32],
-    ld: &mut [u32],
-    ra: &mut [u32],
-    rb: &mut [u32],
-    rc: &mut [u32],
-    rd: &mut [u32],
+    l: &mut Work<'_>,
+    r: &mut Work<'_>,
     plan: &mut [u8],
 ) -> io::Result<()> {
     if left_text.len() > words::MAX_BYTES {
@@ -90,28 +76,14 @@ fn show_texts<W: Write>(
     if right_text.len() > words::MAX_BYTES {
         return Ok(());
     }
-    let n = build_sheet(left_text, left);
-    let m = build_sheet(right_text, right);
-    show(
-        out,
-        &left[0..n],
-        &right[0..m],
-        all,
-        la,
-        lb,
-        lc,
-        ld,
-        ra,
-        rb,
-        rc,
-        rd,
-        plan,
-    )
+    let n = build_sheet(left_text, left).unwrap_or(0);
+    let m = build_sheet(right_text, right).unwrap_or(0);
+    show(out, &left[..n], &right[..m], all, l, r, plan)
 }
 
 // Where the pair that begins at `at` ends: behind its second sheet's empty line, or with the file.
 fn pair_end(file: &[u8], at: usize) -> usize
-    requires { (at < length file.now) × (length file.now ≤ file_bytes) }
+    requires { (at < length file.now) × (length file.now ≤ max_file) }
     ensures { (at < result) × (result ≤ length file.now) }
 {
     let head = at + HEAD_BYTES;
@@ -135,17 +107,11 @@ fn show_pair<W: Write>(
     pair: &[u8],
     left: &mut [u8],
     right: &mut [u8],
-    la: &mut [u32],
-    lb: &mut [u32],
-    lc: &mut [u32],
-    ld: &mut [u32],
-    ra: &mut [u32],
-    rb: &mut [u32],
-    rc: &mut [u32],
-    rd: &mut [u32],
+    l: &mut Work<'_>,
+    r: &mut Work<'_>,
     plan: &mut [u8],
 ) -> io::Result<()>
-    requires { length pair.now ≤ file_bytes }
+    requires { length pair.now ≤ max_file }
 {
     if pair.len() < HEAD_BYTES {
         return Ok(());
@@ -155,23 +121,10 @@ fn show_pair<W: Write>(
         return Ok(());
     }
     let end = sheet_end(pair, middle + 1);
-    show_texts(
-        out,
-        &pair[HEAD_BYTES..middle],
-        &pair[middle + 1..end],
-        pair[0] == b'1',
-        left,
-        right,
-        la,
-        lb,
-        lc,
-        ld,
-        ra,
-        rb,
-        rc,
-        rd,
-        plan,
-    )
+    let left_text = &pair[HEAD_BYTES..middle];
+    let right_text = &pair[middle + 1..end];
+    let all = pair[0] == b'1';
+    show_texts(out, left_text, right_text, all, left, right, l, r, plan)
 }
 
 // All pairs. The slices are not cleared between them.
@@ -180,43 +133,23 @@ fn show_all<W: Write>(
     file: &[u8],
     left: &mut [u8],
     right: &mut [u8],
-    la: &mut [u32],
-    lb: &mut [u32],
-    lc: &mut [u32],
-    ld: &mut [u32],
-    ra: &mut [u32],
-    rb: &mut [u32],
-    rc: &mut [u32],
-    rd: &mut [u32],
+    l: &mut Work<'_>,
+    r: &mut Work<'_>,
     plan: &mut [u8],
 ) -> io::Result<()>
-    requires { length file.now ≤ file_bytes }
+    requires { length file.now ≤ max_file }
 {
     let mut at = 0;
     while at < file.len() {
         let end = pair_end(file, at);
-        show_pair(
-            out,
-            &file[at..end],
-            left,
-            right,
-            la,
-            lb,
-            lc,
-            ld,
-            ra,
-            rb,
-            rc,
-            rd,
-            plan,
-        )?;
+        show_pair(out, &file[at..end], left, right, l, r, plan)?;
         at = end;
     }
     Ok(())
 }
 
 fn main(rt: HostRuntime) -> io::Result<()> {
-    let mut file = [0u8; FILE_BYTES];
+    let mut file = [0u8; MAX_FILE];
     let mut left = [0u8; PAGE];
     let mut right = [0u8; PAGE];
     let mut la = [0u32; words::WORK_WORDS];
@@ -228,20 +161,26 @@ fn main(rt: HostRuntime) -> io::Result<()> {
     let mut rc = [0u32; words::WORK_WORDS];
     let mut rd = [0u32; words::WORK_WORDS];
     let mut plan = [0u8; PAGE];
+    let mut l = Work {
+        a: &mut la,
+        b: &mut lb,
+        c: &mut lc,
+        d: &mut ld,
+    };
+    let mut r = Work {
+        a: &mut ra,
+        b: &mut rb,
+        c: &mut rc,
+        d: &mut rd,
+    };
     let n = read_full(&mut rt.stdin(), &mut file)?;
     show_all(
         &mut rt.stdout(),
-        &file[0..n],
+        &file[..n],
         &mut left,
         &mut right,
-        &mut la,
-        &mut lb,
-        &mut lc,
-        &mut ld,
-        &mut ra,
-        &mut rb,
-        &mut rc,
-        &mut rd,
+        &mut l,
+        &mut r,
         &mut plan,
     )
 }
