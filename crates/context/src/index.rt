@@ -53,6 +53,7 @@ fn descend(vars: &[u32], count: usize, id: u32) -> End
 {
     let mut p = 0;
     let mut bits = id;
+    // A `while`, since how long the way is shows itself on it.
     while vars[p * NAMED_WORDS] != id {
         let Some(q) = child(vars, p, bits) else {
             break;

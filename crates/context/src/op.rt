@@ -20,6 +20,8 @@
 // PROCEDURE_CALL  its clause         input   whether it has one    -                  of its arguments
 //
 // left is how deep the trees of its records may be, base where the notes of their pass begin.
+//
+// Its kind is a number and no enum: it stands in a lent word, and document 01 has kinds told apart by a match on a small number.
 ghost use Rattle.std.specs.Prelude.{◌≡◌, ◌<◌, ◌≤◌, length};
 ghost use Rattle.model.specs.Call.{work_words};
 ghost use Rattle.words.specs.Words.{two32};

@@ -187,6 +187,7 @@ fn show_list<W: Write>(
     requires { length list.now ≤ max_bytes }
 {
     let mut at = 0;
+    // A `while`, since where the next one begins is known only when a case has been taken off.
     while at < list.len() {
         at = show_case(out, list, at, page, a, b, c, d, plan)?;
     }

@@ -31,6 +31,7 @@ pub fn sheet_end(file: &[u8], at: usize) -> usize
     ensures { (at ≤ result) × (result ≤ length file.now) }
 {
     let mut line = at;
+    // A `while`, since it goes from line to line.
     while line < file.len() {
         if file[line] == b'\n' {
             return line;

@@ -140,6 +140,7 @@ fn show_all<W: Write>(
     requires { length file.now ≤ max_file }
 {
     let mut at = 0;
+    // A `while`, since where the next one begins is known only when a pair has been taken off.
     while at < file.len() {
         let end = pair_end(file, at);
         show_pair(out, &file[at..end], left, right, l, r, plan)?;

@@ -68,6 +68,7 @@ fn show_list<W: Write>(
     requires reader_asked { ReaderAsked sheet.old stack.old }
 {
     let mut at = 0;
+    // A `while`, since where the next one begins is known only when a case has been taken off.
     while at < list.len() {
         at = show_case(out, list, at, sheet, records, stack)?;
     }

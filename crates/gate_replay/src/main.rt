@@ -46,6 +46,7 @@ fn show_all<W: Write>(
     requires { length file.now ≤ max_file }
 {
     let mut at = 0;
+    // A `while`, since where the next one begins is known only when a sheet has been taken off.
     while at < file.len() {
         let end = sheet_end(file, at);
         show(out, &file[at..end], work, plan)?;

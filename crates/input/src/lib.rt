@@ -15,6 +15,7 @@ pub fn read_full<R: Read>(input: &mut R, slice: &mut [u8]) -> io::Result<usize>
     ensures end { IfOk result (λ n. n < length slice.new → IsAtEnd (R.remaining input.new)) }
 {
     let mut done = 0;
+    // A `while`, since how much a read gives is up to the reader.
     while done < slice.len() {
         let n = input.read(&mut slice[done..])?;
         if n == 0 {

@@ -28,7 +28,7 @@ pub fn group_sort(kind: u32, g: usize) -> u32
     group_entry(kind, g * GROUP_ENTRIES)
 }
 
-// Where the count of a group stands: the table has it, or a word of the record does.
+// Where the count of a group stands: the table has it, or a word of the record does. Neither is an error nor nothing, so that it is no Option or Result.
 #[derive(Clone, Copy)]
 pub enum Counted {
     Fixed(u32),

@@ -60,7 +60,7 @@ pub struct Link {
     pub origin: LastNode,
 }
 
-// An element of a part.
+// An element of a part: two kinds of the same rank, and no Option or Result.
 #[derive(Clone, Copy, Debug, PartialEq, Eq)]
 pub enum Element {
     Node(Read),

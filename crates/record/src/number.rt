@@ -85,7 +85,7 @@ fn gather_at(c: Cursor<'_>, first: u64, limit: u64) -> Option<Piece<u64>>
     None
 }
 
-// The decimal number here, with no spare zero and at most `limit`.
+// The decimal number here, with no spare zero and at most `limit`. Apart from `decimal`, which knows where its piece ends: one function for both would make two tests more for each digit of a sheet.
 pub fn decimal_at(c: Cursor<'_>, limit: u64) -> Option<Piece<u64>>
     requires { limit ≤ u32 }
     ensures { NumberAt limit c.entry.bytes.now c.entry.at result }

@@ -97,6 +97,7 @@ pub fn read_sheet(
         pos: 0,
         write: None,
     };
+    // A `while`, since each line may add groups to those that are due.
     while due.groups > 0 {
         if last <= at.pos {
             return Err(ReadError::BadLine(at.line()));

@@ -1,4 +1,4 @@
-// The numbers of the refusals in document 01's table, and that of an answer which is none.
+// The numbers of the refusals in document 01's table, and that of an answer which is none. The calls answer a Result with an error enum; these are what C is handed for it.
 pub const ACCEPTED: u32 = 0;
 
 pub const SHORT_WORK: u32 = 1;

@@ -1,4 +1,5 @@
 // The forms of fields, by their codes in the table. Code 0 stands behind the last field of a record.
+// Numbers so far, since they are digits of the record table.
 
 pub const NONE: u32 = 0;
 

@@ -1,4 +1,4 @@
-// The keywords of the kinds, each as one number: its bytes as digits behind a leading 1.
+// The keywords of the kinds, each as one number: its bytes as digits behind a leading 1: no numbers in place of kinds, but the bytes themselves, so that a keyword is gathered and matched once.
 
 // stmt
 pub const STMT: u64 = 0x173746d74;

@@ -1,4 +1,5 @@
 // The kinds of records, numbered sort by sort, so that a sort's kinds are a range. A record's first word is its kind.
+// Numbers and no enum: they stand in lent words, and document 01 has them told apart by a match on a small number.
 ghost use Rattle.std.specs.Prelude.{◌≡◌};
 ghost use Rattle.words.specs.Count.{is_leaf};
 

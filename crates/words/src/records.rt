@@ -48,6 +48,7 @@ impl Records<'_> {
     {
         let mut at = i;
         let mut due = 1;
+        // A `while`, since how many records there are is known only as their counts are read.
         while due != 0 {
             let n = self.children(at);
             due = due - 1 + n;

@@ -1,4 +1,5 @@
 // The sorts of records, by number: what may stand at a place of a sheet. The next one, 10, is an expression: what is left where all of these are told apart.
+// Numbers so far, since they are digits of the record table and words of the stack of due groups.
 
 pub const STATEMENT: u32 = 0;
 
