@@ -1,8 +1,8 @@
 -- The sizing call's tests in order, from what the reader and the check answer. Assumes nothing.
-use Rattle.std.specs.Prelude.{◌≡◌, refl, ℕ, ◌*◌, ◌<◌, ◌≤◌, Bool, true, false, List, [], ◌∷◌, ltb, length, Option, None, Some, Ok, Err, ◌||◌}
+use Rattle.std.specs.Prelude.{◌≡◌, refl, ℕ, ◌*◌, ◌<◌, ◌≤◌, Bool, true, false, List, [], ◌∷◌, ltb, length, Option, None, Some, Ok, Err, ◌||◌, not}
 use Rattle.std.specs.List.{list_any}
-use Rattle.std.proofs.Common.{sym, ap, arith}
-use Rattle.std.proofs.lemmas.Bool.{ltb-false}
+use Rattle.std.proofs.Common.{sym, ap, arith, ◌∙◌}
+use Rattle.std.proofs.lemmas.Bool.{ltb-false, not-false, not-true}
 use borrow.Author.Tests.{lt-ltb, le-ltb}
 use Rattle.model.specs.Text.{Bytes}
 use Rattle.model.specs.Kind.{statement}
@@ -28,6 +28,14 @@ pub short_any : (ws : List ℕ) → short ws ≡ list_any (λ n. ltb n work_word
 unfolding short
 short_any [] = refl
 short_any (w ∷ ws) = ap (λ s. ltb w work_words || s) (short_any ws)
+
+-- the test's outcome, as the code asks for it
+module _ (ws : List ℕ) (r : Bool) (h : r ≡ not (short ws)) where
+  pub is_long : r ≡ true → short ws ≡ false
+  is_long e = not-true (short ws) (sym h ∙ e)
+
+  pub is_short : r ≡ false → short ws ≡ true
+  is_short e = not-false (short ws) (sym h ∙ e)
 
 -- four slices that are long enough
 pub record Enough (a b c d : List ℕ) : Type 0 where

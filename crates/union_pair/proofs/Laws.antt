@@ -174,8 +174,8 @@ module _ (side : Side) (sheet : Bytes) where
       go true k z = cc
       go false k z = ltb-false max_bytes (length sheet) k
 
-  pub is_long : (r : Result (Unit {0}) SideFault) {f : SideFault} → r ≡ bytes_of side sheet → r ≡ Err f → (max_bytes < length sheet) × (f ≡ record { side = side; fault = Fault.LongSheet })
-  is_long r e z = go (ltb max_bytes (length sheet)) refl (sym e ∙ z)
+  pub sheet_long : (r : Result (Unit {0}) SideFault) {f : SideFault} → r ≡ bytes_of side sheet → r ≡ Err f → (max_bytes < length sheet) × (f ≡ record { side = side; fault = Fault.LongSheet })
+  sheet_long r e z = go (ltb max_bytes (length sheet)) refl (sym e ∙ z)
     where
       go : (b : Bool) {f : SideFault} → ltb max_bytes (length sheet) ≡ b → cond {A = Result (Unit {0}) SideFault} b (Err (record { side = side; fault = Fault.LongSheet })) (Ok tt) ≡ Err f → (max_bytes < length sheet) × (f ≡ record { side = side; fault = Fault.LongSheet })
       go true k z = (ltb-true max_bytes (length sheet) k, cc)

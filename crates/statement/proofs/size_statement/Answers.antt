@@ -1,21 +1,19 @@
 -- `size_statement` meets its contract: test 1, and then the others. Assumes nothing.
-use Rattle.std.proofs.lemmas.Bool.{not-false, not-true}
-use Rattle.std.proofs.Common.{sym, ◌∙◌}
-use Rattle.statement.specs.Sizing.{enough, no_size}
+use Rattle.statement.specs.Sizing.{is_long, is_short, enough, no_size}
 use Rattle.statement.proofs.size_statement.Goals as goal
 
 pub returns-then-not-long_enough : goal.returns-then-not-long_enough
-returns-then-not-long_enough c = no_size _ _ (not-false _ (sym c.long_enough.ensures ∙ c.if-not-long_enough.true))
+returns-then-not-long_enough c = no_size _ _ (is_short _ _ c.long_enough.ensures c.if-not-long_enough.true)
 
 pub invariant_of-records : goal.invariant_of-records
 invariant_of-records c =
-    let e = enough _ _ _ _ (not-true _ (sym c.long_enough.ensures ∙ c.if-not-long_enough.false)) in
+    let e = enough _ _ _ _ (is_long _ _ c.long_enough.ensures c.if-not-long_enough.false) in
     record { roomy = record { first = e.first; second = e.second } }
 
 pub size_read-requires : goal.size_read-requires
 size_read-requires c =
-    let e = enough _ _ _ _ (not-true _ (sym c.long_enough.ensures ∙ c.if-not-long_enough.false)) in
+    let e = enough _ _ _ _ (is_long _ _ c.long_enough.ensures c.if-not-long_enough.false) in
     e.third
 
 pub returns : goal.returns
-returns c = c.size_read.ensures _ (not-true _ (sym c.long_enough.ensures ∙ c.if-not-long_enough.false))
+returns c = c.size_read.ensures _ (is_long _ _ c.long_enough.ensures c.if-not-long_enough.false)
