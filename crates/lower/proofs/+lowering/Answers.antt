@@ -710,9 +710,6 @@ lower_pattern_part-lower_shortest_path_part-requires t c = (
   },
 )
 
-pub lower_pattern_part-returns : goal.lower_pattern_part-returns
-lower_pattern_part-returns t c = c.lower_shortest_path_part.ensures
-
 -- ── lower_rel_element ──
 
 pub lower_rel_element-endpoint_var-m-requires : goal.lower_rel_element-endpoint_var-m-requires

@@ -6,9 +6,6 @@ use Rattle.plan_writer.proofs.write_vars.Goals as goal
 pub loop-k-init : goal.loop-k-init
 loop-k-init c = WholeLaws.no_vars
 
-pub variable-v-requires : goal.variable-v-requires
-variable-v-requires c = (omega arith, c.args.s.now.room.in_rest)
-
 pub loop-k-preserved : goal.loop-k-preserved
 loop-k-preserved c = WholeLaws.next_var_law c.loop-k-test.true c.loop-k.invariant c.variable-v.ensures c.put_row.ensures
 

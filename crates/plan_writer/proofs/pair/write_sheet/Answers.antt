@@ -2,8 +2,5 @@
 use Rattle.plan_writer.proofs.PairLaws
 use Rattle.plan_writer.proofs.pair.write_sheet.Goals as goal
 
-pub write_vars-requires : goal.write_vars-requires
-write_vars-requires c = c.requires.tables.few
-
 pub returns : goal.returns
 returns c = PairLaws.pair_wrote c.put_row.ensures c.write_ops.ensures c.write_ops-2.ensures c.write_vars.ensures

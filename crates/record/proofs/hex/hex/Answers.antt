@@ -7,9 +7,6 @@ use Rattle.record.proofs.hex.hex.Goals as goal
 pub returns-then-s-ne-HEX_DIGITS : goal.returns-then-s-ne-HEX_DIGITS
 returns-then-s-ne-HEX_DIGITS c = hex_not _ c.if-s-ne-HEX_DIGITS.true
 
-pub loop-b-init : goal.loop-b-init
-loop-b-init c = (omega arith, refl)
-
 pub returns-in_err-d : goal.returns-in_err-d
 returns-in_err-d c = rw c.from_residual.ensures (hex_bad _ c.if-s-ne-HEX_DIGITS.false _ _ c.loop-b.invariant.1 c.loop-b-test.true (sym c.in_err-d.ensures))
 

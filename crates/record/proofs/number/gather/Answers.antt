@@ -5,9 +5,6 @@ use Prim.Native.Nat.{◌+◌, ◌*◌}
 use Rattle.record.proofs.GatherLaws.{gathered, stuck, on, over}
 use Rattle.record.proofs.number.gather.Goals as goal
 
-pub loop-b-init : goal.loop-b-init
-loop-b-init c = (omega arith, refl)
-
 pub returns-in_err-d : goal.returns-in_err-d
 returns-in_err-d c = rw c.from_residual.ensures (stuck _ _ _ _ _ c.loop-b.invariant.1 c.loop-b-test.true (sym c.in_err-d.ensures))
 

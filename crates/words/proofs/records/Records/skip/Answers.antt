@@ -9,9 +9,6 @@ loop-due-init c = (omega (arith, Counting.start_low c.requires), Counting.first 
 pub children-n-requires : goal.children-n-requires
 children-n-requires c = Counting.in_range c.requires c.loop-due.invariant.1 c.loop-due-test.true
 
-pub overflow_sub-due : goal.overflow_sub-due
-overflow_sub-due c = omega arith
-
 pub overflow_add-due : goal.overflow_add-due
 overflow_add-due c =
     let p = Counting.few c.requires c.loop-due.invariant.1 c.loop-due.invariant.0 in
