@@ -38,7 +38,7 @@ pub const LINKS_AT: usize = NAMED_WORDS * MAX_VARS;
 // A word of links has two halves, each below this.
 pub const HALF_WORD: u32 = 65536;
 
-// How many operators, variable numbers and named variables there are. The operators' count goes on beyond their table.
+// How many operators, variable numbers and named variables there are. By value, as document 01 has it: `map_var` hands back number and state. The operators' count goes on beyond their table.
 #[derive(Clone, Copy, Debug, PartialEq, Eq)]
 pub struct LowerCtx {
     pub ops: usize,

@@ -10,7 +10,7 @@ use crate::keyword::{Keyword, put_keyword};
 use output::Page;
 use words::{Records, field};
 
-// The 64 bits of two words.
+// The 64 bits of two words. By `*` and `+`, since a `|` of a shift wants one more law, that the bits are apart, and says no more.
 fn bits(low: u32, high: u32) -> u64
     ensures { result ≡ high * two32 + low }
 {

@@ -1,4 +1,4 @@
-// The records alone, told one after another: most statements are refused for nothing, and need no walk.
+// The records alone, told one after another: most statements are refused for nothing, and need no walk. Kinds are numbers, as document 01 has them (words/src/kind.rt).
 ghost use Rattle.words.specs.Count.{Starts};
 ghost use Rattle.precheck.specs.Stands.{Tells, Taken, NoneRefused};
 

@@ -6,6 +6,7 @@ ghost use Rattle.words.specs.Count.{count_at, Starts, Ends};
 use crate::{FIRST_RECORDS, RECORD_WORDS, field};
 
 // The words of all records: the first 1,024 records in one slice, the others in the second. That both are long enough goes with them.
+// Two slices and no list of records, since they are work slices that C lends.
 #[derive(Clone, Copy)]
 pub struct Records<'a> {
     pub a: &'a [u32],

@@ -6,7 +6,7 @@ ghost use Rattle.words.specs.Table.{codes, limits, limit_count, groups, group_nu
 
 use crate::kind;
 
-// A row has its entries as digits of four bits each, the first one topmost.
+// A row has its entries as digits of four bits each, the first one topmost: one number a row is read from constant data, and a list of them is written anew at each use.
 const DIGIT_BITS: usize = 4;
 
 const DIGITS: u64 = 16;
