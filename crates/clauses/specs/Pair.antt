@@ -1,6 +1,6 @@
 -- What the lowering of two statements into one plan asks and promises. Assumes nothing: these are definitions.
 use Rattle.std.specs.Prelude.{◌≡◌, ℕ, ◌+◌, ◌≤◌, ◌<◌, Bool, List, [], ◌∷◌, length, Option}
-use Rattle.model.specs.Call.{max_depth}
+use Rattle.model.specs.Call.{work_words, max_depth}
 use Rattle.model.specs.Text.{Bytes}
 use Rattle.model.specs.Kind.{ReadOp, statement}
 use Rattle.model.specs.Tree.{Tree}
@@ -26,8 +26,9 @@ union_of left right all = do
   push (op ReadOp.Union (l, (r, (all, tt))) ∷ [])
 
 -- two operands, operators that there are or none, whose union is stored with record i; there is room for three operators more
-pub record UniteAsked (both : Operands) (i : ℕ) (c : LowerCtx) : Type 0 where
+pub record UniteAsked (both : Operands) (i : ℕ) (c : LowerCtx) (ops : List ℕ) : Type 0 where
   pub few : c.ops ≤ max_found
+  pub long : work_words ≤ length ops
   pub left : Under both.left c.ops
   pub right : Under both.right c.ops
   pub here : i < max_records

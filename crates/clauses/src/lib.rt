@@ -102,7 +102,7 @@ fn lower_arm(
         right: below.op,
         all,
     };
-    let z = pair::unite(tables, below.ctx, both, i);
+    let z = pair::unite(tables.ops, below.ctx, both, i);
     Current {
         next: below.next,
         op: Some(z.op),

@@ -11,4 +11,4 @@ pub lower_from-r-requires : goal.lower_from-r-requires
 lower_from-r-requires c = Pairing.right_asked c.requires c.lower_from-l.ensures c.args.right.now.tables.long
 
 pub returns : goal.returns
-returns c = Pairing.pair_law c.requires c.lower_from-l.ensures c.lower_from-r.ensures _ c.unite-z.ensures
+returns c = Pairing.pair_law c.requires c.lower_from-l.ensures c.lower_from-r.ensures _ (c.unite-z.ensures _)
