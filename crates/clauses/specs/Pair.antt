@@ -15,6 +15,8 @@ use Rattle.lower.specs.Rep.{State, Mem, mem, Written, Rep}
 use Rattle.lower.specs.Chains.{Sourced}
 use Rattle.projections.specs.Ready.{max_found}
 use Rattle.clauses.specs.declared.pair.Operands.{Operands}
+use Rattle.clauses.specs.declared.pair.Side.{Side as OneSide}
+use Rattle.clauses.specs.Statement.{SameLengths}
 
 -- ── two operands and their union ──
 
@@ -45,6 +47,12 @@ pub record Unites (L : Lowering ℕ) (k : ℕ) (m m' : Mem) : Type 0 where
   pub run : (S : Side) (W : Written) (s : State) → Rep S W s m → Sourced S L k W s m m'
 
 -- ── two statements ──
+
+-- what a side has behind the lowering of what it had before: the same sheet and records, and tables as long
+pub record SameSide (x x' : OneSide) : Type 0 where
+  pub sheet : x'.sheet ≡ x.sheet
+  pub records : x'.records ≡ x.records
+  pub tables : SameLengths x.tables x'.tables
 
 -- a statement on each side
 pub record PairAsked (left : Bytes) (la lb : List ℕ) (right : Bytes) (ra rb : List ℕ) : Type 0 where

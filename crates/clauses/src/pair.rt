@@ -1,7 +1,7 @@
 // The lowering of two statements into one plan, each over tables of its own, and their union.
 ghost use Rattle.std.specs.Prelude.{ℕ, List};
 ghost use Rattle.lower.specs.Rep.{mem, in_tables};
-ghost use Rattle.clauses.specs.Pair.{union_of, UniteAsked, Unites, PairAsked, LowersPair};
+ghost use Rattle.clauses.specs.Pair.{union_of, UniteAsked, Unites, PairAsked, SameSide, LowersPair};
 
 use crate::{EMPTY, lower_from};
 use context::{LowerCtx, Tables, op};
@@ -57,7 +57,9 @@ pub fn lower_union_pair(
     all: bool,
 ) -> Sides
     requires { PairAsked left.old.sheet.now left.old.records.a.now left.old.records.b.now right.old.sheet.now right.old.records.a.now right.old.records.b.now }
-    ensures { LowersPair left.old.sheet.now left.old.records.a.now left.old.records.b.now left.new.tables.ops.now left.new.tables.rest.now right.old.sheet.now right.old.records.a.now right.old.records.b.now all result.first (in_tables result.ctx right.new.tables) }
+    ensures lowered { LowersPair left.old.sheet.now left.old.records.a.now left.old.records.b.now left.new.tables.ops.now left.new.tables.rest.now right.old.sheet.now right.old.records.a.now right.old.records.b.now all result.first (in_tables result.ctx right.new.tables) }
+    ensures same_left { SameSide left.old left.new }
+    ensures same_right { SameSide right.old right.new }
 {
     let l = lower_from(
         left.sheet,
