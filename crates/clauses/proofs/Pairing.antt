@@ -76,9 +76,10 @@ module _ {left right : Bytes} {la lb los lrs ra rb ros rrs : List ℕ} (g : Pair
         }
 
   -- what the union asks
-  pub unite_asked : {both : Operands} {e e' : ℕ} {m₁ m₂ : Mem} → LowersFrom left la lb max_depth e both.left (mem start los lrs) m₁ → LowersFrom right ra rb max_depth e' both.right (mem (forgetting m₁.ctx) ros rrs) m₂ → UniteAsked both 0 m₂.ctx
-  unite_asked {both} {m₁ = m₁} {m₂} p q = record {
+  pub unite_asked : {both : Operands} {e e' : ℕ} {m₁ m₂ : Mem} → LowersFrom left la lb max_depth e both.left (mem start los lrs) m₁ → LowersFrom right ra rb max_depth e' both.right (mem (forgetting m₁.ctx) ros rrs) m₂ → Long ros rrs → UniteAsked both 0 m₂.ctx m₂.ops
+  unite_asked {both} {m₁ = m₁} {m₂} p q l = record {
     few = few_behind p q;
+    long = rw q.moved.in_ops l.0;
     left = under_more q.moved.grow (stands_under m₁ both.left p.stands);
     right = stands_under m₂ both.right q.stands;
     here = omega arith;

@@ -1,6 +1,6 @@
 -- What the lowering of two statements into one plan asks and promises. Assumes nothing: these are definitions.
 use Rattle.std.specs.Prelude.{◌≡◌, ℕ, ◌+◌, ◌≤◌, ◌<◌, Bool, List, [], ◌∷◌, length, Option}
-use Rattle.model.specs.Call.{max_depth}
+use Rattle.model.specs.Call.{work_words, max_depth}
 use Rattle.model.specs.Text.{Bytes}
 use Rattle.model.specs.Kind.{ReadOp, statement}
 use Rattle.model.specs.Tree.{Tree}
@@ -15,6 +15,8 @@ use Rattle.lower.specs.Rep.{State, Mem, mem, Written, Rep}
 use Rattle.lower.specs.Chains.{Sourced}
 use Rattle.projections.specs.Ready.{max_found}
 use Rattle.clauses.specs.declared.pair.Operands.{Operands}
+use Rattle.clauses.specs.declared.pair.Side.{Side as OneSide}
+use Rattle.clauses.specs.Statement.{SameLengths}
 
 -- ── two operands and their union ──
 
@@ -26,8 +28,9 @@ union_of left right all = do
   push (op ReadOp.Union (l, (r, (all, tt))) ∷ [])
 
 -- two operands, operators that there are or none, whose union is stored with record i; there is room for three operators more
-pub record UniteAsked (both : Operands) (i : ℕ) (c : LowerCtx) : Type 0 where
+pub record UniteAsked (both : Operands) (i : ℕ) (c : LowerCtx) (ops : List ℕ) : Type 0 where
   pub few : c.ops ≤ max_found
+  pub long : work_words ≤ length ops
   pub left : Under both.left c.ops
   pub right : Under both.right c.ops
   pub here : i < max_records
@@ -44,6 +47,12 @@ pub record Unites (L : Lowering ℕ) (k : ℕ) (m m' : Mem) : Type 0 where
   pub run : (S : Side) (W : Written) (s : State) → Rep S W s m → Sourced S L k W s m m'
 
 -- ── two statements ──
+
+-- what a side has behind the lowering of what it had before: the same sheet and records, and tables as long
+pub record SameSide (x x' : OneSide) : Type 0 where
+  pub sheet : x'.sheet ≡ x.sheet
+  pub records : x'.records ≡ x.records
+  pub tables : SameLengths x.tables x'.tables
 
 -- a statement on each side
 pub record PairAsked (left : Bytes) (la lb : List ℕ) (right : Bytes) (ra rb : List ℕ) : Type 0 where

@@ -11,7 +11,7 @@ ghost use Rattle.lower.specs.Rep.{in_tables};
 ghost use Rattle.lower.specs.Clauses.{LowersClause};
 ghost use Rattle.clauses.specs.Asked.{TurnAsked, TurnsAsked};
 ghost use Rattle.clauses.specs.Steps.{LowersClauses, LowersArm, LowersArms};
-ghost use Rattle.clauses.specs.Statement.{StatementAsked, LowersFrom, LowersStatement};
+ghost use Rattle.clauses.specs.Statement.{StatementAsked, LowersFrom, SameLengths, LowersStatement};
 
 use crate::pair::Operands;
 use context::{At, LowerCtx, Tables};
@@ -102,7 +102,7 @@ fn lower_arm(
         right: below.op,
         all,
     };
-    let z = pair::unite(tables, below.ctx, both, i);
+    let z = pair::unite(tables.ops, below.ctx, both, i);
     Current {
         next: below.next,
         op: Some(z.op),
@@ -155,7 +155,8 @@ pub fn lower_from(
 // The statement that r holds, into empty tables.
 pub fn lower(sheet: &[u8], r: &Records<'_>, tables: &mut Tables<'_>) -> LowerCtx
     requires { HeldSome sheet.now r.now.a.now r.now.b.now statement max_depth 0 }
-    ensures { LowersStatement sheet.now r.now.a.now r.now.b.now (in_tables result tables.new) }
+    ensures lowered { LowersStatement sheet.now r.now.a.now r.now.b.now (in_tables result tables.new) }
+    ensures same { SameLengths tables.old tables.new }
 {
     lower_from(sheet, r, tables, EMPTY, words::MAX_DEPTH).ctx
 }

@@ -1,6 +1,7 @@
 // The lowering of two statements into one plan, each over tables of its own, and their union.
-ghost use Rattle.lower.specs.Rep.{in_tables};
-ghost use Rattle.clauses.specs.Pair.{union_of, UniteAsked, Unites, PairAsked, LowersPair};
+ghost use Rattle.std.specs.Prelude.{ℕ, List};
+ghost use Rattle.lower.specs.Rep.{mem, in_tables};
+ghost use Rattle.clauses.specs.Pair.{union_of, UniteAsked, Unites, PairAsked, SameSide, LowersPair};
 
 use crate::{EMPTY, lower_from};
 use context::{LowerCtx, Tables, op};
@@ -22,15 +23,15 @@ pub struct United {
 }
 
 // The union of two operands, a source of everything for each that is missing, left before right. It is stored with record i, which it does not print.
-pub fn unite(tables: &mut Tables<'_>, ctx: LowerCtx, both: Operands, i: usize) -> United
-    requires { UniteAsked both i ctx }
-    ensures { Unites (union_of both.left both.right both.all) result.op (in_tables ctx tables.old) (in_tables result.ctx tables.new) }
+pub fn unite(ops: &mut [u32], ctx: LowerCtx, both: Operands, i: usize) -> United
+    requires { UniteAsked both i ctx ops.old }
+    ensures { (rest : List ℕ) → Unites (union_of both.left both.right both.all) result.op (mem ctx ops.old rest) (mem result.ctx ops.new rest) }
 {
-    let q = lower::or_source_all(tables.ops, ctx, both.left, i);
-    let s = lower::or_source_all(tables.ops, q.ctx, both.right, i);
+    let q = lower::or_source_all(ops, ctx, both.left, i);
+    let s = lower::or_source_all(ops, q.ctx, both.right, i);
     let k = s.ctx.ops;
     let all = u32::from(both.all);
-    let z = s.ctx.push(tables.ops, op::union(i, q.op, s.op, all));
+    let z = s.ctx.push(ops, op::union(i, q.op, s.op, all));
     United { op: k, ctx: z }
 }
 
@@ -56,7 +57,9 @@ pub fn lower_union_pair(
     all: bool,
 ) -> Sides
     requires { PairAsked left.old.sheet.now left.old.records.a.now left.old.records.b.now right.old.sheet.now right.old.records.a.now right.old.records.b.now }
-    ensures { LowersPair left.old.sheet.now left.old.records.a.now left.old.records.b.now left.new.tables.ops.now left.new.tables.rest.now right.old.sheet.now right.old.records.a.now right.old.records.b.now all result.first (in_tables result.ctx right.new.tables) }
+    ensures lowered { LowersPair left.old.sheet.now left.old.records.a.now left.old.records.b.now left.new.tables.ops.now left.new.tables.rest.now right.old.sheet.now right.old.records.a.now right.old.records.b.now all result.first (in_tables result.ctx right.new.tables) }
+    ensures same_left { SameSide left.old left.new }
+    ensures same_right { SameSide right.old right.new }
 {
     let l = lower_from(
         left.sheet,
@@ -78,7 +81,9 @@ pub fn lower_union_pair(
         right: r.op,
         all,
     };
-    let z = unite(&mut right.tables, r.ctx, both, 0);
+    // The tables first: the slice of a struct in a struct cannot be lent at once.
+    let tables = &mut right.tables;
+    let z = unite(tables.ops, r.ctx, both, 0);
     Sides {
         first: l.ctx.ops,
         ctx: z.ctx,

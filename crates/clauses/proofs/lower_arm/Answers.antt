@@ -25,4 +25,4 @@ lower_clauses-below-requires c =
     }
 
 pub returns : goal.returns
-returns c = Joining.arm_law _ _ _ c.args.r.now.roomy c.count-n.ensures.0 c.word-all.ensures c.lower_clauses-below.ensures c.unite-z.ensures
+returns c = Joining.arm_law _ _ _ c.args.r.now.roomy c.count-n.ensures.0 c.word-all.ensures c.lower_clauses-below.ensures (c.unite-z.ensures _)

@@ -17,9 +17,9 @@ lower_union_pair-sides-requires c =
 pub write_lowered-requires : goal.write_lowered-requires
 write_lowered-requires c =
     let b = tested_as c.shared-left_words.ensures c.shared-right_words.ensures (tested_passed _ _ _ _ _ _ c.in_ok-test_sides.was c.test_sides.ensures) in
-    lowered b c.lower_union_pair-sides.ensures
+    lowered b c.lower_union_pair-sides.ensures.lowered
 
 pub returns : goal.returns
 returns c =
     let b = tested_as c.shared-left_words.ensures c.shared-right_words.ensures (tested_passed _ _ _ _ _ _ c.in_ok-test_sides.was c.test_sides.ensures) in
-    passed _ _ c.args.all _ b c.write_lowered.result (c.write_lowered.ensures _ (stands b c.lower_union_pair-sides.ensures))
+    passed _ _ c.args.all _ b c.write_lowered.result (c.write_lowered.ensures _ (stands b c.lower_union_pair-sides.ensures.lowered))

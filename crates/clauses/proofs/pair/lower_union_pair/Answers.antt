@@ -10,5 +10,5 @@ lower_from-l-requires c = Whole.asked Whole.start _ _ c.requires.on_left (omega 
 pub lower_from-r-requires : goal.lower_from-r-requires
 lower_from-r-requires c = Pairing.right_asked c.requires c.lower_from-l.ensures c.args.right.now.tables.long
 
-pub returns : goal.returns
-returns c = Pairing.pair_law c.requires c.lower_from-l.ensures c.lower_from-r.ensures _ c.unite-z.ensures
+pub returns-clause-lowered : goal.returns-clause-lowered
+returns-clause-lowered c = Pairing.pair_law c.requires c.lower_from-l.ensures c.lower_from-r.ensures _ (c.unite-z.ensures _)

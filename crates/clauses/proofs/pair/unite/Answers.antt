@@ -7,7 +7,7 @@ use Rattle.clauses.proofs.pair.unite.Goals as goal
 pub or_source_all-s-requires : goal.or_source_all-s-requires
 or_source_all-s-requires c =
     let q = c.or_source_all-q.ensures.source [] in
-    (record { few = omega (arith, c.requires.few, q.few); long = rw c.or_source_all-q.auto.ops c.args.tables.now.long.0 }, under_more q.grow c.requires.right)
+    (record { few = omega (arith, c.requires.few, q.few); long = rw c.or_source_all-q.auto.ops c.requires.long }, under_more q.grow c.requires.right)
 
 pub union-requires : goal.union-requires
 union-requires c =
@@ -19,9 +19,9 @@ pub push-z-requires : goal.push-z-requires
 push-z-requires c =
     let q = c.or_source_all-q.ensures.source [] in
     let s = c.or_source_all-s.ensures.source [] in
-    record { few = omega (arith, c.requires.few, q.few, s.few); long = rw (c.or_source_all-s.auto.ops ∙ c.or_source_all-q.auto.ops) c.args.tables.now.long.0 }
+    record { few = omega (arith, c.requires.few, q.few, s.few); long = rw (c.or_source_all-s.auto.ops ∙ c.or_source_all-q.auto.ops) c.requires.long }
 
 pub returns : goal.returns
 returns c =
     let pushed = pushed_as (union_as _ c.from-all.ensures c.union.ensures) c.push-z.ensures in
-    unite_law _ _ _ c.requires.here (c.or_source_all-q.ensures.source _) (c.or_source_all-s.ensures.source _) pushed c.push-z.auto.ops
+    λ rest. unite_law _ _ _ c.requires.here (c.or_source_all-q.ensures.source rest) (c.or_source_all-s.ensures.source rest) pushed c.push-z.auto.ops

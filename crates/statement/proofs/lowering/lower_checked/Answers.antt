@@ -13,9 +13,9 @@ pub invariant_of-source : goal.invariant_of-source
 invariant_of-source c = record { room = record { records = c.args.r.now.roomy; in_ops = c.lower-ctx.new.tables.long.0; in_rest = c.lower-ctx.new.tables.long.1 } }
 
 pub write_lowered-requires : goal.write_lowered-requires
-write_lowered-requires c = lowered c.requires c.lower-ctx.ensures
+write_lowered-requires c = lowered c.requires c.lower-ctx.ensures.lowered
 
 pub returns : goal.returns
 returns c = λ t h.
-    let R = c.lower-ctx.ensures.run t h in
+    let R = c.lower-ctx.ensures.lowered.run t h in
     tree_fine _ _ t c.write_lowered.result (rw c.in_ok-precheck_statement.was at (c.precheck_statement.ensures _ t h)) (c.write_lowered.ensures R.written _ R.rep)
