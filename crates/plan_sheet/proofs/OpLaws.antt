@@ -3,12 +3,13 @@ use mathlib.Core.Path.{◌≡◌, refl, sym, ap, subst, ◌∙◌}
 use Prim.Native.Nat.{ℕ, zero, suc, ◌+◌, ◌≤◌, ◌<◌}
 use native.Mathlib.Omega.{arith}
 use mathlib.Core.List.{List, [], ◌∷◌, ◌++◌, append-nil, append_assoc}
-use lib.ListN.{take}
+use lib.ListN.{length, take}
 use mathlib.Core.Bool.{Bool, true, false}
 use mathlib.Core.Logic.{inl, inr}
 use lib.Dec.{eqb}
 use Rattle.model.specs.Text.{Bytes, tab, line_feed, behind, bytes, bytes_from, decimal, digits, escape}
 use Rattle.model.specs.Field.{Fields, text, spell, spell_flag, spell_option, spell_fields}
+use Rattle.model.specs.Call.{work_words}
 use Rattle.model.specs.Kind.{ReadOp, Clause, clause, pattern_element}
 use Rattle.model.specs.Record.{Rec, one, all_shortest, forms, keyword, plan_keyword, op_keyword, spell_rec, spell_recs}
 use Rattle.model.specs.Tree.{Tree, node}
@@ -148,8 +149,8 @@ unfolding spell_flag decimal digits
 bool_decimal false = refl
 bool_decimal true = refl
 
-pub notes_in : {sheet : Bytes} {a b rest : List ℕ} {o : Op} → OpShown sheet a b rest o → NotesIn o
-notes_in h = let w = h.stored.bounded in record { near = w.near; low = w.low }
+pub notes_in : {sheet : Bytes} {a b rest : List ℕ} {o : Op} → work_words ≤ length rest → OpShown sheet a b rest o → NotesIn rest o
+notes_in long h = let w = h.stored.bounded in record { in_rest = long; near = w.near; low = w.low }
 
 module _ {sheet : Bytes} {a b rest : List ℕ} {o : Op} (h : OpShown sheet a b rest o) where
   all_line : o.kind ≡ source_all_kind → spell_recs (take 1 h.recs) ≡ row_text Keyword.Source (o.x ∷ 0 ∷ [])

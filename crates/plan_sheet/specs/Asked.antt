@@ -1,8 +1,9 @@
--- What the writers of expressions, elements and items ask and what they promise, by the structs that they are given. Assumes nothing: these are definitions.
+-- What the writers of expressions, elements and items ask and what they promise, by what they are given. Assumes nothing: these are definitions.
 use Rattle.std.specs.Prelude.{ℕ, ◌+◌, Bool, List}
 use Rattle.model.specs.Text.{Bytes}
 use Rattle.output.specs.declared.Page.{Page}
 use Rattle.words.specs.Words.{cell}
+use Rattle.words.specs.declared.records.Records.{Records}
 use Rattle.words.specs.Places.{items_at}
 use Rattle.context.specs.declared.op.Op.{Op}
 use Rattle.plan_sheet.specs.Behind.{many_of, first_of, Yields, WroteYields, SomeTail, WroteTail}
@@ -18,70 +19,72 @@ pub record Asked (base left : ℕ) (Due : Type 0) : Type 0 where
   pub near : Near base left
   pub due : Due
 
--- ── by what the writer reads ──
+-- ── by the sheet, its records and the notes ──
 
 -- word c of record i, and the text whose place begins there
-abbrev pub word_of : Source → (i c : ℕ) → ℕ
-word_of s i c = cell s.records.a.now s.records.b.now i c
+abbrev pub word_of : Records → (i c : ℕ) → ℕ
+word_of r i c = cell r.a.now r.b.now i c
 
-abbrev pub text_of : Source → (i c : ℕ) → Bytes
-text_of s i c = text_at s.sheet.now s.records.a.now s.records.b.now i c
+abbrev pub text_of : Bytes → Records → (i c : ℕ) → Bytes
+text_of sheet r i c = text_at sheet r.a.now r.b.now i c
 
-abbrev pub agg_text_of : Source → ℕ → Bytes
-agg_text_of s i = agg_text s.sheet.now s.records.a.now s.records.b.now i
+abbrev pub agg_text_of : Bytes → Records → ℕ → Bytes
+agg_text_of sheet r i = agg_text sheet r.a.now r.b.now i
 
 -- what stands there
-abbrev pub TextIn : Source → (i c : ℕ) → Type 0
-TextIn s i c = TextAsked s.sheet.now s.records.a.now s.records.b.now i c
+abbrev pub TextIn : Bytes → Records → (i c : ℕ) → Type 0
+TextIn sheet r i c = TextAsked sheet r.a.now r.b.now i c
 
-abbrev pub KindIn : Source → (i kind : ℕ) → Type 0 → Type 0
-KindIn s i kind X = KindAsked s.records.a.now s.records.b.now i kind X
+abbrev pub KindIn : Records → (i kind : ℕ) → Type 0 → Type 0
+KindIn r i kind X = KindAsked r.a.now r.b.now i kind X
 
-abbrev pub ExprIn : Source → ℕ → Type 0
-ExprIn s i = ExprAt s.sheet.now s.records.a.now s.records.b.now i
+abbrev pub ExprIn : Bytes → Records → ℕ → Type 0
+ExprIn sheet r i = ExprAt sheet r.a.now r.b.now i
 
-abbrev pub ItemIn : Source → ℕ → Type 0
-ItemIn s i = ItemAt s.sheet.now s.records.a.now s.records.b.now i
+abbrev pub ItemIn : Bytes → Records → ℕ → Type 0
+ItemIn sheet r i = ItemAt sheet r.a.now r.b.now i
 
-abbrev pub LineIn : Source → ℕ → Type 0
-LineIn s i = SomeLine s.sheet.now s.records.a.now s.records.b.now i
+abbrev pub LineIn : Bytes → Records → ℕ → Type 0
+LineIn sheet r i = SomeLine sheet r.a.now r.b.now i
 
-abbrev pub ElementIn : Source → ℕ → Type 0
-ElementIn s i = ElementAt s.sheet.now s.records.a.now s.records.b.now i
+abbrev pub ElementIn : Bytes → Records → ℕ → Type 0
+ElementIn sheet r i = ElementAt sheet r.a.now r.b.now i
 
-abbrev pub NamesIn : Source → (n i : ℕ) → Type 0
-NamesIn s n i = Names s.sheet.now s.records.a.now s.records.b.now n i
+abbrev pub NamesIn : Bytes → Records → (n i : ℕ) → Type 0
+NamesIn sheet r n i = Names sheet r.a.now r.b.now n i
 
-abbrev pub YieldsIn : Source → (n i : ℕ) → Type 0
-YieldsIn s n i = Yields s.sheet.now s.records.a.now s.records.b.now n i
+abbrev pub YieldsIn : Bytes → Records → (n i : ℕ) → Type 0
+YieldsIn sheet r n i = Yields sheet r.a.now r.b.now n i
 
-abbrev pub ElementsIn : Source → (n i : ℕ) → Type 0
-ElementsIn s n i = Elements s.sheet.now s.records.a.now s.records.b.now n i
+abbrev pub ElementsIn : Bytes → Records → (n i : ℕ) → Type 0
+ElementsIn sheet r n i = Elements sheet r.a.now r.b.now n i
 
-abbrev pub OpIn : Source → Op → Type 0
-OpIn s o = OpShown s.sheet.now s.records.a.now s.records.b.now s.rest.now o
+abbrev pub OpIn : Bytes → Records → List ℕ → Op → Type 0
+OpIn sheet r rest o = OpShown sheet r.a.now r.b.now rest o
 
-abbrev pub TailIn : Source → Op → ℕ → Type 0
-TailIn s o i = SomeTail s.sheet.now s.records.a.now s.records.b.now s.rest.now o i
+abbrev pub TailIn : Bytes → Records → List ℕ → Op → ℕ → Type 0
+TailIn sheet r rest o i = SomeTail sheet r.a.now r.b.now rest o i
+
+-- that it is written
+abbrev pub LineWrote : Bytes → Records → ℕ → Page → ℕ → Page → Type 0
+LineWrote sheet r i p next q = WroteLine sheet r.a.now r.b.now i p next q
+
+abbrev pub YieldsWrote : Bytes → Records → List ℕ → (base n i : ℕ) → Page → Page → Type 0
+YieldsWrote sheet r rest base n i p q = WroteYields sheet r.a.now r.b.now rest base n i p q
+
+abbrev pub PathWrote : Bytes → Records → List ℕ → (base n i : ℕ) → Page → Page → Type 0
+PathWrote sheet r rest base n i p q = WrotePath sheet r.a.now r.b.now rest base n i p q
+
+abbrev pub FirstWrote : Bytes → Records → List ℕ → Op → Page → Page → Type 0
+FirstWrote sheet r rest o p q = WroteFirst sheet r.a.now r.b.now rest o p q
+
+abbrev pub TailWrote : Bytes → Records → List ℕ → Op → ℕ → Page → Page → Type 0
+TailWrote sheet r rest o i p q = WroteTail sheet r.a.now r.b.now rest o i p q
+
+-- ── by all that the writer reads ──
 
 abbrev pub PlanIn : Source → (from n : ℕ) → Type 0
 PlanIn s from n = SomePlan s.sheet.now s.records.a.now s.records.b.now s.ops.now s.rest.now from n
-
--- that it is written
-abbrev pub LineWrote : Source → ℕ → Page → ℕ → Page → Type 0
-LineWrote s i p next q = WroteLine s.sheet.now s.records.a.now s.records.b.now i p next q
-
-abbrev pub YieldsWrote : Source → (base n i : ℕ) → Page → Page → Type 0
-YieldsWrote s base n i p q = WroteYields s.sheet.now s.records.a.now s.records.b.now s.rest.now base n i p q
-
-abbrev pub PathWrote : Source → (base n i : ℕ) → Page → Page → Type 0
-PathWrote s base n i p q = WrotePath s.sheet.now s.records.a.now s.records.b.now s.rest.now base n i p q
-
-abbrev pub FirstWrote : Source → Op → Page → Page → Type 0
-FirstWrote s o p q = WroteFirst s.sheet.now s.records.a.now s.records.b.now s.rest.now o p q
-
-abbrev pub TailWrote : Source → Op → ℕ → Page → Page → Type 0
-TailWrote s o i p q = WroteTail s.sheet.now s.records.a.now s.records.b.now s.rest.now o i p q
 
 abbrev pub OpWrote : Source → ℕ → Page → Page → Type 0
 OpWrote s k p q = WroteOp s.sheet.now s.records.a.now s.records.b.now s.ops.now s.rest.now k p q

@@ -35,7 +35,8 @@ pub record Near (base left : ℕ) : Type 0 where
   pub shallow : left ≤ deepest
 
 -- the notes of an operator's pass are inside the fourth slice, and its record is one of the first
-pub record NotesIn (o : Op) : Type 0 where
+pub record NotesIn (rest : List ℕ) (o : Op) : Type 0 where
+  pub in_rest : work_words ≤ length rest
   pub near : o.base ≤ second_pass
   pub low : o.idx < max_records
 
@@ -60,8 +61,8 @@ pub record KindAsked (a b : List ℕ) (i kind : ℕ) (X : Type 0) : Type 0 where
   pub told : kind ≡ cell a b i kind_at
 
 -- what a part of an operator asks whose notes are read, X being what is due
-pub record NotedAsked (o : Op) (X : Type 0) : Type 0 where
-  pub notes : NotesIn o
+pub record NotedAsked (rest : List ℕ) (o : Op) (X : Type 0) : Type 0 where
+  pub notes : NotesIn rest o
   pub due : X
 
 -- some expression begins at record i

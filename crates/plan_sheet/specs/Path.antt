@@ -1,6 +1,7 @@
 -- The numbers of a path, element by element as the code lists them. Assumes nothing: these are definitions.
-use Rattle.std.specs.Prelude.{◌≡◌, ℕ, suc, ◌≤◌, ◌<◌, true, false, List, [], ◌∷◌, ◌++◌, Option, None, Some}
+use Rattle.std.specs.Prelude.{◌≡◌, ℕ, suc, ◌≤◌, ◌<◌, true, false, length, List, [], ◌∷◌, ◌++◌, Option, None, Some}
 use Rattle.model.specs.Text.{Bytes}
+use Rattle.model.specs.Call.{work_words}
 use Rattle.model.specs.Kind.{pattern_element}
 use Rattle.model.specs.Record.{spell_recs}
 use Rattle.model.specs.Tree.{Trees}
@@ -27,8 +28,9 @@ abbrev pub WaitsLow : Option ℕ → Type 0
 WaitsLow None = Unit {0}
 WaitsLow (Some i) = i < max_records
 
--- the notes of a pass are inside the fourth slice
-pub record StepAsked (base : ℕ) (w : Option ℕ) : Type 0 where
+-- the notes of a pass are inside the fourth slice, which is long enough
+pub record StepAsked (rest : List ℕ) (base : ℕ) (w : Option ℕ) : Type 0 where
+  pub in_rest : work_words ≤ length rest
   pub near : base ≤ second_pass
   pub low : WaitsLow w
 

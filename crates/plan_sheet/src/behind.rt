@@ -6,7 +6,6 @@ ghost use Rattle.plan_sheet.specs.Due.{NotedAsked};
 ghost use Rattle.plan_sheet.specs.Asked.{exprs_of, items_of, at_record, TailIn, TailWrote, YieldsWrote, YieldsIn, word_of};
 ghost use Rattle.plan_sheet.specs.Behind.{many_of, first_of};
 
-use crate::source::Source;
 use crate::write::{At, Run};
 use context::op;
 use context::op::Op;
@@ -92,34 +91,34 @@ pub fn items_of(r: &Records<'_>, w: Op, k: usize) -> Run
 }
 
 // The yields of a `call`, from record i on, with the numbers that are noted at them.
-fn put_yields(page: &mut Page<'_>, s: &Source<'_>, w: Op, i: usize)
-    requires { NotedAsked w (YieldsIn s.now (word_of s.now w.idx call_yields_at) i) }
-    ensures { YieldsWrote s.now w.base (word_of s.now w.idx call_yields_at) i page.old page.new }
+fn put_yields(page: &mut Page<'_>, sheet: &[u8], r: &Records<'_>, rest: &[u32], w: Op, i: usize)
+    requires { NotedAsked rest.now w (YieldsIn sheet.now r.now (word_of r.now w.idx call_yields_at) i) }
+    ensures { YieldsWrote sheet.now r.now rest.now w.base (word_of r.now w.idx call_yields_at) i page.old page.new }
 {
     let base = w.base as usize;
-    let n = s.records.count(w.idx as usize, field::CALL_YIELDS);
+    let n = r.count(w.idx as usize, field::CALL_YIELDS);
     let end = i + n;
     for at in i..end {
-        let from = s.records.word(at, field::YIELD_NAME);
-        let to = s.records.word(at, field::YIELD_NAME + 1);
-        let number = note_of(s.rest, base, at);
-        put_named(page, Keyword::Yield, part(s.sheet, from, to), [number]);
+        let from = r.word(at, field::YIELD_NAME);
+        let to = r.word(at, field::YIELD_NAME + 1);
+        let number = note_of(rest, base, at);
+        put_named(page, Keyword::Yield, part(sheet, from, to), [number]);
     }
 }
 
 // What is behind the expressions of an operator, from record i on.
-pub fn put_tail(page: &mut Page<'_>, s: &Source<'_>, w: Op, i: usize)
-    requires { NotedAsked w (TailIn s.now w i) }
-    ensures { TailWrote s.now w i page.old page.new }
+pub fn put_tail(page: &mut Page<'_>, sheet: &[u8], r: &Records<'_>, rest: &[u32], w: Op, i: usize)
+    requires { NotedAsked rest.now w (TailIn sheet.now r.now rest.now w i) }
+    ensures { TailWrote sheet.now r.now rest.now w i page.old page.new }
 {
     let kind = w.kind;
     match kind {
         op::SOURCE => {
-            let labels = s.records.count(w.idx as usize, field::NODE_LABELS);
-            crate::names::put_names(page, s, i, labels);
+            let labels = r.count(w.idx as usize, field::NODE_LABELS);
+            crate::names::put_names(page, sheet, r, i, labels);
         }
-        op::BIND_PATH => crate::path::put_path(page, s, w, i),
-        op::PROCEDURE_CALL => put_yields(page, s, w, i),
+        op::BIND_PATH => crate::path::put_path(page, sheet, r, rest, w, i),
+        op::PROCEDURE_CALL => put_yields(page, sheet, r, rest, w, i),
         _ => {}
     }
 }

@@ -9,7 +9,6 @@ ghost use Rattle.context.specs.Ops.{bind_path_kind};
 ghost use Rattle.plan_line.specs.Row.{numbers_text, row_text, call_text};
 ghost use Rattle.plan_sheet.specs.Asked.{OpIn, FirstWrote, TextIn, text_of, word_of};
 
-use crate::source::Source;
 use context::op;
 use context::op::Op;
 use output::Page;
@@ -62,31 +61,31 @@ fn put_counts(page: &mut Page<'_>, r: &Records<'_>, i: usize)
 }
 
 // A `call`: its input, its procedure's name, and its numbers.
-fn put_procedure(page: &mut Page<'_>, s: &Source<'_>, i: usize, input: Option<usize>)
-    requires { TextIn s.now i call_name_at }
-    ensures { Puts (call_text input (text_of s.now i call_name_at) (word_of s.now i call_args_at) (word_of s.now i call_yields_at) (word_of s.now i call_optional_at)) page.old page.new }
+fn put_procedure(page: &mut Page<'_>, sheet: &[u8], r: &Records<'_>, i: usize, input: Option<usize>)
+    requires { TextIn sheet.now r.now i call_name_at }
+    ensures { Puts (call_text input (text_of sheet.now r.now i call_name_at) (word_of r.now i call_args_at) (word_of r.now i call_yields_at) (word_of r.now i call_optional_at)) page.old page.new }
 {
-    let from = s.records.word(i, field::CALL_NAME);
-    let to = s.records.word(i, field::CALL_NAME + 1);
+    let from = r.word(i, field::CALL_NAME);
+    let to = r.word(i, field::CALL_NAME + 1);
     put_keyword(page, Keyword::Call);
     put_input(page, input);
-    put_text(page, part(s.sheet, from, to));
-    put_counts(page, &s.records, i);
+    put_text(page, part(sheet, from, to));
+    put_counts(page, r, i);
 }
 
 // The first line of an operator that is none of a pattern's.
-pub fn put_clause_op(page: &mut Page<'_>, s: &Source<'_>, w: Op)
-    requires op_in { OpIn s.now w }
+pub fn put_clause_op(page: &mut Page<'_>, sheet: &[u8], r: &Records<'_>, rest: &[u32], w: Op)
+    requires op_in { OpIn sheet.now r.now rest.now w }
     requires bind_path_kind_lt_kind { bind_path_kind < w.kind }
-    ensures { FirstWrote s.now w page.old page.new }
+    ensures { FirstWrote sheet.now r.now rest.now w page.old page.new }
 {
     let kind = w.kind;
     let idx = w.idx as usize;
     let input = w.input;
     match kind {
         op::OPTIONAL_JOIN => put_row(page, Keyword::Optional, [input]),
-        op::WITH => put_with(page, &s.records, idx, input),
-        op::PROJECT => put_project(page, &s.records, idx, input),
+        op::WITH => put_with(page, r, idx, input),
+        op::PROJECT => put_project(page, r, idx, input),
         op::AGGREGATE => put_row(page, Keyword::Agg, [input, w.x, w.y]),
         op::ORDER_BY => put_row(page, Keyword::Order, [input, w.x]),
         op::SKIP => put_row(page, Keyword::Skip, [input]),
@@ -94,6 +93,6 @@ pub fn put_clause_op(page: &mut Page<'_>, s: &Source<'_>, w: Op)
         op::DISTINCT => put_row(page, Keyword::Distinct, [input]),
         op::UNWIND => put_row(page, Keyword::Unwind, [input, w.x]),
         op::UNION => put_row(page, Keyword::Union, [input, w.x, w.y]),
-        _ => put_procedure(page, s, idx, op::call_input(w)),
+        _ => put_procedure(page, sheet, r, idx, op::call_input(w)),
     }
 }

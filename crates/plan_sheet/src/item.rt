@@ -9,21 +9,21 @@ ghost use Rattle.model.specs.Lower.{expr_alias};
 ghost use Rattle.plan_sheet.specs.Due.{named_rec, item_name};
 ghost use Rattle.plan_sheet.specs.Asked.{TextIn, text_of, ExprIn, ItemIn, agg_text_of};
 
-use crate::source::Source;
 use output::Page;
 use plan_line::copy::part;
 use plan_line::keyword::{Keyword, put_keyword};
 use plan_line::row::put_named;
+use words::records::Records;
 use words::{field, kind};
 
 // The name that record i has: an item's alias, a property, a function.
-fn put_own_name(page: &mut Page<'_>, s: &Source<'_>, i: usize)
-    requires { TextIn s.now i name_at }
-    ensures { Puts (named_text Keyword.Item (text_of s.now i name_at) []) page.old page.new }
+fn put_own_name(page: &mut Page<'_>, sheet: &[u8], r: &Records<'_>, i: usize)
+    requires { TextIn sheet.now r.now i name_at }
+    ensures { Puts (named_text Keyword.Item (text_of sheet.now r.now i name_at) []) page.old page.new }
 {
-    let from = s.records.word(i, field::NAME);
-    let to = s.records.word(i, field::NAME + 1);
-    put_named(page, Keyword::Item, part(s.sheet, from, to), []);
+    let from = r.word(i, field::NAME);
+    let to = r.word(i, field::NAME + 1);
+    put_named(page, Keyword::Item, part(sheet, from, to), []);
 }
 
 // `_v` and a variable's id.
@@ -45,44 +45,44 @@ fn put_no_name(page: &mut Page<'_>)
 }
 
 // The name of an item without an alias, whose expression is at record i.
-fn put_synthesised(page: &mut Page<'_>, s: &Source<'_>, i: usize)
-    requires { ExprIn s.now i }
-    ensures { (h : ExprIn s.now i) → Puts (spell_rec (named_rec (expr_alias h.kind h.fields))) page.old page.new }
+fn put_synthesised(page: &mut Page<'_>, sheet: &[u8], r: &Records<'_>, i: usize)
+    requires { ExprIn sheet.now r.now i }
+    ensures { (h : ExprIn sheet.now r.now i) → Puts (spell_rec (named_rec (expr_alias h.kind h.fields))) page.old page.new }
 {
-    let kind = s.records.word(i, field::KIND);
-    let id = s.records.word(i, field::VAR_ID);
+    let kind = r.word(i, field::KIND);
+    let id = r.word(i, field::VAR_ID);
     match kind {
-        kind::PROP | kind::FN => put_own_name(page, s, i),
+        kind::PROP | kind::FN => put_own_name(page, sheet, r, i),
         kind::VAR => put_id_name(page, id),
         _ => put_no_name(page),
     }
 }
 
 // The item at record i.
-pub fn put_item(page: &mut Page<'_>, s: &Source<'_>, i: usize)
-    requires { ItemIn s.now i }
-    ensures { (h : ItemIn s.now i) → Puts (spell_rec (named_rec (item_name h))) page.old page.new }
+pub fn put_item(page: &mut Page<'_>, sheet: &[u8], r: &Records<'_>, i: usize)
+    requires { ItemIn sheet.now r.now i }
+    ensures { (h : ItemIn sheet.now r.now i) → Puts (spell_rec (named_rec (item_name h))) page.old page.new }
 {
-    let alias = s.records.word(i, field::ITEM_ALIAS);
+    let alias = r.word(i, field::ITEM_ALIAS);
     if alias != 0 {
-        return put_own_name(page, s, i);
+        return put_own_name(page, sheet, r, i);
     }
-    put_synthesised(page, s, i + 1);
+    put_synthesised(page, sheet, r, i + 1);
 }
 
 // An aggregate: its function's name, how many arguments it has, and whether they are distinct.
-pub fn put_agg(page: &mut Page<'_>, s: &Source<'_>, i: usize)
-    requires { TextIn s.now i name_at }
-    ensures { Puts (agg_text_of s.now i) page.old page.new }
+pub fn put_agg(page: &mut Page<'_>, sheet: &[u8], r: &Records<'_>, i: usize)
+    requires { TextIn sheet.now r.now i name_at }
+    ensures { Puts (agg_text_of sheet.now r.now i) page.old page.new }
 {
-    let from = s.records.word(i, field::NAME);
-    let to = s.records.word(i, field::NAME + 1);
-    let args = s.records.word(i, field::FN_ARGS);
-    let distinct = s.records.word(i, field::FN_DISTINCT);
+    let from = r.word(i, field::NAME);
+    let to = r.word(i, field::NAME + 1);
+    let args = r.word(i, field::FN_ARGS);
+    let distinct = r.word(i, field::FN_DISTINCT);
     put_named(
         page,
         Keyword::AggFn,
-        part(s.sheet, from, to),
+        part(sheet, from, to),
         [args, distinct],
     );
 }

@@ -8,7 +8,6 @@ ghost use Rattle.plan_sheet.specs.Due.{ExprAt, TextAsked, KindAsked};
 ghost use Rattle.plan_sheet.specs.Measure.{AnyBytes, CallBytes, HeadBytes};
 ghost use Rattle.plan_sheet.specs.Asked.{LineIn, LineWrote};
 
-use crate::source::Source;
 use output::Page;
 use plan_line::copy::line_bytes;
 use plan_line::field::number_bytes;
@@ -65,19 +64,19 @@ pub fn expr_bytes(r: &Records<'_>, i: usize, kind: u32, n: u32) -> usize
 }
 
 // The line before an expression, if record i is one, on an empty part of the slice. Answers the expression's record.
-pub fn measure_before(page: &mut Page<'_>, s: &Source<'_>, i: usize) -> usize
+pub fn measure_before(page: &mut Page<'_>, sheet: &[u8], r: &Records<'_>, i: usize) -> usize
     requires bytes_len { length page.old.bytes.now ≡ 0 }
-    requires some_line { LineIn s.now i }
-    ensures { LineWrote s.now i page.old result page.new }
+    requires some_line { LineIn sheet.now r.now i }
+    ensures { LineWrote sheet.now r.now i page.old result page.new }
 {
-    let kind = s.records.word(i, field::KIND);
+    let kind = r.word(i, field::KIND);
     match kind {
         kind::ENTRY | kind::KEY => {
-            page.measure(line_bytes(&s.records, i));
+            page.measure(line_bytes(r, i));
             i + 1
         }
         kind::ITEM => {
-            crate::item::put_item(page, s, i);
+            crate::item::put_item(page, sheet, r, i);
             i + 1
         }
         _ => i,

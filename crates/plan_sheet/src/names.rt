@@ -9,7 +9,6 @@ ghost use Rattle.words.specs.Places.{node_labels_at, node_props_at, rel_types_at
 ghost use Rattle.plan_line.specs.Row.{row_text, rel_text};
 ghost use Rattle.plan_sheet.specs.Asked.{TextIn, text_of, NamesIn, ElementIn, KindIn, word_of};
 
-use crate::source::Source;
 use output::Page;
 use plan_line::copy::{part, put_copied};
 use plan_line::field::{put_number, put_text};
@@ -19,31 +18,31 @@ use words::records::Records;
 use words::{field, kind};
 
 // The n names from record i on. Answers the record behind them.
-pub fn put_names(page: &mut Page<'_>, s: &Source<'_>, i: usize, n: usize) -> usize
-    requires { NamesIn s.now n i }
-    ensures { (h : NamesIn s.now n i) → (result ≡ i + n) × Puts (spell_recs (names_recs h)) page.old page.new }
+pub fn put_names(page: &mut Page<'_>, sheet: &[u8], r: &Records<'_>, i: usize, n: usize) -> usize
+    requires { NamesIn sheet.now r.now n i }
+    ensures { (h : NamesIn sheet.now r.now n i) → (result ≡ i + n) × Puts (spell_recs (names_recs h)) page.old page.new }
 {
     let next = i + n;
     for at in i..next {
-        put_copied(page, s.sheet, &s.records, at);
+        put_copied(page, sheet, r, at);
     }
     next
 }
 
 // A rel without its variable and its span.
-fn put_rel(page: &mut Page<'_>, s: &Source<'_>, i: usize)
-    requires { TextIn s.now i rel_length_at }
-    ensures { Puts (rel_text (word_of s.now i rel_types_at) (word_of s.now i rel_direction_at) (text_of s.now i rel_length_at) (word_of s.now i rel_props_at)) page.old page.new }
+fn put_rel(page: &mut Page<'_>, sheet: &[u8], r: &Records<'_>, i: usize)
+    requires { TextIn sheet.now r.now i rel_length_at }
+    ensures { Puts (rel_text (word_of r.now i rel_types_at) (word_of r.now i rel_direction_at) (text_of sheet.now r.now i rel_length_at) (word_of r.now i rel_props_at)) page.old page.new }
 {
-    let types = s.records.word(i, field::REL_TYPES);
-    let direction = s.records.word(i, field::REL_DIRECTION);
-    let from = s.records.word(i, field::REL_LENGTH);
-    let to = s.records.word(i, field::REL_LENGTH + 1);
-    let props = s.records.word(i, field::REL_PROPS);
+    let types = r.word(i, field::REL_TYPES);
+    let direction = r.word(i, field::REL_DIRECTION);
+    let from = r.word(i, field::REL_LENGTH);
+    let to = r.word(i, field::REL_LENGTH + 1);
+    let props = r.word(i, field::REL_PROPS);
     put_keyword(page, Keyword::Rel);
     put_number(page, types);
     put_number(page, direction);
-    put_text(page, part(s.sheet, from, to));
+    put_text(page, part(sheet, from, to));
     put_number(page, props);
     page.put_byte(b'\n');
 }
@@ -59,12 +58,12 @@ fn put_node(page: &mut Page<'_>, r: &Records<'_>, i: usize)
 }
 
 // The element at record i: a node, or else a rel.
-pub fn put_element(page: &mut Page<'_>, s: &Source<'_>, i: usize, kind: u32)
-    requires { KindIn s.now i kind (ElementIn s.now i) }
-    ensures { (h : ElementIn s.now i) → Puts (spell_rec (spec_rec h.kind h.fields)) page.old page.new }
+pub fn put_element(page: &mut Page<'_>, sheet: &[u8], r: &Records<'_>, i: usize, kind: u32)
+    requires { KindIn r.now i kind (ElementIn sheet.now r.now i) }
+    ensures { (h : ElementIn sheet.now r.now i) → Puts (spell_rec (spec_rec h.kind h.fields)) page.old page.new }
 {
     if kind == kind::NODE {
-        return put_node(page, &s.records, i);
+        return put_node(page, r, i);
     }
-    put_rel(page, s, i);
+    put_rel(page, sheet, r, i);
 }

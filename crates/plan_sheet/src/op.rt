@@ -1,5 +1,6 @@
 // The first line of an operator.
-ghost use Rattle.std.specs.Prelude.{◌≡◌, cond, [], ◌∷◌, ◌+◌, ◌<◌, eqb};
+ghost use Rattle.std.specs.Prelude.{◌≡◌, cond, [], ◌∷◌, ◌+◌, ◌≤◌, ◌<◌, eqb, length};
+ghost use Rattle.model.specs.Call.{work_words};
 ghost use Rattle.model.specs.Record.{one, all_shortest};
 ghost use Rattle.output.specs.Page.{Puts};
 ghost use Rattle.words.specs.Words.{cell, max_records};
@@ -9,7 +10,6 @@ ghost use Rattle.plan_line.specs.Row.{row_text};
 ghost use Rattle.plan_sheet.specs.Due.{NotesIn, NotedAsked};
 ghost use Rattle.plan_sheet.specs.Asked.{OpIn, FirstWrote, word_of};
 
-use crate::source::Source;
 use context::op;
 use context::op::Op;
 use context::read::note_of;
@@ -36,28 +36,28 @@ pub fn props_of(r: &Records<'_>, i: usize, kind: u32) -> usize
 }
 
 // The first line of an expand, whose numbers are noted at the rel and its far node.
-fn put_expand(page: &mut Page<'_>, s: &Source<'_>, w: Op)
-    requires notes_in { NotesIn w }
+fn put_expand(page: &mut Page<'_>, rest: &[u32], w: Op)
+    requires notes_in { NotesIn rest.now w }
     requires y_lt_max_records { w.y < max_records }
-    ensures { Puts (row_text Keyword.Expand (w.input ∷ w.x ∷ note_of s.now.rest.now w.base w.idx ∷ note_of s.now.rest.now w.base w.y ∷ [])) page.old page.new }
+    ensures { Puts (row_text Keyword.Expand (w.input ∷ w.x ∷ note_of rest.now w.base w.idx ∷ note_of rest.now w.base w.y ∷ [])) page.old page.new }
 {
     let base = w.base as usize;
-    let bind = note_of(s.rest, base, w.idx as usize);
-    let to = note_of(s.rest, base, w.y as usize);
+    let bind = note_of(rest, base, w.idx as usize);
+    let to = note_of(rest, base, w.y as usize);
     put_row(page, Keyword::Expand, [w.input, w.x, bind, to]);
 }
 
 // The first line of a shortest part, which notes the path's number; its first node is the record behind it.
-fn put_short(page: &mut Page<'_>, s: &Source<'_>, w: Op)
-    requires { NotedAsked w (w.y < max_records) }
-    ensures { Puts (row_text Keyword.Short (w.input ∷ note_of s.now.rest.now w.base (w.idx + 1) ∷ note_of s.now.rest.now w.base w.y ∷ note_of s.now.rest.now w.base w.idx ∷ one (eqb (word_of s.now w.idx part_shortest_at) all_shortest) ∷ [])) page.old page.new }
+fn put_short(page: &mut Page<'_>, r: &Records<'_>, rest: &[u32], w: Op)
+    requires { NotedAsked rest.now w (w.y < max_records) }
+    ensures { Puts (row_text Keyword.Short (w.input ∷ note_of rest.now w.base (w.idx + 1) ∷ note_of rest.now w.base w.y ∷ note_of rest.now w.base w.idx ∷ one (eqb (word_of r.now w.idx part_shortest_at) all_shortest) ∷ [])) page.old page.new }
 {
     let base = w.base as usize;
     let i = w.idx as usize;
-    let from = note_of(s.rest, base, i + 1);
-    let to = note_of(s.rest, base, w.y as usize);
-    let path = note_of(s.rest, base, i);
-    let all = u32::from(s.records.word(i, field::PART_SHORTEST) == ALL_SHORTEST);
+    let from = note_of(rest, base, i + 1);
+    let to = note_of(rest, base, w.y as usize);
+    let path = note_of(rest, base, i);
+    let all = u32::from(r.word(i, field::PART_SHORTEST) == ALL_SHORTEST);
     put_row(page, Keyword::Short, [w.input, from, to, path, all]);
 }
 
@@ -71,18 +71,19 @@ fn put_source(page: &mut Page<'_>, r: &Records<'_>, i: usize, x: u32)
 }
 
 // The first line of an operator: of a pattern's here, of a clause's there.
-pub fn put_op(page: &mut Page<'_>, s: &Source<'_>, w: Op)
-    requires { OpIn s.now w }
-    ensures { FirstWrote s.now w page.old page.new }
+pub fn put_op(page: &mut Page<'_>, sheet: &[u8], r: &Records<'_>, rest: &[u32], w: Op)
+    requires in_rest { work_words ≤ length rest.now }
+    requires op_in { OpIn sheet.now r.now rest.now w }
+    ensures { FirstWrote sheet.now r.now rest.now w page.old page.new }
 {
     let kind = w.kind;
     match kind {
         op::SOURCE_ALL | op::SOURCE_NO_PARTS => put_row(page, Keyword::Source, [w.x, 0]),
-        op::SOURCE => put_source(page, &s.records, w.idx as usize, w.x),
+        op::SOURCE => put_source(page, r, w.idx as usize, w.x),
         op::FILTER => put_row(page, Keyword::Filter, [w.input]),
-        op::EXPAND => put_expand(page, s, w),
-        op::SHORTEST_PATH => put_short(page, s, w),
+        op::EXPAND => put_expand(page, rest, w),
+        op::SHORTEST_PATH => put_short(page, r, rest, w),
         op::BIND_PATH => put_row(page, Keyword::Path, [w.input, w.y, w.x]),
-        _ => crate::clause::put_clause_op(page, s, w),
+        _ => crate::clause::put_clause_op(page, sheet, r, rest, w),
     }
 }

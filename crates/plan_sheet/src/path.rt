@@ -11,12 +11,12 @@ ghost use Rattle.plan_sheet.specs.Due.{noted, NotedAsked};
 ghost use Rattle.plan_sheet.specs.Path.{waits_of, StepAsked, Stepped};
 ghost use Rattle.plan_sheet.specs.Asked.{PathWrote, ElementsIn, word_of};
 
-use crate::source::Source;
 use context::op::Op;
 use context::read::note_of;
 use output::Page;
 use plan_line::keyword::Keyword;
 use plan_line::row::put_row;
+use words::records::Records;
 use words::{field, kind};
 
 // So far: whether there was a node, and the record of the rel that waits for its far node, if one does. Neither tells the other: a rel may wait before any node and behind one.
@@ -27,35 +27,28 @@ pub struct Path {
 }
 
 // The number of the rel that waits, if it is kept.
-fn put_kept(page: &mut Page<'_>, s: &Source<'_>, base: usize, path: Path)
-    requires { StepAsked base path.waits }
-    ensures { Puts (spell_recs (path_elements (kept_rel (shift (noted s.now.rest.now) base) path.seen (waits_of path.waits)))) page.old page.new }
+fn put_kept(page: &mut Page<'_>, rest: &[u32], base: usize, path: Path)
+    requires { StepAsked rest.now base path.waits }
+    ensures { Puts (spell_recs (path_elements (kept_rel (shift (noted rest.now) base) path.seen (waits_of path.waits)))) page.old page.new }
 {
     let Some(i) = path.waits else {
         return;
     };
     if path.seen {
-        let n = note_of(s.rest, base, i);
+        let n = note_of(rest, base, i);
         put_row(page, Keyword::Element, [n]);
     }
 }
 
 // The element at record i: a node, or else a rel.
-fn put_step(
-    page: &mut Page<'_>,
-    s: &Source<'_>,
-    base: usize,
-    i: usize,
-    kind: u32,
-    path: Path,
-) -> Path
-    requires step_asked { StepAsked base path.waits }
+fn put_step(page: &mut Page<'_>, rest: &[u32], base: usize, i: usize, kind: u32, path: Path) -> Path
+    requires step_asked { StepAsked rest.now base path.waits }
     requires i_lt_max_records { i < max_records }
-    ensures { Stepped s.now.rest.now base i kind path result page.old page.new }
+    ensures { Stepped rest.now base i kind path result page.old page.new }
 {
     if kind == kind::NODE {
-        put_kept(page, s, base, path);
-        let n = note_of(s.rest, base, i);
+        put_kept(page, rest, base, path);
+        let n = note_of(rest, base, i);
         put_row(page, Keyword::Element, [n]);
         return Path {
             seen: true,
@@ -69,20 +62,20 @@ fn put_step(
 }
 
 // The elements of a part, from record i on.
-pub fn put_path(page: &mut Page<'_>, s: &Source<'_>, w: Op, i: usize)
-    requires { NotedAsked w (ElementsIn s.now (word_of s.now w.idx part_elements_at) i) }
-    ensures { PathWrote s.now w.base (word_of s.now w.idx part_elements_at) i page.old page.new }
+pub fn put_path(page: &mut Page<'_>, sheet: &[u8], r: &Records<'_>, rest: &[u32], w: Op, i: usize)
+    requires { NotedAsked rest.now w (ElementsIn sheet.now r.now (word_of r.now w.idx part_elements_at) i) }
+    ensures { PathWrote sheet.now r.now rest.now w.base (word_of r.now w.idx part_elements_at) i page.old page.new }
 {
     let base = w.base as usize;
     let mut at = i;
-    let n = s.records.word(w.idx as usize, field::PART_ELEMENTS);
+    let n = r.word(w.idx as usize, field::PART_ELEMENTS);
     let mut path = Path {
         seen: false,
         waits: None,
     };
     for _ in 0..n {
-        let kind = s.records.word(at, field::KIND);
-        path = put_step(page, s, base, at, kind, path);
-        at = s.records.skip(at);
+        let kind = r.word(at, field::KIND);
+        path = put_step(page, rest, base, at, kind, path);
+        at = r.skip(at);
     }
 }

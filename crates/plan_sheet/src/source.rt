@@ -4,6 +4,7 @@ ghost use Rattle.plan_sheet.specs.Due.{Room};
 use words::records::Records;
 
 // The statement sheet, its records, and the operators and notes that the lowering left. That all slices are long enough goes with them.
+// Given whole only to what reads operators: the others take the parts that they read, so that who has no operators can call them too.
 #[derive(Clone, Copy)]
 pub struct Source<'a> {
     pub sheet: &'a [u8],

@@ -33,10 +33,10 @@ fn write_expr(page: &mut Page<'_>, s: &Source<'_>, at: At) -> usize
     requires { ExprAsked s.now at }
     ensures { ExprWrote s.now at page.old result page.new }
 {
-    let i = crate::head::put_before(page, s, at.i);
+    let i = crate::head::put_before(page, s.sheet, &s.records, at.i);
     let kind = s.records.word(i, field::KIND);
     let n = note_of(s.rest, at.base, i);
-    crate::head::put_expr(page, s, i, kind, n);
+    crate::head::put_expr(page, s.sheet, &s.records, i, kind, n);
     if kind::is_leaf(kind) {
         return i + 1;
     }
@@ -82,7 +82,7 @@ fn measure_exprs(page: &mut Page<'_>, s: &Source<'_>, run: Run) -> usize
     let mut i = run.at.i;
     let mut due = run.n;
     while due != 0 {
-        let at = measure_before(page, s, i);
+        let at = measure_before(page, s.sheet, &s.records, i);
         let kind = s.records.word(at, field::KIND);
         let n = note_of(s.rest, run.at.base, at);
         page.measure(expr_bytes(&s.records, at, kind, n));
@@ -125,8 +125,8 @@ fn write_element(page: &mut Page<'_>, s: &Source<'_>, at: At)
     // a rel's types stand where a node's labels do
     let names = s.records.count(i, field::NODE_LABELS);
     let props = crate::op::props_of(&s.records, i, kind);
-    crate::names::put_element(page, s, i, kind);
-    let first = crate::names::put_names(page, s, i + 1, names);
+    crate::names::put_element(page, s.sheet, &s.records, i, kind);
+    let first = crate::names::put_names(page, s.sheet, &s.records, i + 1, names);
     let left = at.left - 1;
     let run = Run {
         at: At {
@@ -151,7 +151,7 @@ fn write_part(page: &mut Page<'_>, s: &Source<'_>, at: At, aggregates: bool) -> 
         return s.records.skip(i);
     }
     if is {
-        crate::item::put_agg(page, s, i);
+        crate::item::put_agg(page, s.sheet, &s.records, i);
         let first = i + 1;
         let left = at.left - 1;
         let args = Run {
@@ -197,7 +197,7 @@ pub fn write_op(page: &mut Page<'_>, s: &Source<'_>, k: usize)
     ensures { OpWrote s.now k page.old page.new }
 {
     let w = op::read_op(s.ops, k);
-    crate::op::put_op(page, s, w);
+    crate::op::put_op(page, s.sheet, &s.records, s.rest, w);
     let kind = w.kind;
     match kind {
         op::EXPAND => {
@@ -218,7 +218,7 @@ pub fn write_op(page: &mut Page<'_>, s: &Source<'_>, k: usize)
         _ => {
             let run = exprs_of(&s.records, w, k);
             let next = put_exprs(page, s, run);
-            put_tail(page, s, w, next);
+            put_tail(page, s.sheet, &s.records, s.rest, w, next);
         }
     }
 }

@@ -9,14 +9,14 @@ pub loop-at-init : goal.loop-at-init
 loop-at-init c = rw (add-sub_cancel_left c.args.i c.count-n.result) (BehindLaws.yields_going (rw c.count-n.ensures.0 c.requires.due))
 
 pub part-requires : goal.part-requires
-part-requires c = BehindLaws.yield_in c.args.s.now.records.roomy c.word-from.ensures c.word-to.ensures (due_yet c.loop-at-test.true) c.loop-at.invariant.some
+part-requires c = BehindLaws.yield_in c.args.r.now.roomy c.word-from.ensures c.word-to.ensures (due_yet c.loop-at-test.true) c.loop-at.invariant.some
 
 pub loop-at-preserved : goal.loop-at-preserved
 loop-at-preserved c =
     rw
     (sub-add-eq _ c.loop-at.at 1)
     (BehindLaws.yields_again
-    c.args.s.now.records.roomy
+    c.args.r.now.roomy
     (due_yet c.loop-at-test.true)
     c.loop-at.invariant
     c.word-from.ensures

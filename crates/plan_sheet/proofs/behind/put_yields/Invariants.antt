@@ -4,4 +4,4 @@ use Rattle.plan_sheet.proofs.BehindLaws
 use Rattle.plan_sheet.proofs.behind.put_yields.Given as goal
 
 abbrev pub invariant-loop-at : goal.invariant-loop-at
-invariant-loop-at l = BehindLaws.YieldsGoing l.s.sheet.now l.s.records.a.now l.s.records.b.now l.s.rest.now l.base l.n l.i l.initial.page (l.end - l.at) l.at l.page
+invariant-loop-at l = BehindLaws.YieldsGoing l.sheet l.r.a.now l.r.b.now l.rest l.base l.n l.i l.initial.page (l.end - l.at) l.at l.page

@@ -8,7 +8,7 @@ use Rattle.plan_sheet.proofs.clause.put_clause_op.Goals as goal
 pub put_procedure-requires : goal.put_procedure-requires
 put_procedure-requires c =
     let shown = c.requires.op_in in
-    OpLaws.procedure_in c.args.s.now.records.roomy shown (OpLaws.is_call shown c.requires.bind_path_kind_lt_kind (others c.args.w.kind OpLaws.clause_ops (grind (arith, nat_tests))))
+    OpLaws.procedure_in c.args.r.now.roomy shown (OpLaws.is_call shown c.requires.bind_path_kind_lt_kind (others c.args.w.kind OpLaws.clause_ops (grind (arith, nat_tests))))
 
 pub returns-in-7 : goal.returns-in-7
 returns-in-7 c = λ h. rw (OpLaws.optional_line h c.in-7.is) c.put_row.ensures
@@ -45,7 +45,7 @@ returns-in_default c =
     λ h.
     rw
     (OpLaws.call_line
-    c.args.s.now.records.roomy
+    c.args.r.now.roomy
     h
     (OpLaws.is_call c.requires.op_in c.requires.bind_path_kind_lt_kind (others c.args.w.kind OpLaws.clause_ops (grind (arith, nat_tests)))))
     (rw c.call_input.ensures at c.put_procedure.ensures)

@@ -13,14 +13,14 @@ pub loop-at-init : goal.loop-at-init
 loop-at-init c = rw (add-sub_cancel_left c.args.i c.args.n) (NameLaws.names_going c.requires)
 
 pub put_copied-requires : goal.put_copied-requires
-put_copied-requires c = NameLaws.first_record c.args.s.now.records.roomy (due_yet c.loop-at-test.true) c.loop-at.invariant.some
+put_copied-requires c = NameLaws.first_record c.args.r.now.roomy (due_yet c.loop-at-test.true) c.loop-at.invariant.some
 
 pub loop-at-preserved : goal.loop-at-preserved
 loop-at-preserved c =
     rw
     (sub-add-eq _ c.loop-at.at 1)
     (NameLaws.names_again
-    c.args.s.now.records.roomy
+    c.args.r.now.roomy
     (due_yet c.loop-at-test.true)
     c.loop-at.invariant
     c.put_copied.ensures)

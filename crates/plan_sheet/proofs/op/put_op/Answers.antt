@@ -6,8 +6,8 @@ use Rattle.plan_sheet.proofs.op.put_op.Goals as goal
 pub put_expand-requires : goal.put_expand-requires
 put_expand-requires c =
     record {
-      notes_in = OpLaws.notes_in c.requires;
-      y_lt_max_records = OpLaws.far_low c.requires c.in-4.is;
+      notes_in = OpLaws.notes_in c.requires.in_rest c.requires.op_in;
+      y_lt_max_records = OpLaws.far_low c.requires.op_in c.in-4.is;
     }
 
 pub returns-in-0 : goal.returns-in-0

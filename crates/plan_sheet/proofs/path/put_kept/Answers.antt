@@ -3,12 +3,12 @@ use Rattle.plan_sheet.proofs.PathLaws
 use Rattle.plan_sheet.proofs.path.put_kept.Goals as goal
 
 pub returns-in_default : goal.returns-in_default
-returns-in_default c = PathLaws.none_waits c.args.s.now.rest.now c.args.base c.args.path c.in_default.is
+returns-in_default c = PathLaws.none_waits c.args.rest.now c.args.base c.args.path c.in_default.is
 
 pub returns-then-path : goal.returns-then-path
 returns-then-path c =
     PathLaws.kept
-    c.args.s.now.rest.now
+    c.args.rest.now
     c.args.base
     c.args.path
     c.in-Some.is
@@ -17,4 +17,4 @@ returns-then-path c =
     c.put_row.ensures
 
 pub returns-else-path : goal.returns-else-path
-returns-else-path c = PathLaws.not_kept c.args.s.now.rest.now c.args.base c.args.path c.in-Some.is c.if-path.false
+returns-else-path c = PathLaws.not_kept c.args.rest.now c.args.base c.args.path c.in-Some.is c.if-path.false

@@ -14,7 +14,7 @@ word-kind-requires c = ((PathLaws.element_starts (due_yet c.loop-test.true) c.lo
 pub put_step-path-requires : goal.put_step-path-requires
 put_step-path-requires c =
     record {
-      step_asked = record { near = c.requires.notes.near; low = c.loop.invariant.low };
+      step_asked = record { in_rest = c.requires.notes.in_rest; near = c.requires.notes.near; low = c.loop.invariant.low };
       i_lt_max_records = (PathLaws.element_starts (due_yet c.loop-test.true) c.loop.invariant.some).1;
     }
 
@@ -26,7 +26,7 @@ loop-preserved c =
     rw
     (sub-add-eq c.word-n.result c.loop.counter 1)
     (PathLaws.walk_on
-    c.args.s.now.records.roomy
+    c.args.r.now.roomy
     (due_yet c.loop-test.true)
     c.loop.invariant
     c.word-kind.ensures

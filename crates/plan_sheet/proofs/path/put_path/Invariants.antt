@@ -4,4 +4,4 @@ use Rattle.plan_sheet.proofs.PathLaws
 use Rattle.plan_sheet.proofs.path.put_path.Given as goal
 
 abbrev pub invariant-loop : goal.invariant-loop
-invariant-loop l = PathLaws.Walking l.s.sheet.now l.s.records.a.now l.s.records.b.now l.s.rest.now l.base l.n l.i l.initial.page (l.n - l.counter) l.at l.path l.page
+invariant-loop l = PathLaws.Walking l.sheet l.r.a.now l.r.b.now l.rest l.base l.n l.i l.initial.page (l.n - l.counter) l.at l.path l.page

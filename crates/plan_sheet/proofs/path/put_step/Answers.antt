@@ -5,7 +5,7 @@ use Rattle.plan_sheet.proofs.path.put_step.Goals as goal
 pub returns-then-kind-eq-NODE : goal.returns-then-kind-eq-NODE
 returns-then-kind-eq-NODE c =
     PathLaws.node_step_law
-    c.args.s.now.rest.now
+    c.args.rest.now
     c.args.base
     c.args.path
     c.if-kind-eq-NODE.true

@@ -289,7 +289,7 @@ write_items-returns t c = PartedLaws.items_wrote c.write_parts.ensures c.write_p
 -- ── write_op ──
 
 pub write_op-put_op-requires : goal.write_op-put_op-requires
-write_op-put_op-requires t c = OpLaws.shown_at _ c.requires c.read_op-w.ensures
+write_op-put_op-requires t c = record { in_rest = c.args.s.now.room.in_rest; op_in = OpLaws.shown_at _ c.requires c.read_op-w.ensures }
 
 pub write_op-write_element-requires : goal.write_op-write_element-requires
 write_op-write_element-requires t c =
@@ -334,7 +334,7 @@ pub write_op-put_tail-requires : goal.write_op-put_tail-requires
 write_op-put_tail-requires t c =
     let v = OpLaws.bounded_at _ c.requires c.read_op-w.ensures in
     record {
-      notes = record { near = v.near; low = v.low };
+      notes = record { in_rest = c.args.s.now.room.in_rest; near = v.near; low = v.low };
       due = BehindLaws.tail_there
           _
           c.requires
