@@ -61,8 +61,8 @@ pub fn read_line(p: Place<'_>, sort: u32, part: &mut [u32]) -> Option<Piece<u32>
     requires { LineAsked sort part.old }
     ensures { LineHere (sort_of sort) p.entry.cursor.bytes.now p.entry.cursor.at part.new result }
 {
-    let key = read_keyword(p.cursor)?;
-    let k = kind_named(key.value, sort)?;
+    let key = read_keyword(p.cursor);
+    let k = kind_named(key.word?, sort)?;
     part[field::LINE_START] = p.cursor.at as u32;
     part[field::KIND] = k;
     let fields = Cursor {
