@@ -16,10 +16,10 @@ use Rattle.words.specs.Held.{total}
 use Rattle.words.specs.Table.{sort_of, groups_of}
 use Rattle.words.specs.TableLaws.{Row, tabled, kind_row}
 use Rattle.record.specs.Place.{LineEnd, Fed, Ends}
+use Rattle.line.specs.declared.kind.Keyword.{Keyword}
 use Rattle.line.specs.Kinds.{KeywordAt, kind_found, Named}
 use Rattle.line.specs.Place.{pieces_at}
 use Rattle.line.specs.LineRead.{Alike, FieldsRead, FieldsHere, Got, LineHere}
-use Rattle.record.proofs.PlaceLaws.{there}
 use Rattle.line.proofs.KindLaws.{untold}
 use Rattle.line.proofs.CountLaws.{same_total}
 use Rattle.line.proofs.PlaceLaws.{piece_at, line_at, pieces_from, some_left}
@@ -146,5 +146,5 @@ module _ (sheet : Bytes) (p m r : ℕ) (low : m < sort_count) (ends : Ends sheet
           }
 
 -- a keyword longer than all others
-pub line_keyless : (sheet : Bytes) (p m : ℕ) → m < sort_count → KeywordAt sheet p None → (ws : List ℕ) → length ws ≡ record_words → LineHere (sort_of m) sheet p ws None
-line_keyless sheet p m low key ws n e l = let r = there sheet p e l in line_unnamed sheet p m r.0 low r.1 None (untold m (slice p r.0 sheet) low (key.is r.0 r.1)) refl ws n e l
+pub line_keyless : (sheet : Bytes) (p m : ℕ) → m < sort_count → (k : Keyword) → k.word ≡ None → KeywordAt sheet p k → (ws : List ℕ) → length ws ≡ record_words → LineHere (sort_of m) sheet p ws None
+line_keyless sheet p m low k none key ws n = line_unnamed sheet p m k.end low key.ends None (untold m (slice p k.end sheet) low (rw none at key.packed)) refl ws n

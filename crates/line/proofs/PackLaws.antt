@@ -15,7 +15,7 @@ use Rattle.laws.specs.TextLaws.{and_left, and_right, same_sound, same_refl}
 use Rattle.words.specs.Table.{byte_values, max_keyword, pack_on, packed}
 use Rattle.words.specs.TableLaws.{each_below, short}
 use Rattle.record.specs.Place.{Fed, separates, Ends}
-use Rattle.record.proofs.PlaceLaws.{fed_in, along_ends, ends_alike, ends_later, Passing, pass_start, pass_on, pass_done, slice_snoc}
+use Rattle.record.proofs.PlaceLaws.{fed_in, along_back, ends_later, Passing, pass_start, pass_on, pass_done, slice_snoc}
 use Rattle.line.specs.Kinds.{Packed, KeywordAt}
 
 -- ── unpacking ──
@@ -133,25 +133,20 @@ module _ (s : Bytes) (p v i : ℕ) (g : Packing s p v i) (t : Bool) (e : t ≡ s
 
   -- ── the piece ends ──
 
-  pub pack_done : t ≡ true → KeywordAt s p (Some (record { value = v; end = i }))
+  pub pack_done : t ≡ true → KeywordAt s p (record { word = Some v; end = i })
   unfolding short packed
   pack_done z =
       let plain : short (slice p i s) ≡ true = rw (le-leb (length (slice p i s)) max_keyword (omega (arith, counted, g.few))) g.bytes in
-      let ends : Ends s p i = pass_done s p i g.pass t e z in
-      record { is = λ q h. rw (ends_alike s p q i h ends) (rw g.is (packed_tells (slice p i s) plain)); ends = ends }
+      record { ends = pass_done s p i g.pass t e z; packed = rw g.is (packed_tells (slice p i s) plain) }
 
   -- ── it goes on ──
 
   module _ (z : t ≡ false) where
     -- with more than seven bytes
-    pub pack_long : i ≡ p + max_keyword → KeywordAt s p None
-    pack_long q =
-        record {
-          is = λ r h.
-              let on : i < r = ends_later s i r (along_ends s p i g.pass.along r h) (sym e ∙ z) in
-              long_tells (slice p r s) (omega (arith, length-slice p r s (omega (arith, h.to))));
-          ends = tt;
-        }
+    pub pack_long : i ≡ p + max_keyword → (r : ℕ) → Ends s i r → KeywordAt s p (record { word = None; end = r })
+    pack_long q r h =
+        let on : i < r = ends_later s i r h (sym e ∙ z) in
+        record { ends = along_back s p i g.pass.along r h; packed = long_tells (slice p r s) (omega (arith, length-slice p r s (omega (arith, h.to)))) }
 
     module _ (n : i ≡ p + max_keyword → ⊥) where
       pub pack_room : v < 2 * byte_values ^ (max_keyword - 1)

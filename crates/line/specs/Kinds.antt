@@ -4,26 +4,25 @@ use Rattle.std.proofs.Math.Seq.{slice}
 use Rattle.model.specs.Text.{Bytes, same}
 use Rattle.model.specs.Kind.{Sort, Kind}
 use Rattle.model.specs.Record.{kinds, kind_named}
-use Rattle.record.specs.declared.piece.Piece.{Piece}
-use Rattle.record.specs.InPlace.{end_in}
-use Rattle.record.specs.Place.{Ends, EndsAt}
+use Rattle.record.specs.Place.{Ends}
 use Rattle.words.specs.Words.{kind_of}
 use Rattle.words.specs.Table.{packed, first, keys}
 use Rattle.words.specs.TableLaws.{short}
+use Rattle.line.specs.declared.kind.Keyword.{Keyword}
 
 -- a number that tells a text from every short one
 pub record Packed (s : Bytes) (n : ℕ) : Type 0 where
   pub tells : (w : Bytes) → short w ≡ true → eqb n (packed w) ≡ same s w
 
--- the number that tells a keyword, of an answer: 0 where it is longer than every keyword
-abbrev pub told : Option (Piece ℕ) → ℕ
-told (Some k) = k.value
+-- the number that tells a keyword, of its word: 0 where it is longer than every keyword
+abbrev pub told : Option ℕ → ℕ
+told (Some n) = n
 told None = 0
 
--- what is said of the piece at place p tells it; and where it ends, if that is told
-pub record KeywordAt (s : Bytes) (p : ℕ) (r : Option (Piece ℕ)) : Type 0 where
-  pub is : (q : ℕ) → Ends s p q → Packed (slice p q s) (told r)
-  pub ends : EndsAt s p (end_in r)
+-- the piece at place p ends where it is said to, and its text is told by its word
+pub record KeywordAt (s : Bytes) (p : ℕ) (k : Keyword) : Type 0 where
+  pub ends : Ends s p k.end
+  pub packed : Packed (slice p k.end s) (told k.word)
 
 -- the kind that an answer stands for
 abbrev pub kind_found : (s : Sort) → Option ℕ → Option (Kind s)

@@ -6,14 +6,21 @@ ghost use Rattle.model.specs.Text.{Bytes};
 ghost use Rattle.line.specs.Kinds.{Packed, KeywordAt, Named, keyed};
 
 use record::cursor::Cursor;
-use record::piece::{Piece, separates};
+use record::piece::{piece_end, separates};
 use words::{BYTE_VALUES, key, kind, sort};
 
 // No keyword has more bytes, so that the number fits 64 bits.
 const MAX_KEYWORD: usize = 7;
 
-// The keyword here as one number, its bytes behind a leading 1, and where it ends; none of more than seven bytes.
-pub fn read_keyword(c: Cursor<'_>) -> Option<Piece<u64>>
+// A keyword: its bytes as one number behind a leading 1, if they are at most seven; and where it ends, however long it is.
+#[derive(Clone, Copy)]
+pub struct Keyword {
+    pub word: Option<u64>,
+    pub end: usize,
+}
+
+// The keyword here.
+pub fn read_keyword(c: Cursor<'_>) -> Keyword
     ensures { KeywordAt c.entry.bytes.now c.entry.at result }
 {
     let most = c.at + MAX_KEYWORD;
@@ -22,13 +29,20 @@ pub fn read_keyword(c: Cursor<'_>) -> Option<Piece<u64>>
     // A `while`, since nothing tells where the separator is before it is met.
     while !separates(c.bytes[i]) {
         if i == most {
-            return None;
+            let end = piece_end(Cursor {
+                bytes: c.bytes,
+                at: i,
+            });
+            return Keyword { word: None, end };
         }
         let b = u64::from(c.bytes[i]);
         v = v * BYTE_VALUES + b;
         i += 1;
     }
-    Some(Piece { value: v, end: i })
+    Keyword {
+        word: Some(v),
+        end: i,
+    }
 }
 
 // The kind of a sort that has only this one.

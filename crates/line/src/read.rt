@@ -1,5 +1,6 @@
 // A line read into the sixteen words of a record.
 ghost use Rattle.line.specs.LineRead.{FieldsAsked, FieldsHere, LineAsked, LineHere, IntoAsked, IntoHere};
+ghost use Rattle.words.specs.Lent.{SameSlices};
 ghost use Rattle.words.specs.Table.{sort_of};
 
 use crate::form::read_form;
@@ -61,8 +62,8 @@ pub fn read_line(p: Place<'_>, sort: u32, part: &mut [u32]) -> Option<Piece<u32>
     requires { LineAsked sort part.old }
     ensures { LineHere (sort_of sort) p.entry.cursor.bytes.now p.entry.cursor.at part.new result }
 {
-    let key = read_keyword(p.cursor)?;
-    let k = kind_named(key.value, sort)?;
+    let key = read_keyword(p.cursor);
+    let k = kind_named(key.word?, sort)?;
     part[field::LINE_START] = p.cursor.at as u32;
     part[field::KIND] = k;
     let fields = Cursor {
@@ -88,7 +89,8 @@ pub fn read_into(
     i: usize,
 ) -> Option<Piece<u32>>
     requires { IntoAsked sort sheet.now p i }
-    ensures { IntoHere (sort_of sort) sheet.now p i records.old.a.now records.old.b.now records.new.a.now records.new.b.now result }
+    ensures same { SameSlices records.old records.new }
+    ensures into { IntoHere (sort_of sort) sheet.now p i records.old.a.now records.old.b.now records.new.a.now records.new.b.now result }
 {
     let place = Place {
         cursor: Cursor {

@@ -1,5 +1,6 @@
 // Reading a sheet line by line.
 ghost use Rattle.std.specs.Prelude.{◌≡◌, ℕ, ◌+◌, ◌<◌, ◌≤◌};
+ghost use Rattle.words.specs.Lent.{SameSlices};
 ghost use Rattle.line.specs.Place.{InLine};
 ghost use Rattle.sheet.specs.LineLaws.{LastFeed, LinesEnd};
 ghost use Rattle.sheet.specs.Stack.{max_room};
@@ -57,7 +58,8 @@ fn read_next(
     requires in_line { InLine sheet.now at.old.pos }
     requires due { 0 < stack.old.groups }
     requires so_far { (depth : ℕ) × SoFar depth sheet.now words.old.a.now words.old.b.now (dues stack.old.words.now stack.old.groups) at.old.records at.old.pos at.old.write }
-    ensures { (depth : ℕ) → SoFar depth sheet.now words.old.a.now words.old.b.now (dues stack.old.words.now stack.old.groups) at.old.records at.old.pos at.old.write → Next depth sheet.now words.new.a.now words.new.b.now (dues stack.new.words.now stack.new.groups) at.old.records at.new result }
+    ensures same { SameSlices words.old words.new }
+    ensures next { (depth : ℕ) → SoFar depth sheet.now words.old.a.now words.old.b.now (dues stack.old.words.now stack.old.groups) at.old.records at.old.pos at.old.write → Next depth sheet.now words.new.a.now words.new.b.now (dues stack.new.words.now stack.new.groups) at.old.records at.new result }
 {
     let i = at.records;
     let top = stack.take();
@@ -80,7 +82,8 @@ pub fn read_sheet(
 ) -> Result<usize, ReadError>
     requires reader_asked { ReaderAsked sheet.now stack.old }
     requires depth_le_max_room { depth ≤ max_room }
-    ensures { Reads depth sheet.now words.new.a.now words.new.b.now result }
+    ensures same { SameSlices words.old words.new }
+    ensures reads { Reads depth sheet.now words.new.a.now words.new.b.now result }
 {
     let last = lines_end(sheet);
     let mut due = Stack {

@@ -6,6 +6,7 @@ ghost use Rattle.model.specs.Text.{Bytes};
 ghost use Rattle.model.specs.Kind.{statement};
 ghost use Rattle.model.specs.Call.{max_depth};
 ghost use Rattle.words.specs.Held.{HeldSome};
+ghost use Rattle.words.specs.Lent.{SameSlices};
 ghost use Rattle.sheet.specs.Reader.{ReaderAsked};
 ghost use Rattle.sides.specs.declared.Fault.TheVariants.{Refused};
 ghost use Rattle.sides.specs.Sides.{found_on, each_of, unread_of, writes_of, read_of, ChecksSheet, TestedBoth};
@@ -114,7 +115,8 @@ pub fn test_sides(
     right_stack: &mut [u32],
 ) -> Result<(), SideFault>
     requires { ReaderAsked left.now left_stack.old × ReaderAsked right.now right_stack.old }
-    ensures { TestedBoth left.now l.new.a.now l.new.b.now right.now r.new.a.now r.new.b.now result }
+    ensures same { SameSlices l.old l.new × SameSlices r.old r.new }
+    ensures tested { TestedBoth left.now l.new.a.now l.new.b.now right.now r.new.a.now r.new.b.now result }
 {
     let x = read_sheet(left, l, left_stack, words::MAX_DEPTH);
     let y = read_sheet(right, r, right_stack, words::MAX_DEPTH);

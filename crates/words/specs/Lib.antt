@@ -10,3 +10,4 @@ pub mod LastLaws
 pub mod GroupLaws
 pub mod Fits
 pub mod Count
+pub mod Lent

@@ -4,8 +4,8 @@ use lib.ListN.{length}
 use Rattle.line.proofs.PackLaws.{Packing}
 use Rattle.line.proofs.kind.read_keyword.Given as goal
 
-abbrev pub invariant-loop-most : goal.invariant-loop-most
-invariant-loop-most l = Packing l.c.bytes.now l.c.at l.v l.i
+abbrev pub invariant-loop-end : goal.invariant-loop-end
+invariant-loop-end l = Packing l.c.bytes.now l.c.at l.v l.i
 
-abbrev pub decreases-loop-most : goal.decreases-loop-most
-decreases-loop-most l = length l.c.bytes.now - l.i
+abbrev pub decreases-loop-end : goal.decreases-loop-end
+decreases-loop-end l = length l.c.bytes.now - l.i

@@ -7,14 +7,14 @@ use Rattle.sheet.specs.Next.{next_big, next_unformed, next_asked, next_more}
 use native.Mathlib.Omega.{arith}
 use Rattle.sheet.proofs.reader.read_next.Goals as goal
 
-pub returns-then-i-eq-MAX_RECORDS : goal.returns-then-i-eq-MAX_RECORDS
-returns-then-i-eq-MAX_RECORDS c = λ depth o. next_big o c.take-top.ensures.topmost c.requires.in_line.fed.line c.line.ensures (elim c.then-i-eq-MAX_RECORDS.either [ inl q ↦ inl (omega (arith, q)) | inr q ↦ inr q.1 ])
+pub returns-then-i-eq-MAX_RECORDS-clause-next : goal.returns-then-i-eq-MAX_RECORDS-clause-next
+returns-then-i-eq-MAX_RECORDS-clause-next c = λ depth o. next_big o c.take-top.ensures.topmost c.requires.in_line.fed.line c.line.ensures (elim c.then-i-eq-MAX_RECORDS.either [ inl q ↦ inl (omega (arith, q)) | inr q ↦ inr q.1 ])
 
-pub returns-in_err-line : goal.returns-in_err-line
-returns-in_err-line c =
+pub returns-in_err-line-clause-next : goal.returns-in_err-line-clause-next
+returns-in_err-line-clause-next c =
     λ depth o.
     let none = rw c.in_err-line.was at c.ok_or.ensures.ok_part in
-    let into = rw none at (c.read_into.ensures _ c.requires.in_line.fed.line) in
+    let into = rw none at (c.read_into.ensures.into _ c.requires.in_line.fed.line) in
     let bad : Err (BadLine c.line-2.result) ≡ c.ok_or.result = rw none at (sym c.ok_or.ensures.value) in
     let answer : c.from_residual.result ≡ Err (BadLine c.line-2.result) = search rules in
     rw answer (next_unformed o c.take-top.ensures.topmost c.requires.in_line.fed.line (omega arith) (omega arith) c.line-2.ensures into.line.answer)
@@ -22,14 +22,14 @@ returns-in_err-line c =
 pub push_groups-requires : goal.push_groups-requires
 push_groups-requires c =
     let some = rw c.in_ok-line.was at c.ok_or.ensures.ok_part in
-    let into = rw some at (c.read_into.ensures _ c.requires.in_line.fed.line) in
+    let into = rw some at (c.read_into.ensures.into _ c.requires.in_line.fed.line) in
     next_asked c.requires.so_far.1 c.take-top.ensures.topmost c.requires.in_line.fed.line (omega arith) (omega arith) c.take-top.result.known into c.take-top.ensures.high c.room_below.ensures
 
-pub returns : goal.returns
-returns c =
+pub returns-clause-next : goal.returns-clause-next
+returns-clause-next c =
     λ depth o.
     let some = rw c.in_ok-line.was at c.ok_or.ensures.ok_part in
-    let into = rw some at (c.read_into.ensures _ c.requires.in_line.fed.line) in
+    let into = rw some at (c.read_into.ensures.into _ c.requires.in_line.fed.line) in
     let groups = rw (c.shared.ensures.0, c.shared.ensures.1) at c.push_groups.ensures in
     let more = next_more o c.take-top.ensures.topmost c.requires.in_line.fed.line (omega arith) (omega arith) c.take-top.result.known into c.room_below.ensures c.take-top.ensures groups in
     (c.advance.ensures.records, rw (c.advance.ensures.records, c.advance.ensures.pos, c.advance.ensures.write) more)
