@@ -5,7 +5,8 @@ ghost use Rattle.std.specs.Prelude.{◌≡◌, false, List, ℕ, ◌≤◌, leng
 ghost use Rattle.model.specs.Call.{SizeCall, short, work_words};
 ghost use Rattle.statement.specs.declared.Refusal.TheVariants.{Refused};
 ghost use Rattle.statement.specs.Answer.{answer_of, unread_of};
-ghost use Rattle.statement.specs.Work.{sizes};
+ghost use Rattle.words.specs.Words.{Roomy};
+ghost use Rattle.statement.specs.Work.{sizes, Kept};
 
 pub use work::Work;
 
@@ -55,30 +56,30 @@ impl From<PlanLowerError> for Refusal {
 // Tests 2 to 8 and the figure, with work slices that are long enough.
 fn size_read(
     sheet: &[u8],
-    records: &mut RecordsMut<'_>,
+    a: &mut [u32],
+    b: &mut [u32],
     stack: &mut [u32],
 ) -> Result<usize, Refusal>
-    requires { work_words ≤ length stack.old }
+    requires roomy { Roomy a.old b.old }
+    requires long { work_words ≤ length stack.old }
     ensures { (work : List ℕ) → short work ≡ false → SizeCall work sheet.now (answer_of result) }
 {
     if words::MAX_BYTES < sheet.len() {
         return Err(Refusal::LongSheet);
     }
-    let n = read_sheet(sheet, records, stack, words::MAX_DEPTH)?;
+    let mut records = RecordsMut { a, b };
+    let n = read_sheet(sheet, &mut records, stack, words::MAX_DEPTH)?;
     precheck_statement(&records.shared(), words::MAX_DEPTH)?;
     Ok(n * RECORD_OPERATORS)
 }
 
 // The sizing call: tests 1 to 8, and a figure that is at least the plan's operator count and at most four times the record count.
 pub fn size_statement(sheet: &[u8], work: &mut Work<'_>) -> Result<usize, Refusal>
-    ensures { SizeCall (sizes work.old.a.now work.old.b.now work.old.c.now work.old.d.now) sheet.now (answer_of result) }
+    ensures sized { SizeCall (sizes work.old.a.now work.old.b.now work.old.c.now work.old.d.now) sheet.now (answer_of result) }
+    ensures kept { Kept work.old work.new }
 {
     if !work.long_enough() {
         return Err(Refusal::ShortWork);
     }
-    let mut records = RecordsMut {
-        a: work.a,
-        b: work.b,
-    };
-    size_read(sheet, &mut records, work.c)
+    size_read(sheet, work.a, work.b, work.c)
 }

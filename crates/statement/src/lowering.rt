@@ -1,13 +1,14 @@
 // The lowering call: the sheet is read, checked and lowered, and its plan written if it fits.
-ghost use Rattle.std.specs.Prelude.{◌≡◌, ◌≤◌, false, List, ℕ, length};
+ghost use Rattle.std.specs.Prelude.{◌≡◌, false, List, ℕ};
 ghost use Rattle.model.specs.Kind.{statement};
 ghost use Rattle.model.specs.Tree.{Tree};
 ghost use Rattle.model.specs.Lower.{LowerCtx as State};
-ghost use Rattle.model.specs.Call.{short, planned, test_plan, max_depth, work_words, lower_call};
+ghost use Rattle.model.specs.Call.{short, planned, test_plan, max_depth, lower_call};
 ghost use Rattle.words.specs.Held.{Held, HeldSome};
 ghost use Rattle.lower.specs.Side.{side};
 ghost use Rattle.lower.specs.Rep.{mem, Rep, Written};
-ghost use Rattle.statement.specs.Work.{sizes};
+ghost use Rattle.statement.specs.Work.{sizes, Kept};
+ghost use Rattle.statement.specs.Sizing.{Enough};
 ghost use Rattle.statement.specs.Answer.{answer_of};
 ghost use Rattle.statement.specs.Lowering.{Gives, behind};
 ghost use Rattle.statement.specs.Tables.{Lowered};
@@ -63,32 +64,31 @@ fn lower_checked(
 // Tests 2 to 10, with work slices that are long enough.
 fn lower_read(
     sheet: &[u8],
-    records: &mut RecordsMut<'_>,
+    a: &mut [u32],
+    b: &mut [u32],
     c: &mut [u32],
     d: &mut [u32],
     plan: &mut [u8],
 ) -> Result<usize, Refusal>
-    requires { (work_words ≤ length c.old) × (work_words ≤ length d.old) }
+    requires { Enough a.old b.old c.old d.old }
     ensures { (work : List ℕ) → short work ≡ false → Gives plan.old plan.new result (planned max_depth work sheet.now) }
 {
     if words::MAX_BYTES < sheet.len() {
         return Err(Refusal::LongSheet);
     }
-    read_sheet(sheet, records, c, words::MAX_DEPTH)?;
+    let mut records = RecordsMut { a, b };
+    read_sheet(sheet, &mut records, c, words::MAX_DEPTH)?;
     let mut tables = Tables { ops: c, rest: d };
     lower_checked(sheet, &records.shared(), &mut tables, plan)
 }
 
 // The lowering call: number, place, length and plan slice are those of the definition, for all arguments.
 pub fn lower_statement(sheet: &[u8], work: &mut Work<'_>, plan: &mut [u8]) -> Result<usize, Refusal>
-    ensures { record { answer = answer_of result; slice = plan.new } ≡ lower_call (sizes work.old.a.now work.old.b.now work.old.c.now work.old.d.now) sheet.now plan.old }
+    ensures plan_after { record { answer = answer_of result; slice = plan.new } ≡ lower_call (sizes work.old.a.now work.old.b.now work.old.c.now work.old.d.now) sheet.now plan.old }
+    ensures kept { Kept work.old work.new }
 {
     if !work.long_enough() {
         return Err(Refusal::ShortWork);
     }
-    let mut records = RecordsMut {
-        a: work.a,
-        b: work.b,
-    };
-    lower_read(sheet, &mut records, work.c, work.d, plan)
+    lower_read(sheet, work.a, work.b, work.c, work.d, plan)
 }

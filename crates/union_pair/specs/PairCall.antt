@@ -5,7 +5,7 @@ use Rattle.std.proofs.Math.ListN.{length}
 use Rattle.model.specs.Text.{Bytes}
 use Rattle.model.specs.Side.{whole_call}
 use Rattle.model.specs.Lower.{LowerCtx, lower_pair}
-use Rattle.model.specs.Call.{test_plan, max_bytes, work_words, Outcome}
+use Rattle.model.specs.Call.{test_plan, max_bytes, Outcome}
 use Rattle.model.specs.Pair.{SideTest, then_sides, on_side, sides_outcome}
 use Rattle.context.specs.Tables.{max_vars}
 use Rattle.lower.specs.Rep.{State, mem}
@@ -32,13 +32,6 @@ pub record LoweredBoth (L R : SideTables) (sides : Sides) : Type 0 where
   pub met : sides.ctx.mapped ≤ max_vars
   pub state : State
   pub stand : Stand L R sides state
-
--- the slices that the lowering of both writes are long enough
-pub record BothLong (lo lr ro rr : List ℕ) : Type 0 where
-  pub left_ops : work_words ≤ length lo
-  pub left_rest : work_words ≤ length lr
-  pub right_ops : work_words ≤ length ro
-  pub right_rest : work_words ≤ length rr
 
 -- test 2 of one side
 abbrev pub bytes_of : Side → Bytes → Result (Unit {0}) SideFault

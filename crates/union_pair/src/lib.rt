@@ -9,7 +9,9 @@ ghost use Rattle.lower.specs.Rep.{State};
 ghost use Rattle.plan_writer.specs.Pair.{tables_in};
 ghost use Rattle.union_pair.specs.declared.PairRefusal.TheVariants.{OfSide};
 ghost use Rattle.union_pair.specs.PairAnswer.{pair_answer_of};
-ghost use Rattle.union_pair.specs.PairCall.{PairGives, bytes_of, LoweredBoth, Stand, BothLong, behind_bytes, works};
+ghost use Rattle.statement.specs.Sizing.{Enough};
+ghost use Rattle.statement.specs.Work.{Kept};
+ghost use Rattle.union_pair.specs.PairCall.{PairGives, bytes_of, LoweredBoth, Stand, behind_bytes, works};
 
 use clauses::pair::{Side as OneSide, Sides, lower_union_pair as lower_both};
 use context::Tables;
@@ -80,19 +82,30 @@ fn lower_tested(
     left: &[u8],
     right: &[u8],
     all: bool,
-    l: &mut RecordsMut<'_>,
+    left_a: &mut [u32],
+    left_b: &mut [u32],
     left_ops: &mut [u32],
     left_rest: &mut [u32],
-    r: &mut RecordsMut<'_>,
+    right_a: &mut [u32],
+    right_b: &mut [u32],
     right_ops: &mut [u32],
     right_rest: &mut [u32],
     plan: &mut [u8],
 ) -> Result<usize, PairRefusal>
     requires short { (length left.now ≤ max_bytes) × (length right.now ≤ max_bytes) }
-    requires both_long { BothLong left_ops.old left_rest.old right_ops.old right_rest.old }
+    requires left_long { Enough left_a.old left_b.old left_ops.old left_rest.old }
+    requires right_long { Enough right_a.old right_b.old right_ops.old right_rest.old }
     ensures { PairGives plan.old plan.new result (behind_bytes left.now right.now all) }
 {
-    test_sides(left, l, left_ops, right, r, right_ops)?;
+    let mut l = RecordsMut {
+        a: left_a,
+        b: left_b,
+    };
+    let mut r = RecordsMut {
+        a: right_a,
+        b: right_b,
+    };
+    test_sides(left, &mut l, left_ops, right, &mut r, right_ops)?;
     let left_words = l.shared();
     let right_words = r.shared();
     let left_tables = Tables {
@@ -142,7 +155,9 @@ pub fn lower_union_pair(
     r: &mut Work<'_>,
     plan: &mut [u8],
 ) -> Result<usize, PairRefusal>
-    ensures { record { answer = pair_answer_of result; slice = plan.new } ≡ pair_call (works l.old.a.now l.old.b.now l.old.c.now l.old.d.now r.old.a.now r.old.b.now r.old.c.now r.old.d.now) left.now right.now all plan.old }
+    ensures plan_after { record { answer = pair_answer_of result; slice = plan.new } ≡ pair_call (works l.old.a.now l.old.b.now l.old.c.now l.old.d.now r.old.a.now r.old.b.now r.old.c.now r.old.d.now) left.now right.now all plan.old }
+    ensures left_kept { Kept l.old l.new }
+    ensures right_kept { Kept r.old r.new }
 {
     if !l.long_enough() {
         return Err(PairRefusal::ShortWork);
@@ -152,18 +167,7 @@ pub fn lower_union_pair(
     }
     test_bytes(Side::Left, left)?;
     test_bytes(Side::Right, right)?;
-    let mut on_left = RecordsMut { a: l.a, b: l.b };
-    let mut on_right = RecordsMut { a: r.a, b: r.b };
     lower_tested(
-        left,
-        right,
-        all,
-        &mut on_left,
-        l.c,
-        l.d,
-        &mut on_right,
-        r.c,
-        r.d,
-        plan,
+        left, right, all, l.a, l.b, l.c, l.d, r.a, r.b, r.c, r.d, plan,
     )
 }

@@ -2,4 +2,4 @@
 use Rattle.library_c.proofs.dresserhawk_lower.Goals as goal
 
 pub returns : goal.returns
-returns c = c.dresserhawk_lower.ensures
+returns c = c.dresserhawk_lower.ensures.answer_after

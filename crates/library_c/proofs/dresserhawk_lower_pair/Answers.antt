@@ -2,4 +2,4 @@
 use Rattle.library_c.proofs.dresserhawk_lower_pair.Goals as goal
 
 pub returns : goal.returns
-returns c = c.dresserhawk_lower_pair.ensures
+returns c = c.dresserhawk_lower_pair.ensures.answer_after

@@ -2,4 +2,4 @@
 use Rattle.library_c.proofs.dresserhawk_size.Goals as goal
 
 pub returns : goal.returns
-returns c = c.dresserhawk_size.ensures
+returns c = c.dresserhawk_size.ensures.answer_after

@@ -6,46 +6,35 @@ use Rattle.statement.specs.Work.{sizes}
 use Rattle.union_pair.proofs.Laws.{one_short, other_short, none_short, refused_first, not_long, sheet_long, left_long, right_long, called}
 use Rattle.union_pair.proofs.lower_union_pair.Goals as goal
 
-pub returns-then-not-long_enough : goal.returns-then-not-long_enough
-returns-then-not-long_enough c = refused_first _ _ _ _ _ (one_short (sizes _ _ _ _) (sizes _ _ _ _) (is_short _ _ c.long_enough.ensures c.if-not-long_enough.true))
+pub returns-then-not-long_enough-clause-plan_after : goal.returns-then-not-long_enough-clause-plan_after
+returns-then-not-long_enough-clause-plan_after c = refused_first _ _ _ _ _ (one_short (sizes _ _ _ _) (sizes _ _ _ _) (is_short _ _ c.long_enough.ensures c.if-not-long_enough.true))
 
-pub returns-then-not-long_enough-2 : goal.returns-then-not-long_enough-2
-returns-then-not-long_enough-2 c = refused_first _ _ _ _ _ (other_short (sizes _ _ _ _) (sizes _ _ _ _) (is_short _ _ c.long_enough-2.ensures c.if-not-long_enough-2.true))
+pub returns-then-not-long_enough-2-clause-plan_after : goal.returns-then-not-long_enough-2-clause-plan_after
+returns-then-not-long_enough-2-clause-plan_after c = refused_first _ _ _ _ _ (other_short (sizes _ _ _ _) (sizes _ _ _ _) (is_short _ _ c.long_enough-2.ensures c.if-not-long_enough-2.true))
 
-pub returns-in_err-test_bytes : goal.returns-in_err-test_bytes
-returns-in_err-test_bytes c =
+pub returns-in_err-test_bytes-clause-plan_after : goal.returns-in_err-test_bytes-clause-plan_after
+returns-in_err-test_bytes-clause-plan_after c =
     let p = err_from_is_err_and c.from_residual.result c.from_residual.ensures.1 in
     let s = none_short (sizes _ _ _ _) (sizes _ _ _ _) (is_long _ _ c.long_enough.ensures c.if-not-long_enough.false) (is_long _ _ c.long_enough-2.ensures c.if-not-long_enough-2.false) in
     let l = sheet_long Side.Left c.args.left.now c.test_bytes.result c.test_bytes.ensures c.in_err-test_bytes.was in
     rw (p.1, p.2, l.1) (left_long _ _ _ _ _ s l.0)
 
-pub returns-in_err-test_bytes-2 : goal.returns-in_err-test_bytes-2
-returns-in_err-test_bytes-2 c =
+pub returns-in_err-test_bytes-2-clause-plan_after : goal.returns-in_err-test_bytes-2-clause-plan_after
+returns-in_err-test_bytes-2-clause-plan_after c =
     let p = err_from_is_err_and c.from_residual-in_err-test_bytes-2.result c.from_residual-in_err-test_bytes-2.ensures.1 in
     let s = none_short (sizes _ _ _ _) (sizes _ _ _ _) (is_long _ _ c.long_enough.ensures c.if-not-long_enough.false) (is_long _ _ c.long_enough-2.ensures c.if-not-long_enough-2.false) in
     let l = sheet_long Side.Right c.args.right.now c.test_bytes-2.result c.test_bytes-2.ensures c.in_err-test_bytes-2.was in
     rw (p.1, p.2, l.1) (right_long _ _ _ _ _ s (not_long Side.Left _ _ c.test_bytes.ensures c.in_ok-test_bytes.was) l.0)
 
-pub invariant_of-on_left : goal.invariant_of-on_left
-invariant_of-on_left c =
-    let e = enough _ _ _ _ (is_long _ _ c.long_enough.ensures c.if-not-long_enough.false) in
-    record { roomy = record { first = e.first; second = e.second } }
-
-pub invariant_of-on_right : goal.invariant_of-on_right
-invariant_of-on_right c =
-    let e = enough _ _ _ _ (is_long _ _ c.long_enough-2.ensures c.if-not-long_enough-2.false) in
-    record { roomy = record { first = e.first; second = e.second } }
-
 pub lower_tested-requires : goal.lower_tested-requires
 lower_tested-requires c =
-    let e = enough _ _ _ _ (is_long _ _ c.long_enough.ensures c.if-not-long_enough.false) in
-    let f = enough _ _ _ _ (is_long _ _ c.long_enough-2.ensures c.if-not-long_enough-2.false) in
     record {
       short = (not_long Side.Left _ _ c.test_bytes.ensures c.in_ok-test_bytes.was, not_long Side.Right _ _ c.test_bytes-2.ensures c.in_ok-test_bytes-2.was);
-      both_long = record { left_ops = e.third; left_rest = e.fourth; right_ops = f.third; right_rest = f.fourth };
+      left_long = enough _ _ _ _ (is_long _ _ c.long_enough.ensures c.if-not-long_enough.false);
+      right_long = enough _ _ _ _ (is_long _ _ c.long_enough-2.ensures c.if-not-long_enough-2.false);
     }
 
-pub returns : goal.returns
-returns c =
+pub returns-clause-plan_after : goal.returns-clause-plan_after
+returns-clause-plan_after c =
     let s = none_short (sizes _ _ _ _) (sizes _ _ _ _) (is_long _ _ c.long_enough.ensures c.if-not-long_enough.false) (is_long _ _ c.long_enough-2.ensures c.if-not-long_enough-2.false) in
     called _ _ _ _ _ s (not_long Side.Left _ _ c.test_bytes.ensures c.in_ok-test_bytes.was) (not_long Side.Right _ _ c.test_bytes-2.ensures c.in_ok-test_bytes-2.was) _ c.lower_tested.result c.lower_tested.ensures

@@ -5,18 +5,11 @@ use Rattle.statement.specs.Lowering.{lower_short, called}
 use Rattle.statement.specs.Sizing.{is_long, is_short, enough}
 use Rattle.statement.proofs.lowering.lower_statement.Goals as goal
 
-pub returns-then-not-long_enough : goal.returns-then-not-long_enough
-returns-then-not-long_enough c = called _ _ _ _ (Err Refusal.ShortWork) (lower_short _ _ _ (is_short _ _ c.long_enough.ensures c.if-not-long_enough.true))
-
-pub invariant_of-records : goal.invariant_of-records
-invariant_of-records c =
-    let e = enough _ _ _ _ (is_long _ _ c.long_enough.ensures c.if-not-long_enough.false) in
-    record { roomy = record { first = e.first; second = e.second } }
+pub returns-then-not-long_enough-clause-plan_after : goal.returns-then-not-long_enough-clause-plan_after
+returns-then-not-long_enough-clause-plan_after c = called _ _ _ _ (Err Refusal.ShortWork) (lower_short _ _ _ (is_short _ _ c.long_enough.ensures c.if-not-long_enough.true))
 
 pub lower_read-requires : goal.lower_read-requires
-lower_read-requires c =
-    let e = enough _ _ _ _ (is_long _ _ c.long_enough.ensures c.if-not-long_enough.false) in
-    (e.third, e.fourth)
+lower_read-requires c = enough _ _ _ _ (is_long _ _ c.long_enough.ensures c.if-not-long_enough.false)
 
-pub returns : goal.returns
-returns c = called _ _ _ _ c.lower_read.result (c.lower_read.ensures _ (is_long _ _ c.long_enough.ensures c.if-not-long_enough.false))
+pub returns-clause-plan_after : goal.returns-clause-plan_after
+returns-clause-plan_after c = called _ _ _ _ c.lower_read.result (c.lower_read.ensures _ (is_long _ _ c.long_enough.ensures c.if-not-long_enough.false))
