@@ -1,7 +1,7 @@
 // Words that hold records: where a record's words stand.
 #![tactic(auto)]
 
-pub use records::{Records, RecordsMut};
+pub use records::{Below, Record, Records, RecordsMut};
 
 pub mod field;
 pub mod form;
