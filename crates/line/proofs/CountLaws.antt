@@ -1,5 +1,5 @@
 -- Where the count of a group stands, by its source in the table, and all groups of a record together. Assumes nothing.
-use mathlib.Core.Path.{◌≡◌, refl, sym, ◌∙◌}
+use mathlib.Core.Path.{◌≡◌, refl}
 use Prim.Native.Nat.{ℕ, zero, suc, ◌+◌, ◌*◌, ◌-◌, ◌<◌, ◌≤◌}
 use mathlib.Core.Bool.{Bool, true, false, cond}
 use mathlib.Core.List.{List}
@@ -8,11 +8,10 @@ use native.Mathlib.Omega.{arith}
 use borrow.Author.Tests.{le-ltb}
 use lib.Dec.{ltb}
 use lib.ListN.{get_or}
-use Rattle.words.specs.Words.{part, cell, record_words, two32}
-use Rattle.words.specs.Places.{kind_count}
+use Rattle.words.specs.Words.{two32}
 use Rattle.words.specs.Held.{total}
 use Rattle.words.specs.Table.{source_count, fixed_sources, source_shift, count_of, group_count, group_numbers, group_source, groups_from, groups_of}
-use Rattle.words.proofs.GroupLaws.{part_cell, entries_low, groups_few, none_counted}
+use Rattle.words.proofs.GroupLaws.{entries_low, groups_few, none_counted}
 use Rattle.line.specs.LineRead.{Alike}
 use Rattle.line.specs.Group.{CountedAt}
 use Rattle.line.specs.declared.group.Counted.{Counted}
@@ -22,17 +21,6 @@ module _ (n g c : ℕ) (e : c ≡ group_source n g) where
   pub count_word : fixed_sources ≤ c → c < source_count → CountedAt n g (Counted.InWord (c + c - source_shift))
   count_word h k = record { is = λ ws. rw (← e, le-ltb c fixed_sources h); among = omega arith }
 
--- what stands there is the group's count, of a record by its words and of one of two slices
-module _ {n g : ℕ} {r : Counted} (p : CountedAt n g r) where
-  pub word_among : {c : ℕ} → r ≡ Counted.InWord c → c < record_words
-  word_among e = rw e at p.among
-
-  pub word_is : {c : ℕ} → r ≡ Counted.InWord c → (ws : List ℕ) → get_or ws c 0 ≡ count_of ws (group_source n g)
-  word_is e ws = rw e at (p.is ws)
-
-  pub cell_is : {c : ℕ} → r ≡ Counted.InWord c → (a b : List ℕ) (i : ℕ) → cell a b i c ≡ count_of (part a b i) (group_source n g)
-  cell_is {c} e a b i = sym (part_cell a b i c (word_among e)) ∙ word_is e (part a b i)
-
 -- ── all groups ──
 
 -- what the first g groups count, and what the others do, is all
@@ -41,13 +29,13 @@ pub record Adding (n : ℕ) (ws : List ℕ) (g sum : ℕ) : Type 0 where
   pub few : sum ≤ g * two32
   pub all : sum + total (groups_from n ws g (group_count - g)) ≡ total (groups_of n ws)
 
-module _ (n : ℕ) (ws : List ℕ) (known : n < kind_count) where
+module _ (n : ℕ) (ws : List ℕ) where
   pub add_none : Adding n ws 0 0
   unfolding groups_of
   add_none = record { low = omega arith; few = omega arith; all = omega arith }
 
   in_table : (g : ℕ) → g < get_or group_numbers n 0 → g < group_count
-  in_table g h = omega (arith, groups_few n known)
+  in_table g h = omega (arith, groups_few n)
 
   one_group : (g k : ℕ) → group_count - g ≡ suc k → total (groups_from n ws g (group_count - g)) ≡ count_of ws (group_source n g) + total (groups_from n ws (suc g) k)
   unfolding groups_from
@@ -62,8 +50,8 @@ module _ (n : ℕ) (ws : List ℕ) (known : n < kind_count) where
 
   pub add_all : (g sum : ℕ) → get_or group_numbers n 0 ≤ g → Adding n ws g sum → sum ≡ total (groups_of n ws)
   add_all g sum h a =
-      let l : g ≤ group_count = omega (arith, a.low, groups_few n known) in
-      let z : total (groups_from n ws g (group_count - g)) ≡ 0 = none_counted n ws known g (group_count - g) h (omega arith) in
+      let l : g ≤ group_count = omega (arith, a.low, groups_few n) in
+      let z : total (groups_from n ws g (group_count - g)) ≡ 0 = none_counted n ws g (group_count - g) h (omega arith) in
       omega (arith, a.all, z)
 
   -- words that differ behind the fields alone count the same
@@ -72,7 +60,7 @@ module _ (n : ℕ) (ws : List ℕ) (known : n < kind_count) where
     where
       go : (t : Bool) → ltb (group_source n g) fixed_sources ≡ t → cond t (group_source n g) (get_or vs (group_source n g + group_source n g - source_shift) 0) ≡ cond t (group_source n g) (get_or ws (group_source n g + group_source n g - source_shift) 0)
       go true q = refl
-      go false q = al (group_source n g + group_source n g - source_shift) (omega (arith, (entries_low n g known l).1))
+      go false q = al (group_source n g + group_source n g - source_shift) (omega (arith, (entries_low n g l).1))
 
   same_groups : (vs : List ℕ) → Alike ws vs → (g k : ℕ) → g + k ≤ group_count → total (groups_from n vs g k) ≡ total (groups_from n ws g k)
   unfolding groups_from

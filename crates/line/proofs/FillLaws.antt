@@ -6,18 +6,21 @@ use mathlib.Core.List.{List, [], ◌∷◌}
 use Rattle.std.specs.Prelude.{Option, None, Some}
 use native.Mathlib.Numerals.{add-one}
 use native.Mathlib.Omega.{arith}
-use lib.ListN.{length, take, drop, get_or, set, length-set}
+use lib.ListN.{length, take, drop, get_or, set, length-set, drop_of_length-le}
 use lib.Dec.{ltb}
 use borrow.Author.Tests.{ltb-true, ltb-false}
 use lib.Seq.{take-nil, drop-cons, get_or-set_same, get_or-set_other}
-use Rattle.words.specs.Places.{kind_count, form_count, none_form}
+use Rattle.words.specs.Places.{kind_count, form_count}
 use Rattle.model.specs.Text.{Bytes, tab, line_feed}
-use Rattle.model.specs.Field.{Form, num, flag, var, var_or_absent, num_or_absent, number, number_or_absent, int, float, text, alias, span, read, width, both, read_fields}
+use Rattle.model.specs.Field.{num, flag, var, var_or_absent, num_or_absent, number, number_or_absent, int, float, text, alias, span, read, width, both, read_fields}
 use Rattle.model.specs.Field
 use Rattle.words.specs.Words.{field_of, fields_of, first_at, second_at, pieces_of, record_words}
 use Rattle.words.specs.Held.{Flag, Flags, Text, Texts}
-use Rattle.words.specs.Table.{max_fields, codes, code_at, form_of, forms_in, forms_from, forms_at}
+use Rattle.words.specs.Table.{max_fields, field_count, codes, code_at, form_of, forms_in, forms_from, forms_at}
 use Rattle.words.specs.TableLaws.{code_row}
+use Rattle.words.specs.Forms.{form_at, form_is, coded}
+use Rattle.words.specs.declared.form.Form.{Form}
+use Rattle.std.proofs.lemmas.List.{get_or_past}
 use Rattle.record.specs.Place.{LineEnd, separates}
 use Rattle.record.proofs.PlaceLaws.{separates_is}
 use Rattle.line.specs.Place.{pieces_at}
@@ -30,17 +33,48 @@ use Rattle.line.proofs.SpanLaws.{too_few}
 
 -- ── rows ──
 
-row_end : (cs : List ℕ) (i : ℕ) → i < length cs → get_or cs i 0 ≡ 0 → forms_in (drop i cs) ≡ []
+row_end : (cs : List ℕ) (i : ℕ) → get_or cs i 0 ≡ 0 → forms_in (drop i cs) ≡ []
 unfolding forms_in
-row_end cs i h e = rw (drop-cons cs i 0 h, e)
+row_end cs i e = go (ltb i (length cs)) refl
+  where
+    go : (t : Bool) → ltb i (length cs) ≡ t → forms_in (drop i cs) ≡ []
+    go true q = rw (drop-cons cs i 0 (ltb-true i (length cs) q), e)
+    go false q = rw (drop_of_length-le cs (ltb-false i (length cs) q))
 
-row_more : (cs : List ℕ) (i : ℕ) → i < length cs → (get_or cs i 0 ≡ 0 → ⊥) → forms_in (drop i cs) ≡ form_of (get_or cs i 0) ∷ forms_in (drop (suc i) cs)
+row_more : (cs : List ℕ) (i : ℕ) → (get_or cs i 0 ≡ 0 → ⊥) → forms_in (drop i cs) ≡ form_of (get_or cs i 0) ∷ forms_in (drop (suc i) cs)
 unfolding forms_in
-row_more cs i h e = rw (drop-cons cs i 0 h) (go (get_or cs i 0) e)
+row_more cs i e = at (ltb i (length cs)) refl
   where
     go : (c : ℕ) → (c ≡ 0 → ⊥) → forms_in (c ∷ drop (suc i) cs) ≡ form_of c ∷ forms_in (drop (suc i) cs)
     go zero e = absurd (e refl)
     go (suc c) e = refl
+
+    at : (t : Bool) → ltb i (length cs) ≡ t → forms_in (drop i cs) ≡ form_of (get_or cs i 0) ∷ forms_in (drop (suc i) cs)
+    at true q = rw (drop-cons cs i 0 (ltb-true i (length cs) q)) (go (get_or cs i 0) e)
+    at false q = absurd (e (get_or_past cs i 0 (ltb-false i (length cs) q)))
+
+-- a kind has few fields, and so has a number that is no kind's
+few_forms : (n : ℕ) → length (forms_at n) ≤ max_fields
+unfolding forms_at forms_from forms_in
+few_forms n = go (ltb n kind_count) refl
+  where
+    go : (t : Bool) → ltb n kind_count ≡ t → length (forms_in (drop 0 (get_or codes n []))) ≤ max_fields
+    go true q = (code_row n (ltb-true n kind_count q)).few
+    go false q = rw (get_or_past codes n [] (ltb-false n kind_count q)) (omega arith)
+
+-- each code is that of a form, or of none
+code_low : (n g : ℕ) → g < field_count → code_at n g < form_count
+code_low n g h = go (ltb n kind_count) refl
+  where
+    go : (t : Bool) → ltb n kind_count ≡ t → code_at n g < form_count
+    go true q = (code_row n (ltb-true n kind_count q)).low g h
+    go false q = rw (get_or_past codes n [] (ltb-false n kind_count q)) (omega arith)
+
+form_some : (n g : ℕ) (f : Form) → form_at n g ≡ Some f → (0 < code_at n g) × (form_is f ≡ form_of (code_at n g))
+form_some n g f e = rw e at (coded (code_at n g))
+
+form_none : (n g : ℕ) → g < field_count → form_at n g ≡ None → code_at n g ≡ 0
+form_none n g h e = (rw e at (coded (code_at n g))) (code_low n g h)
 
 -- ── words ──
 
@@ -69,14 +103,14 @@ module _ (ws : List ℕ) (g x y : ℕ) (h : second_at g < length ws) where
 
 module _ (sheet : Bytes) where
   -- the forms that are left, from field g on, and their pieces
-  pub record Going (fs : List Form) (ps : List Bytes) (rest : List Form) (qs : List Bytes) (ws : List ℕ) (g : ℕ) : Type 0 where
+  pub record Going (fs : List Field.Form) (ps : List Bytes) (rest : List Field.Form) (qs : List Bytes) (ws : List ℕ) (g : ℕ) : Type 0 where
     pub some_so : (vs : List ℕ) → Agree (first_at g) vs ws → read_fields rest qs ≡ Some (fields_of rest sheet vs g) → Flags rest vs g → Texts rest sheet vs g → (read_fields fs ps ≡ Some (fields_of fs sheet vs 0)) × Flags fs vs 0 × Texts fs sheet vs 0
     pub none_so : read_fields rest qs ≡ None → read_fields fs ps ≡ None
 
-  go_first : (fs : List Form) (ps : List Bytes) (ws : List ℕ) → Going fs ps fs ps ws 0
+  go_first : (fs : List Field.Form) (ps : List Bytes) (ws : List ℕ) → Going fs ps fs ps ws 0
   go_first fs ps ws = record { some_so = λ vs a e f t. (e, f, t); none_so = λ e. e }
 
-  module _ (fs : List Form) (ps : List Bytes) (f : Form) (rest : List Form) (qs : List Bytes) (ws : List ℕ) (g : ℕ) (s : Going fs ps (f ∷ rest) qs ws g) where
+  module _ (fs : List Field.Form) (ps : List Bytes) (f : Field.Form) (rest : List Field.Form) (qs : List Bytes) (ws : List ℕ) (g : ℕ) (s : Going fs ps (f ∷ rest) qs ws g) where
     go_none : read f (take (width f) qs) ≡ None → read_fields fs ps ≡ None
     unfolding read_fields both
     go_none e = s.none_so (rw e)
@@ -93,7 +127,7 @@ module _ (sheet : Bytes) where
         }
 
 -- every field has a piece
-width_up : (f : Form) → 0 < width f
+width_up : (f : Field.Form) → 0 < width f
 unfolding width
 width_up (num l) = omega arith
 width_up flag = omega arith
@@ -112,9 +146,7 @@ width_up Field.length = omega arith
 -- ── the loop ──
 
 -- the fields up to place `at`, where the last of them ends
-pub record Filling (n : ℕ) (sheet : Bytes) (p e : ℕ) (ws₀ ws : List ℕ) (at g form : ℕ) : Type 0 where
-  pub low : n < kind_count
-  pub code : form ≡ code_at n g
+pub record Filling (n : ℕ) (sheet : Bytes) (p e : ℕ) (ws₀ ws : List ℕ) (at g : ℕ) : Type 0 where
   pub long : length ws ≡ record_words
   pub room : g + length (forms_from n g) ≤ max_fields
   pub kept : Kept ws₀ ws
@@ -127,14 +159,12 @@ pub record Filling (n : ℕ) (sheet : Bytes) (p e : ℕ) (ws₀ ws : List ℕ) (
 ends_tab : (sheet : Bytes) (p e : ℕ) → LineEnd sheet p e → separates (get_or sheet p 0) ≡ true → p < e → get_or sheet p 0 ≡ tab
 ends_tab sheet p e l h k = separates_is (get_or sheet p 0) h (λ z. l.free p (omega arith) k z)
 
-pub fill_start : (n : ℕ) (sheet : Bytes) (p : ℕ) (ws : List ℕ) → n < kind_count → length ws ≡ record_words → separates (get_or sheet p 0) ≡ true → (form : ℕ) → form ≡ code_at n 0 → (e : ℕ) → LineEnd sheet p e → Filling n sheet p e ws ws p 0 form
+pub fill_start : (n : ℕ) (sheet : Bytes) (p : ℕ) (ws : List ℕ) → length ws ≡ record_words → separates (get_or sheet p 0) ≡ true → (e : ℕ) → LineEnd sheet p e → Filling n sheet p e ws ws p 0
 unfolding forms_at
-fill_start n sheet p ws h l s form c e line =
+fill_start n sheet p ws l s e line =
     record {
-      low = h;
-      code = c;
       long = l;
-      room = omega (arith, (code_row n h).few);
+      room = omega (arith, few_forms n);
       kept = λ c h. refl;
       from = omega arith;
       to = line.from;
@@ -142,34 +172,25 @@ fill_start n sheet p ws h l s form c e line =
       going = go_first sheet (forms_at n) (pieces_at sheet (p + 1) e) ws;
     }
 
-module _ (n : ℕ) (sheet : Bytes) (p e : ℕ) (line : LineEnd sheet p e) (ws₀ ws : List ℕ) (at g form : ℕ) (f : Filling n sheet p e ws₀ ws at g form) where
-  in_row : g < length (get_or codes n [])
-  in_row = omega (arith, (code_row n f.low).long, f.room)
-
-  pub fill_code : form < form_count
-  fill_code = rw f.code ((code_row n f.low).low g (omega (arith, f.room)))
-
+module _ (n : ℕ) (sheet : Bytes) (p e : ℕ) (line : LineEnd sheet p e) (ws₀ ws : List ℕ) (at g : ℕ) (f : Filling n sheet p e ws₀ ws at g) where
   -- ── a form is left ──
 
-  module _ (h : form ≡ none_form → ⊥) where
-    rest_is : forms_from n g ≡ form_of form ∷ forms_from n (suc g)
+  module _ (form : Form) (h : form_at n g ≡ Some form) where
+    rest_is : forms_from n g ≡ form_is form ∷ forms_from n (suc g)
     unfolding forms_from
     rest_is =
-        row_more (get_or codes n []) g in_row (λ z. h (f.code ∙ z))
-        ∙ ap (λ c. form_of c ∷ forms_in (drop (suc g) (get_or codes n []))) (sym f.code)
+        let some = form_some n g form h in
+        row_more (get_or codes n []) g (λ z. omega (arith, some.0, z)) ∙ ap (λ x. x ∷ forms_in (drop (suc g) (get_or codes n []))) (sym some.1)
 
-    pub fill_room : g < max_fields
+    fill_room : g < max_fields
     fill_room = omega (arith, f.room, ap length rest_is)
 
-    pub fill_less : length (forms_from n (g + 1)) < length (forms_from n g)
-    fill_less = rw (add-one g) (omega (arith, ap length rest_is))
-
-    form_going : Going sheet (forms_at n) (pieces_at sheet (p + 1) e) (form_of form ∷ forms_from n (suc g)) (pieces_at sheet (at + 1) e) ws g
+    form_going : Going sheet (forms_at n) (pieces_at sheet (p + 1) e) (form_is form ∷ forms_from n (suc g)) (pieces_at sheet (at + 1) e) ws g
     form_going = rw rest_is at f.going
 
     -- no tab: the line ends, and the field has no piece
     pub fill_few : (get_or sheet at 0 ≡ tab → ⊥) → FieldsRead n sheet p e ws₀ ws None
-    fill_few z = record { answer = go_none sheet _ _ _ _ _ ws g form_going (too_few (form_of form) _ few); kept = f.kept; long = f.long }
+    fill_few z = record { answer = go_none sheet _ _ _ _ _ ws g form_going (too_few (form_is form) _ few); kept = f.kept; long = f.long }
       where
         done : at ≡ e
         done = go (ltb at e) refl
@@ -178,8 +199,8 @@ module _ (n : ℕ) (sheet : Bytes) (p e : ℕ) (line : LineEnd sheet p e) (ws₀
             go true q = absurd (z (f.stop (ltb-true at e q)))
             go false q = let up = ltb-false at e q in omega (arith, f.to)
 
-        few : length (take (width (form_of form)) (pieces_at sheet (at + 1) e)) < width (form_of form)
-        few = rw (none_left sheet (at + 1) e (omega (arith, done)), take-nil) (width_up (form_of form))
+        few : length (take (width (form_is form)) (pieces_at sheet (at + 1) e)) < width (form_is form)
+        few = rw (none_left sheet (at + 1) e (omega (arith, done)), take-nil) (width_up (form_is form))
 
     -- a tab: the line goes on behind it
     module _ (z : get_or sheet at 0 ≡ tab) where
@@ -188,19 +209,17 @@ module _ (n : ℕ) (sheet : Bytes) (p e : ℕ) (line : LineEnd sheet p e) (ws₀
           let other : at ≡ e → ⊥ = λ q. omega (arith, z, rw (← q) at line.feed) in
           record { from = omega (arith, f.to, other); to = line.to; feed = line.feed; free = λ i a b. line.free i (omega (arith, f.from)) b }
 
-      module _ (w : Option (Piece Words)) (k : FieldAt (form_of form) sheet (at + 1) e w) where
+      module _ (w : Option (Piece Words)) (k : FieldAt (form_is form) sheet (at + 1) e w) where
         pub fill_not : w ≡ None → FieldsRead n sheet p e ws₀ ws None
         fill_not q = record { answer = go_none sheet _ _ _ _ _ ws g form_going (rw q at k.words.is); kept = f.kept; long = f.long }
 
-        pub fill_more : (r : Piece Words) → w ≡ Some r → (form₁ : ℕ) → form₁ ≡ code_at n (g + 1) → Filling n sheet p e ws₀ (put ws g r.value.first r.value.second) r.end (g + 1) form₁
-        fill_more r q form₁ c =
+        pub fill_more : (r : Piece Words) → w ≡ Some r → Filling n sheet p e ws₀ (put ws g r.value.first r.value.second) r.end (g + 1)
+        fill_more r q =
             let is = rw q at k.words in
             let behind = rw q at k.behind in
             let fits : second_at g < length ws = omega (arith, f.long, fill_room) in
             let outside : (c : ℕ) → (first_word ≤ c → fields_end ≤ c) → (d : ℕ) → first_at g ≤ d → d ≤ second_at g → c ≡ d → ⊥ = λ c z d a b q. (let high : fields_end ≤ c = z (omega arith) in omega (arith, fill_room)) in
             record {
-              low = f.low;
-              code = c;
               long = rw (length-set, length-set) f.long;
               room = rw (add-one g) (omega (arith, f.room, ap length rest_is));
               kept = λ c z. put_other ws g r.value.first r.value.second fits c (λ q. outside c z (first_at g) (omega arith) (omega arith) q) (λ q. outside c z (second_at g) (omega arith) (omega arith) q) ∙ f.kept c z;
@@ -212,11 +231,20 @@ module _ (n : ℕ) (sheet : Bytes) (p e : ℕ) (line : LineEnd sheet p e) (ws₀
 
   -- ── no form is left ──
 
-  module _ (h : form ≡ none_form) where
-    rest_none : forms_from n g ≡ []
-    unfolding forms_from
-    rest_none = row_end (get_or codes n []) g in_row (sym f.code ∙ h)
+  -- the row ends here
+  pub no_form : g < max_fields → form_at n g ≡ None → forms_from n g ≡ []
+  unfolding forms_from
+  no_form l h = row_end (get_or codes n []) g (form_none n g (omega arith) h)
 
+  -- or there are as many forms as a record may have
+  pub all_forms : max_fields ≤ g → forms_from n g ≡ []
+  all_forms l = none_of (forms_from n g) (omega (arith, f.room))
+    where
+      none_of : (l : List Field.Form) → length l ≡ 0 → l ≡ []
+      none_of [] e = refl
+      none_of (x ∷ l) e = absurd (omega arith)
+
+  module _ (rest_none : forms_from n g ≡ []) where
     last_going : Going sheet (forms_at n) (pieces_at sheet (p + 1) e) [] (pieces_at sheet (at + 1) e) ws g
     last_going = rw rest_none at f.going
 

@@ -117,7 +117,7 @@ module _ (sheet : Bytes) (p m r : ℕ) (low : m < sort_count) (ends : Ends sheet
         children_word : get_or ws₃ children_at 0 ≡ total (groups_of n ws₃) % two32
         children_word =
             get_or-set_other ws₂ line_end_at children_at (e₁ + 1) 0 (omega arith) ∙ get_or-set_same ws₁ children_at many 0 (omega (arith, read.long))
-            ∙ counts ∙ ap (λ x. x % two32) (sym (same_total n ws₁ line_low ws₃ same_fields))
+            ∙ counts ∙ ap (λ x. x % two32) (sym (same_total n ws₁ ws₃ same_fields))
 
         got : Got (sort_of m) sheet p e ws₃ n
         unfolding read_as with_fields decode rec_of

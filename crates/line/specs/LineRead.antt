@@ -6,31 +6,19 @@ use Rattle.model.specs.Field.{Fields, read_fields}
 use Rattle.model.specs.Kind.{Sort, Kind}
 use Rattle.model.specs.Record.{forms, read_rec}
 use Rattle.words.specs.Words.{fields_of, kind_of, decode, part, max_records, record_words, two32}
-use Rattle.words.specs.Places.{line_start_at, line_end_at, kind_at, children_at, kind_count, sort_count}
+use Rattle.words.specs.Places.{line_start_at, line_end_at, kind_at, children_at, kind_count}
 use Rattle.words.specs.Held.{Flags, Texts, total}
 use Rattle.words.specs.Table.{forms_at, groups_of}
 use Rattle.record.specs.declared.piece.Piece.{Piece}
 use Rattle.record.specs.Place.{LineEnd, separates}
-use Rattle.line.specs.Place.{InLine, pieces_at}
+use Rattle.line.specs.Place.{pieces_at}
 
 -- ── what the functions ask ──
 
--- the fields of kind n, from behind place p on: a piece ends at p, and there are the words of a record
-pub record FieldsAsked (n : ℕ) (sheet : Bytes) (p : ℕ) (ws : List ℕ) : Type 0 where
+-- the fields of a kind, from behind place p on: a piece ends at p, and there are the words of a record
+pub record FieldsAsked (sheet : Bytes) (p : ℕ) (ws : List ℕ) : Type 0 where
   pub stop : separates (get_or sheet p 0) ≡ true
-  pub kind : n < kind_count
   pub words : length ws ≡ record_words
-
--- a line, read as a record of sort number s
-pub record LineAsked (s : ℕ) (ws : List ℕ) : Type 0 where
-  pub sort : s < sort_count
-  pub words : length ws ≡ record_words
-
--- a line at p, read into record i
-pub record IntoAsked (s : ℕ) (sheet : Bytes) (p i : ℕ) : Type 0 where
-  pub line : InLine sheet p
-  pub sort : s < sort_count
-  pub low : i < max_records
 
 -- ── fields ──
 

@@ -1,8 +1,6 @@
 // The field at a place of a line, by its form.
-ghost use Rattle.std.specs.Prelude.{◌<◌};
-ghost use Rattle.model.specs.Field.{Form};
-ghost use Rattle.words.specs.Places.{form_count};
-ghost use Rattle.words.specs.Table.{form_of};
+ghost use Rattle.model.specs.Field;
+ghost use Rattle.words.specs.Forms.{form_is};
 ghost use Rattle.line.specs.FieldRead.{FieldHere};
 
 use crate::field::{Words, alias, float, int, number, text, variable};
@@ -10,12 +8,11 @@ use crate::place::Place;
 use record::cursor::Cursor;
 use record::length::length;
 use record::piece::{Piece, piece_end};
-use words::form;
-use words::table::limit;
+use words::form::Form;
 
 // A span: two numbers, the start at most the end.
 fn span(c: Cursor<'_>) -> Option<Piece<Words>>
-    ensures { FieldHere Form.span c.entry.bytes.now c.entry.at result }
+    ensures { FieldHere Field.span c.entry.bytes.now c.entry.at result }
 {
     let start = number(c, words::MAX_U32)?;
     let r = start.end;
@@ -40,7 +37,7 @@ fn span(c: Cursor<'_>) -> Option<Piece<Words>>
 
 // The length of a pattern's relationship: three pieces, held as their place.
 fn hops(p: Place<'_>) -> Option<Piece<Words>>
-    ensures { FieldHere Form.length p.entry.cursor.bytes.now p.entry.cursor.at result }
+    ensures { FieldHere Field.length p.entry.cursor.bytes.now p.entry.cursor.at result }
 {
     let sheet = p.cursor.bytes;
     let start = p.cursor.at;
@@ -71,21 +68,20 @@ fn hops(p: Place<'_>) -> Option<Piece<Words>>
     Some(Piece { value, end })
 }
 
-// The field that begins at p, by the code of its form: a number with the table's limit from that of a number on.
-pub fn read_form(p: Place<'_>, form: u32) -> Option<Piece<Words>>
-    requires { (0 < form) × (form < form_count) }
-    ensures { FieldHere (form_of form) p.entry.cursor.bytes.now p.entry.cursor.at result }
+// The field of a form that begins at p.
+pub fn read_form(p: Place<'_>, form: Form) -> Option<Piece<Words>>
+    ensures { FieldHere (form_is form) p.entry.cursor.bytes.now p.entry.cursor.at result }
 {
     match form {
-        form::FLAG => number(p.cursor, 1),
-        form::VAR => number(p.cursor, words::MAX_U32),
-        form::VAR_OR_ABSENT => variable(p.cursor),
-        form::INT => int(p.cursor),
-        form::FLOAT => float(p.cursor),
-        form::TEXT => text(p),
-        form::ALIAS => alias(p),
-        form::SPAN => span(p.cursor),
-        form::LENGTH => hops(p),
-        _ => number(p.cursor, limit(form - form::NUMBER)),
+        Form::Flag => number(p.cursor, 1),
+        Form::Var => number(p.cursor, words::MAX_U32),
+        Form::VarOrAbsent => variable(p.cursor),
+        Form::Int => int(p.cursor),
+        Form::Float => float(p.cursor),
+        Form::Text => text(p),
+        Form::Alias => alias(p),
+        Form::Span => span(p.cursor),
+        Form::Length => hops(p),
+        Form::Number(limit) => number(p.cursor, u64::from(limit)),
     }
 }

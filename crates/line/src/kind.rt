@@ -1,13 +1,14 @@
 // The kind that a keyword names among those of a sort.
-ghost use Rattle.std.specs.Prelude.{◌≡◌, ◌<◌, cond, eqb, Some, None};
-ghost use Rattle.words.specs.Places.{sort_count, clause_sort, pattern_element_sort, expr_sort};
-ghost use Rattle.words.specs.Table.{sort_of};
+ghost use Rattle.std.specs.Prelude.{◌≡◌, cond, eqb, Some, None};
+ghost use Rattle.words.specs.Places.{clause_sort, pattern_element_sort, expr_sort};
+ghost use Rattle.words.specs.Sorts.{sort_is};
 ghost use Rattle.model.specs.Text.{Bytes};
 ghost use Rattle.line.specs.Kinds.{Packed, KeywordAt, Named, keyed};
 
 use record::cursor::Cursor;
 use record::piece::{piece_end, separates};
-use words::{BYTE_VALUES, key, kind, sort};
+use words::sort::Sort;
+use words::{BYTE_VALUES, key, kind};
 
 // No keyword has more bytes, so that the number fits 64 bits.
 const MAX_KEYWORD: usize = 7;
@@ -111,21 +112,20 @@ fn expr_kind(w: u64) -> Option<u32>
 }
 
 // The kind whose keyword has the number w among those of the sort.
-pub fn kind_named(w: u64, sort: u32) -> Option<u32>
-    requires { sort < sort_count }
-    ensures { (s : Bytes) → Packed s w → Named (sort_of sort) s result }
+pub fn kind_named(w: u64, sort: Sort) -> Option<u32>
+    ensures { (s : Bytes) → Packed s w → Named (sort_is sort) s result }
 {
     match sort {
-        sort::STATEMENT => only(w, key::STMT, kind::STMT),
-        sort::UNION_ARM => only(w, key::ARM, kind::ARM),
-        sort::CLAUSE => clause_kind(w),
-        sort::PROJECTION => only(w, key::ITEM, kind::ITEM),
-        sort::ORDER_ITEM => only(w, key::KEY, kind::KEY),
-        sort::PATTERN_PART => only(w, key::PART, kind::PART),
-        sort::PATTERN_ELEMENT => element_kind(w),
-        sort::NAME => only(w, key::NAME, kind::NAME),
-        sort::YIELD_ITEM => only(w, key::YIELD, kind::YIELD),
-        sort::ENTRY => only(w, key::NAME, kind::ENTRY),
-        _ => expr_kind(w),
+        Sort::Statement => only(w, key::STMT, kind::STMT),
+        Sort::UnionArm => only(w, key::ARM, kind::ARM),
+        Sort::Clause => clause_kind(w),
+        Sort::Projection => only(w, key::ITEM, kind::ITEM),
+        Sort::OrderItem => only(w, key::KEY, kind::KEY),
+        Sort::PatternPart => only(w, key::PART, kind::PART),
+        Sort::PatternElement => element_kind(w),
+        Sort::Name => only(w, key::NAME, kind::NAME),
+        Sort::YieldItem => only(w, key::YIELD, kind::YIELD),
+        Sort::Entry => only(w, key::NAME, kind::ENTRY),
+        Sort::Expr => expr_kind(w),
     }
 }

@@ -1,7 +1,9 @@
 // A line read into the sixteen words of a record.
-ghost use Rattle.line.specs.LineRead.{FieldsAsked, FieldsHere, LineAsked, LineHere, IntoAsked, IntoHere};
+ghost use Rattle.std.specs.Prelude.{◌≡◌, ◌<◌, length};
+ghost use Rattle.line.specs.LineRead.{FieldsAsked, FieldsHere, LineHere, IntoHere};
+ghost use Rattle.words.specs.Words.{max_records, record_words};
 ghost use Rattle.words.specs.Lent.{SameSlices};
-ghost use Rattle.words.specs.Table.{sort_of};
+ghost use Rattle.words.specs.Sorts.{sort_is};
 
 use crate::form::read_form;
 use crate::group::children_of;
@@ -10,28 +12,31 @@ use crate::place::Place;
 use record::cursor::Cursor;
 use record::piece::Piece;
 use words::records::RecordsMut;
-use words::table::form_code;
-use words::{field, form};
+use words::field;
+use words::sort::Sort;
+use words::table::form_at;
 
 // Where the two words of the first field stand; each field behind it has the next two.
 const FIRST_WORD: usize = 2;
 
 const SECOND_WORD: usize = 3;
 
+// A record has at most so many fields.
+const MAX_FIELDS: usize = 6;
+
 // A record's words are lent as a slice with its length in the contracts, not as an array: an array made of a part of a slice (`try_from`, `as_mut_array`) was tried, and nothing then tells what the slice holds behind the loan.
 
 // The fields of a kind, from behind place p on: field g goes to the words 2g + 2 and 2g + 3. Each stands behind a tab, and the line feed behind the last. Where the line ends, of which all fields are read.
 fn read_fields(p: Place<'_>, kind: u32, part: &mut [u32]) -> Option<usize>
-    requires { FieldsAsked kind p.cursor.bytes.now p.cursor.at part.old }
+    requires { FieldsAsked p.cursor.bytes.now p.cursor.at part.old }
     ensures { FieldsHere kind p.entry.cursor.bytes.now p.entry.cursor.at part.old part.new result }
 {
     let sheet = p.cursor.bytes;
-    let row = kind as usize;
     let mut at = p.cursor.at;
-    let mut g = 0;
-    let mut form = form_code(row, 0);
-    // A `while`, since a row of the table ends at the code of no form.
-    while form != form::NONE {
+    for g in 0..MAX_FIELDS {
+        let Some(form) = form_at(kind, g) else {
+            break;
+        };
         if sheet[at] != b'\t' {
             return None;
         }
@@ -48,8 +53,6 @@ fn read_fields(p: Place<'_>, kind: u32, part: &mut [u32]) -> Option<usize>
         part[g + g + FIRST_WORD] = read.value.first;
         part[g + g + SECOND_WORD] = read.value.second;
         at = read.end;
-        g += 1;
-        form = form_code(row, g);
     }
     if sheet[at] == b'\n' {
         return Some(at);
@@ -58,9 +61,9 @@ fn read_fields(p: Place<'_>, kind: u32, part: &mut [u32]) -> Option<usize>
 }
 
 // The line at p as a record of a sort, in the sixteen words of `part`: the number of its kind and the place behind the line. If there is none, what stands in `part` is not promised.
-pub fn read_line(p: Place<'_>, sort: u32, part: &mut [u32]) -> Option<Piece<u32>>
-    requires { LineAsked sort part.old }
-    ensures { LineHere (sort_of sort) p.entry.cursor.bytes.now p.entry.cursor.at part.new result }
+pub fn read_line(p: Place<'_>, sort: Sort, part: &mut [u32]) -> Option<Piece<u32>>
+    requires { length part.old ≡ record_words }
+    ensures { LineHere (sort_is sort) p.entry.cursor.bytes.now p.entry.cursor.at part.new result }
 {
     let key = read_keyword(p.cursor);
     let k = kind_named(key.word?, sort)?;
@@ -82,28 +85,21 @@ pub fn read_line(p: Place<'_>, sort: u32, part: &mut [u32]) -> Option<Piece<u32>
 
 // The same into record i.
 pub fn read_into(
-    sheet: &[u8],
-    p: usize,
-    sort: u32,
+    p: Place<'_>,
+    sort: Sort,
     records: &mut RecordsMut<'_>,
     i: usize,
 ) -> Option<Piece<u32>>
-    requires { IntoAsked sort sheet.now p i }
+    requires { i < max_records }
     ensures same { SameSlices records.old records.new }
-    ensures into { IntoHere (sort_of sort) sheet.now p i records.old.a.now records.old.b.now records.new.a.now records.new.b.now result }
+    ensures into { IntoHere (sort_is sort) p.entry.cursor.bytes.now p.entry.cursor.at i records.old.a.now records.old.b.now records.new.a.now records.new.b.now result }
 {
-    let place = Place {
-        cursor: Cursor {
-            bytes: sheet,
-            at: p,
-        },
-    };
     if i < words::FIRST_RECORDS {
         let at = i * words::RECORD_WORDS;
         let z = at + words::RECORD_WORDS;
-        return read_line(place, sort, &mut records.a[at..z]);
+        return read_line(p, sort, &mut records.a[at..z]);
     }
     let at = (i - words::FIRST_RECORDS) * words::RECORD_WORDS;
     let z = at + words::RECORD_WORDS;
-    read_line(place, sort, &mut records.b[at..z])
+    read_line(p, sort, &mut records.b[at..z])
 }

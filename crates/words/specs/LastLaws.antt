@@ -7,7 +7,7 @@ abbrev pub Not : ℕ → ℕ → Type 0
 Not k zero = Unit {0}
 Not k (suc n) = Not k n × (k ≡ n → ⊥)
 
-at_least : (k n : ℕ) → Not k n → n ≤ k
+pub at_least : (k n : ℕ) → Not k n → n ≤ k
 at_least k zero h = omega arith
 at_least k (suc n) h = let low : n ≤ k = at_least k n h.0 in let other = h.1 in omega (arith, low, other)
 

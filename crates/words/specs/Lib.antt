@@ -5,6 +5,8 @@ pub mod Cells
 pub mod Numbers
 pub mod Kinds
 pub mod Table
+pub mod Sorts
+pub mod Forms
 pub mod TableLaws
 pub mod LastLaws
 pub mod GroupLaws

@@ -1,22 +1,48 @@
-// The sorts of records, by number: what may stand at a place of a sheet. The next one, 10, is an expression: what is left where all of these are told apart.
-// Numbers so far, since they are digits of the record table and words of the stack of due groups.
+// The sorts of records: what may stand at a place of a sheet.
+ghost use Rattle.std.specs.Prelude.{◌≡◌};
+ghost use Rattle.words.specs.Sorts.{sort_number, sort_at};
 
-pub const STATEMENT: u32 = 0;
+// The record table and the stack of due groups hold a sort as its number.
+#[derive(Clone, Copy, Debug, PartialEq, Eq)]
+pub enum Sort {
+    Statement,
+    UnionArm,
+    Clause,
+    Projection,
+    OrderItem,
+    PatternPart,
+    PatternElement,
+    Name,
+    YieldItem,
+    Entry,
+    Expr,
+}
 
-pub const UNION_ARM: u32 = 1;
+impl Sort {
+    // Its number.
+    pub fn number(self) -> u32
+        ensures { result ≡ sort_number self }
+    {
+        self as u32
+    }
 
-pub const CLAUSE: u32 = 2;
-
-pub const PROJECTION: u32 = 3;
-
-pub const ORDER_ITEM: u32 = 4;
-
-pub const PATTERN_PART: u32 = 5;
-
-pub const PATTERN_ELEMENT: u32 = 6;
-
-pub const NAME: u32 = 7;
-
-pub const YIELD_ITEM: u32 = 8;
-
-pub const ENTRY: u32 = 9;
+    // The sort of a number: here alone one stands for a sort. An expression from the last on.
+    #[tactic(auto, unfolding(crate::specs::Sorts::sort_at))]
+    pub fn at(n: u32) -> Sort
+        ensures { result ≡ sort_at n }
+    {
+        match n {
+            0 => Sort::Statement,
+            1 => Sort::UnionArm,
+            2 => Sort::Clause,
+            3 => Sort::Projection,
+            4 => Sort::OrderItem,
+            5 => Sort::PatternPart,
+            6 => Sort::PatternElement,
+            7 => Sort::Name,
+            8 => Sort::YieldItem,
+            9 => Sort::Entry,
+            _ => Sort::Expr,
+        }
+    }
+}

@@ -1,9 +1,11 @@
 // The record table: of each kind the forms of its fields and its groups of children. Kinds are numbered sort by sort, as words hold them. A new record is a row here and in specs/Table.antt.
 // Tables are matches with constant arms, since the compiler reads those from constant data and writes an array anew at each use.
+// A number that is no kind's has a row of no field and no group.
 ghost use Rattle.std.specs.Prelude.{◌≡◌, [], ◌<◌, get_or};
-ghost use Rattle.words.specs.Places.{kind_count};
-ghost use Rattle.words.specs.Table.{codes, limits, limit_count, groups, group_numbers, field_count, entry_count, code_at, in_digits};
+ghost use Rattle.words.specs.Table.{codes, groups, group_numbers, field_count, entry_count, code_at, in_digits};
+ghost use Rattle.words.specs.Forms.{form_coded, form_at};
 
+use crate::form::Form;
 use crate::kind;
 
 // A row has its entries as digits of four bits each, the first one topmost: one number a row is read from constant data, and a list of them is written anew at each use.
@@ -16,9 +18,8 @@ const TOP_FORM: usize = 24;
 
 const TOP_GROUP: usize = 36;
 
-// The codes of a kind's fields (form.rt) as seven hexadecimal digits, 0 behind the last.
+// The codes of a kind's fields as seven hexadecimal digits, 0 behind the last.
 fn form_row(kind: u32) -> u64
-    requires { kind < kind_count }
     ensures { result ≡ in_digits (get_or codes kind []) }
 {
     match kind {
@@ -60,39 +61,57 @@ fn form_row(kind: u32) -> u64
         kind::PAT => 0xa000000,
         kind::LIST_PREDICATE => 0xd210000,
         kind::UNRES => 0x6000000,
-        _ => 0xd000000, // undes
+        kind::UNDES => 0xd000000,
+        _ => 0x0000000,
     }
-}
-
-// The code of field g of a kind, 0 behind the last.
-pub fn form_code(kind: usize, g: usize) -> u32
-    requires { (kind < kind_count) × (g < field_count) }
-    ensures { result ≡ code_at kind g }
-{
-    let row = form_row(kind as u32);
-    ((row >> (TOP_FORM - DIGIT_BITS * g)) % DIGITS) as u32
 }
 
 // The last binary operator.
-const LAST_BINARY: u64 = 19;
+const LAST_BINARY: u32 = 19;
 
-// The limits of the numbers, by how far a code is above that of a number.
-pub fn limit(code: u32) -> u64
-    requires { code < limit_count }
-    ensures { result ≡ get_or limits code 0 }
+// The code of field g of a kind.
+fn form_code(kind: u32, g: usize) -> u64
+    requires { g < field_count }
+    ensures { result ≡ code_at kind g }
+{
+    let row = form_row(kind);
+    (row >> (TOP_FORM - DIGIT_BITS * g)) % DIGITS
+}
+
+// The form of a code: here alone a number stands for one.
+#[tactic(auto, using(crate::specs::Forms::none_coded), unfolding(crate::specs::Forms::form_coded))]
+fn form_coded(code: u64) -> Option<Form>
+    ensures { result ≡ form_coded code }
 {
     match code {
-        0 => crate::MAX_U32,
-        1 => 1,
-        2 => 2,
-        3 => 3,
-        _ => LAST_BINARY,
+        1 => Some(Form::Flag),
+        2 => Some(Form::Var),
+        3 => Some(Form::VarOrAbsent),
+        4 => Some(Form::Int),
+        5 => Some(Form::Float),
+        6 => Some(Form::Text),
+        7 => Some(Form::Alias),
+        8 => Some(Form::Span),
+        9 => Some(Form::Length),
+        10 => Some(Form::Number(u32::MAX)),
+        11 => Some(Form::Number(1)),
+        12 => Some(Form::Number(2)),
+        13 => Some(Form::Number(3)),
+        14 => Some(Form::Number(LAST_BINARY)),
+        _ => None,
     }
+}
+
+// The form of field g of a kind, none behind the last.
+pub fn form_at(kind: u32, g: usize) -> Option<Form>
+    requires { g < field_count }
+    ensures { result ≡ form_at kind g }
+{
+    form_coded(form_code(kind, g))
 }
 
 // At most five groups of children a kind, each two digits, a sort (sort.rt) and a count: 0, 1 or 2 is the count itself, 3 the first word of field 0, 4 that of field 1, and so on.
 fn group_row(kind: u32) -> u64
-    requires { kind < kind_count }
     ensures { result ≡ in_digits (get_or groups kind []) }
 {
     match kind {
@@ -134,13 +153,14 @@ fn group_row(kind: u32) -> u64
         kind::PAT => 0x5300000000,
         kind::LIST_PREDICATE => 0xa1a5000000,
         kind::UNRES => 0x0000000000,
-        _ => 0x0000000000, // undes
+        kind::UNDES => 0x0000000000,
+        _ => 0x0000000000,
     }
 }
 
 // Entry j of a kind's groups.
 pub fn group_entry(kind: u32, j: usize) -> u32
-    requires { (kind < kind_count) × (j < entry_count) }
+    requires { j < entry_count }
     ensures { result ≡ get_or (get_or groups kind []) j 0 }
 {
     let row = group_row(kind);
@@ -149,7 +169,6 @@ pub fn group_entry(kind: u32, j: usize) -> u32
 
 // How many groups of children a kind has.
 pub fn groups_of(kind: u32) -> usize
-    requires { kind < kind_count }
     ensures { result ≡ get_or group_numbers kind 0 }
 {
     match kind {
@@ -191,6 +210,7 @@ pub fn groups_of(kind: u32) -> usize
         kind::PAT => 1,
         kind::LIST_PREDICATE => 2,
         kind::UNRES => 0,
-        _ => 0, // undes
+        kind::UNDES => 0,
+        _ => 0,
     }
 }

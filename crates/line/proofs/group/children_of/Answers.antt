@@ -1,5 +1,5 @@
 -- `line::group::children_of` meets its contract. Assumes nothing.
-use mathlib.Core.Path.{ap}
+use mathlib.Core.Path.{ap, ◌∙◌}
 use Prim.Native.Nat.{◌%◌}
 use native.Mathlib.Omega.{arith}
 use Rattle.words.specs.Words.{two32}
@@ -8,16 +8,19 @@ use Rattle.line.proofs.CountLaws.{add_none, add_one_group, add_all}
 use Rattle.line.proofs.group.children_of.Goals as goal
 
 pub loop-g-init : goal.loop-g-init
-loop-g-init c = add_none _ _ c.requires.0
+loop-g-init c = add_none _ _
 
-pub count_in-requires-clause-kind_lt_kind_count : goal.count_in-requires-clause-kind_lt_kind_count
-count_in-requires-clause-kind_lt_kind_count c = (c.requires.0, omega (arith, c.loop-g-test.true, c.groups_of-g-end.ensures, groups_few _ c.requires.0))
+pub group_at-group-requires : goal.group_at-group-requires
+group_at-group-requires c = omega (arith, c.loop-g-test.true, c.groups_of-g-end.ensures, groups_few c.args.kind)
+
+pub among-requires-clause-of_record : goal.among-requires-clause-of_record
+among-requires-clause-of_record c = c.group_at-group.ensures.count.among
 
 pub overflow_add-sum : goal.overflow_add-sum
-overflow_add-sum c = omega (arith, c.count_in.type_inv, c.from-c.ensures, c.loop-g.invariant.few, c.loop-g.invariant.low, groups_few _ c.requires.0)
+overflow_add-sum c = omega (arith, c.among.type_inv, c.from-c.ensures, c.loop-g.invariant.few, c.loop-g.invariant.low, groups_few c.args.kind)
 
 pub loop-g-preserved : goal.loop-g-preserved
-loop-g-preserved c = add_one_group _ _ c.requires.0 _ _ _ (omega (arith, c.loop-g-test.true, c.groups_of-g-end.ensures)) (cc (c.from-c.ensures, c.count_in.ensures), omega (arith, c.count_in.type_inv, c.from-c.ensures)) c.loop-g.invariant
+loop-g-preserved c = add_one_group _ _ _ _ _ (omega (arith, c.loop-g-test.true, c.groups_of-g-end.ensures)) (c.from-c.ensures ∙ c.among.ensures ∙ c.group_at-group.ensures.count.is _, omega (arith, c.among.type_inv, c.from-c.ensures)) c.loop-g.invariant
 
 pub returns : goal.returns
-returns c = ap (λ x. x % two32) (add_all _ _ c.requires.0 _ _ (omega (arith, c.loop-g-test.false, c.groups_of-g-end.ensures)) c.loop-g.invariant)
+returns c = ap (λ x. x % two32) (add_all _ _ _ _ (omega (arith, c.loop-g-test.false, c.groups_of-g-end.ensures)) c.loop-g.invariant)

@@ -1,52 +1,52 @@
 -- `line::kind::kind_named` meets its contract: the number that a keyword has among the kinds of the sort is that of the kind it names. Assumes nothing.
+use Rattle.std.proofs.Common.{ap}
 use native.Mathlib.Omega.{arith}
-use borrow.Author.Rules.{rules}
-use Rattle.words.specs.LastLaws.{last_is}
 use Rattle.words.specs.Places.{statement_sort, union_arm_sort, clause_sort, projection_sort, order_item_sort, pattern_part_sort, pattern_element_sort, name_sort, yield_item_sort, entry_sort, expr_sort}
+use Rattle.words.specs.Sorts.{sort_number}
 use Rattle.line.specs.Kinds.{keyed, keyed_from}
 use Rattle.line.proofs.KindLaws.{keyed_named}
 use Rattle.line.proofs.kind.kind_named.Goals as goal
 
-pub returns-in-0 : goal.returns-in-0
+pub returns-in-Statement : goal.returns-in-Statement
 unfolding keyed keyed_from
-returns-in-0 c s k = keyed_named statement_sort c.in-0.is (omega arith) k c.only.ensures
+returns-in-Statement c s k = keyed_named statement_sort (ap (λ x. sort_number x) c.in-Statement.is) (omega arith) k c.only.ensures
 
-pub returns-in-1 : goal.returns-in-1
+pub returns-in-UnionArm : goal.returns-in-UnionArm
 unfolding keyed keyed_from
-returns-in-1 c s k = keyed_named union_arm_sort c.in-1.is (omega arith) k c.only-in-1.ensures
+returns-in-UnionArm c s k = keyed_named union_arm_sort (ap (λ x. sort_number x) c.in-UnionArm.is) (omega arith) k c.only-in-UnionArm.ensures
 
-pub returns-in-2 : goal.returns-in-2
+pub returns-in-Clause : goal.returns-in-Clause
 unfolding keyed keyed_from
-returns-in-2 c s k = keyed_named clause_sort c.in-2.is (omega arith) k c.clause_kind.ensures
+returns-in-Clause c s k = keyed_named clause_sort (ap (λ x. sort_number x) c.in-Clause.is) (omega arith) k c.clause_kind.ensures
 
-pub returns-in-3 : goal.returns-in-3
+pub returns-in-Projection : goal.returns-in-Projection
 unfolding keyed keyed_from
-returns-in-3 c s k = keyed_named projection_sort c.in-3.is (omega arith) k c.only-in-3.ensures
+returns-in-Projection c s k = keyed_named projection_sort (ap (λ x. sort_number x) c.in-Projection.is) (omega arith) k c.only-in-Projection.ensures
 
-pub returns-in-4 : goal.returns-in-4
+pub returns-in-OrderItem : goal.returns-in-OrderItem
 unfolding keyed keyed_from
-returns-in-4 c s k = keyed_named order_item_sort c.in-4.is (omega arith) k c.only-in-4.ensures
+returns-in-OrderItem c s k = keyed_named order_item_sort (ap (λ x. sort_number x) c.in-OrderItem.is) (omega arith) k c.only-in-OrderItem.ensures
 
-pub returns-in-5 : goal.returns-in-5
+pub returns-in-PatternPart : goal.returns-in-PatternPart
 unfolding keyed keyed_from
-returns-in-5 c s k = keyed_named pattern_part_sort c.in-5.is (omega arith) k c.only-in-5.ensures
+returns-in-PatternPart c s k = keyed_named pattern_part_sort (ap (λ x. sort_number x) c.in-PatternPart.is) (omega arith) k c.only-in-PatternPart.ensures
 
-pub returns-in-6 : goal.returns-in-6
+pub returns-in-PatternElement : goal.returns-in-PatternElement
 unfolding keyed keyed_from
-returns-in-6 c s k = keyed_named pattern_element_sort c.in-6.is (omega arith) k c.element_kind.ensures
+returns-in-PatternElement c s k = keyed_named pattern_element_sort (ap (λ x. sort_number x) c.in-PatternElement.is) (omega arith) k c.element_kind.ensures
 
-pub returns-in-7 : goal.returns-in-7
+pub returns-in-Name : goal.returns-in-Name
 unfolding keyed keyed_from
-returns-in-7 c s k = keyed_named name_sort c.in-7.is (omega arith) k c.only-in-7.ensures
+returns-in-Name c s k = keyed_named name_sort (ap (λ x. sort_number x) c.in-Name.is) (omega arith) k c.only-in-Name.ensures
 
-pub returns-in-8 : goal.returns-in-8
+pub returns-in-YieldItem : goal.returns-in-YieldItem
 unfolding keyed keyed_from
-returns-in-8 c s k = keyed_named yield_item_sort c.in-8.is (omega arith) k c.only-in-8.ensures
+returns-in-YieldItem c s k = keyed_named yield_item_sort (ap (λ x. sort_number x) c.in-YieldItem.is) (omega arith) k c.only-in-YieldItem.ensures
 
-pub returns-in-9 : goal.returns-in-9
+pub returns-in-Entry : goal.returns-in-Entry
 unfolding keyed keyed_from
-returns-in-9 c s k = keyed_named entry_sort c.in-9.is (omega arith) k c.only-in-9.ensures
+returns-in-Entry c s k = keyed_named entry_sort (ap (λ x. sort_number x) c.in-Entry.is) (omega arith) k c.only-in-Entry.ensures
 
-pub returns-in_default : goal.returns-in_default
+pub returns-in-Expr : goal.returns-in-Expr
 unfolding keyed keyed_from
-returns-in_default c s k = keyed_named expr_sort (last_is _ 10 c.requires (search rules)) (omega arith) k c.expr_kind.ensures
+returns-in-Expr c s k = keyed_named expr_sort (ap (λ x. sort_number x) c.in-Expr.is) (omega arith) k c.expr_kind.ensures

@@ -3,4 +3,4 @@ use Rattle.words.proofs.DigitLaws.{code_digit}
 use Rattle.words.proofs.table.form_code.Goals as goal
 
 pub returns : goal.returns
-returns c = code_digit _ _ _ c.form_row-row.ensures c.requires.0 c.requires.1
+returns c = code_digit _ c.args.kind _ c.form_row-row.ensures c.requires

@@ -3,4 +3,4 @@ use Rattle.words.proofs.DigitLaws.{group_digit}
 use Rattle.words.proofs.table.group_entry.Goals as goal
 
 pub returns : goal.returns
-returns c = group_digit _ _ _ c.group_row-row.ensures c.requires.0 c.requires.1
+returns c = group_digit _ c.args.kind _ c.group_row-row.ensures c.requires

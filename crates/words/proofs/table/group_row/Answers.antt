@@ -1,6 +1,9 @@
--- `words::table::group_row` meets its contract: each kind's row of groups. Assumes nothing.
-use Rattle.words.specs.LastLaws.{last_is}
+-- `words::table::group_row` meets its contract: each kind's row, and that of no kind. Assumes nothing.
+use Rattle.std.proofs.lemmas.List.{get_or_past}
+use Rattle.words.specs.LastLaws.{at_least}
+use Rattle.std.specs.Prelude.{[]}
+use Rattle.words.specs.Table.{groups}
 use Rattle.words.proofs.table.group_row.Goals as goal
 
 pub returns-in_default : goal.returns-in_default
-returns-in_default c = rw (last_is _ 38 c.requires c.in_default.in_default-own.rest)
+returns-in_default c = rw (get_or_past groups _ [] (at_least _ 39 c.in_default.in_default-own.rest))
