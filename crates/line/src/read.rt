@@ -11,8 +11,8 @@ use crate::kind::{kind_named, read_keyword};
 use crate::place::Place;
 use record::cursor::Cursor;
 use record::piece::Piece;
-use words::records::RecordsMut;
 use words::field;
+use words::records::RecordsMut;
 use words::sort::Sort;
 use words::table::form_at;
 

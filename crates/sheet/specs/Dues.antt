@@ -3,9 +3,8 @@ use Rattle.std.specs.Prelude.{◌≡◌, refl, ℕ, zero, suc, ◌+◌, ◌*◌,
 use Rattle.std.proofs.Common.{◌∙◌, ap, arith, eqb-true, length-set, get_or-set_same, get_or-set_other}
 use Rattle.std.proofs.lemmas.Bool.{eqb-false}
 use Rattle.model.specs.Call.{work_words}
-use Rattle.words.specs.Places.{sort_count, kind_count}
+use Rattle.words.specs.Places.{sort_count}
 use Rattle.model.specs.Kind.{Sort}
-use Rattle.words.specs.Words.{max_records}
 use Rattle.words.proofs.GroupLaws.{groups_few, none_behind}
 use Rattle.words.specs.Table.{group_numbers, sort_of, group_sort, group_source, count_of, groups_from, group_count}
 use Rattle.sheet.specs.Due.{Due, due, due_of}
@@ -49,16 +48,18 @@ pub record Top (s : Sort) (n d m : ℕ) : Type 0 where
   pub room : d ≤ max_room
   pub low : m + 1 + slack s ≤ allowed d
 
--- the topmost of m groups: n records of sort number s, each with room d
-pub record Topmost (w : List ℕ) (m s n d : ℕ) : Type 0 where
-  pub top : Top (sort_of s) n d (m - 1)
-  pub is : dues w m ≡ due (sort_of s) n d ∷ dues w (m - 1)
+-- the topmost of m groups: n records of a sort, each with room d
+pub record Topmost (w : List ℕ) (m : ℕ) (s : Sort) (n d : ℕ) : Type 0 where
+  pub top : Top s n d (m - 1)
+  pub is : dues w m ≡ due s n d ∷ dues w (m - 1)
 
 -- one of its records is read: it has one less, and is gone at none
-pub record Taken (w w' : List ℕ) (m m' s n d : ℕ) : Type 0 where
+pub record Taken (w w' : List ℕ) (m m' : ℕ) (s : Sort) (n d : ℕ) : Type 0 where
   pub topmost : Topmost w m s n d
+  pub same : length w' ≡ length w
+  pub low : m - 1 ≤ m'
   pub high : m' ≤ suc (m - 1)
-  pub left : Alike (dues w' m') (due (sort_of s) (n - 1) d ∷ dues w (m - 1))
+  pub left : Alike (dues w' m') (due s (n - 1) d ∷ dues w (m - 1))
 
 -- what is due when nothing is left
 pub none_due_is : (w : List ℕ) (m : ℕ) → m ≡ 0 → dues w m ≡ []
@@ -77,11 +78,11 @@ unfolding dues
 top_is w zero h = absurd (omega arith)
 top_is w (suc m) h = let e : suc m - 1 ≡ m = omega arith in rw e
 
-pub topmost : {w : List ℕ} {m : ℕ} → 0 < m → Stacked w m → Topmost w m (get_or w ((m - 1) * due_words) 0) (get_or w ((m - 1) * due_words + due_count_at) 0) (get_or w ((m - 1) * due_words + due_room_at) 0)
+pub topmost : {w : List ℕ} {m : ℕ} → 0 < m → Stacked w m → Topmost w m (sort_of (get_or w ((m - 1) * due_words) 0)) (get_or w ((m - 1) * due_words + due_count_at) 0) (get_or w ((m - 1) * due_words + due_room_at) 0)
 topmost {w} {m} h s = record { top = top_fits w m h s; is = top_is w m h }
 
-pub taken_last : {w : List ℕ} {m : ℕ} → 0 < m → Stacked w m → get_or w ((m - 1) * due_words + due_count_at) 0 ≡ 1 → Taken w w m (m - 1) (get_or w ((m - 1) * due_words) 0) (get_or w ((m - 1) * due_words + due_count_at) 0) (get_or w ((m - 1) * due_words + due_room_at) 0)
-taken_last {w} {m} h s e = record { topmost = topmost h s; high = omega arith; left = rw e (alike_sym (alike_none (group w (m - 1)).sort (group w (m - 1)).room (dues w (m - 1)))) }
+pub taken_last : {w : List ℕ} {m : ℕ} → 0 < m → Stacked w m → get_or w ((m - 1) * due_words + due_count_at) 0 ≡ 1 → Taken w w m (m - 1) (sort_of (get_or w ((m - 1) * due_words) 0)) (get_or w ((m - 1) * due_words + due_count_at) 0) (get_or w ((m - 1) * due_words + due_room_at) 0)
+taken_last {w} {m} h s e = record { topmost = topmost h s; same = refl; low = omega arith; high = omega arith; left = rw e (alike_sym (alike_none (group w (m - 1)).sort (group w (m - 1)).room (dues w (m - 1)))) }
 
 module _ {w : List ℕ} {m : ℕ} (h : 0 < m) (s : Stacked w m) (more : get_or w ((m - 1) * due_words + due_count_at) 0 ≡ 1 → ⊥) where
   -- one less
@@ -94,20 +95,21 @@ module _ {w : List ℕ} {m : ℕ} (h : 0 < m) (s : Stacked w m) (more : get_or w
   lessened_other : (j : ℕ) → (j ≡ (m - 1) * due_words + due_count_at → ⊥) → get_or lessened j 0 ≡ get_or w j 0
   lessened_other j n = get_or-set_other w ((m - 1) * due_words + due_count_at) j (get_or w ((m - 1) * due_words + due_count_at) 0 - 1) 0 (omega arith)
 
-  pub taken_more : Taken w lessened m m (get_or w ((m - 1) * due_words) 0) (get_or w ((m - 1) * due_words + due_count_at) 0) (get_or w ((m - 1) * due_words + due_room_at) 0)
+  pub taken_more : Taken w lessened m m (sort_of (get_or w ((m - 1) * due_words) 0)) (get_or w ((m - 1) * due_words + due_count_at) 0) (get_or w ((m - 1) * due_words + due_room_at) 0)
   taken_more =
       let x = lessened_other ((m - 1) * due_words) (omega arith) in
       let y = lessened_other ((m - 1) * due_words + due_room_at) (omega arith) in
       let below : dues lessened (m - 1) ≡ dues w (m - 1) = dues_same w lessened (m - 1) (λ j l. lessened_other j (omega arith)) in
       let same : dues lessened m ≡ due (group w (m - 1)).sort ((group w (m - 1)).count - 1) (group w (m - 1)).room ∷ dues w (m - 1) = top_is lessened m h ∙ rw (x, lessened_count, y, below) in
-      record { topmost = topmost h s; high = omega arith; left = rw same (alike_refl _) }
+      record { topmost = topmost h s; same = length-set w ((m - 1) * due_words + due_count_at) (get_or w ((m - 1) * due_words + due_count_at) 0 - 1); low = omega arith; high = omega arith; left = rw same (alike_refl _) }
 
 -- ── pushing ──
 
--- a group on top, where one of none may be passed over
-pub record Pushed (w w' : List ℕ) (m m' sort count room : ℕ) : Type 0 where
-  pub high : m' ≤ suc m
-  pub is : Alike (dues w' m') (due (sort_of sort) count room ∷ dues w m)
+-- a group on top
+pub record Pushed (w w' : List ℕ) (m m' : ℕ) (sort : Sort) (count room : ℕ) : Type 0 where
+  pub same : length w' ≡ length w
+  pub more : m' ≡ suc m
+  pub is : dues w' m' ≡ due sort count room ∷ dues w m
 
 -- a group's words
 fits_same : (w w' : List ℕ) (j : ℕ) → ((x : ℕ) → x < suc j * due_words → get_or w' x 0 ≡ get_or w x 0) → Fits w j → Fits w' j
@@ -165,16 +167,15 @@ pushed_stacked {w} {m} {s} {n} {d} {m'} h e z l r p = record { long = omega (ari
         let low : j < m = omega arith in
         fits_same w (written w m s n d) j (λ x y. written_below w m s n d h few x (omega arith)) (h.each j low)
 
-pub pushed : {w : List ℕ} {m s n d m' : ℕ} → Stacked w m → m' ≡ suc m → m + 1 + slack (sort_of s) ≤ allowed d → Pushed w (written w m s n d) m m' s n d
-pushed {w} {m} {s} {n} {d} {m'} h e p = let few : m < max_due = omega arith in record { high = omega arith; is = rw (e, push_is w m s n d h few) (alike_refl _) }
-
-pub pushed_none : {w : List ℕ} {m s n d : ℕ} → n ≡ 0 → Pushed w w m m s n d
-pushed_none {w} {m} {s} {n} {d} e = record { high = omega arith; is = rw e (alike_sym (alike_none (sort_of s) d (dues w m))) }
+pub pushed : {w : List ℕ} {m n d m' : ℕ} (s : ℕ) → Stacked w m → m' ≡ suc m → m + 1 + slack (sort_of s) ≤ allowed d → Pushed w (written w m s n d) m m' (sort_of s) n d
+pushed {w} {m} {n} {d} {m'} s h e p = let few : m < max_due = omega arith in record { same = written_long w m s n d h few; more = e; is = rw e (push_is w m s n d h few) }
 
 -- ── a record's groups ──
 
 -- k groups from group g on, on top of m others
 pub record Groups (w w' : List ℕ) (n : ℕ) (ws : List ℕ) (g k m d r : ℕ) : Type 0 where
+  pub same : length w' ≡ length w
+  pub low : m ≤ r
   pub high : r ≤ m + k
   pub is : Alike (dues w' r) (due_of d (groups_from n ws g k) ++ dues w m)
 
@@ -183,55 +184,57 @@ pub record Space (n m d : ℕ) : Type 0 where
   pub room : d ≤ max_room
   pub each : (g : ℕ) → g < group_count → m + group_count + slack (sort_of (group_sort n g)) ≤ allowed d
 
--- what is asked for all groups of record i, which is of kind n, each with room d, on top of m others
-pub record GroupsAsked (m i n d : ℕ) : Type 0 where
-  pub kind : n < kind_count
-  pub low : i < max_records
-  pub space : Space n m d
-
 -- ── all groups of a record ──
 
 groups_none : (w : List ℕ) (n : ℕ) (ws : List ℕ) (m d : ℕ) → Groups w w n ws group_count 0 m d m
 unfolding groups_from due_of
-groups_none w n ws m d = record { high = omega arith; is = alike_refl (dues w m) }
+groups_none w n ws m d = record { same = refl; low = omega arith; high = omega arith; is = alike_refl (dues w m) }
 
-groups_more : (w w' w'' : List ℕ) (n : ℕ) (ws : List ℕ) (g k m d r r' : ℕ) → Groups w w' n ws (suc g) k m d r → Pushed w' w'' r r' (group_sort n g) (count_of ws (group_source n g)) d → Groups w w'' n ws g (suc k) m d r'
+groups_pushed : (w w' w'' : List ℕ) (n : ℕ) (ws : List ℕ) (g k m d r r' : ℕ) → Groups w w' n ws (suc g) k m d r → Pushed w' w'' r r' (sort_of (group_sort n g)) (count_of ws (group_source n g)) d → Groups w w'' n ws g (suc k) m d r'
 unfolding groups_from due_of
-groups_more w w' w'' n ws g k m d r r' p q =
+groups_pushed w w' w'' n ws g k m d r r' p q =
     record {
-      high = omega (arith, p.high, q.high);
-      is = alike_trans q.is (alike_under (due (sort_of (group_sort n g)) (count_of ws (group_source n g)) d) p.is);
+      same = q.same ∙ p.same;
+      low = omega (arith, p.low, q.more);
+      high = omega (arith, p.high, q.more);
+      is = rw q.is (alike_under (due (sort_of (group_sort n g)) (count_of ws (group_source n g)) d) p.is);
     }
 
+-- a group of none is passed over
+groups_passed : (w w' : List ℕ) (n : ℕ) (ws : List ℕ) (g k m d r : ℕ) → Groups w w' n ws (suc g) k m d r → count_of ws (group_source n g) ≡ 0 → Groups w w' n ws g (suc k) m d r
+unfolding groups_from due_of
+groups_passed w w' n ws g k m d r p e = record { same = p.same; low = p.low; high = omega (arith, p.high); is = alike_trans p.is (rw e (alike_sym (alike_none (sort_of (group_sort n g)) d _))) }
+
 -- the groups behind a kind's last are passed over
-groups_behind : (w : List ℕ) (n : ℕ) (ws : List ℕ) (m d : ℕ) → n < kind_count → (k : ℕ) → get_or group_numbers n 0 + k ≤ group_count → Groups w w n ws (group_count - k) k m d m
-groups_behind w n ws m d low zero h = groups_none w n ws m d
-groups_behind w n ws m d low (suc k) h =
+groups_behind : (w : List ℕ) (n : ℕ) (ws : List ℕ) (m d k : ℕ) → get_or group_numbers n 0 + k ≤ group_count → Groups w w n ws (group_count - k) k m d m
+groups_behind w n ws m d zero h = groups_none w n ws m d
+groups_behind w n ws m d (suc k) h =
     let g : ℕ = group_count - suc k in
     let after : group_count - k ≡ suc g = omega arith in
-    let before : Groups w w n ws (group_count - k) k m d m = groups_behind w n ws m d low k (omega arith) in
-    let none : count_of ws (group_source n g) ≡ 0 = rw (none_behind n g low (omega arith) (omega arith)) in
-    groups_more w w w n ws g k m d m m (rw after at before) (pushed_none none)
+    let before : Groups w w n ws (group_count - k) k m d m = groups_behind w n ws m d k (omega arith) in
+    let none : count_of ws (group_source n g) ≡ 0 = rw (none_behind n g (omega arith) (omega arith)) in
+    groups_passed w w n ws g k m d m (rw after at before) none
 
 -- before the first step, from the end of a kind's groups
-pub begun : {w : List ℕ} {n : ℕ} {ws : List ℕ} {m d g : ℕ} → n < kind_count → g ≡ get_or group_numbers n 0 → (g ≤ group_count) × Groups w w n ws g (group_count - g) m d m
-begun {w} {n} {ws} {m} {d} {g} low q =
-    let few : g ≤ group_count = rw q (groups_few n low) in
+pub begun : {w : List ℕ} {n : ℕ} {ws : List ℕ} {m d g : ℕ} → g ≡ get_or group_numbers n 0 → (g ≤ group_count) × Groups w w n ws g (group_count - g) m d m
+begun {w} {n} {ws} {m} {d} {g} q =
+    let few : g ≤ group_count = rw q (groups_few n) in
     let e : group_count - (group_count - g) ≡ g = omega arith in
-    (few, rw e at (groups_behind w n ws m d low (group_count - g) (omega arith)))
+    (few, rw e at (groups_behind w n ws m d (group_count - g) (omega arith)))
 
 -- ── the loop over a record's groups, from the last to the first ──
 
-stepped : (w w' w'' : List ℕ) (n : ℕ) (ws : List ℕ) (g m d r r' : ℕ) → 0 < g → g ≤ group_count → Groups w w' n ws g (group_count - g) m d r → Pushed w' w'' r r' (group_sort n (g - 1)) (count_of ws (group_source n (g - 1))) d → Groups w w'' n ws (g - 1) (group_count - (g - 1)) m d r'
-stepped w w' w'' n ws zero m d r r' h l p q = absurd (omega arith)
-stepped w w' w'' n ws (suc g) m d r r' h l p q =
-    let e : suc g - 1 ≡ g = omega arith in
-    let k : group_count - (suc g - 1) ≡ suc (group_count - suc g) = omega arith in
-    rw (k, e) (groups_more w w' w'' n ws g (group_count - suc g) m d r r' p (rw e at q))
+module _ {w w' : List ℕ} {n : ℕ} {ws : List ℕ} {m d r : ℕ} where
+  pub groups_step : {w'' : List ℕ} {g r' : ℕ} → 0 < g → g ≤ group_count → Groups w w' n ws g (group_count - g) m d r → Pushed w' w'' r r' (sort_of (group_sort n (g - 1))) (count_of ws (group_source n (g - 1))) d → Groups w w'' n ws (g - 1) (group_count - (g - 1)) m d r'
+  groups_step {w'' = w''} {g = zero} {r' = r'} h l p q = absurd (omega arith)
+  groups_step {w'' = w''} {g = suc g} {r' = r'} h l p q =
+      let e : suc g - 1 ≡ g = omega arith in
+      let k : group_count - (suc g - 1) ≡ suc (group_count - suc g) = omega arith in
+      rw (k, e) (groups_pushed w w' w'' n ws g (group_count - suc g) m d r r' p (rw e at q))
 
-pub groups_step : {w w' w'' : List ℕ} {n : ℕ} {ws : List ℕ} {g m d r r' s c : ℕ} → 0 < g → g ≤ group_count → Groups w w' n ws g (group_count - g) m d r → Pushed w' w'' r r' s c d → s ≡ group_sort n (g - 1) → c ≡ count_of ws (group_source n (g - 1)) → Groups w w'' n ws (g - 1) (group_count - (g - 1)) m d r'
-groups_step {w} {w'} {w''} {n} {ws} {g} {m} {d} {r} {r'} h l p q x y = stepped w w' w'' n ws g m d r r' h l p (rw (x, y) at q)
-
--- a group of none is passed over
-pub groups_pass : {w w' : List ℕ} {n : ℕ} {ws : List ℕ} {g m d r c : ℕ} → 0 < g → g ≤ group_count → Groups w w' n ws g (group_count - g) m d r → c ≡ 0 → c ≡ count_of ws (group_source n (g - 1)) → Groups w w' n ws (g - 1) (group_count - (g - 1)) m d r
-groups_pass {w} {w'} {n} {ws} {g} {m} {d} {r} h l p e y = stepped w w' w' n ws g m d r r h l p (rw (← y) (pushed_none e))
+  pub groups_pass : {g : ℕ} → 0 < g → g ≤ group_count → Groups w w' n ws g (group_count - g) m d r → count_of ws (group_source n (g - 1)) ≡ 0 → Groups w w' n ws (g - 1) (group_count - (g - 1)) m d r
+  groups_pass {g = zero} h l p z = absurd (omega arith)
+  groups_pass {g = suc g} h l p z =
+      let e : suc g - 1 ≡ g = omega arith in
+      let k : group_count - (suc g - 1) ≡ suc (group_count - suc g) = omega arith in
+      rw (k, e) (groups_passed w w' n ws g (group_count - suc g) m d r p (rw e at z))

@@ -24,7 +24,7 @@ use Rattle.sheet.specs.LineLaws.{line_first, line_more, line_stands}
 use Rattle.sheet.specs.Due.{Due, due, room_below, is_zero}
 use Rattle.sheet.specs.Writes.{writes}
 use Rattle.sheet.specs.Progress.{place_at, line_refused, no_feed, too_many, deep, unformed, well_formed}
-use Rattle.sheet.specs.Dues.{dues, Topmost, Taken, Groups, GroupsAsked}
+use Rattle.sheet.specs.Dues.{dues, Topmost, Taken, Groups, Space}
 use Rattle.sheet.specs.Steps.{writes_kind, space, due_now}
 use Rattle.sheet.specs.Reader.{read_only, SoFar, refusal_of, rest_refused, advance}
 
@@ -34,7 +34,7 @@ Next depth sheet a b st i at (Ok u) = (at.records ≡ i + 1) × SoFar depth shee
 Next depth sheet a b st i at (Err e) = read_only depth sheet ≡ refuse (refusal_of e)
 
 -- the topmost of m groups has tn records of sort number ts, each with room td
-module _ {depth : ℕ} {sheet : Bytes} {a b w : List ℕ} {m i pos : ℕ} {wr : Option ℕ} {ts tn td : ℕ} (o : SoFar depth sheet a b (dues w m) i pos wr) (topmost : Topmost w m ts tn td) where
+module _ {depth : ℕ} {sheet : Bytes} {a b w : List ℕ} {m i pos : ℕ} {wr : Option ℕ} (ts : ℕ) {tn td : ℕ} (o : SoFar depth sheet a b (dues w m) i pos wr) (topmost : Topmost w m (sort_of ts) tn td) where
   -- with the successor that definitions go by
   state : SoFar depth sheet a b (due (sort_of ts) (suc (tn - 1)) td ∷ dues w (m - 1)) i pos wr
   state = let e : suc (tn - 1) ≡ tn = omega (arith, topmost.top.count) in rw (e, ← topmost.is) o
@@ -88,8 +88,8 @@ module _ {depth : ℕ} {sheet : Bytes} {a b w : List ℕ} {m i pos : ℕ} {wr : 
         kids = got_it.kids ∙ ap (λ x. x % two32) (children_are ts sorted n got_it.kind got_it.named sheet (part a' b' i) got_it.flags)
 
         -- what its groups ask, where d is their room, on top of r others
-        pub next_asked : {r d : ℕ} → r ≤ suc (m - 1) → d ≡ room_below (sort_of ts) td → GroupsAsked r i n d
-        next_asked {r} {d} high below = record { kind = got_it.low; low = low; space = space ts sorted tn td (m - 1) r n topmost.top high room got_it.kind got_it.named d below }
+        pub next_asked : {r d : ℕ} → r ≤ suc (m - 1) → d ≡ room_below (sort_of ts) td → Space n r d
+        next_asked {r} {d} high below = space ts sorted tn td (m - 1) r n topmost.top high room got_it.kind got_it.named d below
 
         writes_is : writes (sort_of ts) got_it.kind ≡ eqb n write_kind
         writes_is = writes_kind ts sorted n got_it.kind got_it.named
@@ -97,7 +97,7 @@ module _ {depth : ℕ} {sheet : Bytes} {a b w : List ℕ} {m i pos : ℕ} {wr : 
         pub next_more :
             {w' w'' : List ℕ} {r r' d : ℕ}
             → d ≡ room_below (sort_of ts) td
-            → Taken w w' m r ts tn td
+            → Taken w w' m r (sort_of ts) tn td
             → Groups w' w'' n (part a' b' i) 0 group_count r d r'
             → SoFar depth sheet a' b' (dues w'' r') (i + 1) z (option_or wr (then_some (eqb n write_kind) (i + 1)))
         unfolding fields

@@ -190,7 +190,7 @@ module _ {depth : ℕ} (sheet : Bytes) (a b a' b' : List ℕ) (s : Sort) (n d : 
 
 -- ── the beginning ──
 
-pub begin : {depth : ℕ} {sheet : Bytes} {a b w w' : List ℕ} {m d : ℕ} → Pushed w w' 0 m statement_sort 1 d → d ≡ depth → SoFar depth sheet a b (dues w' m) 0 0 None
+pub begin : {depth : ℕ} {sheet : Bytes} {a b w w' : List ℕ} {m d : ℕ} → Pushed w w' 0 m (sort_of statement_sort) 1 d → d ≡ depth → SoFar depth sheet a b (dues w' m) 0 0 None
 unfolding dues or_else sort_of sorts
 begin {depth} {sheet} p e =
     record {
@@ -198,7 +198,7 @@ begin {depth} {sheet} p e =
       stands = tt;
       many = refl;
       here = omega arith;
-      remains = at_start depth sheet ∙ sym (mapped_id (read_rest (due statement 1 depth ∷ []) (place_at sheet 0 1))) ∙ ap (mapped (λ rs. [] ++ rs)) (sym (rest_alike (rw e at p.is) (place_at sheet 0 1)));
+      remains = at_start depth sheet ∙ sym (mapped_id (read_rest (due statement 1 depth ∷ []) (place_at sheet 0 1))) ∙ ap (λ l. mapped (λ rs. [] ++ rs) (read_rest l (place_at sheet 0 1))) (sym (rw e at p.is));
       wrote = λ ss. refl;
     }
 

@@ -8,6 +8,9 @@ use Rattle.model.specs.Record.{forms, kinds, sames, children, beside}
 use Rattle.words.specs.Words.{kind_of, first_kind, fields_of}
 use Rattle.words.specs.Held.{Flags}
 use Rattle.words.specs.Table.{sorts, sort_of, group_sort, groups_from, groups_of, group_count}
+use Rattle.words.specs.Sorts.{sort_number, sort_is, sort_low}
+use Rattle.words.specs.declared.sort.Sort
+use Rattle.words.specs.declared.sort.Sort.TheVariants.{Statement, UnionArm, Clause, Projection, OrderItem, PatternPart, PatternElement, Name, YieldItem, Entry, Expr}
 use Rattle.words.specs.TableLaws.{Rows, done, ◌▸◌, kind_row}
 use Rattle.words.proofs.GroupLaws.{groups_are}
 use Rattle.sheet.specs.Due.{Due, due, due_of, room_below}
@@ -43,11 +46,24 @@ unfolding room_below
 room_less s zero e h = absurd (omega arith)
 room_less s (suc d) e h = rw e (omega arith)
 
-pub room_entry : (n d : ℕ) → n < sort_count → 0 < d → n ≡ entry_sort → d ≡ room_below (sort_of n) d
-room_entry n d l h e = room_same (sort_of n) d (beside_entry n l ∙ eq-eqb n entry_sort e) h
+pub room_entry : (s : Sort.Sort) (d : ℕ) → 0 < d → s ≡ Entry → d ≡ room_below (sort_is s) d
+room_entry s d h e = room_same (sort_is s) d (beside_entry (sort_number s) (sort_low s) ∙ rw e) h
 
-pub room_other : (n d : ℕ) → n < sort_count → 0 < d → (n ≡ entry_sort → ⊥) → d - 1 ≡ room_below (sort_of n) d
-room_other n d l h e = room_less (sort_of n) d (beside_entry n l ∙ ne_eqb n entry_sort e) h
+entry_alone : (s : Sort.Sort) → (s ≡ Entry → ⊥) → sort_number s ≡ entry_sort → ⊥
+entry_alone Statement h e = omega arith
+entry_alone UnionArm h e = omega arith
+entry_alone Clause h e = omega arith
+entry_alone Projection h e = omega arith
+entry_alone OrderItem h e = omega arith
+entry_alone PatternPart h e = omega arith
+entry_alone PatternElement h e = omega arith
+entry_alone Name h e = omega arith
+entry_alone YieldItem h e = omega arith
+entry_alone Entry h e = h refl
+entry_alone Expr h e = omega arith
+
+pub room_other : (s : Sort.Sort) (d : ℕ) → 0 < d → (s ≡ Entry → ⊥) → d - 1 ≡ room_below (sort_is s) d
+room_other s d h e = room_less (sort_is s) d (beside_entry (sort_number s) (sort_low s) ∙ ne_eqb (sort_number s) entry_sort (entry_alone s e)) h
 
 -- ── a write ──
 

@@ -10,8 +10,11 @@ ghost use Rattle.sheet.specs.Next.{Next};
 
 use crate::reached::Reached;
 use crate::stack::{Group, Stack};
+use line::place::Place;
 use line::read::read_into;
-use words::{RecordsMut, sort};
+use record::cursor::Cursor;
+use words::RecordsMut;
+use words::sort::Sort;
 
 // Why a sheet is not read as a tree that can be lowered, with the line.
 #[derive(Clone, Copy, Debug, PartialEq, Eq)]
@@ -41,7 +44,7 @@ fn last_feed(sheet: &[u8]) -> Option<usize>
     sheet.iter().rposition(|b| *b == b'\n')
 }
 
-// The place behind the last line feed, 0 if there is none: from there on no line has its line feed.
+// The place behind the last line feed: from there on no line has its line feed. Where there is none, that is so from the sheet's start on: 0 is a place like the others, and no mark for none.
 fn lines_end(sheet: &[u8]) -> usize
     ensures { LinesEnd sheet.now result }
 {
@@ -49,6 +52,8 @@ fn lines_end(sheet: &[u8]) -> usize
 }
 
 // The line behind what is read, which has its line feed, as a record of the topmost group.
+// The depth stands in clauses as `(depth : ℕ) ×` and `→`: as a `ghost` parameter it was tried, and those are picked from a call's arguments, of which it is none.
+// How far the sheet is read goes by `&mut`: given back and assigned whole in the loop it was tried, and the loop then sees it without its ghost field.
 fn read_next(
     sheet: &[u8],
     words: &mut RecordsMut<'_>,
@@ -67,8 +72,15 @@ fn read_next(
         return Err(ReadError::BigTree(at.line()));
     }
     let bad = ReadError::BadLine(at.line());
-    let line = read_into(sheet, at.pos, top.sort, words, i).ok_or(bad)?;
-    stack.push_groups(&words.shared(), i, line.value, top.room_below());
+    let here = Place {
+        cursor: Cursor {
+            bytes: sheet,
+            at: at.pos,
+        },
+    };
+    let line = read_into(here, top.sort, words, i).ok_or(bad)?;
+    let records = words.shared();
+    stack.push_groups(records.at(i), line.value, top.room_below());
     at.advance(line.value, line.end);
     Ok(())
 }
@@ -91,7 +103,7 @@ pub fn read_sheet(
         groups: 0,
     };
     due.push(Group {
-        sort: sort::STATEMENT,
+        sort: Sort::Statement,
         count: 1,
         room: depth as u32,
     });

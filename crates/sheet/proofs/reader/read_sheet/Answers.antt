@@ -10,7 +10,7 @@ pub loop-due-init : goal.loop-due-init
 loop-due-init c = (record { first = refl; second = refl; first_long = refl; second_long = refl }, begin c.push.ensures (omega arith))
 
 pub returns-then-last-at-clause-reads : goal.returns-then-last-at-clause-reads
-returns-then-last-at-clause-reads c = next_unended c.loop-due.invariant.1 (topmost c.loop-due-test.true c.loop-due.due.stands) c.line.ensures (c.lines_end-last.ensures.none _ c.if-last-at.true)
+returns-then-last-at-clause-reads c = next_unended _ c.loop-due.invariant.1 (topmost c.loop-due-test.true c.loop-due.due.stands) c.line.ensures (c.lines_end-last.ensures.none _ c.if-last-at.true)
 
 pub loop-due-smaller : goal.loop-due-smaller
 loop-due-smaller c = omega (arith, (c.in_ok-read_next.ensures.next _ c.loop-due.invariant.1).0, c.read_next.new.at.few)

@@ -6,4 +6,4 @@ use Rattle.sheet.specs.Dues.{Groups}
 use Rattle.sheet.proofs.stack.Stack.push_groups.Given as goal
 
 abbrev pub invariant-loop-g : goal.invariant-loop-g
-invariant-loop-g l = (l.g ≤ group_count) × Groups l.initial.self.words.now l.self.words.now l.kind (part l.r.a.now l.r.b.now l.i) l.g (group_count - l.g) l.initial.self.groups l.room l.self.groups
+invariant-loop-g l = (l.g ≤ group_count) × Groups l.initial.self.words.now l.self.words.now l.kind (part l.r.records.now.a.now l.r.records.now.b.now l.r.i) l.g (group_count - l.g) l.initial.self.groups l.room l.self.groups
