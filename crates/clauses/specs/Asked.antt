@@ -8,19 +8,18 @@ use Rattle.words.specs.Places.{write_kind, kind_at}
 use Rattle.words.specs.Held.{HeldSome, HeldMany}
 use Rattle.context.specs.Tables.{vars_at, max_vars, max_count, Indexed, CanPush, deepest}
 use Rattle.context.specs.Ops.{Under}
-use Rattle.context.specs.declared.At.{At}
 use Rattle.context.specs.declared.LowerCtx.{LowerCtx}
 use Rattle.lower.specs.Rep.{Mem}
 use Rattle.lower.specs.declared.Lowered.{Lowered}
 use Rattle.projections.specs.Ready.{Ready}
 use Rattle.clauses.specs.Steps.{SomeYields}
 
--- the clause at a place, which reads, of any kind
-pub record ReadingAsked (sheet : Bytes) (a b : List ℕ) (at : At) (current : Option ℕ) (m : Mem) : Type 0 where
-  pub held : HeldSome sheet a b clause at.left at.i
-  pub reads : (cell a b at.i kind_at ≡ write_kind) → ⊥
-  pub ready : Ready at.i m
-  pub depth : at.left ≤ deepest
+-- the clause at record i, which reads, of any kind and at most d deep
+pub record ReadingAsked (sheet : Bytes) (a b : List ℕ) (d i : ℕ) (current : Option ℕ) (m : Mem) : Type 0 where
+  pub held : HeldSome sheet a b clause d i
+  pub reads : (cell a b i kind_at ≡ write_kind) → ⊥
+  pub ready : Ready i m
+  pub depth : d ≤ deepest
   pub stands : Under current m.ctx.ops
 
 -- the `match` at record i, whose parts have their root, and an operator or none to join it with

@@ -3,7 +3,7 @@
 // The sheet, its records and the tables are lent one by one, as the crates below take them. In one struct they would be no plainer: the tables are written, so that it would be lent to be written as a whole, and each function would have to promise that the sheet and the records in it stay what they were.
 #![tactic(auto)]
 
-ghost use Rattle.std.specs.Prelude.{◌-◌, None};
+ghost use Rattle.std.specs.Prelude.{◌-◌};
 ghost use Rattle.model.specs.Kind.{union_arm, clause, statement};
 ghost use Rattle.model.specs.Call.{max_depth};
 ghost use Rattle.words.specs.Held.{HeldSome};
@@ -14,7 +14,7 @@ ghost use Rattle.clauses.specs.Steps.{LowersClauses, LowersArm, LowersArms};
 ghost use Rattle.clauses.specs.Statement.{StatementAsked, LowersFrom, SameLengths, LowersStatement};
 
 use crate::pair::Operands;
-use context::{At, LowerCtx, Tables};
+use context::{LowerCtx, Tables};
 use lower::Current;
 use words::{Records, field, kind};
 
@@ -39,14 +39,12 @@ fn lower_clause(
     requires { TurnAsked clause sheet.now r.now.a.now r.now.b.now left cur.next cur.op (in_tables cur.ctx tables.old) }
     ensures { LowersClause sheet.now r.now.a.now r.now.b.now left cur.next result.next cur.op result.op (in_tables cur.ctx tables.old) (in_tables result.ctx tables.new) }
 {
-    let i = cur.next;
-    let kind = r.word(i, field::KIND);
+    let kind = r.word(cur.next, field::KIND);
     if kind == kind::WRITE {
-        let next = i + 1;
+        let next = cur.next + 1;
         return Current { next, ..cur };
     }
-    let at = At { base: 0, i, left };
-    let s = reading::lower_reading_clause(sheet, r, tables, cur.ctx, cur.op, at);
+    let s = reading::lower_reading_clause(sheet, r, tables, cur, left);
     Current {
         next: s.next,
         op: Some(s.op),
@@ -54,25 +52,21 @@ fn lower_clause(
     }
 }
 
-// The n clauses from a place on, from no operator.
+// So many clauses behind what stands before them.
 fn lower_clauses(
     sheet: &[u8],
     r: &Records<'_>,
     tables: &mut Tables<'_>,
-    ctx: LowerCtx,
-    at: At,
+    before: Current,
     n: usize,
+    left: usize,
 ) -> Current
-    requires { TurnsAsked clause sheet.now r.now.a.now r.now.b.now n at.left at.i None (in_tables ctx tables.old) }
-    ensures { LowersClauses sheet.now r.now.a.now r.now.b.now n at.left at.i result.next None result.op (in_tables ctx tables.old) (in_tables result.ctx tables.new) }
+    requires { TurnsAsked clause sheet.now r.now.a.now r.now.b.now n left before.next before.op (in_tables before.ctx tables.old) }
+    ensures { LowersClauses sheet.now r.now.a.now r.now.b.now n left before.next result.next before.op result.op (in_tables before.ctx tables.old) (in_tables result.ctx tables.new) }
 {
-    let mut cur = Current {
-        next: at.i,
-        op: None,
-        ctx,
-    };
+    let mut cur = before;
     for _ in 0..n {
-        cur = lower_clause(sheet, r, tables, cur, at.left);
+        cur = lower_clause(sheet, r, tables, cur, left);
     }
     cur
 }
@@ -91,12 +85,13 @@ fn lower_arm(
     let i = root.next;
     let all = r.word(i, field::ARM_ALL) == 1;
     let n = r.count(i, field::ARM_CLAUSES);
-    let first = At {
-        base: 0,
-        i: i + 1,
-        left: left - 1,
+    let less = left - 1;
+    let first = Current {
+        next: i + 1,
+        op: None,
+        ctx: root.ctx,
     };
-    let below = lower_clauses(sheet, r, tables, root.ctx, first, n);
+    let below = lower_clauses(sheet, r, tables, first, n, less);
     let both = Operands {
         left: root.op,
         right: below.op,
@@ -143,12 +138,12 @@ pub fn lower_from(
     let clauses = r.count(0, field::STMT_CLAUSES);
     let arms = r.count(0, field::STMT_ARMS);
     let less = depth - 1;
-    let at = At {
-        base: 0,
-        i: 1,
-        left: less,
+    let first = Current {
+        next: 1,
+        op: None,
+        ctx,
     };
-    let head = lower_clauses(sheet, r, tables, ctx, at, clauses);
+    let head = lower_clauses(sheet, r, tables, first, clauses, less);
     lower_arms(sheet, r, tables, head, arms, less)
 }
 

@@ -11,8 +11,8 @@ word-all-requires c = (Room.low (Room.some_tree c.requires.held), omega arith)
 pub count-n-requires : goal.count-n-requires
 count-n-requires c = (Room.low (Room.some_tree c.requires.held), omega arith)
 
-pub overflow_sub-first : goal.overflow_sub-first
-overflow_sub-first c = let l = Room.bounds_of (Room.some_tree c.requires.held) c.requires.ready c.requires.depth in l.deep
+pub overflow_sub-less : goal.overflow_sub-less
+overflow_sub-less c = let l = Room.bounds_of (Room.some_tree c.requires.held) c.requires.ready c.requires.depth in l.deep
 
 pub lower_clauses-below-requires : goal.lower_clauses-below-requires
 lower_clauses-below-requires c =

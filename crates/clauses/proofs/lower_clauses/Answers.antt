@@ -5,7 +5,7 @@ use Rattle.clauses.proofs.Turning
 use Rattle.clauses.proofs.lower_clauses.Goals as goal
 
 pub loop-init : goal.loop-init
-loop-init c = Turning.begun c.requires.held c.requires.ready tt
+loop-init c = Turning.begun c.requires.held c.requires.ready (Inputs.under_stands _ _ c.requires.stands)
 
 pub lower_clause-cur-requires : goal.lower_clause-cur-requires
 lower_clause-cur-requires c =

@@ -1,5 +1,5 @@
 -- `clauses::lower_clauses` meets its contract.
-use Rattle.std.specs.Prelude.{◌-◌, None}
+use Rattle.std.specs.Prelude.{◌-◌}
 use Rattle.model.specs.Kind.{clause}
 use Rattle.lower.specs.Rep.{mem}
 use Rattle.clauses.specs.Steps.{clause_turn, LowersClauses}
@@ -14,8 +14,8 @@ invariant-loop l =
     l.sheet
     l.r.a.now
     l.r.b.now
-    l.at.left
-    (λ e o m'. LowersClauses l.sheet l.r.a.now l.r.b.now l.n l.at.left l.at.i e None o (mem l.initial.cur.ctx l.initial.tables.ops.now l.initial.tables.rest.now) m')
+    l.left
+    (λ e o m'. LowersClauses l.sheet l.r.a.now l.r.b.now l.n l.left l.initial.cur.next e l.initial.cur.op o (mem l.initial.cur.ctx l.initial.tables.ops.now l.initial.tables.rest.now) m')
     (l.n - l.counter)
     l.cur.next
     l.cur.op
