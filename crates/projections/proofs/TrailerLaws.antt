@@ -5,7 +5,7 @@ use Rattle.model.specs.Kind.{Sort, ReadOp, expr, order_item}
 use Rattle.model.specs.Record.{Rec}
 use Rattle.model.specs.Tree.{Tree, Trees, []ᵗ, ◌∷ᵗ◌}
 use Rattle.model.specs.Lower.{Recs, Lowering, ◌>>=◌, ret, push, op, lower_expr, order_by, over_expr, lower_trailers}
-use Rattle.words.specs.Words.{cell, max_records, two32}
+use Rattle.words.specs.Words.{cell, max_records}
 use Rattle.words.specs.Held.{Held, HeldOf, size_of}
 use Rattle.words.specs.Places.{keys_at, skip_at, limit_at}
 use Rattle.words.specs.Fits.{trees_fits}
@@ -27,7 +27,7 @@ use Rattle.projections.specs.Asked.{ItemsAsked, TailAsked}
 use Rattle.projections.specs.Promises.{PushedIf, LowersOver, order_l, skip_l, limit_l, Tail, tail_size, SomeTail, LowersTail}
 use Rattle.lower.specs.Asked.{ExprsAsked}
 use Rattle.lower.specs.Exprs.{room_after, can_push}
-use Rattle.projections.specs.Room.{twice_then, ready_room, ready_after, few, fits}
+use Rattle.projections.specs.Room.{twice_then, ready_room, ready_after, fits}
 use Rattle.projections.proofs.Pushing.{none_counted, some_counted, left_low, moved_if, pushed_if, pushed_if_as}
 
 -- ── trees that an operator stands over, or none ──
@@ -267,8 +267,8 @@ module _ {a b : List ℕ} {d i j input n₁ : ℕ} {m : Mem} (g : TailAsked a b 
         ready₂ = ready_after skipped.moved ready₁
 
         -- what the limit's operator asks
-        pub limit_fits : Fits (at_place 0 j₂ d) × (k₂ < two32)
-        limit_fits = (fits (omega arith) ready₂.here g.depth, omega (arith, few ready₂, skipped.low))
+        pub limit_fits : Fits (at_place 0 j₂ d)
+        limit_fits = fits (omega arith) ready₂.here g.depth
 
         module _ {n₃ : ℕ} (cn₃ : n₃ ≡ cell a b i limit_at) where
           limits : SomeTrees a b expr n₃ d j₂

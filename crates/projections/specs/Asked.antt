@@ -2,7 +2,7 @@
 use Rattle.std.specs.Prelude.{◌≡◌, ℕ, ◌+◌, ◌-◌, ◌≤◌, ◌<◌, List, Option}
 use Rattle.model.specs.Text.{Bytes}
 use Rattle.model.specs.Kind.{clause, projection}
-use Rattle.words.specs.Words.{cell, max_records, two32}
+use Rattle.words.specs.Words.{cell, max_records}
 use Rattle.words.specs.Places.{return_kind, kind_at, items_at}
 use Rattle.words.specs.Held.{HeldSome, HeldMany}
 use Rattle.context.specs.Tables.{second_pass, deepest}
@@ -60,7 +60,6 @@ pub record SecondAsked (a b : List ℕ) (n d i input : ℕ) (m : Mem) : Type 0 w
   pub room : RoomFor d (i + 1) m
   pub low : i < max_records
   pub depth : d ≤ deepest
-  pub small : input < two32
 
 -- ── what trails it ──
 

@@ -4,6 +4,7 @@
 ghost use Rattle.std.specs.Prelude.{◌≡◌, List, ℕ, Some};
 ghost use Rattle.words.specs.Places.{with_kind};
 ghost use Rattle.context.specs.Tables.{CanPush};
+ghost use Rattle.context.specs.Lent.{SameTables};
 ghost use Rattle.lower.specs.Rep.{in_tables};
 ghost use Rattle.lower.specs.Clauses.{LowersClause};
 ghost use Rattle.projections.specs.Asked.{ClauseAsked, ReturnAsked};
@@ -19,7 +20,7 @@ pub mod passes;
 pub mod trailers;
 
 // An operator behind what is reached, if it is wanted; if not, `input`, which it would stand over, is left.
-fn push_if(ops: &mut [u32], s: Reached, wanted: bool, x: Op, input: usize) -> Root
+fn push_if(ops: &mut [u32], s: Reached, wanted: bool, x: Op, input: u32) -> Root
     requires { CanPush s.ctx ops.old }
     ensures { (result.next ≡ s.next) × PushedIf wanted x input result.op s.ctx result.ctx ops.old ops.new }
 {
@@ -30,19 +31,14 @@ fn push_if(ops: &mut [u32], s: Reached, wanted: bool, x: Op, input: usize) -> Ro
             ctx: s.ctx,
         };
     }
-    let k = s.ctx.ops;
-    let z = s.ctx.push(ops, x);
-    Root {
-        next: s.next,
-        op: k,
-        ctx: z,
-    }
+    s.push(ops, x)
 }
 
 // The `with` that stands next, behind the operator before it.
 pub fn lower_with(r: &Records<'_>, tables: &mut Tables<'_>, cur: Current, left: usize) -> Root
     requires { ClauseAsked with_kind r.now.a.now r.now.b.now left cur.next cur.op (in_tables cur.ctx tables.old) }
-    ensures { (sheet : List ℕ) → LowersClause sheet r.now.a.now r.now.b.now left cur.next result.next cur.op (Some result.op) (in_tables cur.ctx tables.old) (in_tables result.ctx tables.new) }
+    ensures lowered { (sheet : List ℕ) → LowersClause sheet r.now.a.now r.now.b.now left cur.next result.next cur.op (Some result.op) (in_tables cur.ctx tables.old) (in_tables result.ctx tables.new) }
+    ensures same { SameTables tables.old tables.new }
 {
     let i = cur.next;
     let items = r.count(i, field::ITEMS);
@@ -62,14 +58,8 @@ pub fn lower_with(r: &Records<'_>, tables: &mut Tables<'_>, cur: Current, left: 
         ..clause
     };
     let t = lower::lower_exprs(r, tables, s.ctx, predicate, filter, 0);
-    let k = t.ctx.ops;
-    let z = t.ctx.push(tables.ops, op::over(op::WITH, clause, q.op));
-    let root = Root {
-        next: t.next,
-        op: k,
-        ctx: z,
-    };
-    trailers::lower_trailers(r, tables, i, root, less)
+    let z = t.push(tables.ops, op::over(op::WITH, clause, q.op));
+    trailers::lower_trailers(r, tables, i, z, less)
 }
 
 // The `return` that stands next, behind the operator before it.
@@ -81,7 +71,8 @@ pub fn lower_return(
     left: usize,
 ) -> Root
     requires { ReturnAsked sheet.now r.now.a.now r.now.b.now left cur.next cur.op (in_tables cur.ctx tables.old) }
-    ensures { LowersClause sheet.now r.now.a.now r.now.b.now left cur.next result.next cur.op (Some result.op) (in_tables cur.ctx tables.old) (in_tables result.ctx tables.new) }
+    ensures lowered { LowersClause sheet.now r.now.a.now r.now.b.now left cur.next result.next cur.op (Some result.op) (in_tables cur.ctx tables.old) (in_tables result.ctx tables.new) }
+    ensures same { SameTables tables.old tables.new }
 {
     let i = cur.next;
     let n = r.count(i, field::ITEMS);

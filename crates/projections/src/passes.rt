@@ -1,7 +1,7 @@
 // The two lowerings of a `return`'s items: the first for its aggregate, the second for its projection.
 ghost use Rattle.std.specs.Prelude.{List, ℕ, ◌+◌, ◌<◌};
-ghost use Rattle.words.specs.Words.{two32};
 ghost use Rattle.context.specs.Tables.{second_pass};
+ghost use Rattle.context.specs.Lent.{SameTables};
 ghost use Rattle.lower.specs.Rep.{in_tables};
 ghost use Rattle.projections.specs.Asked.{FirstAsked, SecondAsked};
 ghost use Rattle.projections.specs.Promises.{LowersPass, first_l, second_l};
@@ -21,7 +21,8 @@ pub fn first_pass(
     n: usize,
 ) -> Root
     requires { FirstAsked sheet.now r.now.a.now r.now.b.now n left cur.next cur.op (in_tables cur.ctx tables.old) }
-    ensures { LowersPass sheet.now r.now.a.now r.now.b.now n left 0 (cur.next + 1) result.next result.op (first_l n cur.op) (in_tables cur.ctx tables.old) (in_tables result.ctx tables.new) × (result.op < two32) }
+    ensures lowered { LowersPass sheet.now r.now.a.now r.now.b.now n left 0 (cur.next + 1) result.next result.op (first_l n cur.op) (in_tables cur.ctx tables.old) (in_tables result.ctx tables.new) }
+    ensures same { SameTables tables.old tables.new }
 {
     let i = cur.next;
     let first = i + 1;
@@ -30,7 +31,7 @@ pub fn first_pass(
     let below = At { i: first, ..clause };
     let p = items::split_projections_agg(sheet, r, tables, q.ctx, below, n);
     let keys = n - p.aggs;
-    let x = op::aggregate(clause, q.op, keys, p.aggs);
+    let x = op::aggregate(clause, q.op, keys as u32, p.aggs as u32);
     push_if(tables.ops, p.reached, p.aggs != 0, x, q.op)
 }
 
@@ -44,7 +45,8 @@ pub fn second_pass(
     n: usize,
 ) -> Root
     requires { SecondAsked r.now.a.now r.now.b.now n left cur.next cur.op (in_tables cur.ctx tables.old) }
-    ensures { ((sheet : List ℕ) → LowersPass sheet r.now.a.now r.now.b.now n left second_pass (cur.next + 1) result.next result.op (second_l n distinct cur.op) (in_tables cur.ctx tables.old) (in_tables result.ctx tables.new)) × (result.op < result.ctx.ops) }
+    ensures lowered { ((sheet : List ℕ) → LowersPass sheet r.now.a.now r.now.b.now n left second_pass (cur.next + 1) result.next result.op (second_l n distinct cur.op) (in_tables cur.ctx tables.old) (in_tables result.ctx tables.new)) × (result.op < result.ctx.ops) }
+    ensures same { SameTables tables.old tables.new }
 {
     let i = cur.next;
     let first = i + 1;
@@ -55,13 +57,10 @@ pub fn second_pass(
     };
     let below = At { i: first, ..clause };
     let s = items::lower_items(r, tables, cur.ctx, below, n);
-    let k = s.ctx.ops;
-    let z = s
-        .ctx
-        .push(tables.ops, op::over(op::PROJECT, clause, cur.op));
+    let z = s.push(tables.ops, op::over(op::PROJECT, clause, cur.op));
     let pushed = Reached {
-        next: s.next,
-        ctx: z,
+        next: z.next,
+        ctx: z.ctx,
     };
-    push_if(tables.ops, pushed, distinct, op::distinct(k), k)
+    push_if(tables.ops, pushed, distinct, op::distinct(z.op), z.op)
 }

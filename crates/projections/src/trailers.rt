@@ -1,4 +1,5 @@
 // What trails a `with` or a `return`: order, skip, limit.
+ghost use Rattle.context.specs.Lent.{SameTables};
 ghost use Rattle.lower.specs.Rep.{in_tables};
 ghost use Rattle.projections.specs.Asked.{TailAsked};
 ghost use Rattle.projections.specs.Promises.{LowersTail};
@@ -17,7 +18,8 @@ pub fn lower_trailers(
     left: usize,
 ) -> Root
     requires { TailAsked r.now.a.now r.now.b.now left i root.next root.op (in_tables root.ctx tables.old) }
-    ensures { LowersTail r.now.a.now r.now.b.now left root.op i root.next result.next result.op (in_tables root.ctx tables.old) (in_tables result.ctx tables.new) }
+    ensures lowered { LowersTail r.now.a.now r.now.b.now left root.op i root.next result.next result.op (in_tables root.ctx tables.old) (in_tables result.ctx tables.new) }
+    ensures same { SameTables tables.old tables.new }
 {
     let keys = r.count(i, field::KEYS);
     let skip = r.count(i, field::SKIP);
@@ -28,7 +30,7 @@ pub fn lower_trailers(
         left,
     };
     let s = items::lower_items(r, tables, root.ctx, first, keys);
-    let x = op::order_by(first, root.op, keys);
+    let x = op::order_by(first, root.op, keys as u32);
     let p = push_if(tables.ops, s, keys != 0, x, root.op);
     let second = At { i: p.next, ..first };
     let t = lower::lower_exprs(r, tables, p.ctx, second, skip, 0);
