@@ -3,7 +3,7 @@ use Rattle.std.specs.Prelude.{◌≡◌, ℕ, ◌+◌, ◌≤◌, ◌<◌, List,
 use Rattle.model.specs.Call.{work_words}
 use Rattle.model.specs.Text.{Bytes}
 use Rattle.model.specs.Kind.{Sort, clause}
-use Rattle.words.specs.Words.{cell, max_records, two32}
+use Rattle.words.specs.Words.{cell, max_records}
 use Rattle.words.specs.Places.{write_kind, kind_at}
 use Rattle.words.specs.Held.{HeldSome, HeldMany}
 use Rattle.context.specs.Tables.{vars_at, max_vars, max_count, Indexed, CanPush, deepest}
@@ -26,7 +26,6 @@ pub record ReadingAsked (sheet : Bytes) (a b : List ℕ) (d i : ℕ) (current : 
 pub record JoinAsked (root : Lowered ℕ) (current : Option ℕ) (i : ℕ) (ops : List ℕ) : Type 0 where
   pub push : CanPush root.ctx ops
   pub low : root.op < root.ctx.ops
-  pub stands : Under current two32
   pub here : i < max_records
 
 -- the tree of a sort at record i, behind an operator or none
@@ -43,7 +42,7 @@ pub record TurnsAsked (s : Sort) (sheet : Bytes) (a b : List ℕ) (n d i : ℕ) 
   pub depth : d ≤ deepest
   pub stands : Under current m.ctx.ops
 
--- n yields from record i on
+-- n yields from record i on. How long the notes' table is has to be asked: it is lent alone, and what Tables says of both comes with both.
 pub record YieldsAsked (a b : List ℕ) (n i : ℕ) (c : LowerCtx) (rest : List ℕ) : Type 0 where
   pub some : SomeYields a b n i
   pub fits : i + n ≤ max_records

@@ -7,11 +7,12 @@ ghost use Rattle.std.specs.Prelude.{◌-◌};
 ghost use Rattle.model.specs.Kind.{Sort, union_arm, clause, statement};
 ghost use Rattle.model.specs.Call.{max_depth};
 ghost use Rattle.words.specs.Held.{HeldSome};
+ghost use Rattle.context.specs.Lent.{SameTables};
 ghost use Rattle.lower.specs.Rep.{in_tables};
 ghost use Rattle.clauses.specs.Asked.{TurnAsked, TurnsAsked};
 ghost use Rattle.clauses.specs.Turns.{Turn, LowersTurn, LowersTurns};
 ghost use Rattle.clauses.specs.Steps.{clause_turn, arm_turn};
-ghost use Rattle.clauses.specs.Statement.{StatementAsked, LowersFrom, SameLengths, LowersStatement};
+ghost use Rattle.clauses.specs.Statement.{StatementAsked, LowersFrom, LowersStatement};
 
 use crate::pair::Operands;
 use context::{LowerCtx, Tables};
@@ -43,7 +44,8 @@ trait InTurn {
         left: usize,
     ) -> Current
         requires { TurnAsked sort sheet.now r.now.a.now r.now.b.now left cur.next cur.op (in_tables cur.ctx tables.old) }
-        ensures { LowersTurn sort turn sheet.now r.now.a.now r.now.b.now left cur.next result.next cur.op result.op (in_tables cur.ctx tables.old) (in_tables result.ctx tables.new) };
+        ensures lowered { LowersTurn sort turn sheet.now r.now.a.now r.now.b.now left cur.next result.next cur.op result.op (in_tables cur.ctx tables.old) (in_tables result.ctx tables.new) }
+        ensures same { SameTables tables.old tables.new };
 }
 
 // So many trees behind what stands before them.
@@ -56,7 +58,8 @@ fn lower_turns<T: InTurn>(
     left: usize,
 ) -> Current
     requires { TurnsAsked T.sort sheet.now r.now.a.now r.now.b.now n left before.next before.op (in_tables before.ctx tables.old) }
-    ensures { LowersTurns T.sort T.turn sheet.now r.now.a.now r.now.b.now n left before.next result.next before.op result.op (in_tables before.ctx tables.old) (in_tables result.ctx tables.new) }
+    ensures lowered { LowersTurns T.sort T.turn sheet.now r.now.a.now r.now.b.now n left before.next result.next before.op result.op (in_tables before.ctx tables.old) (in_tables result.ctx tables.new) }
+    ensures same { SameTables tables.old tables.new }
 {
     let mut cur = before;
     for _ in 0..n {
@@ -142,7 +145,8 @@ pub fn lower_from(
     depth: usize,
 ) -> Current
     requires { StatementAsked sheet.now r.now.a.now r.now.b.now depth (in_tables ctx tables.old) }
-    ensures { LowersFrom sheet.now r.now.a.now r.now.b.now depth result.next result.op (in_tables ctx tables.old) (in_tables result.ctx tables.new) }
+    ensures lowered { LowersFrom sheet.now r.now.a.now r.now.b.now depth result.next result.op (in_tables ctx tables.old) (in_tables result.ctx tables.new) }
+    ensures same { SameTables tables.old tables.new }
 {
     let clauses = r.count(0, field::STMT_CLAUSES);
     let arms = r.count(0, field::STMT_ARMS);
@@ -160,7 +164,7 @@ pub fn lower_from(
 pub fn lower(sheet: &[u8], r: &Records<'_>, tables: &mut Tables<'_>) -> LowerCtx
     requires { HeldSome sheet.now r.now.a.now r.now.b.now statement max_depth 0 }
     ensures lowered { LowersStatement sheet.now r.now.a.now r.now.b.now (in_tables result tables.new) }
-    ensures same { SameLengths tables.old tables.new }
+    ensures same { SameTables tables.old tables.new }
 {
     lower_from(sheet, r, tables, EMPTY, words::MAX_DEPTH).ctx
 }

@@ -3,6 +3,7 @@ ghost use Rattle.std.specs.Prelude.{ℕ, ◌≡◌, List, Some};
 ghost use Rattle.model.specs.Text.{Bytes};
 ghost use Rattle.model.specs.Lower.{optional_join};
 ghost use Rattle.words.specs.Places.{match_kind, where_kind, unwind_kind, call_kind};
+ghost use Rattle.context.specs.Lent.{SameTables};
 ghost use Rattle.lower.specs.Rep.{mem, in_tables};
 ghost use Rattle.lower.specs.Chains.{OrSource};
 ghost use Rattle.lower.specs.Clauses.{LowersClause};
@@ -29,13 +30,7 @@ pub fn lower_yields(r: &Records<'_>, rest: &mut [u32], from: Reached, n: usize) 
 }
 
 // How the `match` at record i goes with the operator before it, once its parts have their root: an optional one joins that operator with a copy of the root, and any other leaves the root.
-fn join_before(
-    ops: &mut [u32],
-    root: Root,
-    current: Option<usize>,
-    optional: bool,
-    i: usize,
-) -> Root
+fn join_before(ops: &mut [u32], root: Root, current: Option<u32>, optional: bool, i: usize) -> Root
     requires { JoinAsked root current i ops.old }
     ensures { (result.next ≡ root.next) × ((rest : List ℕ) → OrSource root.op (λ s. optional_join optional current root.op s) result.op (mem root.ctx ops.old rest) (mem result.ctx ops.new rest)) }
 {
@@ -45,19 +40,18 @@ fn join_before(
     if !optional {
         return root;
     }
-    let k = root.ctx.ops;
-    let z = root.ctx.push(ops, op::optional_join(i, outer, root.op));
-    Root {
+    let behind = Reached {
         next: root.next,
-        op: k,
-        ctx: z,
-    }
+        ctx: root.ctx,
+    };
+    behind.push(ops, op::optional_join(i as u32, outer, root.op))
 }
 
 // The `match` that stands next: the root of its parts, as it goes with the operator before it.
 pub fn lower_match(r: &Records<'_>, tables: &mut Tables<'_>, cur: Current, left: usize) -> Root
     requires { ClauseAsked match_kind r.now.a.now r.now.b.now left cur.next cur.op (in_tables cur.ctx tables.old) }
-    ensures { (sheet : Bytes) → LowersClause sheet r.now.a.now r.now.b.now left cur.next result.next cur.op (Some result.op) (in_tables cur.ctx tables.old) (in_tables result.ctx tables.new) }
+    ensures lowered { (sheet : Bytes) → LowersClause sheet r.now.a.now r.now.b.now left cur.next result.next cur.op (Some result.op) (in_tables cur.ctx tables.old) (in_tables result.ctx tables.new) }
+    ensures same { SameTables tables.old tables.new }
 {
     let i = cur.next;
     let optional = r.word(i, field::MATCH_OPTIONAL) == 1;
@@ -75,7 +69,8 @@ pub fn lower_match(r: &Records<'_>, tables: &mut Tables<'_>, cur: Current, left:
 // The `where` that stands next.
 pub fn lower_where(r: &Records<'_>, tables: &mut Tables<'_>, cur: Current, left: usize) -> Root
     requires { ClauseAsked where_kind r.now.a.now r.now.b.now left cur.next cur.op (in_tables cur.ctx tables.old) }
-    ensures { (sheet : Bytes) → LowersClause sheet r.now.a.now r.now.b.now left cur.next result.next cur.op (Some result.op) (in_tables cur.ctx tables.old) (in_tables result.ctx tables.new) }
+    ensures lowered { (sheet : Bytes) → LowersClause sheet r.now.a.now r.now.b.now left cur.next result.next cur.op (Some result.op) (in_tables cur.ctx tables.old) (in_tables result.ctx tables.new) }
+    ensures same { SameTables tables.old tables.new }
 {
     let first = cur.next + 1;
     let less = left - 1;
@@ -86,19 +81,18 @@ pub fn lower_where(r: &Records<'_>, tables: &mut Tables<'_>, cur: Current, left:
     };
     let s = lower::lower_expr(r, tables, cur.ctx, below);
     let q = lower::or_source_all(tables.ops, s.ctx, cur.op, s.next);
-    let k = q.ctx.ops;
-    let z = q.ctx.push(tables.ops, op::over(op::FILTER, below, q.op));
-    Root {
+    let behind = Reached {
         next: q.next,
-        op: k,
-        ctx: z,
-    }
+        ctx: q.ctx,
+    };
+    behind.push(tables.ops, op::over(op::FILTER, below, q.op))
 }
 
 // The `unwind` that stands next.
 pub fn lower_unwind(r: &Records<'_>, tables: &mut Tables<'_>, cur: Current, left: usize) -> Root
     requires { ClauseAsked unwind_kind r.now.a.now r.now.b.now left cur.next cur.op (in_tables cur.ctx tables.old) }
-    ensures { (sheet : Bytes) → LowersClause sheet r.now.a.now r.now.b.now left cur.next result.next cur.op (Some result.op) (in_tables cur.ctx tables.old) (in_tables result.ctx tables.new) }
+    ensures lowered { (sheet : Bytes) → LowersClause sheet r.now.a.now r.now.b.now left cur.next result.next cur.op (Some result.op) (in_tables cur.ctx tables.old) (in_tables result.ctx tables.new) }
+    ensures same { SameTables tables.old tables.new }
 {
     let id = r.word(cur.next, field::UNWIND_VAR);
     let first = cur.next + 1;
@@ -111,19 +105,18 @@ pub fn lower_unwind(r: &Records<'_>, tables: &mut Tables<'_>, cur: Current, left
     };
     let s = lower::lower_expr(r, tables, q.ctx, below);
     let m = s.ctx.number(tables.rest, id, first);
-    let k = m.ctx.ops;
-    let z = m.ctx.push(tables.ops, op::unwind(below, q.op, m.number));
-    Root {
+    let behind = Reached {
         next: s.next,
-        op: k,
-        ctx: z,
-    }
+        ctx: m.ctx,
+    };
+    behind.push(tables.ops, op::unwind(below, q.op, m.number))
 }
 
 // The `call` that stands next.
 pub fn lower_call(r: &Records<'_>, tables: &mut Tables<'_>, cur: Current, left: usize) -> Root
     requires { ClauseAsked call_kind r.now.a.now r.now.b.now left cur.next cur.op (in_tables cur.ctx tables.old) }
-    ensures { (sheet : Bytes) → LowersClause sheet r.now.a.now r.now.b.now left cur.next result.next cur.op (Some result.op) (in_tables cur.ctx tables.old) (in_tables result.ctx tables.new) }
+    ensures lowered { (sheet : Bytes) → LowersClause sheet r.now.a.now r.now.b.now left cur.next result.next cur.op (Some result.op) (in_tables cur.ctx tables.old) (in_tables result.ctx tables.new) }
+    ensures same { SameTables tables.old tables.new }
 {
     let i = cur.next;
     let args = r.count(i, field::CALL_ARGS);
@@ -138,13 +131,7 @@ pub fn lower_call(r: &Records<'_>, tables: &mut Tables<'_>, cur: Current, left: 
     let below = At { i: first, ..clause };
     let s = lower::lower_exprs(r, tables, cur.ctx, below, args, 0);
     let t = lower_yields(r, tables.rest, s, yields);
-    let k = t.ctx.ops;
-    let z = t.ctx.push(tables.ops, op::procedure_call(clause, cur.op));
-    Root {
-        next: t.next,
-        op: k,
-        ctx: z,
-    }
+    t.push(tables.ops, op::procedure_call(clause, cur.op))
 }
 
 // The clause that stands next, which does not write. The kinds of records are told apart by a match on a small number, as document 01 wants it.
@@ -156,7 +143,8 @@ pub fn lower_reading_clause(
     left: usize,
 ) -> Root
     requires { ReadingAsked sheet.now r.now.a.now r.now.b.now left cur.next cur.op (in_tables cur.ctx tables.old) }
-    ensures { LowersClause sheet.now r.now.a.now r.now.b.now left cur.next result.next cur.op (Some result.op) (in_tables cur.ctx tables.old) (in_tables result.ctx tables.new) }
+    ensures lowered { LowersClause sheet.now r.now.a.now r.now.b.now left cur.next result.next cur.op (Some result.op) (in_tables cur.ctx tables.old) (in_tables result.ctx tables.new) }
+    ensures same { SameTables tables.old tables.new }
 {
     let kind = r.word(cur.next, field::KIND);
     match kind {

@@ -15,11 +15,11 @@ lower_turns-head-requires c = record { held = Whole.some_clauses c.args.r.now.ro
 pub lower_turns-requires : goal.lower_turns-requires
 lower_turns-requires c =
     record {
-      held = Whole.some_arms c.args.r.now.roomy c.requires c.count-clauses.ensures.0 c.lower_turns-head.ensures c.count-arms.ensures.0;
-      ready = Room.ready_after c.lower_turns-head.ensures.moved c.requires.ready;
+      held = Whole.some_arms c.args.r.now.roomy c.requires c.count-clauses.ensures.0 c.lower_turns-head.ensures.lowered c.count-arms.ensures.0;
+      ready = Room.ready_after c.lower_turns-head.ensures.lowered.moved c.requires.ready;
       depth = omega (arith, c.requires.depth);
-      stands = Inputs.stands_under _ _ c.lower_turns-head.ensures.stands;
+      stands = Inputs.stands_under _ _ c.lower_turns-head.ensures.lowered.stands;
     }
 
-pub returns : goal.returns
-returns c = Whole.from_law c.args.r.now.roomy c.requires c.count-clauses.ensures.0 c.lower_turns-head.ensures c.count-arms.ensures.0 c.lower_turns.ensures
+pub returns-clause-lowered : goal.returns-clause-lowered
+returns-clause-lowered c = Whole.from_law c.args.r.now.roomy c.requires c.count-clauses.ensures.0 c.lower_turns-head.ensures.lowered c.count-arms.ensures.0 c.lower_turns.ensures.lowered

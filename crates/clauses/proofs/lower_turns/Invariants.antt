@@ -1,5 +1,6 @@
 -- `clauses::lower_turns` meets its contract.
 use Rattle.std.specs.Prelude.{◌-◌}
+use Rattle.context.specs.Lent.{SameTables}
 use Rattle.lower.specs.Rep.{in_tables}
 use Rattle.clauses.specs.Turns.{LowersTurns}
 use Rattle.clauses.proofs.Turning
@@ -19,3 +20,4 @@ invariant-loop g l =
     l.cur.next
     l.cur.op
     (in_tables l.cur.ctx l.tables)
+    × SameTables l.initial.tables l.tables

@@ -24,5 +24,5 @@ lower_turns-below-requires c =
       stands = under_none;
     }
 
-pub returns : goal.returns
-returns c = Joining.arm_law _ _ _ c.args.r.now.roomy c.count-n.ensures.0 c.word-all.ensures c.lower_turns-below.ensures (c.unite-z.ensures _)
+pub returns-clause-lowered : goal.returns-clause-lowered
+returns-clause-lowered c = Joining.arm_law _ _ _ c.args.r.now.roomy c.count-n.ensures.0 c.word-all.ensures c.lower_turns-below.ensures.lowered (c.unite-z.ensures _)
