@@ -17,7 +17,6 @@ use Rattle.words.specs.Held.{Held, HeldOf, RecordAt, size_of}
 use Rattle.words.specs.Places.{call_kind, call_args_at, call_yields_at}
 use Rattle.context.specs.Tables.{Pushed, deepest}
 use Rattle.context.specs.Ops.{procedure_call_op, input_if}
-use Rattle.context.specs.declared.At.{At}
 use Rattle.context.specs.declared.LowerCtx.{LowerCtx}
 use Rattle.lower.specs.Side.{side}
 use Rattle.lower.specs.Render.{Notes, Ops, render_of, BelowOf}
@@ -72,33 +71,33 @@ module _ (f : Fields (forms clause Clause.Call)) (args : Trees expr f.1.0) (yiel
   unfolding ◌>>=◌ push ret
   call_def = rw (exprs_lower args s)
 
-module _ {a b : List ℕ} {at : At} {current : Option ℕ} {m : Mem} (room : Roomy a b) (g : ClauseAsked call_kind a b at current m) where
-  pub some_args : {n : ℕ} → n ≡ cell a b at.i call_args_at → SomeCarried a b n 0 (at.left - 1) (at.i + 1)
-  some_args en = let v = a_call room g.tree.tree g.tree.held g.kind in rw (en ∙ sym v.many) (record { sheet = g.tree.sheet; list = plain_c v.args; held = plain_held g.tree.sheet a b v.args (at.left - 1) (at.i + 1) v.held_args })
+module _ {a b : List ℕ} {d i : ℕ} {current : Option ℕ} {m : Mem} (room : Roomy a b) (g : ClauseAsked call_kind a b d i current m) where
+  pub some_args : {n : ℕ} → n ≡ cell a b i call_args_at → SomeCarried a b n 0 (d - 1) (i + 1)
+  some_args en = let v = a_call room g.tree.tree g.tree.held g.kind in rw (en ∙ sym v.many) (record { sheet = g.tree.sheet; list = plain_c v.args; held = plain_held g.tree.sheet a b v.args (d - 1) (i + 1) v.held_args })
 
   -- where its yields begin
-  pub args_end : {n e : ℕ} {m₁ : Mem} → n ≡ cell a b at.i call_args_at → LowersExprs a b n 0 (at.left - 1) 0 (at.i + 1) e m m₁ → (sheet : Bytes) (t : Tree clause) (hd : Held sheet a b t at.left at.i) → e ≡ at.i + 1 + size_of (a_call room t hd g.kind).args
+  pub args_end : {n e : ℕ} {m₁ : Mem} → n ≡ cell a b i call_args_at → LowersExprs a b n 0 (d - 1) 0 (i + 1) e m m₁ → (sheet : Bytes) (t : Tree clause) (hd : Held sheet a b t d i) → e ≡ i + 1 + size_of (a_call room t hd g.kind).args
   args_end {n} {e} {m₁} en p sheet t hd =
       let v = a_call room t hd g.kind in
-      let p' : LowersExprs a b v.fields.1.0 0 (at.left - 1) 0 (at.i + 1) e m m₁ = rw (en ∙ sym v.many) at p in
-      let q = p'.next sheet (plain_c v.args) (plain_held sheet a b v.args (at.left - 1) (at.i + 1) v.held_args) in
+      let p' : LowersExprs a b v.fields.1.0 0 (d - 1) 0 (i + 1) e m m₁ = rw (en ∙ sym v.many) at p in
+      let q = p'.next sheet (plain_c v.args) (plain_held sheet a b v.args (d - 1) (i + 1) v.held_args) in
       let z = plain_size v.args in
       omega arith
 
-  some_yields : {n n' e : ℕ} {m₁ : Mem} → n ≡ cell a b at.i call_args_at → n' ≡ cell a b at.i call_yields_at → LowersExprs a b n 0 (at.left - 1) 0 (at.i + 1) e m m₁ → SomeYields a b n' e
-  some_yields en en' p = let v = a_call room g.tree.tree g.tree.held g.kind in rw (en' ∙ sym v.yielded, args_end en p g.tree.sheet g.tree.tree g.tree.held) (record { sheet = g.tree.sheet; depth = at.left - 1; trees = v.yields; held = v.held_yields })
+  some_yields : {n n' e : ℕ} {m₁ : Mem} → n ≡ cell a b i call_args_at → n' ≡ cell a b i call_yields_at → LowersExprs a b n 0 (d - 1) 0 (i + 1) e m m₁ → SomeYields a b n' e
+  some_yields en en' p = let v = a_call room g.tree.tree g.tree.held g.kind in rw (en' ∙ sym v.yielded, args_end en p g.tree.sheet g.tree.tree g.tree.held) (record { sheet = g.tree.sheet; depth = d - 1; trees = v.yields; held = v.held_yields })
 
-  yields_fit : {n n' e : ℕ} {m₁ : Mem} → n ≡ cell a b at.i call_args_at → n' ≡ cell a b at.i call_yields_at → LowersExprs a b n 0 (at.left - 1) 0 (at.i + 1) e m m₁ → e + n' ≤ max_records
+  yields_fit : {n n' e : ℕ} {m₁ : Mem} → n ≡ cell a b i call_args_at → n' ≡ cell a b i call_yields_at → LowersExprs a b n 0 (d - 1) 0 (i + 1) e m m₁ → e + n' ≤ max_records
   yields_fit en en' p =
       let v = a_call room g.tree.tree g.tree.held g.kind in
       let q = args_end en p g.tree.sheet g.tree.tree g.tree.held in
-      let f = (tree_fits g.tree.sheet a b g.tree.tree at.left at.i g.tree.held).1 in
+      let f = (tree_fits g.tree.sheet a b g.tree.tree d i g.tree.held).1 in
       let z = v.sized in
       let y = yields_size v.yields in
       let w = v.yielded in
       omega arith
 
-  pub asked_yields : {n n' e : ℕ} {m₁ : Mem} → n ≡ cell a b at.i call_args_at → n' ≡ cell a b at.i call_yields_at → LowersExprs a b n 0 (at.left - 1) 0 (at.i + 1) e m m₁ → YieldsAsked a b n' e m₁.ctx m₁.rest
+  pub asked_yields : {n n' e : ℕ} {m₁ : Mem} → n ≡ cell a b i call_args_at → n' ≡ cell a b i call_yields_at → LowersExprs a b n 0 (d - 1) 0 (i + 1) e m m₁ → YieldsAsked a b n' e m₁.ctx m₁.rest
   asked_yields en en' p =
       let f = yields_fit en en' p in
       let r = g.ready in
@@ -112,30 +111,30 @@ module _ {a b : List ℕ} {at : At} {current : Option ℕ} {m : Mem} (room : Roo
         index = v.index r.index;
       }
 
-module _ {a b : List ℕ} {at : At} {current : Option ℕ} {n n' j e : ℕ} {c : LowerCtx} {os : List ℕ} {m m₁ m₂ : Mem}
-    (room : Roomy a b) (g : ClauseAsked call_kind a b at current m) (en : n ≡ cell a b at.i call_args_at) (en' : n' ≡ cell a b at.i call_yields_at)
-    (x : LowersExprs a b n 0 (at.left - 1) 0 (at.i + 1) j m m₁) (y : LowersYields a b n' j e m₁ m₂)
-    (pc : Pushed m₂.ctx c m₂.ops os (procedure_call_op (at_place 0 at.i (at.left - 1)) current)) (lo : length os ≡ length m₂.ops) where
-  call_run : (sheet : Bytes) {first : ℕ} (t : Tree clause) → Held sheet a b t at.left at.i → (W : Written) (s : State) → Rep (side sheet a b first) W s m → BothBlank W (suc at.i) (suc e) → Leaves (side sheet a b first) W (λ s. lower_clause t current s) (Some m₂.ctx.ops) (suc at.i) (suc e) s m (mem c os m₂.rest)
+module _ {a b : List ℕ} {d i : ℕ} {current : Option ℕ} {n n' j e : ℕ} {c : LowerCtx} {os : List ℕ} {m m₁ m₂ : Mem}
+    (room : Roomy a b) (g : ClauseAsked call_kind a b d i current m) (en : n ≡ cell a b i call_args_at) (en' : n' ≡ cell a b i call_yields_at)
+    (x : LowersExprs a b n 0 (d - 1) 0 (i + 1) j m m₁) (y : LowersYields a b n' j e m₁ m₂)
+    (pc : Pushed m₂.ctx c m₂.ops os (procedure_call_op (at_place 0 i (d - 1)) current)) (lo : length os ≡ length m₂.ops) where
+  call_run : (sheet : Bytes) {first : ℕ} (t : Tree clause) → Held sheet a b t d i → (W : Written) (s : State) → Rep (side sheet a b first) W s m → BothBlank W (suc i) (suc e) → Leaves (side sheet a b first) W (λ s. lower_clause t current s) (Some m₂.ctx.ops) (suc i) (suc e) s m (mem c os m₂.rest)
   call_run sheet {first} t hd W s r bl =
       let v = a_call room t hd g.kind in
       let o : Option ℕ = current in
       let up = x.moved.up in
       let up' = y.moved.up in
-      let x' : LowersExprs a b v.fields.1.0 0 (at.left - 1) 0 (at.i + 1) j m m₁ = rw (en ∙ sym v.many) at x in
+      let x' : LowersExprs a b v.fields.1.0 0 (d - 1) 0 (i + 1) j m m₁ = rw (en ∙ sym v.many) at x in
       let y' : LowersYields a b v.fields.1.1.0 j e m₁ m₂ = rw (en' ∙ sym v.yielded) at y in
-      let p = x'.run sheet (plain_c v.args) (plain_held sheet a b v.args (at.left - 1) (at.i + 1) v.held_args) W s r (blank_within (omega arith) (omega arith) bl.first) in
-      let q = y'.run sheet (at.left - 1) v.yields (rw (args_end room g en x sheet t hd) v.held_yields) _ (argued v.fields v.args v.yields o s) p.to.rep (blank_behind (omega arith) (blank_within (omega arith) (le_refl _) bl.first)) in
+      let p = x'.run sheet (plain_c v.args) (plain_held sheet a b v.args (d - 1) (i + 1) v.held_args) W s r (blank_within (omega arith) (omega arith) bl.first) in
+      let q = y'.run sheet (d - 1) v.yields (rw (args_end room g en x sheet t hd) v.held_yields) _ (argued v.fields v.args v.yields o s) p.to.rep (blank_behind (omega arith) (blank_within (omega arith) (le_refl _) bl.first)) in
       let recs : Recs = called v.fields v.args v.yields o s in
       let s₂ : State = yielded v.fields v.args v.yields o s in
-      let w = push_to m₂ c os (procedure_call_op (at_place 0 at.i (at.left - 1)) current) recs q.to.rep pc
-      (λ N A f. call_stored at.i (at.left - 1) v.fields v.args v.yields _ _ (less_deep at.left g.depth) v.at v.held_args v.held_yields
+      let w = push_to m₂ c os (procedure_call_op (at_place 0 i (d - 1)) current) recs q.to.rep pc
+      (λ N A f. call_stored i (d - 1) v.fields v.args v.yields _ _ (less_deep d g.depth) v.at v.held_args v.held_yields
       (below_of_more (shift N 0) first m₁.ctx.ops m₂.ctx.ops q.to.grow v.args (plain_below (shift N 0) first m₁.ctx.ops v.args (p.below N A (back q.to f))))
       (plain_render (shift N 0) A v.args ∙ p.shown N A (back q.to f)) (q.shown N A f) current) in
-      let u : Sub ((0 + suc j, 0 + suc e) ∷ (0 + suc (at.i + 1), 0 + suc j) ∷ W) (both_passes (suc at.i) (suc e) W) = sub_within (omega arith) (omega arith) (sub_first (omega arith) (omega arith)) in
+      let u : Sub ((0 + suc j, 0 + suc e) ∷ (0 + suc (i + 1), 0 + suc j) ∷ W) (both_passes (suc i) (suc e) W) = sub_within (omega arith) (omega arith) (sub_first (omega arith) (omega arith)) in
       leaves t o m₂.ctx.ops s (push recs s₂).1 (v.lower o s ∙ call_def v.fields v.args v.yields o s ∙ ap (λ (z : ℕ). (Some z, (push recs s₂).1)) (sym q.to.rep.count)) (to_then p.to (to_then q.to w)) u
 
-  pub call_law : (sheet : Bytes) → LowersClause sheet a b at.left at.i e current (Some m₂.ctx.ops) m (mem c os m₂.rest)
+  pub call_law : (sheet : Bytes) → LowersClause sheet a b d i e current (Some m₂.ctx.ops) m (mem c os m₂.rest)
   call_law sheet =
       let v = x.moved in
       let w = y.moved in

@@ -12,7 +12,6 @@ use Rattle.model.specs.Lower.{lower_clause}
 use Rattle.words.specs.Words.{Roomy, cell, max_records}
 use Rattle.words.specs.Held.{Held}
 use Rattle.words.specs.Numbers.{Others}
-use Rattle.context.specs.declared.At.{At}
 use Rattle.words.specs.Places.{match_kind, where_kind, with_kind, return_kind, unwind_kind, call_kind, write_kind, kind_at}
 use Rattle.lower.specs.Side.{side}
 use Rattle.lower.specs.Rep.{State, Mem, Written, Rep}
@@ -25,12 +24,12 @@ use Rattle.clauses.specs.Asked.{ReadingAsked}
 use Rattle.clauses.proofs.Opened.{a_write, call_kind_law}
 
 -- what the function of one kind asks
-pub asked : {sheet : Bytes} {a b : List ℕ} {k : ℕ} {at : At} {current : Option ℕ} {m : Mem} → ReadingAsked sheet a b at current m → cell a b at.i kind_at ≡ k → ClauseAsked k a b at current m
+pub asked : {sheet : Bytes} {a b : List ℕ} {k : ℕ} {d i : ℕ} {current : Option ℕ} {m : Mem} → ReadingAsked sheet a b d i current m → cell a b i kind_at ≡ k → ClauseAsked k a b d i current m
 asked g e = record { tree = some_tree g.held; kind = e; ready = g.ready; depth = g.depth; stands = g.stands }
 
 -- the one kind that is left
-pub a_call_left : {sheet : Bytes} {a b : List ℕ} {at : At} {current : Option ℕ} {m : Mem} {n : ℕ} → Roomy a b → ReadingAsked sheet a b at current m → n ≡ cell a b at.i kind_at → Others n (unwind_kind ∷ return_kind ∷ with_kind ∷ where_kind ∷ match_kind ∷ []) → cell a b at.i kind_at ≡ call_kind
-a_call_left {sheet} {at = at} room g e o = call_kind_law sheet at.left at.i room g.held.tree g.held.is (rw e at o) g.reads
+pub a_call_left : {sheet : Bytes} {a b : List ℕ} {d i : ℕ} {current : Option ℕ} {m : Mem} {n : ℕ} → Roomy a b → ReadingAsked sheet a b d i current m → n ≡ cell a b i kind_at → Others n (unwind_kind ∷ return_kind ∷ with_kind ∷ where_kind ∷ match_kind ∷ []) → cell a b i kind_at ≡ call_kind
+a_call_left {sheet} {d = d} {i = i} room g e o = call_kind_law sheet d i room g.held.tree g.held.is (rw e at o) g.reads
 
 module _ (sheet : Bytes) {a b : List ℕ} (d i : ℕ) (o : Option ℕ) (m : Mem) (room : Roomy a b) (k8 : cell a b i kind_at ≡ write_kind) (li : i < max_records) (st : Stands o m) where
   write_run : {first : ℕ} (t : Tree clause) → Held sheet a b t d i → (W : Written) (s : State) → Rep (side sheet a b first) W s m → Leaves (side sheet a b first) W (λ s. lower_clause t o s) o (suc i) (suc (i + 1)) s m m

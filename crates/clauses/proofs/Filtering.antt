@@ -14,7 +14,6 @@ use Rattle.words.specs.Held.{Held}
 use Rattle.words.specs.Places.{where_kind}
 use Rattle.context.specs.Tables.{Pushed}
 use Rattle.context.specs.Ops.{filter_op}
-use Rattle.context.specs.declared.At.{At}
 use Rattle.context.specs.declared.LowerCtx.{LowerCtx}
 use Rattle.lower.specs.Side.{side}
 use Rattle.lower.specs.Shows.{shift, shows_filter}
@@ -30,7 +29,7 @@ use Rattle.lower.specs.Chains.{OrSource}
 use Rattle.clauses.proofs.Opened.{a_where}
 use Rattle.clauses.proofs.Matching.{leaves}
 
-pub some_predicate : {a b : List ℕ} {at : At} {current : Option ℕ} {m : Mem} → Roomy a b → ClauseAsked where_kind a b at current m → SomeTree a b expr (at.left - 1) (at.i + 1)
+pub some_predicate : {a b : List ℕ} {d i : ℕ} {current : Option ℕ} {m : Mem} → Roomy a b → ClauseAsked where_kind a b d i current m → SomeTree a b expr (d - 1) (i + 1)
 some_predicate room g = let v = a_where room g.tree.tree g.tree.held g.kind in record { sheet = g.tree.sheet; tree = v.tree; held = v.held }
 
 -- the definition, step by step
@@ -38,12 +37,12 @@ where_def : (tree : Tree expr) (o : Option ℕ) (s : State) → ◌≡◌ {A = O
 unfolding ◌>>=◌ push ret
 where_def tree o s = refl
 
-module _ {a b : List ℕ} {at : At} {current : Option ℕ} {k e : ℕ} {c : LowerCtx} {os : List ℕ} {m m₁ m₂ : Mem}
-    (room : Roomy a b) (g : ClauseAsked where_kind a b at current m)
-    (x : LowersExpr a b (at.left - 1) 0 (at.i + 1) e m m₁)
+module _ {a b : List ℕ} {d i : ℕ} {current : Option ℕ} {k e : ℕ} {c : LowerCtx} {os : List ℕ} {m m₁ m₂ : Mem}
+    (room : Roomy a b) (g : ClauseAsked where_kind a b d i current m)
+    (x : LowersExpr a b (d - 1) 0 (i + 1) e m m₁)
     (sr : OrSource m₁.ctx.ops (or_source_all current) k m₁ m₂)
-    (pf : Pushed m₂.ctx c m₂.ops os (filter_op (at_place 0 (at.i + 1) (at.left - 1)) k)) (lo : length os ≡ length m₂.ops) where
-  where_run : (sheet : Bytes) {first : ℕ} (t : Tree clause) → Held sheet a b t at.left at.i → (W : Written) (s : State) → Rep (side sheet a b first) W s m → BothBlank W (suc at.i) (suc e) → Leaves (side sheet a b first) W (λ s. lower_clause t current s) (Some m₂.ctx.ops) (suc at.i) (suc e) s m (mem c os m₂.rest)
+    (pf : Pushed m₂.ctx c m₂.ops os (filter_op (at_place 0 (i + 1) (d - 1)) k)) (lo : length os ≡ length m₂.ops) where
+  where_run : (sheet : Bytes) {first : ℕ} (t : Tree clause) → Held sheet a b t d i → (W : Written) (s : State) → Rep (side sheet a b first) W s m → BothBlank W (suc i) (suc e) → Leaves (side sheet a b first) W (λ s. lower_clause t current s) (Some m₂.ctx.ops) (suc i) (suc e) s m (mem c os m₂.rest)
   where_run sheet {first} t hd W s r bl =
       let v = a_where room t hd g.kind in
       let sh = g.depth in
@@ -51,9 +50,9 @@ module _ {a b : List ℕ} {at : At} {current : Option ℕ} {k e : ℕ} {c : Lowe
       let z = sr.run _ _ _ y.to.rep.from y.to.rep in
       let s₂ : State = (or_source_all current (lower_expr v.tree s).1).1 in
       let recs : Recs = filter (or_source_all current (lower_expr v.tree s).1).0 (lower_expr v.tree s).0 in
-      let w = push_to m₂ c os (filter_op (at_place 0 (at.i + 1) (at.left - 1)) k) recs z.to.rep pf
+      let w = push_to m₂ c os (filter_op (at_place 0 (i + 1) (d - 1)) k) recs z.to.rep pf
       (λ N A f. record {
-        bounded = record { shallow = omega arith; near = omega arith; low = tree_low sheet a b v.tree (at.left - 1) (at.i + 1) v.held; far = λ e. absurd (omega arith); flagged = λ e. absurd (omega arith) };
+        bounded = record { shallow = omega arith; near = omega arith; low = tree_low sheet a b v.tree (d - 1) (i + 1) v.held; far = λ e. absurd (omega arith); flagged = λ e. absurd (omega arith) };
         shows = shows_filter refl (record {
           tree = v.tree;
           held = v.held;
@@ -63,7 +62,7 @@ module _ {a b : List ℕ} {at : At} {current : Option ℕ} {k e : ℕ} {c : Lowe
       }) in
       leaves t current m₂.ctx.ops s (push recs s₂).1 (v.lower current s ∙ where_def v.tree current s ∙ ap (λ (q : ℕ). (Some q, (push recs s₂).1)) (sym z.to.rep.count)) (to_then y.to (to_then z.to w)) (sub_first (omega arith) (omega arith))
 
-  pub where_law : (sheet : Bytes) → LowersClause sheet a b at.left at.i e current (Some m₂.ctx.ops) m (mem c os m₂.rest)
+  pub where_law : (sheet : Bytes) → LowersClause sheet a b d i e current (Some m₂.ctx.ops) m (mem c os m₂.rest)
   where_law sheet =
       let v = x.moved in
       record {

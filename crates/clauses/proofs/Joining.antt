@@ -1,6 +1,6 @@
 -- A union arm: its clauses from nothing, then both operands, then the union. Assumes nothing.
 use mathlib.Core.Path.{◌≡◌, sym, ap, ◌∙◌}
-use Prim.Native.Nat.{ℕ, suc, ◌+◌, ◌-◌, ◌≤◌}
+use Prim.Native.Nat.{ℕ, suc, ◌+◌, ◌-◌}
 use native.Mathlib.Omega.{arith}
 use mathlib.Core.Bool.{Bool}
 use mathlib.Core.List.{List, [], ◌∷◌}
@@ -16,8 +16,7 @@ use Rattle.words.specs.Held.{Held, HeldSome, HeldMany}
 use Rattle.words.specs.Places.{arm_all_at, arm_clauses_at}
 use Rattle.lower.specs.Side.{side}
 use Rattle.lower.specs.Rep.{State, Mem, Written, Rep}
-use Rattle.lower.specs.Clauses.{MovedTwice, BothBlank, Leaves}
-use Rattle.projections.specs.Ready.{Ready, max_found}
+use Rattle.lower.specs.Clauses.{BothBlank, Leaves}
 use Rattle.lower.specs.State.{to_then, to_wider}
 use Rattle.clauses.specs.Pair.{union_of, Unites}
 use Rattle.clauses.specs.Turns.{in_turn}
@@ -28,10 +27,6 @@ use Rattle.clauses.proofs.Turning.{clauses_turns}
 
 pub some_clauses : {sheet : Bytes} {a b : List ℕ} {n d i : ℕ} → Roomy a b → n ≡ cell a b i arm_clauses_at → HeldSome sheet a b union_arm d i → HeldMany sheet a b clause n (d - 1) (i + 1)
 some_clauses room en x = let v = an_arm room x.tree x.is in rw (en ∙ sym v.many) (record { trees = v.clauses; are = v.held })
-
--- behind its clauses
-pub few_below : {i j e : ℕ} {m m₁ : Mem} → Ready i m → MovedTwice j e m m₁ → i ≤ j → m₁.ctx.ops ≤ max_found
-few_below g p l = omega (arith, g.few, p.few, p.here)
 
 -- the definition, step by step
 arm_def : {n : ℕ} (cs : Trees clause n) (o below : Option ℕ) (all : Bool) {k : ℕ} (s s₁ : State) → lower_clauses cs None s ≡ (below, s₁) → k ≡ (union_of o below all s₁).0 → ◌≡◌ {A = Option ℕ × State} ((lower_clauses cs None >>= λ below. or_source_all o >>= λ left. or_source_all below >>= λ right. push (op ReadOp.Union (left, (right, (all, tt))) ∷ []) >>= λ both. ret (Some both)) s) (Some k, (union_of o below all s₁).1)

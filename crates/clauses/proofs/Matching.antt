@@ -20,7 +20,6 @@ use Rattle.words.specs.Held.{Held, size}
 use Rattle.words.specs.Fits.{tree_fits}
 use Rattle.context.specs.Tables.{Pushed}
 use Rattle.context.specs.Ops.{optional_join_op}
-use Rattle.context.specs.declared.At.{At}
 use Rattle.context.specs.declared.LowerCtx.{LowerCtx}
 use Rattle.lower.specs.Side.{Side, side}
 use Rattle.lower.specs.Shows.{shows_optional}
@@ -96,29 +95,29 @@ module _ {q : Bool} {k l i : ℕ} {o : Option ℕ} {c c' : LowerCtx} {os os' : L
 
 -- ── the clause ──
 
-module _ {a b : List ℕ} {at : At} {current : Option ℕ} {m : Mem} (room : Roomy a b) (g : ClauseAsked match_kind a b at current m) where
-  pub some_parts : {n : ℕ} → n ≡ cell a b at.i match_parts_at → SomeTrees a b pattern_part n (at.left - 1) (at.i + 1)
+module _ {a b : List ℕ} {d i : ℕ} {current : Option ℕ} {m : Mem} (room : Roomy a b) (g : ClauseAsked match_kind a b d i current m) where
+  pub some_parts : {n : ℕ} → n ≡ cell a b i match_parts_at → SomeTrees a b pattern_part n (d - 1) (i + 1)
   some_parts en = let v = a_match room g.tree.tree g.tree.held g.kind in rw (en ∙ sym v.many) (record { sheet = g.tree.sheet; trees = v.parts; held = v.held })
 
   module _ {n q k k' e : ℕ} {m₁ m₂ : Mem}
-      (en : n ≡ cell a b at.i match_parts_at) (eq : q ≡ cell a b at.i match_optional_at)
-      (p : LowersParts a b n (at.left - 1) 0 at.i e k m m₁) (j : OrSource k (join_l (eqb q 1) current k) k' m₁ m₂) where
-    match_next : (sheet : Bytes) (t : Tree clause) → Held sheet a b t at.left at.i → e ≡ at.i + size t
+      (en : n ≡ cell a b i match_parts_at) (eq : q ≡ cell a b i match_optional_at)
+      (p : LowersParts a b n (d - 1) 0 i e k m m₁) (j : OrSource k (join_l (eqb q 1) current k) k' m₁ m₂) where
+    match_next : (sheet : Bytes) (t : Tree clause) → Held sheet a b t d i → e ≡ i + size t
     match_next sheet t hd =
         let v = a_match room t hd g.kind in
-        let p' : LowersParts a b v.n (at.left - 1) 0 at.i e k m m₁ = rw (en ∙ sym v.many) at p in
+        let p' : LowersParts a b v.n (d - 1) 0 i e k m m₁ = rw (en ∙ sym v.many) at p in
         let x = p'.next sheet v.parts v.held in
         let y = v.sized in
         omega arith
 
     -- its parts
-    parts_run : (sheet : Bytes) {first : ℕ} (t : Tree clause) (hd : Held sheet a b t at.left at.i) (W : Written) (s : State) → Rep (side sheet a b first) W s m → BothBlank W (suc at.i) (suc e) → Rooted (side sheet a b first) W (parts_l (a_match room t hd g.kind).parts) k 0 (suc (at.i + 1)) (suc e) s m m₁
+    parts_run : (sheet : Bytes) {first : ℕ} (t : Tree clause) (hd : Held sheet a b t d i) (W : Written) (s : State) → Rep (side sheet a b first) W s m → BothBlank W (suc i) (suc e) → Rooted (side sheet a b first) W (parts_l (a_match room t hd g.kind).parts) k 0 (suc (i + 1)) (suc e) s m m₁
     parts_run sheet t hd W s r bl =
         let v = a_match room t hd g.kind in
-        let p' : LowersParts a b v.n (at.left - 1) 0 at.i e k m m₁ = rw (en ∙ sym v.many) at p in
+        let p' : LowersParts a b v.n (d - 1) 0 i e k m m₁ = rw (en ∙ sym v.many) at p in
         p'.run sheet v.parts v.held W s r (blank_within (omega arith) (omega arith) bl.first)
 
-    match_run : (sheet : Bytes) {first : ℕ} (t : Tree clause) → Held sheet a b t at.left at.i → (W : Written) (s : State) → Rep (side sheet a b first) W s m → BothBlank W (suc at.i) (suc e) → Leaves (side sheet a b first) W (λ s. lower_clause t current s) (Some k') (suc at.i) (suc e) s m m₂
+    match_run : (sheet : Bytes) {first : ℕ} (t : Tree clause) → Held sheet a b t d i → (W : Written) (s : State) → Rep (side sheet a b first) W s m → BothBlank W (suc i) (suc e) → Leaves (side sheet a b first) W (λ s. lower_clause t current s) (Some k') (suc i) (suc e) s m m₂
     match_run sheet t hd W s r bl =
         let v = a_match room t hd g.kind in
         let x = parts_run sheet t hd W s r bl in
@@ -126,19 +125,19 @@ module _ {a b : List ℕ} {at : At} {current : Option ℕ} {m : Mem} (room : Roo
         let y = j.run _ _ s₁ (le_trans r.from p.since) x.to.rep in
         let D =
         v.lower current s
-        ∙ ap (λ (z : ℕ). (Some (join_l (eqb (cell a b at.i match_optional_at) 1) current z s₁).0, (join_l (eqb (cell a b at.i match_optional_at) 1) current z s₁).1)) (sym x.root)
+        ∙ ap (λ (z : ℕ). (Some (join_l (eqb (cell a b i match_optional_at) 1) current z s₁).0, (join_l (eqb (cell a b i match_optional_at) 1) current z s₁).1)) (sym x.root)
         ∙ ap (λ (z : ℕ). (Some (join_l (eqb z 1) current k s₁).0, (join_l (eqb z 1) current k s₁).1)) (sym eq)
         ∙ ap (λ (z : ℕ). (Some z, (join_l (eqb q 1) current k s₁).1)) (sym y.root)
         in
         leaves t current k' s (join_l (eqb q 1) current k s₁).1 D (to_then x.to y.to) (sub_first (omega arith) (omega arith))
 
-    pub match_law : (sheet : Bytes) → LowersClause sheet a b at.left at.i e current (Some k') m m₂
+    pub match_law : (sheet : Bytes) → LowersClause sheet a b d i e current (Some k') m m₂
     match_law sheet =
         let v = p.moved in
         let some = g.tree in
         let y = match_next some.sheet some.tree some.held in
-        let f = (tree_fits some.sheet a b some.tree at.left at.i some.held).0 in
-        let u : at.i < e = omega arith in
+        let f = (tree_fits some.sheet a b some.tree d i some.held).0 in
+        let u : i < e = omega arith in
         record {
           moved = record {
             up = v.up;

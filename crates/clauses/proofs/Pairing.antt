@@ -15,12 +15,8 @@ use Rattle.words.specs.Held.{Held}
 use Rattle.context.specs.Tables.{max_vars}
 use Rattle.lower.specs.Rep.{State, Mem, mem}
 use Rattle.lower.specs.Clauses.{both_passes}
-use Rattle.projections.specs.Ready.{max_found}
-use Rattle.clauses.specs.declared.pair.Operands.{Operands}
 use Rattle.clauses.specs.Statement.{forget, forgetting, StatementAsked, LowersFrom}
-use Rattle.clauses.specs.Pair.{union_of, UniteAsked, Unites, PairAsked, TwoTables, LowersPair}
-use Rattle.context.specs.OpLaws.{under_more}
-use Rattle.clauses.proofs.Room.{stands_under}
+use Rattle.clauses.specs.Pair.{union_of, Unites, PairAsked, TwoTables, LowersPair}
 use Rattle.clauses.proofs.Whole.{Long, start, begins, start_rep, start_blank}
 use Rattle.clauses.proofs.Whole
 
@@ -45,9 +41,6 @@ module _ {left right : Bytes} {la lb los lrs ra rb ros rrs : List ℕ} (g : Pair
     right_asked l = let v = p.moved in Whole.asked m₁.ctx ros rrs g.on_right (omega (arith, v.few, v.here)) (omega (arith, v.low, v.here)) l
 
     module _ {e' : ℕ} {o' : Option ℕ} {m₂ : Mem} (q : LowersFrom right ra rb max_depth e' o' (mem (forgetting m₁.ctx) ros rrs) m₂) where
-      pub few_behind : m₂.ctx.ops ≤ max_found
-      few_behind = let v = p.moved in let w = q.moved in omega (arith, v.few, v.here, w.few, w.here)
-
       pub met_behind : m₂.ctx.mapped ≤ max_vars
       met_behind = let w = q.moved in omega (arith, w.met, w.here)
 
@@ -74,13 +67,3 @@ module _ {left right : Bytes} {la lb los lrs ra rb ros rrs : List ℕ} (g : Pair
           met = rw z.mapped met_behind;
           run = pair_run;
         }
-
-  -- what the union asks
-  pub unite_asked : {both : Operands} {e e' : ℕ} {m₁ m₂ : Mem} → LowersFrom left la lb max_depth e both.left (mem start los lrs) m₁ → LowersFrom right ra rb max_depth e' both.right (mem (forgetting m₁.ctx) ros rrs) m₂ → Long ros rrs → UniteAsked both 0 m₂.ctx m₂.ops
-  unite_asked {both} {m₁ = m₁} {m₂} p q l = record {
-    few = few_behind p q;
-    long = rw q.moved.in_ops l.0;
-    left = under_more q.moved.grow (stands_under m₁ both.left p.stands);
-    right = stands_under m₂ both.right q.stands;
-    here = omega arith;
-  }

@@ -8,6 +8,7 @@ use Rattle.model.specs.Lower.{Lowering, ◌>>=◌, op, push, or_source_all, at, 
 use Rattle.words.specs.Words.{max_records}
 use Rattle.words.specs.Held.{Held, HeldSome}
 use Rattle.context.specs.Tables.{max_vars}
+use Rattle.context.specs.Lent.{SameTables}
 use Rattle.context.specs.Ops.{Under}
 use Rattle.lower.specs.Side.{Side, side}
 use Rattle.context.specs.declared.LowerCtx.{LowerCtx}
@@ -16,7 +17,6 @@ use Rattle.lower.specs.Chains.{Sourced}
 use Rattle.projections.specs.Ready.{max_found}
 use Rattle.clauses.specs.declared.pair.Operands.{Operands}
 use Rattle.clauses.specs.declared.pair.Side.{Side as OneSide}
-use Rattle.clauses.specs.Statement.{SameLengths}
 
 -- ── two operands and their union ──
 
@@ -48,11 +48,11 @@ pub record Unites (L : Lowering ℕ) (k : ℕ) (m m' : Mem) : Type 0 where
 
 -- ── two statements ──
 
--- what a side has behind the lowering of what it had before: the same sheet and records, and tables as long
+-- what a side has behind the lowering of what it had before: the same sheet and records, and tables over the same slices, each as long
 pub record SameSide (x x' : OneSide) : Type 0 where
   pub sheet : x'.sheet ≡ x.sheet
   pub records : x'.records ≡ x.records
-  pub tables : SameLengths x.tables x'.tables
+  pub tables : SameTables x.tables x'.tables
 
 -- a statement on each side
 pub record PairAsked (left : Bytes) (la lb : List ℕ) (right : Bytes) (ra rb : List ℕ) : Type 0 where

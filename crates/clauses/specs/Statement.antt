@@ -1,5 +1,5 @@
 -- What the lowering of a whole statement asks and promises, from any state on and from the empty one. Assumes nothing: these are definitions.
-use Rattle.std.specs.Prelude.{◌≡◌, ℕ, suc, ◌*◌, ◌≤◌, List, [], length, Option}
+use Rattle.std.specs.Prelude.{◌≡◌, ℕ, suc, ◌*◌, ◌≤◌, List, [], Option}
 use Rattle.model.specs.Call.{max_depth, record_operators}
 use Rattle.model.specs.Text.{Bytes}
 use Rattle.model.specs.Kind.{statement}
@@ -9,18 +9,10 @@ use Rattle.words.specs.Words.{max_records}
 use Rattle.words.specs.Held.{Held, HeldSome, size}
 use Rattle.context.specs.Tables.{max_vars, deepest}
 use Rattle.context.specs.declared.LowerCtx.{LowerCtx}
-use Rattle.context.specs.declared.Tables.{Tables}
 use Rattle.lower.specs.Side.{side}
 use Rattle.lower.specs.Rep.{State, Mem, Written, Rep}
 use Rattle.lower.specs.Clauses.{MovedTwice, BothBlank, Stands, Leaves}
 use Rattle.projections.specs.Ready.{Ready}
-
--- ── the tables ──
-
--- tables as long as before
-pub record SameLengths (t t' : Tables) : Type 0 where
-  pub ops : length t'.ops.now ≡ length t.ops.now
-  pub rest : length t'.rest.now ≡ length t.rest.now
 
 -- ── no variables ──
 

@@ -10,15 +10,15 @@ use words::Records;
 // What a union joins: an operator or none on each side, and whether it keeps all rows.
 #[derive(Clone, Copy, Debug, PartialEq, Eq)]
 pub struct Operands {
-    pub left: Option<usize>,
-    pub right: Option<usize>,
+    pub left: Option<u32>,
+    pub right: Option<u32>,
     pub all: bool,
 }
 
 // A union's number, and the state behind it.
 #[derive(Clone, Copy, Debug, PartialEq, Eq)]
 pub struct United {
-    pub op: usize,
+    pub op: u32,
     pub ctx: LowerCtx,
 }
 
@@ -29,10 +29,11 @@ pub fn unite(ops: &mut [u32], ctx: LowerCtx, both: Operands, i: usize) -> United
 {
     let q = lower::or_source_all(ops, ctx, both.left, i);
     let s = lower::or_source_all(ops, q.ctx, both.right, i);
-    let k = s.ctx.ops;
-    let all = u32::from(both.all);
-    let z = s.ctx.push(ops, op::union(i, q.op, s.op, all));
-    United { op: k, ctx: z }
+    let x = op::union(i as u32, q.op, s.op, both.all);
+    United {
+        op: s.ctx.ops,
+        ctx: s.ctx.push(ops, x),
+    }
 }
 
 // One side of a pair: its sheet, the records that hold it, and its own tables, each for a lifetime of its own, as who makes one has them.
@@ -46,7 +47,7 @@ pub struct Side<'s, 'a, 't> {
 // How many operators the left statement has, and the state of both: the right's begin there.
 #[derive(Clone, Copy, Debug, PartialEq, Eq)]
 pub struct Sides {
-    pub first: usize,
+    pub first: u32,
     pub ctx: LowerCtx,
 }
 

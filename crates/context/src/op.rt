@@ -24,9 +24,9 @@
 // Its kind is a number and no enum: it stands in a lent word, and document 01 has kinds told apart by a match on a small number.
 ghost use Rattle.std.specs.Prelude.{◌≡◌, ◌<◌, ◌≤◌, length};
 ghost use Rattle.model.specs.Call.{work_words};
-ghost use Rattle.words.specs.Words.{two32};
+ghost use Rattle.model.specs.Record.{one};
 ghost use Rattle.context.specs.Tables.{op_at, max_stored};
-ghost use Rattle.context.specs.Ops.{Fits, Under, op_over, op_alone, source_op, expand_op, shortest_path_op, bind_path_op, optional_join_op, aggregate_op, order_by_op, distinct_op, unwind_op, union_op, procedure_call_op, call_input};
+ghost use Rattle.context.specs.Ops.{Fits, op_over, op_alone, source_op, expand_op, shortest_path_op, bind_path_op, optional_join_op, aggregate_op, order_by_op, distinct_op, unwind_op, union_op, procedure_call_op, call_input};
 
 use crate::{At, OP_WORDS};
 
@@ -133,11 +133,11 @@ pub fn binding(kind: u32, bind: u32) -> Op
 }
 
 // FILTER, WITH, PROJECT, SKIP or LIMIT.
-pub fn over(kind: u32, at: At, input: usize) -> Op
-    requires { Fits at × (input < two32) }
+pub fn over(kind: u32, at: At, input: u32) -> Op
+    requires { Fits at }
     ensures { result ≡ op_over kind at input 0 0 }
 {
-    Op::at_place(kind, at, input as u32, 0, 0)
+    Op::at_place(kind, at, input, 0, 0)
 }
 
 // The other kinds have a constructor each: what X_WORD and Y_WORD hold has its own name and type there. That a place fits into words is asked here and no fact of At: most places are made for the records below, and never stored.
@@ -148,89 +148,86 @@ pub fn source(at: At, bind: u32) -> Op
     Op::at_place(SOURCE, at, 0, bind, 0)
 }
 
-pub fn expand(at: At, input: usize, from: u32, far: usize) -> Op
-    requires { Fits at × (input < two32) × (far < two32) }
+pub fn expand(at: At, input: u32, from: u32, far: u32) -> Op
+    requires { Fits at }
     ensures { result ≡ expand_op at input from far }
 {
-    Op::at_place(EXPAND, at, input as u32, from, far as u32)
+    Op::at_place(EXPAND, at, input, from, far)
 }
 
-pub fn shortest_path(at: At, input: usize, rel: usize, far: usize) -> Op
-    requires { Fits at × (input < two32) × (rel < two32) × (far < two32) }
+pub fn shortest_path(at: At, input: u32, rel: u32, far: u32) -> Op
+    requires { Fits at }
     ensures { result ≡ shortest_path_op at input rel far }
 {
-    Op::at_place(SHORTEST_PATH, at, input as u32, rel as u32, far as u32)
+    Op::at_place(SHORTEST_PATH, at, input, rel, far)
 }
 
-pub fn bind_path(at: At, input: usize, count: u32, bind: u32) -> Op
-    requires { Fits at × (input < two32) }
+pub fn bind_path(at: At, input: u32, count: u32, bind: u32) -> Op
+    requires { Fits at }
     ensures { result ≡ bind_path_op at input count bind }
 {
-    Op::at_place(BIND_PATH, at, input as u32, count, bind)
+    Op::at_place(BIND_PATH, at, input, count, bind)
 }
 
-pub fn optional_join(i: usize, input: usize, inner: usize) -> Op
-    requires { (i < two32) × (input < two32) × (inner < two32) }
+pub fn optional_join(i: u32, input: u32, inner: u32) -> Op
     ensures { result ≡ optional_join_op i input inner }
 {
-    Op::at_record(OPTIONAL_JOIN, i as u32, input as u32, inner as u32, 0)
+    Op::at_record(OPTIONAL_JOIN, i, input, inner, 0)
 }
 
-pub fn aggregate(at: At, input: usize, keys: usize, aggregates: usize) -> Op
-    requires { Fits at × (input < two32) × (keys < two32) × (aggregates < two32) }
+pub fn aggregate(at: At, input: u32, keys: u32, aggregates: u32) -> Op
+    requires { Fits at }
     ensures { result ≡ aggregate_op at input keys aggregates }
 {
-    Op::at_place(AGGREGATE, at, input as u32, keys as u32, aggregates as u32)
+    Op::at_place(AGGREGATE, at, input, keys, aggregates)
 }
 
-pub fn order_by(at: At, input: usize, keys: usize) -> Op
-    requires { Fits at × (input < two32) × (keys < two32) }
+pub fn order_by(at: At, input: u32, keys: u32) -> Op
+    requires { Fits at }
     ensures { result ≡ order_by_op at input keys }
 {
-    Op::at_place(ORDER_BY, at, input as u32, keys as u32, 0)
+    Op::at_place(ORDER_BY, at, input, keys, 0)
 }
 
-pub fn distinct(input: usize) -> Op
-    requires { input < two32 }
+pub fn distinct(input: u32) -> Op
     ensures { result ≡ distinct_op input }
 {
-    Op::at_record(DISTINCT, 0, input as u32, 0, 0)
+    Op::at_record(DISTINCT, 0, input, 0, 0)
 }
 
-pub fn unwind(at: At, input: usize, bind: u32) -> Op
-    requires { Fits at × (input < two32) }
+pub fn unwind(at: At, input: u32, bind: u32) -> Op
+    requires { Fits at }
     ensures { result ≡ unwind_op at input bind }
 {
-    Op::at_place(UNWIND, at, input as u32, bind, 0)
+    Op::at_place(UNWIND, at, input, bind, 0)
 }
 
-pub fn union(i: usize, input: usize, right: usize, all: u32) -> Op
-    requires { (i < two32) × (input < two32) × (right < two32) }
-    ensures { result ≡ union_op i input right all }
+pub fn union(i: u32, input: u32, right: u32, all: bool) -> Op
+    ensures { result ≡ union_op i input right (one all) }
 {
-    Op::at_record(UNION, i as u32, input as u32, right as u32, all)
+    Op::at_record(UNION, i, input, right, u32::from(all))
 }
 
 #[tactic(auto, unfolding(crate::specs::Ops::procedure_call_op))]
-pub fn procedure_call(at: At, current: Option<usize>) -> Op
-    requires { Fits at × Under current two32 }
+pub fn procedure_call(at: At, current: Option<u32>) -> Op
+    requires { Fits at }
     ensures { result ≡ procedure_call_op at current }
 {
     match current {
         None => Op::at_place(PROCEDURE_CALL, at, 0, 0, 0),
-        Some(input) => Op::at_place(PROCEDURE_CALL, at, input as u32, 1, 0),
+        Some(input) => Op::at_place(PROCEDURE_CALL, at, input, 1, 0),
     }
 }
 
 // The operator before a stored call, if there is one: what `procedure_call` was given.
 #[tactic(auto, unfolding(crate::specs::Ops::input_if))]
-pub fn call_input(w: Op) -> Option<usize>
+pub fn call_input(w: Op) -> Option<u32>
     ensures { result ≡ call_input w }
 {
     if w.x == 0 {
         return None;
     }
-    Some(w.input as usize)
+    Some(w.input)
 }
 
 // Operator k.

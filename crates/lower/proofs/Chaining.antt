@@ -1,6 +1,6 @@
 -- A part as a chain: its elements, a source of everything where there is no operator, and the path if it is named. Assumes nothing.
 use mathlib.Core.Path.{◌≡◌, refl, sym, ap, ◌∙◌}
-use Prim.Native.Nat.{ℕ, zero, suc, ◌+◌, ◌-◌, ◌≤◌, ◌<◌}
+use Prim.Native.Nat.{ℕ, suc, ◌+◌, ◌-◌, ◌≤◌, ◌<◌}
 use native.Mathlib.Nat.{le_refl}
 use native.Mathlib.Omega.{arith}
 use mathlib.Core.List.{List, [], ◌∷◌}
@@ -121,11 +121,6 @@ chain_def : {n : ℕ} (o : Option ℕ) (ts : Trees pattern_element n) (s : State
 unfolding lower_chain ◌>>=◌
 chain_def o ts s g e = rw e
 
-pub option_some : (x y : ℕ) → ((x ≡ 0) → ⊥) → option_of x y ≡ Some y
-unfolding option_of
-option_some zero y h = absurd (h refl)
-option_some (suc x) y h = refl
-
 path_is : (k x x' n n' : ℕ) (path path' : List ℕ) → x ≡ x' → n ≡ n' → path ≡ path' → op ReadOp.BindPath (k, (x, (n, tt))) ∷ path_elements path ≡ op ReadOp.BindPath (k, (x', (n', tt))) ∷ path_elements path'
 path_is k x x' n n' path path' ex en ep = rw (ex, en, ep)
 
@@ -154,13 +149,13 @@ module _ {a b : List ℕ} {n base : ℕ} {c : LowerCtx} {ch : Chain} {os os₁ r
       let z = sr.run _ _ _ y.to.rep.from y.to.rep in
       record { all = y; src = z; def = λ o. chain_def o v.elements s _ (ap root_of y.same.last) ∙ ap (λ (x : ℕ). bind_path o x (after_elements v.elements s).0.path (or_source_all (root_of (last_of ch.last)) (after_elements v.elements s).1).1) (sym z.root) }
 
-  module _ (so : c.ops ≤ k) (k2 : cell a b i part_named_at ≡ 0) where
+  module _ (so : c.ops ≤ k) (k2 : option_of (cell a b i part_named_at) (cell a b i part_var_at) ≡ None) where
     unnamed_run : (sheet : Bytes) {first : ℕ} (t : Tree pattern_part) → Held sheet a b t d i → (W : Written) (s : State) → Rep (side sheet a b first) W s (mem c os rs) → Blank W (base + suc i) (base + suc ch.next) → Rooted (side sheet a b first) W (chain_l t) k base (suc i) (suc ch.next) s (mem c os rs) m₂
-    unfolding bind_path ret option_of
+    unfolding bind_path ret
     unnamed_run sheet t hd W s r bl =
         let v = a_part room t hd in
         let x = rooting sheet t hd W s r bl in
-        let D = v.chain s ∙ ap (λ (o : Option ℕ). lower_chain o (steps_of v.elements) s) (ap (λ (z : ℕ). option_of z (cell a b i part_var_at)) k2) ∙ x.def None in
+        let D = v.chain s ∙ ap (λ (o : Option ℕ). lower_chain o (steps_of v.elements) s) k2 ∙ x.def None in
         let f = el.bounded.from in
         record { to = rw D (to_wider (sub_within (omega arith) (omega arith) (sub_more (base + suc i, base + suc ch.next) W)) (to_then x.all.to x.src.to)); root = rw D; low = sr.low }
 
@@ -176,21 +171,20 @@ module _ {a b : List ℕ} {n base : ℕ} {c : LowerCtx} {ch : Chain} {os os₁ r
           run = unnamed_run;
         }
 
-  module _ {place : ℕ} {r₃ : Numbered} {rest₃ os₄ : List ℕ} {c₄ : LowerCtx} (sh : d ≤ deepest) (k2 : (cell a b i part_named_at ≡ 0) → ⊥) (ep : place ≡ base + (i + 1))
-      (nm : Numbers (map_var (cell a b i part_var_at)) place m₂.ctx m₂.rest rest₃ r₃) (lr : length rest₃ ≡ length m₂.rest)
+  module _ {place id : ℕ} {r₃ : Numbered} {rest₃ os₄ : List ℕ} {c₄ : LowerCtx} (sh : d ≤ deepest) (k2 : option_of (cell a b i part_named_at) (cell a b i part_var_at) ≡ Some id) (ep : place ≡ base + (i + 1))
+      (nm : Numbers (map_var id) place m₂.ctx m₂.rest rest₃ r₃) (lr : length rest₃ ≡ length m₂.rest)
       (pp : Pushed r₃.ctx c₄ m₂.ops os₄ (bind_path_op (at_place base i (d - 1)) k ch.kept r₃.number)) (lo : length os₄ ≡ length m₂.ops) where
     named_run : (sheet : Bytes) {first : ℕ} (t : Tree pattern_part) → Held sheet a b t d i → (W : Written) (s : State) → Rep (side sheet a b first) W s (mem c os rs) → Blank W (base + suc i) (base + suc ch.next) → Rooted (side sheet a b first) W (chain_l t) r₃.ctx.ops base (suc i) (suc ch.next) s (mem c os rs) (mem c₄ os₄ rest₃)
-    unfolding bind_path ◌>>=◌ push option_of
+    unfolding bind_path ◌>>=◌ push
     named_run sheet {first} t hd W s r bl =
         let v = a_part room t hd in
         let x = rooting sheet t hd W s r bl in
-        let id : ℕ = cell a b i part_var_at in
         let f = el.bounded.from in
         let g₀ = el.ahead in
         let W₁ : Written = passed base (start_chain i c) ch W in
         let s₂ : State = (or_source_all (root_of (last_of ch.last)) (after_elements v.elements s).1).1 in
         let path : List ℕ = (after_elements v.elements s).0.path in
-        let D = v.chain s ∙ ap (λ (o : Option ℕ). lower_chain o (steps_of v.elements) s) (option_some (cell a b i part_named_at) id k2) ∙ x.def (Some id) in
+        let D = v.chain s ∙ ap (λ (o : Option ℕ). lower_chain o (steps_of v.elements) s) k2 ∙ x.def (Some id) in
         let ep' : place ≡ base + suc i = omega arith in
         let g : Given (side sheet a b first) W₁ s₂ (map_var id) (base + suc i) m₂ rest₃ r₃ = number_to (map_var id) (base + suc i) m₂ rest₃ r₃ x.src.to.rep (rw ep' at nm) (blank_before (omega arith) (blank_within (le_refl _) (omega arith) bl)) in
         let recs : Recs = op ReadOp.BindPath (k, ((map_var id s₂).0, (length path, tt))) ∷ path_elements path in

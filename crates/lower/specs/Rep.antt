@@ -4,10 +4,13 @@ use Rattle.model.specs.Call.{work_words}
 use Rattle.model.specs.Lower.{Recs, Lowering, at}
 use Rattle.model.specs.Lower
 use Rattle.words.specs.Words.{max_records}
-use Rattle.context.specs.Tables.{state_of, op_at, vars_at, max_stored, Indexed, deepest}
+use Rattle.context.specs.Tables.{state_of, op_at, vars_at, max_stored, Indexed, deepest, Pushed}
 use Rattle.context.specs.declared.LowerCtx.{LowerCtx}
 use Rattle.context.specs.declared.Tables.{Tables}
+use Rattle.context.specs.declared.op.Op.{Op}
 use Rattle.context.specs.declared.At.{At}
+use Rattle.lower.specs.declared.Reached.{Reached}
+use Rattle.lower.specs.declared.Lowered.{Lowered}
 use Rattle.lower.specs.Side.{Side}
 use Rattle.lower.specs.Render.{Notes, Ops}
 use Rattle.lower.specs.Shows.{Stored, shift}
@@ -123,6 +126,12 @@ pub record RoomFor (d i : ℕ) (m : Mem) : Type 0 where
   pub in_ops : work_words ≤ length m.ops
   pub in_rest : work_words ≤ length m.rest
   pub index : Indexes m
+
+-- one more operator stands behind what is reached
+pub record PushedBehind (s : Reached) (r : Lowered ℕ) (os os' : List ℕ) (x : Op) : Type 0 where
+  pub next : r.next ≡ s.next
+  pub op : r.op ≡ s.ctx.ops
+  pub pushed : Pushed s.ctx r.ctx os os' x
 
 -- what the lowering of records i to e does whatever the state
 pub record Moved (i e : ℕ) (m m' : Mem) : Type 0 where

@@ -4,18 +4,20 @@
 ghost use Rattle.std.specs.Prelude.{◌≡◌, ℕ, ◌+◌, ◌-◌, ◌<◌, List};
 ghost use Rattle.model.specs.Kind.{expr, pattern_part, pattern_element};
 ghost use Rattle.model.specs.Lower.{root_of};
-ghost use Rattle.words.specs.Words.{cell, max_records, record_words, option_of};
+ghost use Rattle.words.specs.Words.{cell, max_records, option_of};
 ghost use Rattle.words.specs.Places.{element_named_at, element_var_at};
-ghost use Rattle.lower.specs.Rep.{mem, in_tables};
+ghost use Rattle.lower.specs.Rep.{mem, in_tables, PushedBehind};
 ghost use Rattle.lower.specs.Pieces.{LowersExpr, LowersExprs};
 ghost use Rattle.lower.specs.Patterns.{LowersPart, LowersParts};
-ghost use Rattle.lower.specs.Chains.{last_of, LowersElement, LowersElements, LowersStart, LowersRel, SourceLeft, LowersChain, ReadAt, ElementAt, start_chain};
+ghost use Rattle.lower.specs.Chains.{last_of, LowersElement, LowersElements, LowersStart, LowersRel, SourceLeft, LowersChain, ElementAt, start_chain};
 ghost use Rattle.lower.specs.Asked.{TreeAsked, ExprsAsked, BehindAsked, NodeAsked, RelAsked, SpecialAsked, ChainAsked, StartAsked, ExpandAsked};
 ghost use Rattle.context.specs.Tables.{max_count, CanPush};
+ghost use Rattle.context.specs.Lent.{SameTables};
 ghost use Rattle.context.specs.Ops.{Under};
 
+use context::op::Op;
 use context::{At, LowerCtx, Tables, op};
-use words::{Records, field, kind};
+use words::{Record, Records, field, kind};
 
 // A special part has exactly node, rel, node.
 const SPECIAL_ELEMENTS: u32 = 3;
@@ -23,7 +25,7 @@ const SPECIAL_ELEMENTS: u32 = 3;
 // The last operator of a chain, and its node's number.
 #[derive(Clone, Copy, Debug, PartialEq, Eq)]
 pub struct LastNode {
-    pub op: usize,
+    pub op: u32,
     pub number: u32,
 }
 
@@ -92,65 +94,67 @@ pub struct Lowered<O> {
 }
 
 // A root operator, or the last operator so far, if there is one.
-pub type Root = Lowered<usize>;
+pub type Root = Lowered<u32>;
 
-pub type Current = Lowered<Option<usize>>;
+pub type Current = Lowered<Option<u32>>;
 
-// The variable of the part or the element at record i.
+impl Reached {
+    // One more operator, stored if the table has room, and its number.
+    pub fn push(self, ops: &mut [u32], op: Op) -> Root
+        requires { CanPush self.ctx ops.old }
+        ensures { PushedBehind self result ops.old ops.new op }
+    {
+        Lowered {
+            next: self.next,
+            op: self.ctx.ops,
+            ctx: self.ctx.push(ops, op),
+        }
+    }
+}
+
+// The variable of a part or an element.
 #[tactic(auto, unfolding(words::specs::Words::option_of))]
-fn read_bind(r: &Records<'_>, i: usize) -> Option<u32>
-    requires { i < max_records }
-    ensures { result ≡ option_of (cell r.now.a.now r.now.b.now i element_named_at) (cell r.now.a.now r.now.b.now i element_var_at) }
+fn read_bind(r: Record<'_>) -> Option<u32>
+    ensures { result ≡ option_of (cell r.entry.records.now.a.now r.entry.records.now.b.now r.entry.i element_named_at) (cell r.entry.records.now.a.now r.entry.records.now.b.now r.entry.i element_var_at) }
 {
-    let named = r.word(i, field::ELEMENT_NAMED);
+    let named = r.word(field::ELEMENT_NAMED);
     if named == 0 {
         return None;
     }
-    let id = r.word(i, field::ELEMENT_VAR);
+    let id = r.word(field::ELEMENT_VAR);
     Some(id)
 }
 
-// The element at record i, whose props are counted by word c.
-fn read_at(r: &Records<'_>, i: usize, c: usize) -> Read
-    requires { (i < max_records) × (c < record_words) }
-    ensures { ReadAt r.now.a.now r.now.b.now i c result }
+fn read_element(r: Record<'_>) -> Element
+    ensures { ElementAt r.entry.records.now.a.now r.entry.records.now.b.now r.entry.i result }
 {
-    let bind = read_bind(r, i);
-    let names = r.count(i, field::NODE_LABELS);
-    let props = r.count(i, c);
-    let first = i + 1 + names;
-    Read { bind, first, props }
-}
-
-fn read_element(r: &Records<'_>, i: usize) -> Element
-    requires { i < max_records }
-    ensures { ElementAt r.now.a.now r.now.b.now i result }
-{
-    let kind = r.word(i, field::KIND);
-    if kind == kind::NODE {
-        return Element::Node(read_at(r, i, field::NODE_PROPS));
+    let bind = read_bind(r);
+    let below = r.below();
+    let read = Read {
+        bind,
+        first: below.first,
+        props: below.props,
+    };
+    if r.kind() == kind::NODE {
+        return Element::Node(read);
     }
-    Element::Rel(read_at(r, i, field::REL_PROPS))
+    Element::Rel(read)
 }
 
 // The operator before, or a source of everything, which names the next number and does not take it.
-pub fn or_source_all(ops: &mut [u32], ctx: LowerCtx, current: Option<usize>, next: usize) -> Root
+pub fn or_source_all(ops: &mut [u32], ctx: LowerCtx, current: Option<u32>, next: usize) -> Root
     requires { CanPush ctx ops.old × Under current ctx.ops }
     ensures { SourceLeft current next result.next result.op ctx result.ctx ops.old ops.new }
 {
     match current {
         Some(op) => Lowered { next, op, ctx },
-        None => Lowered {
-            next,
-            op: ctx.ops,
-            ctx: ctx.push(ops, op::binding(op::SOURCE_ALL, ctx.numbers)),
-        },
+        None => Reached { next, ctx }.push(ops, op::binding(op::SOURCE_ALL, ctx.numbers)),
     }
 }
 
 // The root of a chain so far, if it has one.
 #[tactic(auto, unfolding(model::specs::Lower::root_of))]
-fn root_of(last: Option<LastNode>) -> Option<usize>
+fn root_of(last: Option<LastNode>) -> Option<u32>
     ensures { result ≡ root_of (last_of last) }
 {
     last.map(|l| l.op)
@@ -162,19 +166,19 @@ fn lower_no_parts(ops: &mut [u32], ctx: LowerCtx, i: usize) -> Root
     ensures { (result.next ≡ i + 1) × ((a b : List ℕ) (d base : ℕ) (rest : List ℕ) → LowersParts a b 0 d base i result.next result.op (mem ctx ops.old rest) (mem result.ctx ops.new rest)) }
 {
     let f = ctx.fresh();
-    let c = f.ctx.push(ops, op::binding(op::SOURCE_NO_PARTS, f.number));
-    Lowered {
+    let behind = Reached {
         next: i + 1,
-        op: ctx.ops,
-        ctx: c,
-    }
+        ctx: f.ctx,
+    };
+    behind.push(ops, op::binding(op::SOURCE_NO_PARTS, f.number))
 }
 
 // The expression at a place.
 #[cycle(lowering)]
 pub fn lower_expr(r: &Records<'_>, tables: &mut Tables<'_>, ctx: LowerCtx, at: At) -> Reached
     requires { TreeAsked expr r.now.a.now r.now.b.now at (in_tables ctx tables.old) }
-    ensures { LowersExpr r.now.a.now r.now.b.now at.left at.base at.i result.next (in_tables ctx tables.old) (in_tables result.ctx tables.new) }
+    ensures lowered { LowersExpr r.now.a.now r.now.b.now at.left at.base at.i result.next (in_tables ctx tables.old) (in_tables result.ctx tables.new) }
+    ensures same { SameTables tables.old tables.new }
 {
     let kind = r.word(at.i, field::KIND);
     let n = r.children(at.i);
@@ -194,7 +198,7 @@ pub fn lower_expr(r: &Records<'_>, tables: &mut Tables<'_>, ctx: LowerCtx, at: A
         kind::MAP => lower_exprs(r, tables, ctx, below, n, 1),
         kind::PAT => {
             let q = lower_parts(r, tables, ctx, At { left, ..at }, n);
-            context::note(tables.rest, place, q.op as u32);
+            context::note(tables.rest, place, q.op);
             Reached {
                 next: q.next,
                 ctx: q.ctx,
@@ -220,7 +224,8 @@ pub fn lower_exprs(
     gap: usize,
 ) -> Reached
     requires { ExprsAsked r.now.a.now r.now.b.now n gap at (in_tables ctx tables.old) }
-    ensures { LowersExprs r.now.a.now r.now.b.now n gap at.left at.base at.i result.next (in_tables ctx tables.old) (in_tables result.ctx tables.new) }
+    ensures lowered { LowersExprs r.now.a.now r.now.b.now n gap at.left at.base at.i result.next (in_tables ctx tables.old) (in_tables result.ctx tables.new) }
+    ensures same { SameTables tables.old tables.new }
 {
     let mut cur = Reached { next: at.i, ctx };
     for _ in 0..n {
@@ -240,7 +245,8 @@ pub fn lower_parts(
     n: usize,
 ) -> Root
     requires { BehindAsked pattern_part r.now.a.now r.now.b.now n at (in_tables ctx tables.old) }
-    ensures { LowersParts r.now.a.now r.now.b.now n at.left at.base at.i result.next result.op (in_tables ctx tables.old) (in_tables result.ctx tables.new) }
+    ensures lowered { LowersParts r.now.a.now r.now.b.now n at.left at.base at.i result.next result.op (in_tables ctx tables.old) (in_tables result.ctx tables.new) }
+    ensures same { SameTables tables.old tables.new }
 {
     if n == 0 {
         return lower_no_parts(tables.ops, ctx, at.i);
@@ -258,7 +264,8 @@ pub fn lower_parts(
 #[cycle(lowering)]
 fn lower_pattern_part(r: &Records<'_>, tables: &mut Tables<'_>, ctx: LowerCtx, at: At) -> Root
     requires { TreeAsked pattern_part r.now.a.now r.now.b.now at (in_tables ctx tables.old) }
-    ensures { LowersPart r.now.a.now r.now.b.now at.left at.base at.i result.next result.op (in_tables ctx tables.old) (in_tables result.ctx tables.new) }
+    ensures lowered { LowersPart r.now.a.now r.now.b.now at.left at.base at.i result.next result.op (in_tables ctx tables.old) (in_tables result.ctx tables.new) }
+    ensures same { SameTables tables.old tables.new }
 {
     let shortest = r.word(at.i, field::PART_SHORTEST);
     if shortest == 0 {
@@ -270,14 +277,14 @@ fn lower_pattern_part(r: &Records<'_>, tables: &mut Tables<'_>, ctx: LowerCtx, a
     }
     let first = at.i + 1;
     let rel = r.skip(first);
-    let Element::Node(near) = read_element(r, first) else {
+    let Element::Node(near) = read_element(r.at(first)) else {
         return lower_chain(r, tables, ctx, at);
     };
     let far = r.skip(rel);
-    let Element::Rel(between) = read_element(r, rel) else {
+    let Element::Rel(between) = read_element(r.at(rel)) else {
         return lower_chain(r, tables, ctx, at);
     };
-    let Element::Node(to) = read_element(r, far) else {
+    let Element::Node(to) = read_element(r.at(far)) else {
         return lower_chain(r, tables, ctx, at);
     };
     let ends = NodeRelNode { near, rel, far, to };
@@ -295,7 +302,8 @@ fn lower_shortest_path_part(
     between: Read,
 ) -> Root
     requires { SpecialAsked r.now.a.now r.now.b.now at ends between (in_tables ctx tables.old) }
-    ensures { LowersPart r.now.a.now r.now.b.now at.left at.base at.i result.next result.op (in_tables ctx tables.old) (in_tables result.ctx tables.new) }
+    ensures lowered { LowersPart r.now.a.now r.now.b.now at.left at.base at.i result.next result.op (in_tables ctx tables.old) (in_tables result.ctx tables.new) }
+    ensures same { SameTables tables.old tables.new }
 {
     let base = at.base;
     let first = at.i + 1;
@@ -313,25 +321,26 @@ fn lower_shortest_path_part(
     let to = s
         .ctx
         .endpoint_var(tables.rest, ends.to.bind, base + (far + 1));
-    let bind = read_bind(r, at.i);
+    let bind = read_bind(r.at(at.i));
     let path = to.ctx.endpoint_var(tables.rest, bind, base + first);
     let whole = At { left, ..at };
-    let z = path
-        .ctx
-        .push(tables.ops, op::shortest_path(whole, q.op, rel, far));
     let end = r.skip(far);
-    Lowered {
+    let behind = Reached {
         next: end,
-        op: path.ctx.ops,
-        ctx: z,
-    }
+        ctx: path.ctx,
+    };
+    behind.push(
+        tables.ops,
+        op::shortest_path(whole, q.op, rel as u32, far as u32),
+    )
 }
 
 // The part at a place as a chain: its elements, then the path if it is named.
 #[cycle(lowering)]
 fn lower_chain(r: &Records<'_>, tables: &mut Tables<'_>, ctx: LowerCtx, at: At) -> Root
     requires { TreeAsked pattern_part r.now.a.now r.now.b.now at (in_tables ctx tables.old) }
-    ensures { LowersChain r.now.a.now r.now.b.now at.left at.base at.i result.next result.op (in_tables ctx tables.old) (in_tables result.ctx tables.new) }
+    ensures lowered { LowersChain r.now.a.now r.now.b.now at.left at.base at.i result.next result.op (in_tables ctx tables.old) (in_tables result.ctx tables.new) }
+    ensures same { SameTables tables.old tables.new }
 {
     let i = at.i;
     let n = r.count(i, field::PART_ELEMENTS);
@@ -340,20 +349,15 @@ fn lower_chain(r: &Records<'_>, tables: &mut Tables<'_>, ctx: LowerCtx, at: At) 
     let ch = lower_elements(r, tables, ctx, below, n);
     let root = root_of(ch.last);
     let q = or_source_all(tables.ops, ch.ctx, root, ch.next);
-    let named = r.word(i, field::PART_NAMED);
-    if named == 0 {
+    let Some(id) = read_bind(r.at(i)) else {
         return q;
-    }
-    let id = r.word(i, field::PART_VAR);
+    };
     let m = q.ctx.number(tables.rest, id, at.base + (i + 1));
-    let z = m
-        .ctx
-        .push(tables.ops, op::bind_path(below, q.op, ch.kept, m.number));
-    Lowered {
+    let behind = Reached {
         next: q.next,
-        op: m.ctx.ops,
-        ctx: z,
-    }
+        ctx: m.ctx,
+    };
+    behind.push(tables.ops, op::bind_path(below, q.op, ch.kept, m.number))
 }
 
 // The n elements behind the record at a place.
@@ -366,7 +370,8 @@ fn lower_elements(
     n: usize,
 ) -> Chain
     requires { BehindAsked pattern_element r.now.a.now r.now.b.now n at (in_tables ctx tables.old) }
-    ensures { LowersElements r.now.a.now r.now.b.now n at.left at.base (start_chain at.i ctx) result tables.old.ops.now tables.new.ops.now tables.old.rest.now tables.new.rest.now }
+    ensures lowered { LowersElements r.now.a.now r.now.b.now n at.left at.base (start_chain at.i ctx) result tables.old.ops.now tables.new.ops.now tables.old.rest.now tables.new.rest.now }
+    ensures same { SameTables tables.old tables.new }
 {
     let first = at.i + 1;
     let mut ch = Chain {
@@ -392,10 +397,11 @@ fn lower_element(
     left: usize,
 ) -> Chain
     requires { ChainAsked r.now.a.now r.now.b.now base left ch tables.old.ops.now tables.old.rest.now }
-    ensures { LowersElement r.now.a.now r.now.b.now left base ch result tables.old.ops.now tables.new.ops.now tables.old.rest.now tables.new.rest.now }
+    ensures lowered { LowersElement r.now.a.now r.now.b.now left base ch result tables.old.ops.now tables.new.ops.now tables.old.rest.now tables.new.rest.now }
+    ensures same { SameTables tables.old tables.new }
 {
     let i = ch.next;
-    match read_element(r, i) {
+    match read_element(r.at(i)) {
         Element::Rel(read) => {
             let end = r.skip(i);
             Chain {
@@ -424,7 +430,8 @@ fn start_chain(
     node: Read,
 ) -> Chain
     requires { StartAsked r.now.a.now r.now.b.now base left ch node tables.old.ops.now tables.old.rest.now }
-    ensures { LowersElement r.now.a.now r.now.b.now left base ch result tables.old.ops.now tables.new.ops.now tables.old.rest.now tables.new.rest.now }
+    ensures lowered { LowersElement r.now.a.now r.now.b.now left base ch result tables.old.ops.now tables.new.ops.now tables.old.rest.now tables.new.rest.now }
+    ensures same { SameTables tables.old tables.new }
 {
     let i = ch.next;
     let m = ch.ctx.endpoint_var(tables.rest, node.bind, base + (i + 1));
@@ -453,7 +460,8 @@ fn expand_to(
     link: Link,
 ) -> Chain
     requires { ExpandAsked r.now.a.now r.now.b.now base left ch link tables.old.ops.now tables.old.rest.now }
-    ensures { LowersElement r.now.a.now r.now.b.now left base ch result tables.old.ops.now tables.new.ops.now tables.old.rest.now tables.new.rest.now }
+    ensures lowered { LowersElement r.now.a.now r.now.b.now left base ch result tables.old.ops.now tables.new.ops.now tables.old.rest.now tables.new.rest.now }
+    ensures same { SameTables tables.old tables.new }
 {
     let i = ch.next;
     let node = link.node;
@@ -472,15 +480,16 @@ fn expand_to(
         left: less,
     };
     let t = lower_exprs(r, tables, s.ctx, below, node.props, 0);
-    let z = t
-        .ctx
-        .push(tables.ops, op::expand(place, origin.op, origin.number, i));
+    let z = t.push(
+        tables.ops,
+        op::expand(place, origin.op, origin.number, i as u32),
+    );
     let kept = ch.kept + 2;
     Chain {
-        next: t.next,
-        ctx: z,
+        next: z.next,
+        ctx: z.ctx,
         last: Some(LastNode {
-            op: t.ctx.ops,
+            op: z.op,
             number: m.number,
         }),
         pending: None,
@@ -499,7 +508,8 @@ fn start_node(
     node: Read,
 ) -> Root
     requires { NodeAsked r.now.a.now r.now.b.now at node (in_tables ctx tables.old) }
-    ensures { LowersStart r.now.a.now r.now.b.now at.left at.base at.i number result.next result.op (in_tables ctx tables.old) (in_tables result.ctx tables.new) }
+    ensures lowered { LowersStart r.now.a.now r.now.b.now at.left at.base at.i number result.next result.op (in_tables ctx tables.old) (in_tables result.ctx tables.new) }
+    ensures same { SameTables tables.old tables.new }
 {
     let first = node.first;
     let less = at.left - 1;
@@ -509,22 +519,12 @@ fn start_node(
         left: less,
         ..at
     };
-    let k = ctx.ops;
-    let p = ctx.push(tables.ops, op::source(here, number));
+    let p = Reached { next: first, ctx }.push(tables.ops, op::source(here, number));
     if node.props == 0 {
-        return Lowered {
-            next: first,
-            op: k,
-            ctx: p,
-        };
+        return p;
     }
-    let s = lower_expr(r, tables, p, below);
-    let z = s.ctx.push(tables.ops, op::over(op::FILTER, below, k));
-    Lowered {
-        next: s.next,
-        op: s.ctx.ops,
-        ctx: z,
-    }
+    let s = lower_expr(r, tables, p.ctx, below);
+    s.push(tables.ops, op::over(op::FILTER, below, p.op))
 }
 
 // The number and the props of the rel at a place.
@@ -537,7 +537,8 @@ fn lower_rel_element(
     rel: Read,
 ) -> Reached
     requires { RelAsked r.now.a.now r.now.b.now at rel (in_tables ctx tables.old) }
-    ensures { LowersRel r.now.a.now r.now.b.now at.left at.base at.i result.next ctx tables.old.ops.now tables.old.rest.now (in_tables result.ctx tables.new) }
+    ensures lowered { LowersRel r.now.a.now r.now.b.now at.left at.base at.i result.next ctx tables.old.ops.now tables.old.rest.now (in_tables result.ctx tables.new) }
+    ensures same { SameTables tables.old tables.new }
 {
     let i = at.i;
     let m = ctx.endpoint_var(tables.rest, rel.bind, at.base + (i + 1));

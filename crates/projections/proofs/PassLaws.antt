@@ -25,7 +25,6 @@ use Rattle.lower.specs.Patterns.{SomeTrees}
 use Rattle.lower.specs.Chains.{OrSource}
 use Rattle.lower.specs.State.{to_then, push_to}
 use Rattle.projections.specs.Items.{items_c, items_lower, items_size, items_held, items_render, items_below}
-use Rattle.context.specs.declared.At.{At}
 use Rattle.projections.proofs.Pushing.{none_counted, some_counted, counted, left_low, pushed_if}
 use Rattle.projections.specs.Asked.{FirstAsked, SecondAsked}
 use Rattle.projections.specs.Room.{room_source}
@@ -61,18 +60,18 @@ unfolding ◌>>=◌
 first_def current items s input e = rw e
 
 -- behind the source there is room for the items
-pub first_room : {sheet : Bytes} {a b : List ℕ} {at : At} {n k₀ : ℕ} {current : Option ℕ} {L : Lowering ℕ} {m m₁ : Mem} → FirstAsked sheet a b at n current m → OrSource m.ctx.ops L k₀ m m₁ → RoomFor at.left (at.i + 1) m₁
+pub first_room : {sheet : Bytes} {a b : List ℕ} {d i : ℕ} {n k₀ : ℕ} {current : Option ℕ} {L : Lowering ℕ} {m m₁ : Mem} → FirstAsked sheet a b n d i current m → OrSource m.ctx.ops L k₀ m m₁ → RoomFor d (i + 1) m₁
 first_room g q = room_source g.ready q _ (le_refl _) (omega (arith, g.low)) g.depth
 
 keys_left : (x y n g : ℕ) → x + y ≡ n → y ≡ g → x ≡ n - g
 keys_left x y n g e f = omega arith
 
-module _ {sheet : Bytes} {a b : List ℕ} {at : At} {n : ℕ} {current : Option ℕ} {j aggs k₀ k : ℕ} {c' : LowerCtx} {o' : List ℕ} {m m₁ m₂ : Mem}
-    (g : FirstAsked sheet a b at n current m)
+module _ {sheet : Bytes} {a b : List ℕ} {d i : ℕ} {n : ℕ} {current : Option ℕ} {j aggs k₀ k : ℕ} {c' : LowerCtx} {o' : List ℕ} {m m₁ m₂ : Mem}
+    (g : FirstAsked sheet a b n d i current m)
     (sr : OrSource m.ctx.ops (or_source_all current) k₀ m m₁)
-    (pt : LowersSplit sheet a b n at.left (at.i + 1) j aggs m₁ m₂)
-    (pi : PushedIf (not (eqb aggs 0)) (aggregate_op (at_place 0 at.i at.left) k₀ (n - aggs) aggs) k₀ k m₂.ctx c' m₂.ops o') where
-  first_run : {first : ℕ} (items : Trees projection n) → HeldOf sheet a b items at.left (at.i + 1) → (W : Written) (s : State) → Rep (side sheet a b first) W s m → Blank W (0 + suc (at.i + 1)) (0 + suc j) → Rooted (side sheet a b first) W (first_l n current items) k 0 (suc (at.i + 1)) (suc j) s m (mem c' o' m₂.rest)
+    (pt : LowersSplit sheet a b n d (i + 1) j aggs m₁ m₂)
+    (pi : PushedIf (not (eqb aggs 0)) (aggregate_op (at_place 0 i d) k₀ (n - aggs) aggs) k₀ k m₂.ctx c' m₂.ops o') where
+  first_run : {first : ℕ} (items : Trees projection n) → HeldOf sheet a b items d (i + 1) → (W : Written) (s : State) → Rep (side sheet a b first) W s m → Blank W (0 + suc (i + 1)) (0 + suc j) → Rooted (side sheet a b first) W (first_l n current items) k 0 (suc (i + 1)) (suc j) s m (mem c' o' m₂.rest)
   first_run items hd W s r bl =
       let s₁ : State = (or_source_all current s).1 in
       let S : Split = parted items s₁ in
@@ -96,7 +95,7 @@ module _ {sheet : Bytes} {a b : List ℕ} {at : At} {n : ℕ} {current : Option 
       let D = first_def current items s k₀ x₀.root in
       record { to = rw D (to_then x₀.to (to_then x₁.to x₂.to)); root = rw D x₂.root; low = left_low pi (let g = x₁.to.grow in let l = sr.low in omega arith) }
 
-  pub first_law : LowersPass sheet a b n at.left 0 (at.i + 1) j k (first_l n current) m (mem c' o' m₂.rest)
+  pub first_law : LowersPass sheet a b n d 0 (i + 1) j k (first_l n current) m (mem c' o' m₂.rest)
   first_law =
       let x = pt.moved in
       let y = counted pi in
@@ -134,22 +133,22 @@ second_def : {n : ℕ} (distinct : Bool) (input : ℕ) (items : Trees projection
 unfolding ◌>>=◌ push
 second_def distinct input items s k e = rw (items_lower items s, e)
 
-module _ {a b : List ℕ} {at : At} {n input j k : ℕ} {x : Bool} {c₁ c₂ : LowerCtx} {o₁ o₂ : List ℕ} {m m₁ : Mem}
-    (g : SecondAsked a b at n input m)
-    (it : LowersExprs a b n 1 (at.left - 1) second_pass (at.i + 1) j m m₁)
-    (ps : Pushed m₁.ctx c₁ m₁.ops o₁ (project_op (at_place second_pass at.i at.left) input)) (lo : length o₁ ≡ length m₁.ops)
+module _ {a b : List ℕ} {d i : ℕ} {n input j k : ℕ} {x : Bool} {c₁ c₂ : LowerCtx} {o₁ o₂ : List ℕ} {m m₁ : Mem}
+    (g : SecondAsked a b n d i input m)
+    (it : LowersExprs a b n 1 (d - 1) second_pass (i + 1) j m m₁)
+    (ps : Pushed m₁.ctx c₁ m₁.ops o₁ (project_op (at_place second_pass i d) input)) (lo : length o₁ ≡ length m₁.ops)
     (pi : PushedIf x (distinct_op m₁.ctx.ops) m₁.ctx.ops k c₁ c₂ o₁ o₂) where
   pub second_low : k < c₂.ops
   second_low = left_low pi (omega (arith, ps.count))
 
-  second_next : (sheet : Bytes) (items : Trees projection n) → HeldOf sheet a b items at.left (at.i + 1) → j ≡ at.i + 1 + size_of items
-  second_next sheet items hd = let y = it.next sheet (items_c items) (items_held sheet a b items at.left (at.i + 1) hd) in let z = items_size items in omega arith
+  second_next : (sheet : Bytes) (items : Trees projection n) → HeldOf sheet a b items d (i + 1) → j ≡ i + 1 + size_of items
+  second_next sheet items hd = let y = it.next sheet (items_c items) (items_held sheet a b items d (i + 1) hd) in let z = items_size items in omega arith
 
-  second_run : (sheet : Bytes) {first : ℕ} (items : Trees projection n) → HeldOf sheet a b items at.left (at.i + 1) → (W : Written) (s : State) → Rep (side sheet a b first) W s m → Blank W (second_pass + suc (at.i + 1)) (second_pass + suc j) → Rooted (side sheet a b first) W (second_l n x input items) k second_pass (suc (at.i + 1)) (suc j) s m (mem c₂ o₂ m₁.rest)
+  second_run : (sheet : Bytes) {first : ℕ} (items : Trees projection n) → HeldOf sheet a b items d (i + 1) → (W : Written) (s : State) → Rep (side sheet a b first) W s m → Blank W (second_pass + suc (i + 1)) (second_pass + suc j) → Rooted (side sheet a b first) W (second_l n x input items) k second_pass (suc (i + 1)) (suc j) s m (mem c₂ o₂ m₁.rest)
   second_run sheet {first} items hd W s r bl =
       let k₁ : ℕ = m₁.ctx.ops in
-      let x₁ = it.run sheet (items_c items) (items_held sheet a b items at.left (at.i + 1) hd) W s r bl in
-      let x₂ = push_to m₁ c₁ o₁ (project_op (at_place second_pass at.i at.left) input) (projected input items s) x₁.to.rep ps
+      let x₁ = it.run sheet (items_c items) (items_held sheet a b items d (i + 1) hd) W s r bl in
+      let x₂ = push_to m₁ c₁ o₁ (project_op (at_place second_pass i d) input) (projected input items s) x₁.to.rep ps
       (λ N A f. record {
         bounded = record { shallow = g.depth; near = omega arith; low = g.low; far = λ e. absurd (omega arith); flagged = λ e. absurd (omega arith) };
         shows = shows_project refl (record {
@@ -170,7 +169,7 @@ module _ {a b : List ℕ} {at : At} {n input j k : ℕ} {x : Bool} {c₁ c₂ : 
       let D = second_def x input items s k₁ x₁.to.rep.count in
       record { to = rw D (to_then x₁.to (to_then x₂ x₃.to)); root = rw D x₃.root; low = second_low }
 
-  pub second_law : (sheet : Bytes) → LowersPass sheet a b n at.left second_pass (at.i + 1) j k (second_l n x input) m (mem c₂ o₂ m₁.rest)
+  pub second_law : (sheet : Bytes) → LowersPass sheet a b n d second_pass (i + 1) j k (second_l n x input) m (mem c₂ o₂ m₁.rest)
   second_law sheet =
       let v = it.moved in
       let y = counted pi in

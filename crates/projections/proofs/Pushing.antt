@@ -2,7 +2,6 @@
 use Rattle.std.proofs.Common.{◌≡◌, refl, ◌∙◌, ℕ, ◌+◌, ◌≤◌, ◌<◌, Bool, true, false, not, List, length, eqb, le_refl, arith}
 use Rattle.std.proofs.lemmas.Bool.Decides.{nat_tests}
 use Rattle.model.specs.Lower.{Recs, Lowering, push}
-use Rattle.words.specs.Words.{two32}
 use Rattle.context.specs.declared.op.Op.{Op}
 use Rattle.context.specs.declared.LowerCtx.{LowerCtx}
 use Rattle.lower.specs.Side.{Side}
@@ -34,10 +33,6 @@ pushed_if_as e p = rw e at p
 pub left_low : {w : Bool} {input k : ℕ} {x : Op} {c c' : LowerCtx} {o o' : List ℕ} → PushedIf w x input k c c' o o' → input < c.ops → k < c'.ops
 left_low (none_pushed e ek ec eo) l = rw (ek, ec) l
 left_low (one_pushed e ek p lo) l = omega (arith, p.count)
-
-pub left_word_law : {w : Bool} {input k : ℕ} {x : Op} {c c' : LowerCtx} {o o' : List ℕ} → PushedIf w x input k c c' o o' → input < two32 → c.ops < two32 → k < two32
-left_word_law (none_pushed e ek ec eo) l l' = omega arith
-left_word_law (one_pushed e ek p lo) l l' = omega arith
 
 -- behind what has moved, over at least one record if the operator is wanted
 pub moved_if : {w : Bool} {x : Op} {i e input k : ℕ} {c : LowerCtx} {os : List ℕ} {m m₁ : Mem} → Moved i e m m₁ → (w ≡ true → i + 1 ≤ e) → PushedIf w x input k m₁.ctx c m₁.ops os → MovedTwice i e m (mem c os m₁.rest)

@@ -5,13 +5,12 @@ use Rattle.model.specs.Kind.{Sort, ReadOp, expr, order_item}
 use Rattle.model.specs.Record.{Rec}
 use Rattle.model.specs.Tree.{Tree, Trees, []ᵗ, ◌∷ᵗ◌}
 use Rattle.model.specs.Lower.{Recs, Lowering, ◌>>=◌, ret, push, op, lower_expr, order_by, over_expr, lower_trailers}
-use Rattle.words.specs.Words.{cell, max_records, two32}
+use Rattle.words.specs.Words.{cell, max_records}
 use Rattle.words.specs.Held.{Held, HeldOf, size_of}
 use Rattle.words.specs.Places.{keys_at, skip_at, limit_at}
 use Rattle.words.specs.Fits.{trees_fits}
 use Rattle.context.specs.Tables.{CanPush, deepest}
 use Rattle.context.specs.Ops.{Fits, order_by_op, skip_op, limit_op}
-use Rattle.context.specs.declared.At.{At}
 use Rattle.context.specs.declared.LowerCtx.{LowerCtx}
 use Rattle.context.specs.declared.op.Op.{Op}
 use Rattle.lower.specs.Side.{side}
@@ -28,7 +27,7 @@ use Rattle.projections.specs.Asked.{ItemsAsked, TailAsked}
 use Rattle.projections.specs.Promises.{PushedIf, LowersOver, order_l, skip_l, limit_l, Tail, tail_size, SomeTail, LowersTail}
 use Rattle.lower.specs.Asked.{ExprsAsked}
 use Rattle.lower.specs.Exprs.{room_after, can_push}
-use Rattle.projections.specs.Room.{twice_then, ready_room, ready_after, few, fits}
+use Rattle.projections.specs.Room.{twice_then, ready_room, ready_after, fits}
 use Rattle.projections.proofs.Pushing.{none_counted, some_counted, left_low, moved_if, pushed_if, pushed_if_as}
 
 -- ── trees that an operator stands over, or none ──
@@ -242,49 +241,49 @@ module _ {a b : List ℕ} {n₁ e₁ k₁ : ℕ} {m m₁ : Mem} (d input i j : �
 
 -- ── the three as the code has them, each behind the one before ──
 
-module _ {a b : List ℕ} {at : At} {i input n₁ : ℕ} {m : Mem} (g : TailAsked a b at i input m) (cn₁ : n₁ ≡ cell a b i keys_at) where
-  pub keys_asked : ItemsAsked a b (at_place 0 at.i at.left) n₁ m
+module _ {a b : List ℕ} {d i j input n₁ : ℕ} {m : Mem} (g : TailAsked a b d i j input m) (cn₁ : n₁ ≡ cell a b i keys_at) where
+  pub keys_asked : ItemsAsked a b (at_place 0 j d) n₁ m
   keys_asked = record { items = keys_some (tail_keys cn₁ g.tail); room = ready_room g.ready (le_refl _) g.ready.here g.depth; depth = g.depth; pass = omega arith }
 
-  module _ {j₁ e₁ k₁ : ℕ} {x₁ : Op} {c₁ : LowerCtx} {os₁ : List ℕ} {m₁ : Mem} (it₁ : LowersExprs a b n₁ 1 (at.left - 1) 0 at.i e₁ m m₁) (ex₁ : x₁ ≡ order_by_op (at_place 0 at.i at.left) input n₁) (pi₁ : (j₁ ≡ e₁) × PushedIf (not (eqb n₁ 0)) x₁ input k₁ m₁.ctx c₁ m₁.ops os₁) where
-    ordered : LowersOver a b n₁ at.left at.i j₁ k₁ (order_l n₁ input) m (mem c₁ os₁ m₁.rest)
-    ordered = trail_law (order_trails a b n₁ at.left at.i input g.depth g.ready.here) (tail_keys cn₁ g.tail) g.ready.here g.stands it₁ (pushed_if_as ex₁ pi₁.1) pi₁.0
+  module _ {j₁ e₁ k₁ : ℕ} {x₁ : Op} {c₁ : LowerCtx} {os₁ : List ℕ} {m₁ : Mem} (it₁ : LowersExprs a b n₁ 1 (d - 1) 0 j e₁ m m₁) (ex₁ : x₁ ≡ order_by_op (at_place 0 j d) input n₁) (pi₁ : (j₁ ≡ e₁) × PushedIf (not (eqb n₁ 0)) x₁ input k₁ m₁.ctx c₁ m₁.ops os₁) where
+    ordered : LowersOver a b n₁ d j j₁ k₁ (order_l n₁ input) m (mem c₁ os₁ m₁.rest)
+    ordered = trail_law (order_trails a b n₁ d j input g.depth g.ready.here) (tail_keys cn₁ g.tail) g.ready.here g.stands it₁ (pushed_if_as ex₁ pi₁.1) pi₁.0
 
     ready₁ : Ready j₁ (mem c₁ os₁ m₁.rest)
     ready₁ = ready_after ordered.moved g.ready
 
     module _ {n₂ : ℕ} (cn₂ : n₂ ≡ cell a b i skip_at) where
-      skips : SomeTrees a b expr n₂ at.left j₁
-      skips = skip_some at.left input i at.i cn₁ ordered cn₂ g.tail
+      skips : SomeTrees a b expr n₂ d j₁
+      skips = skip_some d input i j cn₁ ordered cn₂ g.tail
 
-      pub skip_asked : ExprsAsked a b n₂ 0 (at_place 0 j₁ at.left) (mem c₁ os₁ m₁.rest)
+      pub skip_asked : ExprsAsked a b n₂ 0 (at_place 0 j₁ d) (mem c₁ os₁ m₁.rest)
       skip_asked = record { tree = expr_some skips; room = ready_room ready₁ (le_refl _) ready₁.here g.depth; depth = g.depth; pass = omega arith }
 
-      module _ {j₂ e₂ k₂ : ℕ} {x₂ : Op} {c₂ : LowerCtx} {os₂ : List ℕ} {m₂ : Mem} (it₂ : LowersExprs a b n₂ 0 at.left 0 j₁ e₂ (mem c₁ os₁ m₁.rest) m₂) (ex₂ : x₂ ≡ skip_op (at_place 0 j₁ at.left) k₁) (pi₂ : (j₂ ≡ e₂) × PushedIf (not (eqb n₂ 0)) x₂ k₁ k₂ m₂.ctx c₂ m₂.ops os₂) where
-        skipped : LowersOver a b n₂ at.left j₁ j₂ k₂ (skip_l n₂ k₁) (mem c₁ os₁ m₁.rest) (mem c₂ os₂ m₂.rest)
-        skipped = trail_law (skip_trails a b n₂ at.left j₁ k₁ g.depth ready₁.here (skip_one cn₂ g.tail)) skips ready₁.here ordered.low it₂ (pushed_if_as ex₂ pi₂.1) pi₂.0
+      module _ {j₂ e₂ k₂ : ℕ} {x₂ : Op} {c₂ : LowerCtx} {os₂ : List ℕ} {m₂ : Mem} (it₂ : LowersExprs a b n₂ 0 d 0 j₁ e₂ (mem c₁ os₁ m₁.rest) m₂) (ex₂ : x₂ ≡ skip_op (at_place 0 j₁ d) k₁) (pi₂ : (j₂ ≡ e₂) × PushedIf (not (eqb n₂ 0)) x₂ k₁ k₂ m₂.ctx c₂ m₂.ops os₂) where
+        skipped : LowersOver a b n₂ d j₁ j₂ k₂ (skip_l n₂ k₁) (mem c₁ os₁ m₁.rest) (mem c₂ os₂ m₂.rest)
+        skipped = trail_law (skip_trails a b n₂ d j₁ k₁ g.depth ready₁.here (skip_one cn₂ g.tail)) skips ready₁.here ordered.low it₂ (pushed_if_as ex₂ pi₂.1) pi₂.0
 
         ready₂ : Ready j₂ (mem c₂ os₂ m₂.rest)
         ready₂ = ready_after skipped.moved ready₁
 
         -- what the limit's operator asks
-        pub limit_fits : Fits (at_place 0 j₂ at.left) × (k₂ < two32)
-        limit_fits = (fits (omega arith) ready₂.here g.depth, omega (arith, few ready₂, skipped.low))
+        pub limit_fits : Fits (at_place 0 j₂ d)
+        limit_fits = fits (omega arith) ready₂.here g.depth
 
         module _ {n₃ : ℕ} (cn₃ : n₃ ≡ cell a b i limit_at) where
-          limits : SomeTrees a b expr n₃ at.left j₂
-          limits = limit_some at.left input i at.i cn₁ ordered cn₂ skipped.next cn₃ g.tail
+          limits : SomeTrees a b expr n₃ d j₂
+          limits = limit_some d input i j cn₁ ordered cn₂ skipped.next cn₃ g.tail
 
-          pub limit_asked : ExprsAsked a b n₃ 0 (at_place 0 j₂ at.left) (mem c₂ os₂ m₂.rest)
+          pub limit_asked : ExprsAsked a b n₃ 0 (at_place 0 j₂ d) (mem c₂ os₂ m₂.rest)
           limit_asked = record { tree = expr_some limits; room = ready_room ready₂ (le_refl _) ready₂.here g.depth; depth = g.depth; pass = omega arith }
 
-          module _ {e₃ : ℕ} {m₃ : Mem} (it₃ : LowersExprs a b n₃ 0 at.left 0 j₂ e₃ (mem c₂ os₂ m₂.rest) m₃) where
+          module _ {e₃ : ℕ} {m₃ : Mem} (it₃ : LowersExprs a b n₃ 0 d 0 j₂ e₃ (mem c₂ os₂ m₂.rest) m₃) where
             pub limit_pushes : CanPush m₃.ctx m₃.ops
             limit_pushes = can_push (room_after it₃.moved (ready_room ready₂ (le_refl _) ready₂.here g.depth))
 
-            module _ {j₃ k₃ : ℕ} {x₃ : Op} {c₃ : LowerCtx} {os₃ : List ℕ} (ex₃ : x₃ ≡ limit_op (at_place 0 j₂ at.left) k₂) (pi₃ : (j₃ ≡ e₃) × PushedIf (not (eqb n₃ 0)) x₃ k₂ k₃ m₃.ctx c₃ m₃.ops os₃) where
-              limited : LowersOver a b n₃ at.left j₂ j₃ k₃ (limit_l n₃ k₂) (mem c₂ os₂ m₂.rest) (mem c₃ os₃ m₃.rest)
-              limited = trail_law (limit_trails a b n₃ at.left j₂ k₂ g.depth ready₂.here (limit_one cn₃ g.tail)) limits ready₂.here skipped.low it₃ (pushed_if_as ex₃ pi₃.1) pi₃.0
+            module _ {j₃ k₃ : ℕ} {x₃ : Op} {c₃ : LowerCtx} {os₃ : List ℕ} (ex₃ : x₃ ≡ limit_op (at_place 0 j₂ d) k₂) (pi₃ : (j₃ ≡ e₃) × PushedIf (not (eqb n₃ 0)) x₃ k₂ k₃ m₃.ctx c₃ m₃.ops os₃) where
+              limited : LowersOver a b n₃ d j₂ j₃ k₃ (limit_l n₃ k₂) (mem c₂ os₂ m₂.rest) (mem c₃ os₃ m₃.rest)
+              limited = trail_law (limit_trails a b n₃ d j₂ k₂ g.depth ready₂.here (limit_one cn₃ g.tail)) limits ready₂.here skipped.low it₃ (pushed_if_as ex₃ pi₃.1) pi₃.0
 
-              pub trailers_law : LowersTail a b at.left input i at.i j₃ k₃ m (mem c₃ os₃ m₃.rest)
-              trailers_law = tail_law at.left input i at.i cn₁ ordered cn₂ skipped cn₃ limited
+              pub trailers_law : LowersTail a b d input i j j₃ k₃ m (mem c₃ os₃ m₃.rest)
+              trailers_law = tail_law d input i j cn₁ ordered cn₂ skipped cn₃ limited

@@ -16,7 +16,6 @@ use Rattle.words.specs.Held.{Held, HeldOf, size, size_of}
 use Rattle.words.specs.Places.{with_kind, items_at, with_filter_at}
 use Rattle.context.specs.Tables.{Pushed}
 use Rattle.context.specs.Ops.{with_op}
-use Rattle.context.specs.declared.At.{At}
 use Rattle.context.specs.declared.LowerCtx.{LowerCtx}
 use Rattle.lower.specs.Side.{side}
 use Rattle.lower.specs.Shows.{shift, shows_with}
@@ -43,51 +42,51 @@ shown_both head rs rs' ss ss' e e' = rw (e, e')
 with_sub : (i j p q e : ℕ) (W : Written) → i + 1 ≤ j → j ≤ p → p ≡ q → p ≤ e → Sub ((0 + suc q, 0 + suc e) ∷ (0 + suc j, 0 + suc p) ∷ (0 + suc (i + 1), 0 + suc j) ∷ W) (both_passes (suc i) (suc e) W)
 with_sub i j p q e W l₁ l₂ eq l₃ = sub_within (omega arith) (omega arith) (sub_within (omega arith) (omega arith) (sub_within (omega arith) (omega arith) sub_both))
 
-module _ {a b : List ℕ} {at : At} {current : Option ℕ} {m : Mem} (room : Roomy a b) (g : ClauseAsked with_kind a b at current m) where
+module _ {a b : List ℕ} {d i : ℕ} {current : Option ℕ} {m : Mem} (room : Roomy a b) (g : ClauseAsked with_kind a b d i current m) where
   -- the items
-  pub with_items : {n : ℕ} → n ≡ cell a b at.i items_at → SomeCarried a b n 1 (at.left - 1 - 1) (at.i + 1)
+  pub with_items : {n : ℕ} → n ≡ cell a b i items_at → SomeCarried a b n 1 (d - 1 - 1) (i + 1)
   with_items en =
       let v = a_with room g.tree.tree g.tree.held g.kind in
-      rw (en ∙ sym v.counted) (record { sheet = g.tree.sheet; list = items_c v.items; held = items_held g.tree.sheet a b v.items (at.left - 1) (at.i + 1) v.held_items })
+      rw (en ∙ sym v.counted) (record { sheet = g.tree.sheet; list = items_c v.items; held = items_held g.tree.sheet a b v.items (d - 1) (i + 1) v.held_items })
 
-  module _ {n j : ℕ} {m₁ m₂ : Mem} (en : n ≡ cell a b at.i items_at) (it : LowersExprs a b n 1 (at.left - 1 - 1) 0 (at.i + 1) j m₁ m₂) where
-    items_as : (x : ℕ) → x ≡ cell a b at.i items_at → LowersExprs a b x 1 (at.left - 1 - 1) 0 (at.i + 1) j m₁ m₂
+  module _ {n j : ℕ} {m₁ m₂ : Mem} (en : n ≡ cell a b i items_at) (it : LowersExprs a b n 1 (d - 1 - 1) 0 (i + 1) j m₁ m₂) where
+    items_as : (x : ℕ) → x ≡ cell a b i items_at → LowersExprs a b x 1 (d - 1 - 1) 0 (i + 1) j m₁ m₂
     items_as x e = rw (en ∙ sym e) at it
 
-    items_end : (sheet : Bytes) (t : Tree clause) (v : IsWith sheet a b at.left at.i t) → j ≡ at.i + 1 + size_of v.items
+    items_end : (sheet : Bytes) (t : Tree clause) (v : IsWith sheet a b d i t) → j ≡ i + 1 + size_of v.items
     items_end sheet t v =
-        let x = (items_as v.n v.counted).next sheet (items_c v.items) (items_held sheet a b v.items (at.left - 1) (at.i + 1) v.held_items) in
+        let x = (items_as v.n v.counted).next sheet (items_c v.items) (items_held sheet a b v.items (d - 1) (i + 1) v.held_items) in
         let y = items_size v.items in
         omega arith
 
-    predicate_held : (sheet : Bytes) (t : Tree clause) (v : IsWith sheet a b at.left at.i t) → HeldOf sheet a b v.predicate (at.left - 1) j
+    predicate_held : (sheet : Bytes) (t : Tree clause) (v : IsWith sheet a b d i t) → HeldOf sheet a b v.predicate (d - 1) j
     predicate_held sheet t v = rw (items_end sheet t v) v.held_predicate
 
     -- the predicate
-    pub with_predicate : {l : ℕ} → l ≡ cell a b at.i with_filter_at → SomeCarried a b l 0 (at.left - 1) j
+    pub with_predicate : {l : ℕ} → l ≡ cell a b i with_filter_at → SomeCarried a b l 0 (d - 1) j
     with_predicate el =
         let v = a_with room g.tree.tree g.tree.held g.kind in
-        rw (el ∙ sym v.flagged) (record { sheet = g.tree.sheet; list = plain_c v.predicate; held = plain_held g.tree.sheet a b v.predicate (at.left - 1) j (predicate_held g.tree.sheet g.tree.tree v) })
+        rw (el ∙ sym v.flagged) (record { sheet = g.tree.sheet; list = plain_c v.predicate; held = plain_held g.tree.sheet a b v.predicate (d - 1) j (predicate_held g.tree.sheet g.tree.tree v) })
 
-    module _ {l p : ℕ} {m₃ : Mem} (el : l ≡ cell a b at.i with_filter_at) (pr : LowersExprs a b l 0 (at.left - 1) 0 j p m₂ m₃) where
-      predicate_as : (x : ℕ) → x ≡ cell a b at.i with_filter_at → LowersExprs a b x 0 (at.left - 1) 0 j p m₂ m₃
+    module _ {l p : ℕ} {m₃ : Mem} (el : l ≡ cell a b i with_filter_at) (pr : LowersExprs a b l 0 (d - 1) 0 j p m₂ m₃) where
+      predicate_as : (x : ℕ) → x ≡ cell a b i with_filter_at → LowersExprs a b x 0 (d - 1) 0 j p m₂ m₃
       predicate_as x e = rw (el ∙ sym e) at pr
 
-      predicate_end : (sheet : Bytes) (t : Tree clause) (v : IsWith sheet a b at.left at.i t) → p ≡ at.i + 1 + size_of v.items + size_of v.predicate
+      predicate_end : (sheet : Bytes) (t : Tree clause) (v : IsWith sheet a b d i t) → p ≡ i + 1 + size_of v.items + size_of v.predicate
       predicate_end sheet t v =
-          let x = (predicate_as (one v.filtered) v.flagged).next sheet (plain_c v.predicate) (plain_held sheet a b v.predicate (at.left - 1) j (predicate_held sheet t v)) in
+          let x = (predicate_as (one v.filtered) v.flagged).next sheet (plain_c v.predicate) (plain_held sheet a b v.predicate (d - 1) j (predicate_held sheet t v)) in
           let y = plain_size v.predicate in
           let z = items_end sheet t v in
           omega arith
 
       -- what trails
-      pub with_tail : SomeTail a b (at.left - 1) at.i p
+      pub with_tail : SomeTail a b (d - 1) i p
       with_tail =
           let v = a_with room g.tree.tree g.tree.held g.kind in
           rw (predicate_end g.tree.sheet g.tree.tree v) (record { sheet = g.tree.sheet; tail = v.tail })
 
-      module _ {k₀ : ℕ} {c : LowerCtx} {os : List ℕ} (sr : OrSource m.ctx.ops (or_source_all current) k₀ m m₁) (ps : Pushed m₃.ctx c m₃.ops os (with_op (at_place 0 at.i (at.left - 1)) k₀)) (lo : length os ≡ length m₃.ops) where
-        pub with_moved : MovedTwice at.i p m (mem c os m₃.rest)
+      module _ {k₀ : ℕ} {c : LowerCtx} {os : List ℕ} (sr : OrSource m.ctx.ops (or_source_all current) k₀ m m₁) (ps : Pushed m₃.ctx c m₃.ops os (with_op (at_place 0 i (d - 1)) k₀)) (lo : length os ≡ length m₃.ops) where
+        pub with_moved : MovedTwice i p m (mem c os m₃.rest)
         with_moved =
             let x = it.moved in
             let y = pr.moved in
@@ -103,31 +102,31 @@ module _ {a b : List ℕ} {at : At} {current : Option ℕ} {m : Mem} (room : Roo
               index = λ z. rw ps.mapped (y.index (x.index (rw (sr.mapped, sr.rest) z)));
             }
 
-        module _ {e k : ℕ} {m₅ : Mem} (tl : LowersTail a b (at.left - 1) m₃.ctx.ops at.i p e k (mem c os m₃.rest) m₅) where
-          with_next : (sheet : Bytes) (t : Tree clause) → Held sheet a b t at.left at.i → e ≡ at.i + size t
+        module _ {e k : ℕ} {m₅ : Mem} (tl : LowersTail a b (d - 1) m₃.ctx.ops i p e k (mem c os m₃.rest) m₅) where
+          with_next : (sheet : Bytes) (t : Tree clause) → Held sheet a b t d i → e ≡ i + size t
           with_next sheet t hd =
               let v = a_with room t hd g.kind in
-              let tl' : LowersTail a b (at.left - 1) m₃.ctx.ops at.i (at.i + 1 + size_of v.items + size_of v.predicate) e k (mem c os m₃.rest) m₅ = rw (predicate_end sheet t v) at tl in
+              let tl' : LowersTail a b (d - 1) m₃.ctx.ops i (i + 1 + size_of v.items + size_of v.predicate) e k (mem c os m₃.rest) m₅ = rw (predicate_end sheet t v) at tl in
               let x = tl'.next sheet v.tail in
               let y = v.sized in
               omega arith
 
-          with_run : (sheet : Bytes) {first : ℕ} (t : Tree clause) → Held sheet a b t at.left at.i → (W : Written) (s : State) → Rep (side sheet a b first) W s m → BothBlank W (suc at.i) (suc e) → Leaves (side sheet a b first) W (λ s. lower_clause t current s) (Some k) (suc at.i) (suc e) s m m₅
+          with_run : (sheet : Bytes) {first : ℕ} (t : Tree clause) → Held sheet a b t d i → (W : Written) (s : State) → Rep (side sheet a b first) W s m → BothBlank W (suc i) (suc e) → Leaves (side sheet a b first) W (λ s. lower_clause t current s) (Some k) (suc i) (suc e) s m m₅
           with_run sheet {first} t hd W s r bl =
               let v = a_with room t hd g.kind in
-              let P : ℕ = at.i + 1 + size_of v.items + size_of v.predicate in
+              let P : ℕ = i + 1 + size_of v.items + size_of v.predicate in
               let ep : p ≡ P = predicate_end sheet t v in
-              let tl' : LowersTail a b (at.left - 1) m₃.ctx.ops at.i P e k (mem c os m₃.rest) m₅ = rw ep at tl in
+              let tl' : LowersTail a b (d - 1) m₃.ctx.ops i P e k (mem c os m₃.rest) m₅ = rw ep at tl in
               let u₁ = it.moved.up in
               let u₂ = pr.moved.up in
               let u₃ = tl.moved.up in
               let s₁ : State = (or_source_all current s).1 in
               let x₀ = sr.run _ W s r.from r in
-              let x₁ = (items_as v.n v.counted).run sheet (items_c v.items) (items_held sheet a b v.items (at.left - 1) (at.i + 1) v.held_items) W s₁ x₀.to.rep (blank_within (omega arith) (omega arith) bl.first) in
-              let x₂ = (predicate_as (one v.filtered) v.flagged).run sheet (plain_c v.predicate) (plain_held sheet a b v.predicate (at.left - 1) j (predicate_held sheet t v)) _ _ x₁.to.rep (blank_behind (le_refl _) (blank_within (omega arith) (omega arith) bl.first)) in
-              let x₃ = push_to m₃ c os (with_op (at_place 0 at.i (at.left - 1)) k₀) (with_recs v.filtered v.items v.predicate k₀ s₁) x₂.to.rep ps
+              let x₁ = (items_as v.n v.counted).run sheet (items_c v.items) (items_held sheet a b v.items (d - 1) (i + 1) v.held_items) W s₁ x₀.to.rep (blank_within (omega arith) (omega arith) bl.first) in
+              let x₂ = (predicate_as (one v.filtered) v.flagged).run sheet (plain_c v.predicate) (plain_held sheet a b v.predicate (d - 1) j (predicate_held sheet t v)) _ _ x₁.to.rep (blank_behind (le_refl _) (blank_within (omega arith) (omega arith) bl.first)) in
+              let x₃ = push_to m₃ c os (with_op (at_place 0 i (d - 1)) k₀) (with_recs v.filtered v.items v.predicate k₀ s₁) x₂.to.rep ps
               (λ N A f. record {
-                bounded = record { shallow = omega (arith, g.depth); near = omega arith; low = tree_low sheet a b t at.left at.i hd; far = λ e. absurd (omega arith); flagged = λ e. absurd (omega arith) };
+                bounded = record { shallow = omega (arith, g.depth); near = omega arith; low = tree_low sheet a b t d i hd; far = λ e. absurd (omega arith); flagged = λ e. absurd (omega arith) };
                 shows = shows_with refl (record {
                   count = v.n;
                   filtered = v.filtered;
@@ -145,9 +144,9 @@ module _ {a b : List ℕ} {at : At} {current : Option ℕ} {m : Mem} (room : Roo
               let x₄ = tl'.run sheet v.tail _ _ x₃.rep (blank_behind (omega arith) (blank_behind (omega arith) (blank_within (omega arith) (omega arith) bl.first))) in
               let D = v.def current s k₀ m₃.ctx.ops x₀.root x₂.to.rep.count in
               record {
-                to = rw D (to_wider (with_sub at.i j p P e W u₁ u₂ ep u₃) (to_then x₀.to (to_then x₁.to (to_then x₂.to (to_then x₃ x₄.to)))));
+                to = rw D (to_wider (with_sub i j p P e W u₁ u₂ ep u₃) (to_then x₀.to (to_then x₁.to (to_then x₂.to (to_then x₃ x₄.to)))));
                 gives = rw D (ap (λ (z : ℕ). Some z) (sym x₄.root));
               }
 
-          pub with_law : (sheet : Bytes) → LowersClause sheet a b at.left at.i e current (Some k) m m₅
+          pub with_law : (sheet : Bytes) → LowersClause sheet a b d i e current (Some k) m m₅
           with_law sheet = record { moved = twice_then with_moved tl.moved; stands = tl.low; next = with_next sheet; run = with_run sheet }

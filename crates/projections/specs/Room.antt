@@ -8,7 +8,6 @@ use Rattle.model.specs.Lower.{Lowering}
 use Rattle.words.specs.Words.{max_records}
 use Rattle.words.specs.Held.{HeldSome, HeldMany}
 use Rattle.context.specs.Tables.{CanPush, Pushed, deepest}
-use Rattle.context.specs.declared.At.{At}
 use Rattle.context.specs.declared.op.Op.{Op}
 use Rattle.context.specs.declared.LowerCtx.{LowerCtx}
 use Rattle.lower.specs.Rep.{Mem, mem, RoomFor, Moved}
@@ -59,7 +58,7 @@ pub record Bounds (d i ops : ℕ) : Type 0 where
 pub bounds_of : {a b : List ℕ} {s : Sort} {d i : ℕ} {m : Mem} → SomeTree a b s d i → Ready i m → d ≤ deepest → Bounds d i m.ctx.ops
 bounds_of x g h = record { low = low x; deep = deep x; shallow = h; few = few g }
 
-pub bounds : {a b : List ℕ} {k : ℕ} {at : At} {current : Option ℕ} {m : Mem} → ClauseAsked k a b at current m → Bounds at.left at.i m.ctx.ops
+pub bounds : {a b : List ℕ} {k : ℕ} {d i : ℕ} {current : Option ℕ} {m : Mem} → ClauseAsked k a b d i current m → Bounds d i m.ctx.ops
 bounds g = bounds_of g.tree g.ready g.depth
 
 -- ── what moves ──
@@ -94,8 +93,8 @@ module _ {o : ℕ} {L : Lowering ℕ} {k i : ℕ} {m m₁ : Mem} (g : Ready i m)
   few_source = omega (arith, g.few, g.here, q.few, q.low)
 
 -- behind it, at the first record below a clause
-pub clause_room : {k k₀ : ℕ} {a b : List ℕ} {at : At} {current : Option ℕ} {L : Lowering ℕ} {m m₁ : Mem} → ClauseAsked k a b at current m → OrSource m.ctx.ops L k₀ m m₁ → RoomFor (at.left - 1) (at.i + 1) m₁
-clause_room {at = at} g q = let l = bounds g in room_source g.ready q (at.left - 1) (le_refl _) (omega (arith, l.low)) (omega (arith, l.shallow))
+pub clause_room : {k k₀ : ℕ} {a b : List ℕ} {d i : ℕ} {current : Option ℕ} {L : Lowering ℕ} {m m₁ : Mem} → ClauseAsked k a b d i current m → OrSource m.ctx.ops L k₀ m m₁ → RoomFor (d - 1) (i + 1) m₁
+clause_room {d = d} g q = let l = bounds g in room_source g.ready q (d - 1) (le_refl _) (omega (arith, l.low)) (omega (arith, l.shallow))
 
 pub can_source : {i : ℕ} {m : Mem} → Ready i m → CanPush m.ctx m.ops
 can_source r = record { few = omega (arith, r.few, r.here); long = r.in_ops }

@@ -1,5 +1,6 @@
 // The items of a clause, and its sort keys, each a record with an expression behind it.
 ghost use Rattle.std.specs.Prelude.{◌-◌, ◌≤◌};
+ghost use Rattle.context.specs.Lent.{SameTables};
 ghost use Rattle.lower.specs.Rep.{in_tables};
 ghost use Rattle.lower.specs.Pieces.{LowersExprs};
 ghost use Rattle.projections.specs.Asked.{ItemsAsked, SplitAsked};
@@ -25,7 +26,8 @@ pub fn lower_items(
     n: usize,
 ) -> Reached
     requires { ItemsAsked r.now.a.now r.now.b.now at n (in_tables ctx tables.old) }
-    ensures { LowersExprs r.now.a.now r.now.b.now n 1 (at.left - 1) at.base at.i result.next (in_tables ctx tables.old) (in_tables result.ctx tables.new) }
+    ensures lowered { LowersExprs r.now.a.now r.now.b.now n 1 (at.left - 1) at.base at.i result.next (in_tables ctx tables.old) (in_tables result.ctx tables.new) }
+    ensures same { SameTables tables.old tables.new }
 {
     let below = At {
         left: at.left.saturating_sub(1),
@@ -44,7 +46,8 @@ pub fn split_projections_agg(
     n: usize,
 ) -> Parted
     requires { SplitAsked sheet.now r.now.a.now r.now.b.now at n (in_tables ctx tables.old) }
-    ensures { LowersSplit sheet.now r.now.a.now r.now.b.now n at.left at.i result.reached.next result.aggs (in_tables ctx tables.old) (in_tables result.reached.ctx tables.new) × (result.aggs ≤ n) }
+    ensures lowered { LowersSplit sheet.now r.now.a.now r.now.b.now n at.left at.i result.reached.next result.aggs (in_tables ctx tables.old) (in_tables result.reached.ctx tables.new) × (result.aggs ≤ n) }
+    ensures same { SameTables tables.old tables.new }
 {
     let mut cur = Reached { next: at.i, ctx };
     let mut aggs = 0;

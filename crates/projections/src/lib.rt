@@ -1,17 +1,18 @@
-// The lowering of a `with` or a `return` into the tables. r holds the records; a clause's place has no pass of its own.
+// The lowering of a `with` or a `return` into the tables. r holds the records; cur is what stands before the clause: its record, the operator before, if there is one, and the state. The clause's tree is at most so deep.
 #![tactic(auto)]
 
 ghost use Rattle.std.specs.Prelude.{◌≡◌, List, ℕ, Some};
 ghost use Rattle.words.specs.Places.{with_kind};
 ghost use Rattle.context.specs.Tables.{CanPush};
+ghost use Rattle.context.specs.Lent.{SameTables};
 ghost use Rattle.lower.specs.Rep.{in_tables};
 ghost use Rattle.lower.specs.Clauses.{LowersClause};
 ghost use Rattle.projections.specs.Asked.{ClauseAsked, ReturnAsked};
 ghost use Rattle.projections.specs.Promises.{PushedIf};
 
 use context::op::Op;
-use context::{At, LowerCtx, Tables, op};
-use lower::{Reached, Root};
+use context::{At, Tables, op};
+use lower::{Current, Reached, Root};
 use words::{Records, field};
 
 pub mod items;
@@ -19,7 +20,7 @@ pub mod passes;
 pub mod trailers;
 
 // An operator behind what is reached, if it is wanted; if not, `input`, which it would stand over, is left.
-fn push_if(ops: &mut [u32], s: Reached, wanted: bool, x: Op, input: usize) -> Root
+fn push_if(ops: &mut [u32], s: Reached, wanted: bool, x: Op, input: u32) -> Root
     requires { CanPush s.ctx ops.old }
     ensures { (result.next ≡ s.next) × PushedIf wanted x input result.op s.ctx result.ctx ops.old ops.new }
 {
@@ -30,37 +31,26 @@ fn push_if(ops: &mut [u32], s: Reached, wanted: bool, x: Op, input: usize) -> Ro
             ctx: s.ctx,
         };
     }
-    let k = s.ctx.ops;
-    let z = s.ctx.push(ops, x);
-    Root {
-        next: s.next,
-        op: k,
-        ctx: z,
-    }
+    s.push(ops, x)
 }
 
-// The `with` at a place, behind the operator before it.
-pub fn lower_with(
-    r: &Records<'_>,
-    tables: &mut Tables<'_>,
-    ctx: LowerCtx,
-    current: Option<usize>,
-    at: At,
-) -> Root
-    requires { ClauseAsked with_kind r.now.a.now r.now.b.now at current (in_tables ctx tables.old) }
-    ensures { (sheet : List ℕ) → LowersClause sheet r.now.a.now r.now.b.now at.left at.i result.next current (Some result.op) (in_tables ctx tables.old) (in_tables result.ctx tables.new) }
+// The `with` that stands next, behind the operator before it.
+pub fn lower_with(r: &Records<'_>, tables: &mut Tables<'_>, cur: Current, left: usize) -> Root
+    requires { ClauseAsked with_kind r.now.a.now r.now.b.now left cur.next cur.op (in_tables cur.ctx tables.old) }
+    ensures lowered { (sheet : List ℕ) → LowersClause sheet r.now.a.now r.now.b.now left cur.next result.next cur.op (Some result.op) (in_tables cur.ctx tables.old) (in_tables result.ctx tables.new) }
+    ensures same { SameTables tables.old tables.new }
 {
-    let i = at.i;
+    let i = cur.next;
     let items = r.count(i, field::ITEMS);
     let filter = r.count(i, field::WITH_FILTER);
     let first = i + 1;
-    let less = at.left - 1;
+    let less = left - 1;
     let clause = At {
         base: 0,
         i,
         left: less,
     };
-    let q = lower::or_source_all(tables.ops, ctx, current, first);
+    let q = lower::or_source_all(tables.ops, cur.ctx, cur.op, first);
     let below = At { i: first, ..clause };
     let s = items::lower_items(r, tables, q.ctx, below, items);
     let predicate = At {
@@ -68,41 +58,28 @@ pub fn lower_with(
         ..clause
     };
     let t = lower::lower_exprs(r, tables, s.ctx, predicate, filter, 0);
-    let k = t.ctx.ops;
-    let z = t.ctx.push(tables.ops, op::over(op::WITH, clause, q.op));
-    let behind = At {
-        i: t.next,
-        ..clause
-    };
-    trailers::lower_trailers(r, tables, z, k, i, behind)
+    let z = t.push(tables.ops, op::over(op::WITH, clause, q.op));
+    trailers::lower_trailers(r, tables, i, z, less)
 }
 
-// The `return` at a place, behind the operator before it.
+// The `return` that stands next, behind the operator before it.
 pub fn lower_return(
     sheet: &[u8],
     r: &Records<'_>,
     tables: &mut Tables<'_>,
-    ctx: LowerCtx,
-    current: Option<usize>,
-    at: At,
+    cur: Current,
+    left: usize,
 ) -> Root
-    requires { ReturnAsked sheet.now r.now.a.now r.now.b.now at current (in_tables ctx tables.old) }
-    ensures { LowersClause sheet.now r.now.a.now r.now.b.now at.left at.i result.next current (Some result.op) (in_tables ctx tables.old) (in_tables result.ctx tables.new) }
+    requires { ReturnAsked sheet.now r.now.a.now r.now.b.now left cur.next cur.op (in_tables cur.ctx tables.old) }
+    ensures lowered { LowersClause sheet.now r.now.a.now r.now.b.now left cur.next result.next cur.op (Some result.op) (in_tables cur.ctx tables.old) (in_tables result.ctx tables.new) }
+    ensures same { SameTables tables.old tables.new }
 {
-    let i = at.i;
+    let i = cur.next;
     let n = r.count(i, field::ITEMS);
     let distinct = r.word(i, field::RETURN_DISTINCT) == 1;
-    let less = at.left - 1;
-    let clause = At {
-        base: 0,
-        i,
-        left: less,
-    };
-    let p = passes::first_pass(sheet, r, tables, ctx, current, clause, n);
-    let q = passes::second_pass(r, tables, p.ctx, p.op, distinct, clause, n);
-    let behind = At {
-        i: q.next,
-        ..clause
-    };
-    trailers::lower_trailers(r, tables, q.ctx, q.op, i, behind)
+    let less = left - 1;
+    let p = passes::first_pass(sheet, r, tables, cur, less, n);
+    let again = Root { next: i, ..p };
+    let q = passes::second_pass(r, tables, again, distinct, less, n);
+    trailers::lower_trailers(r, tables, i, q, less)
 }

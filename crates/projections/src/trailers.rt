@@ -1,32 +1,37 @@
 // What trails a `with` or a `return`: order, skip, limit.
+ghost use Rattle.context.specs.Lent.{SameTables};
 ghost use Rattle.lower.specs.Rep.{in_tables};
 ghost use Rattle.projections.specs.Asked.{TailAsked};
 ghost use Rattle.projections.specs.Promises.{LowersTail};
 
 use crate::{items, push_if};
-use context::{At, LowerCtx, Tables, op};
+use context::{At, Tables, op};
 use lower::Root;
 use words::{Records, field};
 
-// Order, skip and limit of the clause at record i, from a place on; each that has no keys or no expression leaves the operator that it would stand over.
+// Order, skip and limit of the clause at record i, behind its root, whose trees are at most so deep; each that has no keys or no expression leaves the operator that it would stand over.
 pub fn lower_trailers(
     r: &Records<'_>,
     tables: &mut Tables<'_>,
-    ctx: LowerCtx,
-    input: usize,
     i: usize,
-    at: At,
+    root: Root,
+    left: usize,
 ) -> Root
-    requires { TailAsked r.now.a.now r.now.b.now at i input (in_tables ctx tables.old) }
-    ensures { LowersTail r.now.a.now r.now.b.now at.left input i at.i result.next result.op (in_tables ctx tables.old) (in_tables result.ctx tables.new) }
+    requires { TailAsked r.now.a.now r.now.b.now left i root.next root.op (in_tables root.ctx tables.old) }
+    ensures lowered { LowersTail r.now.a.now r.now.b.now left root.op i root.next result.next result.op (in_tables root.ctx tables.old) (in_tables result.ctx tables.new) }
+    ensures same { SameTables tables.old tables.new }
 {
     let keys = r.count(i, field::KEYS);
     let skip = r.count(i, field::SKIP);
     let limit = r.count(i, field::LIMIT);
-    let first = At { base: 0, ..at };
-    let s = items::lower_items(r, tables, ctx, first, keys);
-    let x = op::order_by(first, input, keys);
-    let p = push_if(tables.ops, s, keys != 0, x, input);
+    let first = At {
+        base: 0,
+        i: root.next,
+        left,
+    };
+    let s = items::lower_items(r, tables, root.ctx, first, keys);
+    let x = op::order_by(first, root.op, keys as u32);
+    let p = push_if(tables.ops, s, keys != 0, x, root.op);
     let second = At { i: p.next, ..first };
     let t = lower::lower_exprs(r, tables, p.ctx, second, skip, 0);
     let y = op::over(op::SKIP, second, p.op);

@@ -7,4 +7,4 @@ pub lower_from-requires : goal.lower_from-requires
 lower_from-requires c = Whole.asked Whole.start _ _ c.requires (omega arith) (omega arith) c.args.tables.now.long
 
 pub returns-clause-lowered : goal.returns-clause-lowered
-returns-clause-lowered c = Whole.whole_law c.lower_from.ensures
+returns-clause-lowered c = Whole.whole_law c.lower_from.ensures.lowered

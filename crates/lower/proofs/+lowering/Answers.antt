@@ -24,7 +24,8 @@ use Rattle.lower.proofs.Special
 use Rattle.lower.proofs.Start
 use Prim.Native.Nat.{◌-◌, ◌+◌}
 use Rattle.context.specs.OpLaws.{pushed_as}
-use Rattle.lower.proofs.Reading.{endpoint_read, exprs_read, var_read}
+use Rattle.context.specs.LentLaws.{same_refl, same_then}
+use Rattle.lower.proofs.Reading.{endpoint_read, exprs_read, var_read, element_read, bind_read}
 use mathlib.Core.Path.{refl, ◌∙◌, sym}
 use native.Mathlib.Omega.{arith}
 use native.Mathlib.Nat.{le_refl}
@@ -69,7 +70,7 @@ expand_to-lower_exprs-t-requires t c =
     c.args.r.now.roomy
     c.requires.waits
     c.requires.chain.anchored
-    c.lower_rel_element-s.ensures
+    c.lower_rel_element-s.ensures.lowered
     in
     let l₀' = Room.names_low c.args.r.now.roomy c.requires.chain.tree in
     let n₀ = c.requires.read.first in
@@ -95,7 +96,7 @@ expand_to-lower_exprs-t-requires t c =
             c.endpoint_var-m.ensures.issued
             c.endpoint_var-m.auto.rest
             (Room.deep c.requires.chain.tree)))
-            c.lower_rel_element-s.ensures
+            c.lower_rel_element-s.ensures.lowered
             (omega arith)
             (omega arith);
         depth = omega arith;
@@ -110,13 +111,13 @@ expand_to-push-z-requires t c =
     c.args.r.now.roomy
     c.requires.waits
     c.requires.chain.anchored
-    c.lower_rel_element-s.ensures
+    c.lower_rel_element-s.ensures.lowered
     in
     let l₀' = Room.names_low c.args.r.now.roomy c.requires.chain.tree in
     let n₀ = c.requires.read.first in
     Exprs.can_push
     (Exprs.room_after
-    c.lower_exprs-t.ensures.moved
+    c.lower_exprs-t.ensures.lowered.moved
     (Room.after_rel
     _
     (Room.room_at (Room.from_rel c.args.ch c.requires.waits) (Room.numbered
@@ -124,13 +125,13 @@ expand_to-push-z-requires t c =
     c.endpoint_var-m.ensures.issued
     c.endpoint_var-m.auto.rest
     (Room.deep c.requires.chain.tree)))
-    c.lower_rel_element-s.ensures
+    c.lower_rel_element-s.ensures.lowered
     (omega arith)
     (omega arith)))
 
-pub expand_to-returns : goal.expand_to-returns
-expand_to-returns t c =
-    Linking.expand_law
+pub expand_to-returns-clause-lowered : goal.expand_to-returns-clause-lowered
+expand_to-returns-clause-lowered t c =
+    rw (c.push-z.ensures.next, c.push-z.ensures.op) (Linking.expand_law
     _
     _
     _
@@ -146,16 +147,16 @@ expand_to-returns t c =
     (endpoint_read c.requires.read.bind c.endpoint_var-m.ensures)
     c.endpoint_var-m.auto.rest
     refl
-    c.lower_rel_element-s.ensures.noted
-    c.lower_rel_element-s.ensures.kept
+    c.lower_rel_element-s.ensures.lowered.noted
+    c.lower_rel_element-s.ensures.lowered.kept
     refl
-    c.lower_rel_element-s.ensures.props
+    c.lower_rel_element-s.ensures.lowered.props
     c.requires.read.props
-    (exprs_read c.requires.read.first c.lower_exprs-t.ensures)
-    (pushed_as c.expand.ensures c.push-z.ensures)
+    (exprs_read c.requires.read.first c.lower_exprs-t.ensures.lowered)
+    (pushed_as c.expand.ensures c.push-z.ensures.pushed)
     c.push-z.auto.ops
     c.requires.chain.tree
-    c.requires.chain.anchored
+    c.requires.chain.anchored)
 
 -- ── lower_chain ──
 
@@ -180,7 +181,7 @@ lower_chain-or_source_all-q-requires t c =
     let l = Room.bounds c.requires in
     let room =
     Exprs.room_after
-    c.lower_elements-ch.ensures.moved
+    c.lower_elements-ch.ensures.lowered.moved
     (Exprs.room_from
     {d' = c.args.at.left - 1}
     {j = c.args.at.i + 1}
@@ -190,11 +191,11 @@ lower_chain-or_source_all-q-requires t c =
     c.requires.room)
     in (
       Exprs.can_push room,
-      Chaining.root_under c.root_of-root.ensures c.lower_elements-ch.ensures.bounded.last,
+      Chaining.root_under c.root_of-root.ensures c.lower_elements-ch.ensures.lowered.bounded.last,
     )
 
-pub lower_chain-returns-then-named-eq0 : goal.lower_chain-returns-then-named-eq0
-lower_chain-returns-then-named-eq0 t c =
+pub lower_chain-returns-in_default-clause-lowered : goal.lower_chain-returns-in_default-clause-lowered
+lower_chain-returns-in_default-clause-lowered t c =
     rw
     c.or_source_all-q.ensures.same
     (Chaining.unnamed_law
@@ -203,17 +204,17 @@ lower_chain-returns-then-named-eq0 t c =
     c.args.r.now.roomy
     c.requires.pass
     c.count-n.ensures.0
-    c.lower_elements-ch.ensures
+    c.lower_elements-ch.ensures.lowered
     (Chaining.source_as c.root_of-root.ensures (c.or_source_all-q.ensures.source _))
-    (c.or_source_all-q.ensures.since _ c.lower_elements-ch.ensures.moved.grow (Chaining.root_since c.root_of-root.ensures (Chaining.start_since _ c.lower_elements-ch.ensures)))
-    (sym c.word-named.ensures ∙ c.if-named-eq0.true))
+    (c.or_source_all-q.ensures.since _ c.lower_elements-ch.ensures.lowered.moved.grow (Chaining.root_since c.root_of-root.ensures (Chaining.start_since _ c.lower_elements-ch.ensures.lowered)))
+    (sym (bind_read c.at.ensures c.read_bind.ensures) ∙ c.in_default.is))
 
 pub lower_chain-number-m-requires : goal.lower_chain-number-m-requires
 lower_chain-number-m-requires t c =
     let l = Room.bounds c.requires in
     Room.source_number
     (Exprs.room_after
-    c.lower_elements-ch.ensures.moved
+    c.lower_elements-ch.ensures.lowered.moved
     (Exprs.room_from {d' = c.args.at.left - 1} {j = c.args.at.i + 1} (omega arith) (omega arith) (omega arith) c.requires.room))
     (c.or_source_all-q.ensures.source _)
     _
@@ -226,28 +227,15 @@ lower_chain-number-m-requires t c =
 pub lower_chain-bind_path-requires : goal.lower_chain-bind_path-requires
 lower_chain-bind_path-requires t c =
     let l = Room.bounds c.requires in
-    let x =
-    (Room.source_few
-    (Exprs.room_after
-    c.lower_elements-ch.ensures.moved
-    (Exprs.room_from
-    {d' = c.args.at.left - 1}
-    {j = c.args.at.i + 1}
-    (omega arith)
-    (omega arith)
-    (omega arith)
-    c.requires.room))
-    (c.or_source_all-q.ensures.source _)).1
-    in
-    (Room.fits l.near (omega arith) (omega arith), omega arith)
+    Room.fits l.near (omega arith) (omega arith)
 
-pub lower_chain-push-z-requires : goal.lower_chain-push-z-requires
-lower_chain-push-z-requires t c =
+pub lower_chain-push-requires : goal.lower_chain-push-requires
+lower_chain-push-requires t c =
     let l = Room.bounds c.requires in
     let x =
     (Room.source_few
     (Exprs.room_after
-    c.lower_elements-ch.ensures.moved
+    c.lower_elements-ch.ensures.lowered.moved
     (Exprs.room_from
     {d' = c.args.at.left - 1}
     {j = c.args.at.i + 1}
@@ -263,7 +251,7 @@ lower_chain-push-z-requires t c =
       long = rw
           c.or_source_all-q.auto.ops
           (Exprs.room_after
-          c.lower_elements-ch.ensures.moved
+          c.lower_elements-ch.ensures.lowered.moved
           (Exprs.room_from
           {d' = c.args.at.left - 1}
           {j = c.args.at.i + 1}
@@ -273,34 +261,34 @@ lower_chain-push-z-requires t c =
           c.requires.room)).in_ops;
     }
 
-pub lower_chain-returns : goal.lower_chain-returns
-lower_chain-returns t c =
+pub lower_chain-returns-clause-lowered : goal.lower_chain-returns-clause-lowered
+lower_chain-returns-clause-lowered t c =
     rw
-    c.or_source_all-q.ensures.same
+    (c.push.ensures.next, c.push.ensures.op, c.or_source_all-q.ensures.same)
     (Chaining.named_law
     _
     _
     c.args.r.now.roomy
     c.requires.pass
     c.count-n.ensures.0
-    c.lower_elements-ch.ensures
+    c.lower_elements-ch.ensures.lowered
     (Chaining.source_as c.root_of-root.ensures (c.or_source_all-q.ensures.source _))
     c.requires.depth
-    (λ e. c.if-named-eq0.false (c.word-named.ensures ∙ e))
+    (sym (bind_read c.at.ensures c.read_bind.ensures) ∙ c.in-Some.is)
     refl
-    (var_read c.word-id.ensures c.number-m.ensures)
+    c.number-m.ensures
     c.number-m.auto.rest
-    (pushed_as c.bind_path.ensures c.push-z.ensures)
-    c.push-z.auto.ops)
+    (pushed_as c.bind_path.ensures c.push.ensures.pushed)
+    c.push.auto.ops)
 
 -- ── lower_element ──
 
-pub lower_element-read_element-requires : goal.lower_element-read_element-requires
-lower_element-read_element-requires t c =
+pub lower_element-at-requires : goal.lower_element-at-requires
+lower_element-at-requires t c =
     Room.low c.requires.tree
 
-pub lower_element-returns-in-Rel : goal.lower_element-returns-in-Rel
-lower_element-returns-in-Rel t c =
+pub lower_element-returns-in-Rel-clause-lowered : goal.lower_element-returns-in-Rel-clause-lowered
+lower_element-returns-in-Rel-clause-lowered t c =
     Linking.rel_law
     _
     _
@@ -313,42 +301,47 @@ lower_element-returns-in-Rel t c =
     (Part.other_kind
     c.args.r.now.roomy
     c.requires.tree
-    (Part.rel_read c.read_element.ensures c.in-Rel.is).is)
+    (Part.rel_read (element_read c.at.ensures c.read_element.ensures) c.in-Rel.is).is)
     c.skip-end.ensures
-    (Part.rel_read c.read_element.ensures c.in-Rel.is).read
+    (Part.rel_read (element_read c.at.ensures c.read_element.ensures) c.in-Rel.is).read
     c.requires.tree
 
 -- ── lower_elements ──
 
 pub lower_elements-loop-init : goal.lower_elements-loop-init
 lower_elements-loop-init t c =
-    let l = c.requires.tree.low in
-    Links.begun (record {
-      some = c.requires.tree.trees;
-      room_for = Exprs.room_from (le_refl _) (omega arith) (omega arith) c.requires.room;
-      bounded = Chaining.start_bounded _ _ (omega arith);
-      anchored = Chaining.start_anchored c.args.r.now.a.now c.args.r.now.b.now c.requires.tree.trees.sheet _ _ _;
-      finish = λ ch' os' rs' q. q;
-    })
+    let l = c.requires.tree.low in (
+      Links.begun (record {
+        some = c.requires.tree.trees;
+        room_for = Exprs.room_from (le_refl _) (omega arith) (omega arith) c.requires.room;
+        bounded = Chaining.start_bounded _ _ (omega arith);
+        anchored = Chaining.start_anchored c.args.r.now.a.now c.args.r.now.b.now c.requires.tree.trees.sheet _ _ _;
+        finish = λ ch' os' rs' q. q;
+      }),
+      same_refl,
+    )
 
 pub lower_elements-lower_element-ch-requires : goal.lower_elements-lower_element-ch-requires
 lower_elements-lower_element-ch-requires t c = (
   omega arith,
   record {
-    tree = Links.child c.loop-test.true c.loop.invariant;
-    room = c.loop.invariant.room_for;
+    tree = Links.child c.loop-test.true c.loop.invariant.0;
+    room = c.loop.invariant.0.room_for;
     depth = c.requires.depth;
     pass = c.requires.pass;
-    bounded = c.loop.invariant.bounded;
-    anchored = c.loop.invariant.anchored;
+    bounded = c.loop.invariant.0.bounded;
+    anchored = c.loop.invariant.0.anchored;
   },
 )
 
 pub lower_elements-loop-preserved : goal.lower_elements-loop-preserved
-lower_elements-loop-preserved t c = Links.again c.loop-test.true c.loop.invariant c.lower_element-ch.ensures
+lower_elements-loop-preserved t c = (Links.again c.loop-test.true c.loop.invariant.0 c.lower_element-ch.ensures.lowered, same_then c.loop.invariant.1 c.lower_element-ch.ensures.same)
 
-pub lower_elements-returns : goal.lower_elements-returns
-lower_elements-returns t c = Links.done c.loop-test.false c.loop.invariant
+pub lower_elements-returns-clause-lowered : goal.lower_elements-returns-clause-lowered
+lower_elements-returns-clause-lowered t c = Links.done c.loop-test.false c.loop.invariant.0
+
+pub lower_elements-returns-clause-same : goal.lower_elements-returns-clause-same
+lower_elements-returns-clause-same t c = c.loop.invariant.1
 
 -- ── lower_expr ──
 
@@ -453,8 +446,8 @@ lower_expr-lower_exprs-requires-in_default t c =
           (Exprs.room_from (omega arith) (omega arith) (omega arith) c.requires.room),
     )
 
-pub lower_expr-returns-in-32 : goal.lower_expr-returns-in-32
-lower_expr-returns-in-32 t c =
+pub lower_expr-returns-in-32-clause-lowered : goal.lower_expr-returns-in-32-clause-lowered
+lower_expr-returns-in-32-clause-lowered t c =
     let l = Room.bounds c.requires in
     Named.naming_law
     (λ sheet t hd. Named.variable c.args.r.now.roomy t hd (sym c.word-kind.ensures ∙ c.in-32.is))
@@ -466,29 +459,29 @@ lower_expr-returns-in-32 t c =
     c.number-m.auto.rest
     (Exprs.nil_law c.args.r.now.a.now c.args.r.now.b.now _ _ _ _ _ (omega arith))
 
-pub lower_expr-returns-in-33 : goal.lower_expr-returns-in-33
-lower_expr-returns-in-33 t c =
+pub lower_expr-returns-in-33-clause-lowered : goal.lower_expr-returns-in-33-clause-lowered
+lower_expr-returns-in-33-clause-lowered t c =
     let l = Room.bounds c.requires in
     Arms.headed_law
     (λ sheet t hd. Arms.mapped c.args.r.now.roomy t hd (sym c.word-kind.ensures ∙ c.in-33.is))
     c.children-n.ensures.0
     (omega arith)
-    c.lower_exprs.ensures
+    c.lower_exprs.ensures.lowered
 
-pub lower_expr-returns-in-35 : goal.lower_expr-returns-in-35
-lower_expr-returns-in-35 t c =
+pub lower_expr-returns-in-35-clause-lowered : goal.lower_expr-returns-in-35-clause-lowered
+lower_expr-returns-in-35-clause-lowered t c =
     Named.pattern_law
     (λ sheet t hd. Named.pattern c.args.r.now.roomy t hd (sym c.word-kind.ensures ∙ c.in-35.is))
     c.children-n.ensures.0
     c.requires.pass
     (Room.low c.requires.tree)
     refl
-    c.lower_parts-q.ensures
+    c.lower_parts-q.ensures.lowered
     c.note.ensures
     c.note.auto.rest
 
-pub lower_expr-returns-in-36 : goal.lower_expr-returns-in-36
-lower_expr-returns-in-36 t c =
+pub lower_expr-returns-in-36-clause-lowered : goal.lower_expr-returns-in-36-clause-lowered
+lower_expr-returns-in-36-clause-lowered t c =
     Named.naming_law
     (λ sheet t hd. Named.predicate c.args.r.now.roomy t hd (sym c.word-kind.ensures ∙ c.in-36.is))
     c.children-n.ensures.0
@@ -497,10 +490,10 @@ lower_expr-returns-in-36 t c =
     refl
     (var_read c.word-id-in-36.ensures c.number-m-in-36.ensures)
     c.number-m-in-36.auto.rest
-    c.lower_exprs-in-36.ensures
+    c.lower_exprs-in-36.ensures.lowered
 
-pub lower_expr-returns-in_default : goal.lower_expr-returns-in_default
-lower_expr-returns-in_default t c =
+pub lower_expr-returns-in_default-clause-lowered : goal.lower_expr-returns-in_default-clause-lowered
+lower_expr-returns-in_default-clause-lowered t c =
     let l = Room.bounds c.requires in
     Arms.headed_law
     (λ sheet t hd.
@@ -514,34 +507,37 @@ lower_expr-returns-in_default t c =
     (λ e. c.in_default.in_default-own.rest.1 (c.word-kind.ensures ∙ e)))
     c.children-n.ensures.0
     (omega arith)
-    c.lower_exprs-in_default.ensures
+    c.lower_exprs-in_default.ensures.lowered
 
 -- ── lower_exprs ──
 
 pub lower_exprs-loop-init : goal.lower_exprs-loop-init
-lower_exprs-loop-init t c = Exprs.begun (record { some = c.requires.tree; room_for = c.requires.room; finish = λ e m' q. q })
+lower_exprs-loop-init t c = (Exprs.begun (record { some = c.requires.tree; room_for = c.requires.room; finish = λ e m' q. q }), same_refl)
 
 pub lower_exprs-overflow_add-i : goal.lower_exprs-overflow_add-i
 lower_exprs-overflow_add-i t c =
-    let l = Room.low (Exprs.child c.loop-test.true c.loop.invariant) in
+    let l = Room.low (Exprs.child c.loop-test.true c.loop.invariant.0) in
     omega arith
 
 pub lower_exprs-lower_expr-cur-requires : goal.lower_exprs-lower_expr-cur-requires
 lower_exprs-lower_expr-cur-requires t c =
-    let x = Exprs.child c.loop-test.true c.loop.invariant in
+    let x = Exprs.child c.loop-test.true c.loop.invariant.0 in
     let l = Room.low x in
-    (omega arith, Room.asked_on _ _ _ c.requires (le_refl _) x (Exprs.room_from (le_refl _) (omega arith) (omega arith) c.loop.invariant.room_for))
+    (omega arith, Room.asked_on _ _ _ c.requires (le_refl _) x (Exprs.room_from (le_refl _) (omega arith) (omega arith) c.loop.invariant.0.room_for))
 
 pub lower_exprs-loop-preserved : goal.lower_exprs-loop-preserved
-lower_exprs-loop-preserved t c = Exprs.again c.loop-test.true c.loop.invariant c.lower_expr-cur.ensures
+lower_exprs-loop-preserved t c = (Exprs.again c.loop-test.true c.loop.invariant.0 c.lower_expr-cur.ensures.lowered, same_then c.loop.invariant.1 c.lower_expr-cur.ensures.same)
 
-pub lower_exprs-returns : goal.lower_exprs-returns
-lower_exprs-returns t c = Exprs.done c.loop-test.false c.loop.invariant
+pub lower_exprs-returns-clause-lowered : goal.lower_exprs-returns-clause-lowered
+lower_exprs-returns-clause-lowered t c = Exprs.done c.loop-test.false c.loop.invariant.0
+
+pub lower_exprs-returns-clause-same : goal.lower_exprs-returns-clause-same
+lower_exprs-returns-clause-same t c = c.loop.invariant.1
 
 -- ── lower_parts ──
 
-pub lower_parts-returns-then-n-eq0 : goal.lower_parts-returns-then-n-eq0
-lower_parts-returns-then-n-eq0 t c = rw c.if-n-eq0.true (c.lower_no_parts.ensures.1 c.args.r.now.a.now c.args.r.now.b.now _ _ _)
+pub lower_parts-returns-then-n-eq0-clause-lowered : goal.lower_parts-returns-then-n-eq0-clause-lowered
+lower_parts-returns-then-n-eq0-clause-lowered t c = rw c.if-n-eq0.true (c.lower_no_parts.ensures.1 c.args.r.now.a.now c.args.r.now.b.now _ _ _)
 
 pub lower_parts-lower_pattern_part-cur-requires : goal.lower_parts-lower_pattern_part-cur-requires
 lower_parts-lower_pattern_part-cur-requires t c =
@@ -554,27 +550,32 @@ lower_parts-lower_pattern_part-cur-requires t c =
 
 pub lower_parts-loop-init : goal.lower_parts-loop-init
 lower_parts-loop-init t c =
-    let h = c.requires.tree.low in
-    Parts.behind_first
-    _
-    c.if-n-eq0.false
-    c.requires.tree.trees
-    (Exprs.room_from (le_refl _) (omega arith) (omega arith) c.requires.room)
-    c.lower_pattern_part-cur.ensures
+    let h = c.requires.tree.low in (
+      Parts.behind_first
+          _
+          c.if-n-eq0.false
+          c.requires.tree.trees
+          (Exprs.room_from (le_refl _) (omega arith) (omega arith) c.requires.room)
+          c.lower_pattern_part-cur.ensures.lowered,
+      same_refl,
+    )
 
 pub lower_parts-lower_pattern_part-cur-requires-in-loop : goal.lower_parts-lower_pattern_part-cur-requires-in-loop
-lower_parts-lower_pattern_part-cur-requires-in-loop t c = (omega arith, Room.asked_on _ _ _ c.requires (le_refl _) (Parts.child c.loop-test.true c.loop.invariant) c.loop.invariant.room_for)
+lower_parts-lower_pattern_part-cur-requires-in-loop t c = (omega arith, Room.asked_on _ _ _ c.requires (le_refl _) (Parts.child c.loop-test.true c.loop.invariant.0) c.loop.invariant.0.room_for)
 
 pub lower_parts-loop-preserved : goal.lower_parts-loop-preserved
-lower_parts-loop-preserved t c = Parts.again c.loop-test.true c.loop.invariant c.lower_pattern_part-cur-in-loop.ensures
+lower_parts-loop-preserved t c = (Parts.again c.loop-test.true c.loop.invariant.0 c.lower_pattern_part-cur-in-loop.ensures.lowered, same_then c.loop.invariant.1 c.lower_pattern_part-cur-in-loop.ensures.same)
 
-pub lower_parts-returns : goal.lower_parts-returns
-lower_parts-returns t c =
+pub lower_parts-returns-clause-lowered : goal.lower_parts-returns-clause-lowered
+lower_parts-returns-clause-lowered t c =
     Parts.first_done
     _
     c.if-n-eq0.false
-    c.lower_pattern_part-cur.ensures
-    (Parts.done c.loop-test.false c.loop.invariant)
+    c.lower_pattern_part-cur.ensures.lowered
+    (Parts.done c.loop-test.false c.loop.invariant.0)
+
+pub lower_parts-returns-clause-same : goal.lower_parts-returns-clause-same
+lower_parts-returns-clause-same t c = same_then c.lower_pattern_part-cur.ensures.same c.loop.invariant.1
 
 -- ── lower_pattern_part ──
 
@@ -582,32 +583,32 @@ pub lower_pattern_part-word-shortest-requires : goal.lower_pattern_part-word-sho
 lower_pattern_part-word-shortest-requires t c =
     (Room.low c.requires.tree, omega arith)
 
-pub lower_pattern_part-returns-then-shortest-eq0 : goal.lower_pattern_part-returns-then-shortest-eq0
-lower_pattern_part-returns-then-shortest-eq0 t c =
+pub lower_pattern_part-returns-then-shortest-eq0-clause-lowered : goal.lower_pattern_part-returns-then-shortest-eq0-clause-lowered
+lower_pattern_part-returns-then-shortest-eq0-clause-lowered t c =
     Part.chain_part
     (Part.no_shortest _ _ c.args.r.now.roomy (sym c.word-shortest.ensures ∙ c.if-shortest-eq0.true))
-    c.lower_chain.ensures
+    c.lower_chain.ensures.lowered
 
 pub lower_pattern_part-word-n-requires : goal.lower_pattern_part-word-n-requires
 lower_pattern_part-word-n-requires t c =
     (Room.low c.requires.tree, omega arith)
 
-pub lower_pattern_part-returns-then-n-ne-SPECIAL_ELEMENTS : goal.lower_pattern_part-returns-then-n-ne-SPECIAL_ELEMENTS
-lower_pattern_part-returns-then-n-ne-SPECIAL_ELEMENTS t c =
+pub lower_pattern_part-returns-then-n-ne-SPECIAL_ELEMENTS-clause-lowered : goal.lower_pattern_part-returns-then-n-ne-SPECIAL_ELEMENTS-clause-lowered
+lower_pattern_part-returns-then-n-ne-SPECIAL_ELEMENTS-clause-lowered t c =
     Part.chain_part
     (Part.not_three _ _ c.args.r.now.roomy (λ e. c.if-n-ne-SPECIAL_ELEMENTS.true (c.word-n.ensures ∙ e)))
-    c.lower_chain-then-n-ne-SPECIAL_ELEMENTS.ensures
+    c.lower_chain-then-n-ne-SPECIAL_ELEMENTS.ensures.lowered
 
 pub lower_pattern_part-skip-rel-requires : goal.lower_pattern_part-skip-rel-requires
 lower_pattern_part-skip-rel-requires t c =
     Part.starts (Part.first_some _ _ c.args.r.now.roomy (sym c.word-n.ensures ∙ c.if-n-ne-SPECIAL_ELEMENTS.false) c.requires.tree)
 
-pub lower_pattern_part-read_element-requires : goal.lower_pattern_part-read_element-requires
-lower_pattern_part-read_element-requires t c =
+pub lower_pattern_part-at-requires : goal.lower_pattern_part-at-requires
+lower_pattern_part-at-requires t c =
     Room.low (Part.first_some _ _ c.args.r.now.roomy (sym c.word-n.ensures ∙ c.if-n-ne-SPECIAL_ELEMENTS.false) c.requires.tree)
 
-pub lower_pattern_part-returns-in_default : goal.lower_pattern_part-returns-in_default
-lower_pattern_part-returns-in_default t c =
+pub lower_pattern_part-returns-in_default-clause-lowered : goal.lower_pattern_part-returns-in_default-clause-lowered
+lower_pattern_part-returns-in_default-clause-lowered t c =
     Part.chain_part
     (Part.not_first
     _
@@ -615,8 +616,8 @@ lower_pattern_part-returns-in_default t c =
     c.args.r.now.roomy
     (sym c.word-n.ensures ∙ c.if-n-ne-SPECIAL_ELEMENTS.false)
     c.skip-rel.ensures
-    (Part.rel_read c.read_element.ensures c.in_default.is).is)
-    c.lower_chain-in_default.ensures
+    (Part.rel_read (element_read c.at.ensures c.read_element.ensures) c.in_default.is).is)
+    c.lower_chain-in_default.ensures.lowered
 
 pub lower_pattern_part-skip-far-requires : goal.lower_pattern_part-skip-far-requires
 lower_pattern_part-skip-far-requires t c =
@@ -629,8 +630,8 @@ lower_pattern_part-skip-far-requires t c =
     c.skip-rel.ensures
     c.requires.tree)
 
-pub lower_pattern_part-read_element-requires-2 : goal.lower_pattern_part-read_element-requires-2
-lower_pattern_part-read_element-requires-2 t c =
+pub lower_pattern_part-at-requires-2 : goal.lower_pattern_part-at-requires-2
+lower_pattern_part-at-requires-2 t c =
     Room.low
     (Part.some_second
     _
@@ -640,8 +641,8 @@ lower_pattern_part-read_element-requires-2 t c =
     c.skip-rel.ensures
     c.requires.tree)
 
-pub lower_pattern_part-returns-in_default-read_element : goal.lower_pattern_part-returns-in_default-read_element
-lower_pattern_part-returns-in_default-read_element t c =
+pub lower_pattern_part-returns-in_default-read_element-clause-lowered : goal.lower_pattern_part-returns-in_default-read_element-clause-lowered
+lower_pattern_part-returns-in_default-read_element-clause-lowered t c =
     Part.chain_part
     (Part.not_second
     _
@@ -649,12 +650,12 @@ lower_pattern_part-returns-in_default-read_element t c =
     c.args.r.now.roomy
     (sym c.word-n.ensures ∙ c.if-n-ne-SPECIAL_ELEMENTS.false)
     c.skip-rel.ensures
-    (Part.node_read c.read_element.ensures c.in-Node.is).is
-    (Part.node_read c.read_element-2.ensures c.in_default-read_element.is).is)
-    c.lower_chain-in_default-read_element.ensures
+    (Part.node_read (element_read c.at.ensures c.read_element.ensures) c.in-Node.is).is
+    (Part.node_read (element_read c.at-2.ensures c.read_element-2.ensures) c.in_default-read_element.is).is)
+    c.lower_chain-in_default-read_element.ensures.lowered
 
-pub lower_pattern_part-read_element-requires-3 : goal.lower_pattern_part-read_element-requires-3
-lower_pattern_part-read_element-requires-3 t c =
+pub lower_pattern_part-at-requires-3 : goal.lower_pattern_part-at-requires-3
+lower_pattern_part-at-requires-3 t c =
     Room.low
     (Part.some_third
     _
@@ -665,8 +666,8 @@ lower_pattern_part-read_element-requires-3 t c =
     c.skip-far.ensures
     c.requires.tree)
 
-pub lower_pattern_part-returns-in_default-read_element-2 : goal.lower_pattern_part-returns-in_default-read_element-2
-lower_pattern_part-returns-in_default-read_element-2 t c =
+pub lower_pattern_part-returns-in_default-read_element-2-clause-lowered : goal.lower_pattern_part-returns-in_default-read_element-2-clause-lowered
+lower_pattern_part-returns-in_default-read_element-2-clause-lowered t c =
     Part.chain_part
     (Part.not_third
     _
@@ -675,10 +676,10 @@ lower_pattern_part-returns-in_default-read_element-2 t c =
     (sym c.word-n.ensures ∙ c.if-n-ne-SPECIAL_ELEMENTS.false)
     c.skip-rel.ensures
     c.skip-far.ensures
-    (Part.node_read c.read_element.ensures c.in-Node.is).is
-    (Part.rel_read c.read_element-2.ensures c.in-Rel.is).is
-    (Part.rel_read c.read_element-3.ensures c.in_default-read_element-2.is).is)
-    c.lower_chain-in_default-read_element-2.ensures
+    (Part.node_read (element_read c.at.ensures c.read_element.ensures) c.in-Node.is).is
+    (Part.rel_read (element_read c.at-2.ensures c.read_element-2.ensures) c.in-Rel.is).is
+    (Part.rel_read (element_read c.at-3.ensures c.read_element-3.ensures) c.in_default-read_element-2.is).is)
+    c.lower_chain-in_default-read_element-2.ensures.lowered
 
 pub lower_pattern_part-lower_shortest_path_part-requires : goal.lower_pattern_part-lower_shortest_path_part-requires
 lower_pattern_part-lower_shortest_path_part-requires t c = (
@@ -688,7 +689,7 @@ lower_pattern_part-lower_shortest_path_part-requires t c = (
     special = record {
       shortest = λ e. c.if-shortest-eq0.false (c.word-shortest.ensures ∙ e);
       three = (sym c.word-n.ensures ∙ c.if-n-ne-SPECIAL_ELEMENTS.false);
-      first = (Part.node_read c.read_element.ensures c.in-Node.is).is;
+      first = (Part.node_read (element_read c.at.ensures c.read_element.ensures) c.in-Node.is).is;
       second =
           Part.other_kind
           c.args.r.now.roomy
@@ -699,14 +700,14 @@ lower_pattern_part-lower_shortest_path_part-requires t c = (
           (sym c.word-n.ensures ∙ c.if-n-ne-SPECIAL_ELEMENTS.false)
           c.skip-rel.ensures
           c.requires.tree)
-          (Part.rel_read c.read_element-2.ensures c.in-Rel.is).is;
-      third = (Part.node_read c.read_element-3.ensures c.in-Node-read_element.is).is;
+          (Part.rel_read (element_read c.at-2.ensures c.read_element-2.ensures) c.in-Rel.is).is;
+      third = (Part.node_read (element_read c.at-3.ensures c.read_element-3.ensures) c.in-Node-read_element.is).is;
       first_end = c.skip-rel.ensures;
       second_end = c.skip-far.ensures;
     };
-    near = (Part.node_read c.read_element.ensures c.in-Node.is).read;
-    rel = (Part.rel_read c.read_element-2.ensures c.in-Rel.is).read;
-    to = (Part.node_read c.read_element-3.ensures c.in-Node-read_element.is).read;
+    near = (Part.node_read (element_read c.at.ensures c.read_element.ensures) c.in-Node.is).read;
+    rel = (Part.rel_read (element_read c.at-2.ensures c.read_element-2.ensures) c.in-Rel.is).read;
+    to = (Part.node_read (element_read c.at-3.ensures c.read_element-3.ensures) c.in-Node-read_element.is).read;
   },
 )
 
@@ -746,8 +747,8 @@ lower_rel_element-lower_exprs-requires t c =
           (omega arith)),
     )
 
-pub lower_rel_element-returns : goal.lower_rel_element-returns
-lower_rel_element-returns t c =
+pub lower_rel_element-returns-clause-lowered : goal.lower_rel_element-returns-clause-lowered
+lower_rel_element-returns-clause-lowered t c =
     Room.rel_done
     _
     refl
@@ -755,7 +756,7 @@ lower_rel_element-returns t c =
     c.endpoint_var-m.auto.rest
     c.requires.read.props
     c.requires.read.first
-    c.lower_exprs.ensures
+    c.lower_exprs.ensures.lowered
 
 -- ── lower_shortest_path_part ──
 
@@ -804,7 +805,7 @@ lower_shortest_path_part-lower_rel_element-s-requires t c = (
         c.requires
         c.endpoint_var-from.ensures
         c.endpoint_var-from.auto.rest
-        c.start_node-q.ensures);
+        c.start_node-q.ensures.lowered);
     read = c.requires.rel;
   },
 )
@@ -827,7 +828,7 @@ lower_shortest_path_part-endpoint_var-to-requires t c =
     c.args.r.now.roomy
     c.requires.special.second
     (Asking.rel_of c.args.r.now.roomy c.requires).tree
-    c.lower_rel_element-s.ensures
+    c.lower_rel_element-s.ensures.lowered
     c.requires.special.second_end
     in
     let l₄' =
@@ -841,8 +842,8 @@ lower_shortest_path_part-endpoint_var-to-requires t c =
     c.requires
     c.endpoint_var-from.ensures
     c.endpoint_var-from.auto.rest
-    c.start_node-q.ensures)
-    c.lower_rel_element-s.ensures)
+    c.start_node-q.ensures.lowered)
+    c.lower_rel_element-s.ensures.lowered)
     _
     _
     _
@@ -859,7 +860,7 @@ lower_shortest_path_part-endpoint_var-path-requires t c =
     c.args.r.now.roomy
     c.requires.special.second
     (Asking.rel_of c.args.r.now.roomy c.requires).tree
-    c.lower_rel_element-s.ensures
+    c.lower_rel_element-s.ensures.lowered
     c.requires.special.second_end
     in
     let l₄' =
@@ -873,8 +874,8 @@ lower_shortest_path_part-endpoint_var-path-requires t c =
     c.requires
     c.endpoint_var-from.ensures
     c.endpoint_var-from.auto.rest
-    c.start_node-q.ensures)
-    c.lower_rel_element-s.ensures)
+    c.start_node-q.ensures.lowered)
+    c.lower_rel_element-s.ensures.lowered)
     c.endpoint_var-to.ensures.issued
     l₄'
     c.endpoint_var-to.auto.rest
@@ -885,30 +886,16 @@ lower_shortest_path_part-endpoint_var-path-requires t c =
     (omega arith)
     refl
 
+pub lower_shortest_path_part-overflow_cast-far : goal.lower_shortest_path_part-overflow_cast-far
+lower_shortest_path_part-overflow_cast-far t c = omega (arith, Room.low (Asking.far_of c.args.r.now.roomy c.requires).tree)
+
 pub lower_shortest_path_part-shortest_path-requires : goal.lower_shortest_path_part-shortest_path-requires
 lower_shortest_path_part-shortest_path-requires t c =
     let l = Room.bounds c.requires.part in
-    let l₄ = Room.low (Asking.first_of_law c.args.r.now.roomy c.requires).tree in
-    let x =
-    Room.few_ops
-    (Asking.rel_room c.args.r.now.roomy
-    c.requires
-    c.endpoint_var-from.ensures
-    c.endpoint_var-from.auto.rest
-    c.start_node-q.ensures)
-    in
-    let y = c.start_node-q.ensures.low in
-    let l₅ =
-    Room.low (Asking.rel_of c.args.r.now.roomy c.requires).tree
-    in
-    let l₆ =
-    Room.low
-    (Asking.far_of c.args.r.now.roomy c.requires).tree
-    in
-    (Room.fits c.requires.part.pass (omega arith) (omega arith), omega arith, omega arith, omega arith)
+    Room.fits c.requires.part.pass (omega arith) (omega arith)
 
-pub lower_shortest_path_part-push-z-requires : goal.lower_shortest_path_part-push-z-requires
-lower_shortest_path_part-push-z-requires t c =
+pub lower_shortest_path_part-push-requires : goal.lower_shortest_path_part-push-requires
+lower_shortest_path_part-push-requires t c =
     let l = Room.bounds c.requires.part in
     let l₄ = Room.low (Asking.first_of_law c.args.r.now.roomy c.requires).tree in
     let l₅ =
@@ -916,7 +903,7 @@ lower_shortest_path_part-push-z-requires t c =
     c.args.r.now.roomy
     c.requires.special.second
     (Asking.rel_of c.args.r.now.roomy c.requires).tree
-    c.lower_rel_element-s.ensures
+    c.lower_rel_element-s.ensures.lowered
     c.requires.special.second_end
     in
     let l₄' =
@@ -930,8 +917,8 @@ lower_shortest_path_part-push-z-requires t c =
     c.requires
     c.endpoint_var-from.ensures
     c.endpoint_var-from.auto.rest
-    c.start_node-q.ensures)
-    c.lower_rel_element-s.ensures)
+    c.start_node-q.ensures.lowered)
+    c.lower_rel_element-s.ensures.lowered)
     c.endpoint_var-to.ensures.issued
     c.endpoint_var-path.ensures.issued
 
@@ -940,9 +927,9 @@ lower_shortest_path_part-skip-end-requires t c =
     Part.starts
     (Asking.far_of c.args.r.now.roomy c.requires).tree
 
-pub lower_shortest_path_part-returns : goal.lower_shortest_path_part-returns
-lower_shortest_path_part-returns t c =
-    Special.special_law
+pub lower_shortest_path_part-returns-clause-lowered : goal.lower_shortest_path_part-returns-clause-lowered
+lower_shortest_path_part-returns-clause-lowered t c =
+    rw (c.push.ensures.next, c.push.ensures.op) (Special.special_law
     _
     _
     _
@@ -963,17 +950,17 @@ lower_shortest_path_part-returns t c =
     refl
     (endpoint_read c.requires.near.bind c.endpoint_var-from.ensures)
     c.endpoint_var-from.auto.rest
-    c.start_node-q.ensures
-    c.lower_rel_element-s.ensures
+    c.start_node-q.ensures.lowered
+    c.lower_rel_element-s.ensures.lowered
     refl
     (endpoint_read c.requires.to.bind c.endpoint_var-to.ensures)
     c.endpoint_var-to.auto.rest
     refl
-    (endpoint_read c.read_bind-bind.ensures c.endpoint_var-path.ensures)
+    (endpoint_read (bind_read c.at.ensures c.read_bind-bind.ensures) c.endpoint_var-path.ensures)
     c.endpoint_var-path.auto.rest
-    (pushed_as c.shortest_path.ensures c.push-z.ensures)
-    c.push-z.auto.ops
-    c.requires.part.tree
+    (pushed_as c.shortest_path.ensures c.push.ensures.pushed)
+    c.push.auto.ops
+    c.requires.part.tree)
 
 -- ── start_chain ──
 
@@ -1005,8 +992,8 @@ start_chain-start_node-q-requires t c = (
   },
 )
 
-pub start_chain-returns : goal.start_chain-returns
-start_chain-returns t c =
+pub start_chain-returns-clause-lowered : goal.start_chain-returns-clause-lowered
+start_chain-returns-clause-lowered t c =
     Linking.start_law
     _
     _
@@ -1019,7 +1006,7 @@ start_chain-returns t c =
     refl
     (endpoint_read c.requires.read.bind c.endpoint_var-m.ensures)
     c.endpoint_var-m.auto.rest
-    c.start_node-q.ensures
+    c.start_node-q.ensures.lowered
     c.requires.chain.tree
 
 -- ── start_node ──
@@ -1027,9 +1014,9 @@ start_chain-returns t c =
 pub start_node-overflow_sub-less : goal.start_node-overflow_sub-less
 start_node-overflow_sub-less t c = omega (arith, Room.element_bounds c.requires.asked)
 
-pub start_node-returns-then-node-eq0 : goal.start_node-returns-then-node-eq0
-start_node-returns-then-node-eq0 t c =
-    Start.bare_read
+pub start_node-returns-then-node-eq0-clause-lowered : goal.start_node-returns-then-node-eq0-clause-lowered
+start_node-returns-then-node-eq0-clause-lowered t c =
+    rw (c.push-p.ensures.next, c.push-p.ensures.op) (Start.bare_read
     _
     _
     _
@@ -1037,10 +1024,10 @@ start_node-returns-then-node-eq0 t c =
     c.requires.asked.tree.is
     (c.requires.asked.depth, c.requires.asked.pass)
     c.requires.read.first
-    (pushed_as c.source.ensures c.push-p.ensures)
+    (pushed_as c.source.ensures c.push-p.ensures.pushed)
     c.push-p.auto.ops
     (sym c.requires.read.props ∙ c.if-node-eq0.true)
-    c.requires.asked.tree.tree
+    c.requires.asked.tree.tree)
 
 pub start_node-lower_expr-s-requires : goal.start_node-lower_expr-s-requires
 start_node-lower_expr-s-requires t c =
@@ -1062,16 +1049,16 @@ start_node-lower_expr-s-requires t c =
           c.requires.asked.room
           _
           _
-          c.push-p.ensures
+          c.push-p.ensures.pushed
           c.push-p.auto.ops
           (le_refl _)
           (omega arith)
           (omega arith)),
     )
 
-pub start_node-returns : goal.start_node-returns
-start_node-returns t c =
-    Start.filtered_read
+pub start_node-returns-clause-lowered : goal.start_node-returns-clause-lowered
+start_node-returns-clause-lowered t c =
+    rw (c.push.ensures.next, c.push.ensures.op) (Start.filtered_read
     _
     _
     _
@@ -1079,9 +1066,9 @@ start_node-returns t c =
     c.requires.asked.tree.is
     (c.requires.asked.depth, c.requires.asked.pass)
     c.requires.read.first
-    (pushed_as c.source.ensures c.push-p.ensures)
+    (pushed_as c.source.ensures c.push-p.ensures.pushed)
     c.push-p.auto.ops
     (λ e. c.if-node-eq0.false (c.requires.read.props ∙ e))
-    c.lower_expr-s.ensures
-    (pushed_as c.over.ensures c.push-z.ensures)
-    c.push-z.auto.ops
+    c.lower_expr-s.ensures.lowered
+    (pushed_as (rw c.push-p.ensures.op at c.over.ensures) c.push.ensures.pushed)
+    c.push.auto.ops)

@@ -6,6 +6,7 @@ use Prim.Native.Nat.{◌+◌, ◌*◌, ◌-◌}
 use Rattle.lower.specs.Chains.{LowersElements}
 use Rattle.lower.specs.Pieces.{LowersExprs}
 use Rattle.lower.specs.Rep.{mem}
+use Rattle.context.specs.Lent.{SameTables}
 use Rattle.lower.proofs.+lowering.Given as goal
 
 abbrev pub decreases-expand_to : goal.decreases-expand_to
@@ -45,13 +46,13 @@ abbrev pub decreases-start_node : goal.decreases-start_node
 decreases-start_node l = 8 * l.at.left + 1
 
 abbrev pub invariant-lower_elements-loop : goal.invariant-lower_elements-loop
-invariant-lower_elements-loop l = Links.Remaining l.r.a.now l.r.b.now l.at.left l.at.base (λ ch' os' rs'. LowersElements l.r.a.now l.r.b.now l.n l.at.left l.at.base l.initial.ch ch' l.initial.tables.ops.now os' l.initial.tables.rest.now rs') (l.n - l.counter) l.ch l.tables.ops.now l.tables.rest.now
+invariant-lower_elements-loop l = Links.Remaining l.r.a.now l.r.b.now l.at.left l.at.base (λ ch' os' rs'. LowersElements l.r.a.now l.r.b.now l.n l.at.left l.at.base l.initial.ch ch' l.initial.tables.ops.now os' l.initial.tables.rest.now rs') (l.n - l.counter) l.ch l.tables.ops.now l.tables.rest.now × SameTables l.initial.tables l.tables
 
 abbrev pub invariant-lower_exprs-loop : goal.invariant-lower_exprs-loop
-invariant-lower_exprs-loop l = Exprs.Remaining l.r.a.now l.r.b.now l.gap l.at.left l.at.base (λ e m'. LowersExprs l.r.a.now l.r.b.now l.n l.gap l.at.left l.at.base l.at.i e (mem l.initial.cur.ctx l.initial.tables.ops.now l.initial.tables.rest.now) m') (l.n - l.counter) l.cur.next (mem l.cur.ctx l.tables.ops.now l.tables.rest.now)
+invariant-lower_exprs-loop l = Exprs.Remaining l.r.a.now l.r.b.now l.gap l.at.left l.at.base (λ e m'. LowersExprs l.r.a.now l.r.b.now l.n l.gap l.at.left l.at.base l.at.i e (mem l.initial.cur.ctx l.initial.tables.ops.now l.initial.tables.rest.now) m') (l.n - l.counter) l.cur.next (mem l.cur.ctx l.tables.ops.now l.tables.rest.now) × SameTables l.initial.tables l.tables
 
 abbrev pub invariant-lower_parts-loop : goal.invariant-lower_parts-loop
 invariant-lower_parts-loop l =
     Parts.Remaining l.r.a.now l.r.b.now l.at.left l.at.base
     (λ e k m'. Parts.LowersFurther l.r.a.now l.r.b.now (l.n - 1) l.at.left l.at.base l.initial.cur.next e l.initial.cur.op k (mem l.initial.cur.ctx l.initial.tables.ops.now l.initial.tables.rest.now) m')
-    (l.n - l.counter) l.cur.next l.cur.op (mem l.cur.ctx l.tables.ops.now l.tables.rest.now)
+    (l.n - l.counter) l.cur.next l.cur.op (mem l.cur.ctx l.tables.ops.now l.tables.rest.now) × SameTables l.initial.tables l.tables

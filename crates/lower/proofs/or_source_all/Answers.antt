@@ -10,7 +10,7 @@ returns-in-Some c = record { same = refl; since = λ n l h. h.op _ c.in-Some.is;
 pub returns-in-None : goal.returns-in-None
 returns-in-None c =
     record {
-      same = refl;
-      since = λ n l h. l;
-      source = λ rest. Chaining.source_new _ _ _ _ c.in-None.is (pushed_as c.binding.ensures c.push.ensures) c.push.auto.ops;
+      same = c.push.ensures.next;
+      since = λ n l h. rw c.push.ensures.op l;
+      source = λ rest. rw c.push.ensures.op (Chaining.source_new _ _ _ _ c.in-None.is (pushed_as c.binding.ensures c.push.ensures.pushed) c.push.auto.ops);
     }

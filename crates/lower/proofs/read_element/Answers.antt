@@ -1,10 +1,9 @@
 -- `read_element` meets its contract: a node, or else a rel. Assumes nothing.
-use mathlib.Core.Path.{refl, sym, ◌∙◌}
-use Rattle.lower.specs.Chains.{node_at, rel_at}
+use Rattle.lower.proofs.Reading.{read_node, read_rel}
 use Rattle.lower.proofs.read_element.Goals as goal
 
 pub returns-then-kind-eq-NODE : goal.returns-then-kind-eq-NODE
-returns-then-kind-eq-NODE c = node_at _ refl (sym c.word-kind.ensures ∙ c.if-kind-eq-NODE.true) c.read_at.ensures
+returns-then-kind-eq-NODE c = read_node c.kind.ensures c.if-kind-eq-NODE.true c.read_bind-bind.ensures c.below-below.ensures.names c.below-below.ensures.first c.below-below.ensures.props
 
 pub returns : goal.returns
-returns c = rel_at _ refl (λ e. c.if-kind-eq-NODE.false (c.word-kind.ensures ∙ e)) c.read_at-2.ensures
+returns c = read_rel c.kind.ensures c.if-kind-eq-NODE.false c.read_bind-bind.ensures c.below-below.ensures.names c.below-below.ensures.first c.below-below.ensures.props

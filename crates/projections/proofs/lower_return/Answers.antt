@@ -32,10 +32,9 @@ second_pass-q-requires c =
     record {
       counted = c.count-n.ensures.0;
       items = Room.some_trees (ReturnLaws.return_items room c.requires c.count-n.ensures.0);
-      room = ReturnLaws.room_second room c.requires c.count-n.ensures.0 c.first_pass-p.ensures.0 (omega (arith, l.shallow));
+      room = ReturnLaws.room_second room c.requires c.count-n.ensures.0 c.first_pass-p.ensures.lowered (omega (arith, l.shallow));
       low = l.low;
       depth = omega (arith, l.shallow);
-      small = c.first_pass-p.ensures.1;
     }
 
 pub lower_trailers-requires : goal.lower_trailers-requires
@@ -44,11 +43,11 @@ lower_trailers-requires c =
     let l = Room.bounds c.requires.asked in
     record {
       low = l.low;
-      tail = ReturnLaws.return_tail room c.requires c.count-n.ensures.0 c.first_pass-p.ensures.0 c.word-distinct.ensures (c.second_pass-q.ensures.0 _);
-      ready = Room.ready_after (ReturnLaws.return_moved room c.requires c.count-n.ensures.0 c.first_pass-p.ensures.0 c.word-distinct.ensures (c.second_pass-q.ensures.0 _)) c.requires.asked.ready;
+      tail = ReturnLaws.return_tail room c.requires c.count-n.ensures.0 c.first_pass-p.ensures.lowered c.word-distinct.ensures (c.second_pass-q.ensures.lowered.0 _);
+      ready = Room.ready_after (ReturnLaws.return_moved room c.requires c.count-n.ensures.0 c.first_pass-p.ensures.lowered c.word-distinct.ensures (c.second_pass-q.ensures.lowered.0 _)) c.requires.asked.ready;
       depth = omega (arith, l.shallow);
-      stands = c.second_pass-q.ensures.1;
+      stands = c.second_pass-q.ensures.lowered.1;
     }
 
-pub returns : goal.returns
-returns c = ReturnLaws.return_law c.args.r.now.roomy c.requires c.count-n.ensures.0 c.first_pass-p.ensures.0 c.word-distinct.ensures (c.second_pass-q.ensures.0 _) c.lower_trailers.ensures
+pub returns-clause-lowered : goal.returns-clause-lowered
+returns-clause-lowered c = ReturnLaws.return_law c.args.r.now.roomy c.requires c.count-n.ensures.0 c.first_pass-p.ensures.lowered c.word-distinct.ensures (c.second_pass-q.ensures.lowered.0 _) c.lower_trailers.ensures.lowered

@@ -25,36 +25,35 @@ pub lower_exprs-t-requires : goal.lower_exprs-t-requires
 lower_exprs-t-requires c =
     let l = Room.bounds c.requires in
     let room_for = Room.clause_room c.requires (c.or_source_all-q.ensures.source _) in
-    let predicate = WithLaws.with_predicate c.args.r.now.roomy c.requires c.count-items.ensures.0 c.lower_items-s.ensures c.count-filter.ensures.0 in
-    record { tree = predicate; room = Exprs.room_after c.lower_items-s.ensures.moved room_for; depth = omega (arith, l.shallow); pass = omega arith }
+    let predicate = WithLaws.with_predicate c.args.r.now.roomy c.requires c.count-items.ensures.0 c.lower_items-s.ensures.lowered c.count-filter.ensures.0 in
+    record { tree = predicate; room = Exprs.room_after c.lower_items-s.ensures.lowered.moved room_for; depth = omega (arith, l.shallow); pass = omega arith }
 
 pub over-requires : goal.over-requires
 over-requires c =
     let l = Room.bounds c.requires in
-    let input = Room.few_source c.requires.ready (c.or_source_all-q.ensures.source _) in
-    (Room.fits (omega arith) (omega (arith, l.low)) (omega (arith, l.shallow)), omega (arith, input))
+    Room.fits (omega arith) (omega (arith, l.low)) (omega (arith, l.shallow))
 
 pub push-z-requires : goal.push-z-requires
 push-z-requires c =
     let room_for = Room.clause_room c.requires (c.or_source_all-q.ensures.source _) in
-    Exprs.can_push (Exprs.room_after c.lower_exprs-t.ensures.moved (Exprs.room_after c.lower_items-s.ensures.moved room_for))
+    Exprs.can_push (Exprs.room_after c.lower_exprs-t.ensures.lowered.moved (Exprs.room_after c.lower_items-s.ensures.lowered.moved room_for))
 
 pub lower_trailers-requires : goal.lower_trailers-requires
 lower_trailers-requires c =
     let room = c.args.r.now.roomy in
     let l = Room.bounds c.requires in
-    let pushed = pushed_as c.over.ensures c.push-z.ensures in
-    let tail = WithLaws.with_tail room c.requires c.count-items.ensures.0 c.lower_items-s.ensures c.count-filter.ensures.0 c.lower_exprs-t.ensures in
-    let moved = WithLaws.with_moved room c.requires c.count-items.ensures.0 c.lower_items-s.ensures c.count-filter.ensures.0 c.lower_exprs-t.ensures (c.or_source_all-q.ensures.source _) pushed c.push-z.auto.ops in
-    record {
+    let pushed = pushed_as c.over.ensures c.push-z.ensures.pushed in
+    let tail = WithLaws.with_tail room c.requires c.count-items.ensures.0 c.lower_items-s.ensures.lowered c.count-filter.ensures.0 c.lower_exprs-t.ensures.lowered in
+    let moved = WithLaws.with_moved room c.requires c.count-items.ensures.0 c.lower_items-s.ensures.lowered c.count-filter.ensures.0 c.lower_exprs-t.ensures.lowered (c.or_source_all-q.ensures.source _) pushed c.push-z.auto.ops in
+    rw (c.push-z.ensures.next, c.push-z.ensures.op) (record {
       low = l.low;
       tail = tail;
       ready = Room.ready_after moved c.requires.ready;
       depth = omega (arith, l.shallow);
-      stands = omega (arith, c.push-z.ensures.count);
-    }
+      stands = omega (arith, c.push-z.ensures.pushed.count);
+    })
 
-pub returns : goal.returns
-returns c =
-    let pushed = pushed_as c.over.ensures c.push-z.ensures in
-    WithLaws.with_law c.args.r.now.roomy c.requires c.count-items.ensures.0 c.lower_items-s.ensures c.count-filter.ensures.0 c.lower_exprs-t.ensures (c.or_source_all-q.ensures.source _) pushed c.push-z.auto.ops c.lower_trailers.ensures
+pub returns-clause-lowered : goal.returns-clause-lowered
+returns-clause-lowered c =
+    let pushed = pushed_as c.over.ensures c.push-z.ensures.pushed in
+    WithLaws.with_law c.args.r.now.roomy c.requires c.count-items.ensures.0 c.lower_items-s.ensures.lowered c.count-filter.ensures.0 c.lower_exprs-t.ensures.lowered (c.or_source_all-q.ensures.source _) pushed c.push-z.auto.ops (rw (c.push-z.ensures.next, c.push-z.ensures.op) at c.lower_trailers.ensures.lowered)

@@ -8,7 +8,7 @@ pub lower_from-l-requires : goal.lower_from-l-requires
 lower_from-l-requires c = Whole.asked Whole.start _ _ c.requires.on_left (omega arith) (omega arith) c.args.left.now.tables.long
 
 pub lower_from-r-requires : goal.lower_from-r-requires
-lower_from-r-requires c = Pairing.right_asked c.requires c.lower_from-l.ensures c.args.right.now.tables.long
+lower_from-r-requires c = Pairing.right_asked c.requires c.lower_from-l.ensures.lowered c.args.right.now.tables.long
 
 pub returns-clause-lowered : goal.returns-clause-lowered
-returns-clause-lowered c = Pairing.pair_law c.requires c.lower_from-l.ensures c.lower_from-r.ensures _ (c.unite-z.ensures _)
+returns-clause-lowered c = Pairing.pair_law c.requires c.lower_from-l.ensures.lowered c.lower_from-r.ensures.lowered _ (c.unite-z.ensures _)

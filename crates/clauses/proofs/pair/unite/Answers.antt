@@ -1,7 +1,7 @@
 -- `clauses::pair::unite` meets its contract.
 use Rattle.std.proofs.Common.{[], ◌∙◌, arith}
 use Rattle.context.specs.OpLaws.{pushed_as, under_more}
-use Rattle.clauses.proofs.Uniting.{union_as, unite_law}
+use Rattle.clauses.proofs.Uniting.{unite_law}
 use Rattle.clauses.proofs.pair.unite.Goals as goal
 
 pub or_source_all-s-requires : goal.or_source_all-s-requires
@@ -9,19 +9,13 @@ or_source_all-s-requires c =
     let q = c.or_source_all-q.ensures.source [] in
     (record { few = omega (arith, c.requires.few, q.few); long = rw c.or_source_all-q.auto.ops c.requires.long }, under_more q.grow c.requires.right)
 
-pub union-requires : goal.union-requires
-union-requires c =
-    let q = c.or_source_all-q.ensures.source [] in
-    let s = c.or_source_all-s.ensures.source [] in
-    (omega (arith, c.requires.here), omega (arith, c.requires.few, q.few, q.low), omega (arith, c.requires.few, q.few, s.few, s.low))
-
-pub push-z-requires : goal.push-z-requires
-push-z-requires c =
+pub push-requires : goal.push-requires
+push-requires c =
     let q = c.or_source_all-q.ensures.source [] in
     let s = c.or_source_all-s.ensures.source [] in
     record { few = omega (arith, c.requires.few, q.few, s.few); long = rw (c.or_source_all-s.auto.ops ∙ c.or_source_all-q.auto.ops) c.requires.long }
 
 pub returns : goal.returns
 returns c =
-    let pushed = pushed_as (union_as _ c.from-all.ensures c.union.ensures) c.push-z.ensures in
-    λ rest. unite_law _ _ _ c.requires.here (c.or_source_all-q.ensures.source rest) (c.or_source_all-s.ensures.source rest) pushed c.push-z.auto.ops
+    let pushed = pushed_as c.union-x.ensures c.push.ensures in
+    λ rest. unite_law _ _ _ c.requires.here (c.or_source_all-q.ensures.source rest) (c.or_source_all-s.ensures.source rest) pushed c.push.auto.ops

@@ -11,4 +11,7 @@ pub returns-then-not-optional : goal.returns-then-not-optional
 returns-then-not-optional c = (refl, λ rest. plain_law _ (inl c.if-not-optional.true) c.requires.low)
 
 pub returns : goal.returns
-returns c = (refl, λ rest. joined_law rest c.if-not-optional.false c.in-Some.is c.requires.here c.requires.low (pushed_as c.optional_join.ensures c.push-z.ensures) c.push-z.auto.ops)
+returns c = (
+  c.push.ensures.next,
+  λ rest. rw c.push.ensures.op (joined_law rest c.if-not-optional.false c.in-Some.is c.requires.here c.requires.low (pushed_as c.optional_join.ensures c.push.ensures.pushed) c.push.auto.ops),
+)

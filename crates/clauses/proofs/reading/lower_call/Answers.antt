@@ -25,9 +25,9 @@ lower_exprs-s-requires c =
     }
 
 pub lower_yields-t-requires : goal.lower_yields-t-requires
-lower_yields-t-requires c = Calling.asked_yields c.args.r.now.roomy c.requires c.count-args.ensures.0 c.count-yields.ensures.0 c.lower_exprs-s.ensures
+lower_yields-t-requires c = Calling.asked_yields c.args.r.now.roomy c.requires c.count-args.ensures.0 c.count-yields.ensures.0 c.lower_exprs-s.ensures.lowered
 
-pub returns : goal.returns
-returns c =
-    let pushed = pushed_as c.procedure_call.ensures c.push-z.ensures in
-    Calling.call_law c.args.r.now.roomy c.requires c.count-args.ensures.0 c.count-yields.ensures.0 c.lower_exprs-s.ensures (c.lower_yields-t.ensures _) pushed c.push-z.auto.ops
+pub returns-clause-lowered : goal.returns-clause-lowered
+returns-clause-lowered c =
+    let pushed = pushed_as c.procedure_call.ensures c.push.ensures.pushed in
+    rw (c.push.ensures.next, c.push.ensures.op) (Calling.call_law c.args.r.now.roomy c.requires c.count-args.ensures.0 c.count-yields.ensures.0 c.lower_exprs-s.ensures.lowered (c.lower_yields-t.ensures _) pushed c.push.auto.ops)

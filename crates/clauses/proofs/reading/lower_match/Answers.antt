@@ -23,7 +23,7 @@ lower_parts-s-requires c =
       pass = omega arith;
     }
 
-pub returns : goal.returns
-returns c =
-    let law = Matching.match_law c.args.r.now.roomy c.requires c.count-n.ensures.0 c.word-optional.ensures c.lower_parts-s.ensures (c.join_before.ensures.1 _) in
+pub returns-clause-lowered : goal.returns-clause-lowered
+returns-clause-lowered c =
+    let law = Matching.match_law c.args.r.now.roomy c.requires c.count-n.ensures.0 c.word-optional.ensures c.lower_parts-s.ensures.lowered (c.join_before.ensures.1 _) in
     λ sheet. Matching.ends_at c.join_before.ensures.0 (law sheet)

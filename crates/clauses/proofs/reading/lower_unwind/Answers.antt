@@ -26,20 +26,19 @@ lower_expr-s-requires c =
 pub number-m-requires : goal.number-m-requires
 number-m-requires c =
     let l = Room.bounds c.requires in
-    Inputs.can_number c.requires.ready (c.or_source_all-q.ensures.source _) c.lower_expr-s.ensures.moved (omega arith) (omega arith) (omega (arith, l.low))
+    Inputs.can_number c.requires.ready (c.or_source_all-q.ensures.source _) c.lower_expr-s.ensures.lowered.moved (omega arith) (omega arith) (omega (arith, l.low))
 
 pub unwind-requires : goal.unwind-requires
 unwind-requires c =
     let l = Room.bounds c.requires in
-    let input = Room.few_source c.requires.ready (c.or_source_all-q.ensures.source _) in
-    (Room.fits (omega arith) (omega (arith, l.low)) (omega (arith, l.shallow)), omega (arith, input))
+    Room.fits (omega arith) (omega (arith, l.low)) (omega (arith, l.shallow))
 
-pub push-z-requires : goal.push-z-requires
-push-z-requires c =
-    let few = Inputs.few_sourced c.requires.ready (c.or_source_all-q.ensures.source _) c.lower_expr-s.ensures.moved (omega arith) in
-    record { few = omega (arith, few, c.number-m.ensures.issued.ops); long = rw (c.lower_expr-s.ensures.moved.in_ops ∙ c.or_source_all-q.auto.ops) c.requires.ready.in_ops }
+pub push-requires : goal.push-requires
+push-requires c =
+    let few = Inputs.few_sourced c.requires.ready (c.or_source_all-q.ensures.source _) c.lower_expr-s.ensures.lowered.moved (omega arith) in
+    record { few = omega (arith, few, c.number-m.ensures.issued.ops); long = rw (c.lower_expr-s.ensures.lowered.moved.in_ops ∙ c.or_source_all-q.auto.ops) c.requires.ready.in_ops }
 
-pub returns : goal.returns
-returns c =
-    let pushed = pushed_as c.unwind.ensures c.push-z.ensures in
-    Unwinding.unwind_law c.args.r.now.roomy c.requires (c.or_source_all-q.ensures.source _) c.lower_expr-s.ensures (Yields.numbered c.word-id.ensures c.number-m.ensures) c.number-m.auto.rest pushed c.push-z.auto.ops
+pub returns-clause-lowered : goal.returns-clause-lowered
+returns-clause-lowered c =
+    let pushed = pushed_as c.unwind.ensures c.push.ensures.pushed in
+    rw (c.push.ensures.next, c.push.ensures.op) (Unwinding.unwind_law c.args.r.now.roomy c.requires (c.or_source_all-q.ensures.source _) c.lower_expr-s.ensures.lowered (Yields.numbered c.word-id.ensures c.number-m.ensures) c.number-m.auto.rest pushed c.push.auto.ops)

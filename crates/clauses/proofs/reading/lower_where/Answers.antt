@@ -1,5 +1,5 @@
 -- `clauses::reading::lower_where` meets its contract.
-use Rattle.std.proofs.Common.{[], arith}
+use Rattle.std.proofs.Common.{[], ◌∙◌, arith}
 use Rattle.context.specs.OpLaws.{pushed_as}
 use Rattle.projections.specs.Room
 use Rattle.clauses.proofs.Filtering
@@ -22,19 +22,17 @@ lower_expr-s-requires c =
 pub over-requires : goal.over-requires
 over-requires c =
     let l = Room.bounds c.requires in
-    let few = Room.few_after c.requires.ready c.lower_expr-s.ensures.moved (omega arith) in
-    let source = c.or_source_all-q.ensures.source [] in
-    (Room.fits (omega arith) (omega (arith, l.low)) (omega (arith, l.shallow)), omega (arith, few, source.low, source.few))
+    Room.fits (omega arith) (omega (arith, l.low)) (omega (arith, l.shallow))
 
-pub push-z-requires : goal.push-z-requires
-push-z-requires c =
-    let few = Room.few_after c.requires.ready c.lower_expr-s.ensures.moved (omega arith) in
-    let held = Room.ops_after c.requires.ready c.lower_expr-s.ensures.moved (omega arith) in
+pub push-requires : goal.push-requires
+push-requires c =
+    let few = Room.few_after c.requires.ready c.lower_expr-s.ensures.lowered.moved (omega arith) in
+    let held = Room.ops_after c.requires.ready c.lower_expr-s.ensures.lowered.moved (omega arith) in
     record { few = omega (arith, few, (c.or_source_all-q.ensures.source []).few); long = rw c.or_source_all-q.auto.ops held }
 
-pub returns : goal.returns
-returns c =
+pub returns-clause-lowered : goal.returns-clause-lowered
+returns-clause-lowered c =
     let source = c.or_source_all-q.ensures in
-    let pushed = pushed_as c.over.ensures c.push-z.ensures in
-    let law = Filtering.where_law c.args.r.now.roomy c.requires c.lower_expr-s.ensures (source.source _) pushed c.push-z.auto.ops in
-    λ sheet. Matching.ends_at source.same (law sheet)
+    let pushed = pushed_as c.over.ensures c.push.ensures.pushed in
+    let law = Filtering.where_law c.args.r.now.roomy c.requires c.lower_expr-s.ensures.lowered (source.source _) pushed c.push.auto.ops in
+    λ sheet. rw c.push.ensures.op (Matching.ends_at (c.push.ensures.next ∙ source.same) (law sheet))

@@ -12,5 +12,5 @@ lower_exprs-requires c =
       pass = c.requires.pass;
     }
 
-pub returns : goal.returns
-returns c = rw c.saturating_sub.ensures at c.lower_exprs.ensures
+pub returns-clause-lowered : goal.returns-clause-lowered
+returns-clause-lowered c = rw c.saturating_sub.ensures at c.lower_exprs.ensures.lowered
