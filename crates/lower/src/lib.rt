@@ -1,4 +1,5 @@
 // The lowering of a statement that the words hold: operators, notes and variables into the tables. r holds the records; a place says at which record, how deep a tree may be, and where the pass's notes begin.
+// The four are parameters of their own: the records are only read, the tables written, the state goes by value, as document 01 has it, and the place is another one at each call; in one struct, lent to be written, each function would have to promise that the records stay.
 #![tactic(auto)]
 
 ghost use Rattle.std.specs.Prelude.{◌≡◌, ℕ, ◌+◌, ◌-◌, ◌<◌, List};
@@ -29,7 +30,7 @@ pub struct LastNode {
     pub number: u32,
 }
 
-// What is read of an element: its variable, the record behind its names, and how many props it has there, one or none.
+// What is read of an element: its variable, the record behind its names, and how many props it has there, one or none: a number and no flag, since it is the count of a group, as the record table has it, and the expressions there are lowered by their count.
 #[derive(Clone, Copy, Debug, PartialEq, Eq)]
 pub struct Read {
     pub bind: Option<u32>,
@@ -142,6 +143,7 @@ fn read_element(r: Record<'_>) -> Element
 }
 
 // The operator before, or a source of everything, which names the next number and does not take it.
+// That the operator is one that was pushed is asked and no fact of Lowered, which is one struct for a root and for an operator or none: the fact would be another for each.
 pub fn or_source_all(ops: &mut [u32], ctx: LowerCtx, current: Option<u32>, next: usize) -> Root
     requires { CanPush ctx ops.old × Under current ctx.ops }
     ensures { SourceLeft current next result.next result.op ctx result.ctx ops.old ops.new }
