@@ -1,6 +1,6 @@
 -- A call is told by its number, and its name is where its words say. Assumes nothing: every law is proved.
 use mathlib.Core.Path.{◌≡◌, refl, sym, ap, ◌∙◌}
-use Prim.Native.Nat.{ℕ, ◌+◌, ◌<◌}
+use Prim.Native.Nat.{ℕ, ◌+◌}
 use mathlib.Core.Bool.{Bool, false}
 use mathlib.Core.List.{List}
 use Rattle.model.specs.Text.{Bytes}
@@ -9,7 +9,7 @@ use Rattle.model.specs.Kind.{Expr, expr}
 use Rattle.model.specs.Record.{expr_forms}
 use Rattle.model.specs.Tree.{Tree, node}
 use Rattle.model.specs.Lower.{is_aggregate_func}
-use Rattle.words.specs.Words.{Roomy, cell, part, field_of, fields_of, max_records}
+use Rattle.words.specs.Words.{Roomy, cell, part, field_of, fields_of}
 use Rattle.words.specs.Held.{PlaceAt, RecordAt, Held}
 use Rattle.words.specs.Cells.{cells, shown, part_cells}
 use Rattle.words.specs.Numbers.{expr_number, expr_number_law}
@@ -21,13 +21,6 @@ use Rattle.aggregate.specs.Names.{SomeExpr}
 module _ (sheet : Bytes) (a b : List ℕ) (i : ℕ) (room : Roomy a b) where
   number : {k : Expr} {f : Fields (expr_forms k)} → RecordAt sheet a b i expr k f → cell a b i kind_at ≡ expr_number k
   number {k} h = expr_number_law (cell a b i kind_at) k (shown room h).kind
-
-  low_at : (d : ℕ) (t : Tree expr) → Held sheet a b t d i → i < max_records
-  unfolding Held
-  low_at d (node expr line k f kids) h = h.1.low
-
-  pub low : SomeExpr sheet a b i → i < max_records
-  low h = low_at h.depth h.held.tree h.held.is
 
   -- no call
   pub no_call : (cell a b i kind_at ≡ fn_kind → ⊥) → (d : ℕ) (t : Tree expr) → Held sheet a b t d i → false ≡ is_aggregate t

@@ -13,7 +13,7 @@ ghost use Rattle.words.specs.Held.{PlaceAt, Held};
 ghost use Rattle.lower.specs.Render.{is_aggregate};
 ghost use Rattle.aggregate.specs.Names.{SomeExpr};
 
-use words::{Records, field, kind};
+use words::{Record, field, kind};
 
 // The names of the aggregating functions, in small letters.
 static NAMES: [&[u8]; 10] = [
@@ -44,16 +44,16 @@ pub fn is_aggregate_func(sheet: &[u8], from: usize, to: usize) -> bool
     is_one_of(&sheet[from..to], &NAMES)
 }
 
-// Whether the expression at record i calls an aggregating function.
-pub fn is_aggregate(sheet: &[u8], r: &Records<'_>, i: usize) -> bool
-    requires { SomeExpr sheet.now r.now.a.now r.now.b.now i }
-    ensures { (d : ℕ) (t : Tree expr) → Held sheet.now r.now.a.now r.now.b.now t d i → result ≡ is_aggregate t }
+// Whether the expression at a record calls an aggregating function. Its name's two places, and no text, since what is promised of a name speaks of where it stands.
+pub fn is_aggregate(sheet: &[u8], r: Record<'_>) -> bool
+    requires { SomeExpr sheet.now r.records.now.a.now r.records.now.b.now r.i }
+    ensures { (d : ℕ) (t : Tree expr) → Held sheet.now r.entry.records.now.a.now r.entry.records.now.b.now t d r.entry.i → result ≡ is_aggregate t }
 {
-    let kind = r.word(i, field::KIND);
+    let kind = r.kind();
     if kind != kind::FN {
         return false;
     }
-    let from = r.count(i, field::NAME);
-    let to = r.count(i, field::NAME + 1);
+    let from = r.count(field::NAME);
+    let to = r.count(field::NAME + 1);
     is_aggregate_func(sheet, from, to)
 }

@@ -1,6 +1,6 @@
 -- A record's line by the two words that say where it stands. Assumes nothing: every law is proved.
 use mathlib.Core.Path.{◌≡◌, sym, ◌∙◌}
-use Prim.Native.Nat.{ℕ, ◌-◌, ◌≤◌, ◌<◌}
+use Prim.Native.Nat.{ℕ, ◌+◌, ◌-◌, ◌≤◌, ◌<◌}
 use native.Mathlib.Omega.{arith}
 use mathlib.Core.List.{List}
 use lib.ListN.{length, get_or}
@@ -12,7 +12,7 @@ use Rattle.output.specs.Page.{Puts}
 use Rattle.words.specs.Words.{cell, part, two32}
 use Rattle.words.proofs.GroupLaws.{part_cell}
 use Rattle.words.specs.Places.{line_start_at, line_end_at}
-use Rattle.plan_line.specs.Copy.{SomeRecord, Copied, LineBytes}
+use Rattle.plan_line.specs.Copy.{SomeRecord, Copied, LineBytes, TextBytes}
 
 module _ (a b : List ℕ) (i : ℕ) {x y : ℕ} (ex : x ≡ cell a b i line_start_at) (ey : y ≡ cell a b i line_end_at) where
   start_is : x ≡ get_or (part a b i) line_start_at 0
@@ -37,3 +37,11 @@ module _ (a b : List ℕ) (i : ℕ) {x y : ℕ} (ex : x ≡ cell a b i line_star
             rw (← spelled) (e ∙ sym (length-slice x y sheet (line_in some).1));
         few = omega arith;
       }
+
+-- and so a text's
+pub text_long : (a b : List ℕ) (i c : ℕ) {x y r : ℕ} → x ≡ cell a b i c → y ≡ cell a b i (c + 1) → r ≡ y - x → y < two32 → TextBytes a b i c r
+text_long a b i c ex ey e few =
+    record {
+      long = λ sheet h. rw (ex, ey) at e ∙ sym (length-slice (cell a b i c) (cell a b i (c + 1)) sheet h.to);
+      few = omega arith;
+    }

@@ -1,14 +1,15 @@
 // The fields of a line, each behind a tab, and the line of a signed number.
-ghost use Rattle.std.specs.Prelude.{◌≡◌, ◌∷◌, ◌+◌, ◌*◌, ◌<◌};
+ghost use Rattle.std.specs.Prelude.{◌≡◌, ◌∷◌, ◌+◌, ◌*◌};
 ghost use Rattle.model.specs.Text.{tab, decimal};
 ghost use Rattle.output.specs.Page.{Puts};
-ghost use Rattle.words.specs.Words.{cell, int_of, max_records, two32};
+ghost use Rattle.words.specs.Words.{int_of, two32};
 ghost use Rattle.words.specs.Places.{int_low_at, int_high_at};
+ghost use Rattle.plan_line.specs.Copy.{word_of};
 ghost use Rattle.plan_line.specs.Row.{int_text, NumberBytes};
 
 use crate::keyword::{Keyword, put_keyword};
 use output::Page;
-use words::{Records, field};
+use words::{Record, field};
 
 // The 64 bits of two words. By `*` and `+`, since a `|` of a shift wants one more law, that the bits are apart, and says no more.
 fn bits(low: u32, high: u32) -> u64
@@ -28,12 +29,11 @@ fn signed_of(low: u32, high: u32) -> i64
 }
 
 // The line of an `int`: its number is read off the words and written over 64 signed bits.
-pub fn put_int(page: &mut Page<'_>, r: &Records<'_>, i: usize)
-    requires { i < max_records }
-    ensures { Puts (int_text (int_of (cell r.now.a.now r.now.b.now i int_low_at) (cell r.now.a.now r.now.b.now i int_high_at))) page.old page.new }
+pub fn put_int(page: &mut Page<'_>, r: Record<'_>)
+    ensures { Puts (int_text (int_of (word_of r.entry int_low_at) (word_of r.entry int_high_at))) page.old page.new }
 {
-    let low = r.word(i, field::INT_LOW);
-    let high = r.word(i, field::INT_HIGH);
+    let low = r.word(field::INT_LOW);
+    let high = r.word(field::INT_HIGH);
     let n = signed_of(low, high);
     put_keyword(page, Keyword::Int);
     page.put_byte(b'\t');

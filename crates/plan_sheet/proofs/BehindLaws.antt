@@ -8,8 +8,6 @@ use mathlib.Core.List.{List, [], ◌∷◌, ◌++◌, append-nil}
 use Rattle.std.specs.Prelude.{None}
 use borrow.Author.Tests.{eqb-false}
 use lib.Dec.{eqb}
-use lib.ListN.{length}
-use lib.Seq.{slice}
 use Rattle.model.specs.Text.{Bytes, bytes, bytes_from}
 use Rattle.model.specs.Field.{Fields, text, spell, spell_fields}
 use Rattle.model.specs.Kind.{Clause, clause, yield_item}
@@ -31,7 +29,8 @@ use Rattle.lower.specs.Shows.{shift, Shows, OverExpr, ByLabels, ByPath, ByWith, 
 use Rattle.plan_line.specs.Keywords.{word}
 use Rattle.plan_line.specs.declared.keyword.Keyword.{Keyword}
 use Rattle.plan_line.specs.Row.{named_text}
-use Rattle.plan_sheet.specs.Due.{noted, SomePlan, Names, names_recs, Carried, carried_recs, carried_end, Many, WroteMany, WroteFirst, text_at}
+use Rattle.plan_sheet.specs.Due.{noted, SomePlan, Names, names_recs, Carried, carried_recs, carried_end, Many, WroteMany, WroteFirst}
+use Rattle.plan_line.specs.Copy.{TextAsked, text_at}
 use Rattle.plan_sheet.specs.Path.{Elements, WrotePath}
 use Rattle.plan_sheet.specs.Behind.{many_by, many_of, first_by, first_of, Yields, no_yields, yield_more, yields_recs, WroteYields, Tail, SomeTail, WroteTail}
 use Rattle.plan_sheet.specs.Due
@@ -65,9 +64,9 @@ yield_line : {sheet : Bytes} {a b : List ℕ} {i : ℕ} (n : ℕ) {f : Fields (f
 unfolding keyword word bytes bytes_from spell_fields spell fields_of field_of
 yield_line {sheet} {a} {b} {i} n room h = named_rec_law _ Keyword.Yield (text_at sheet a b i yield_name_at) (n ∷ []) refl (rw (shown room h).fields (rw (place_escape (yield_place room h))))
 
-pub yield_in : {sheet : Bytes} {a b : List ℕ} {n i s e : ℕ} → Roomy a b → s ≡ cell a b i yield_name_at → e ≡ cell a b i (yield_name_at + 1) → (n ≡ 0 → ⊥) → Yields sheet a b n i → (s ≤ e) × (e ≤ length sheet)
-yield_in room p q z no_yields = absurd (z refl)
-yield_in room p q z (yield_more f h c) = let y = yield_place room h in rw (p, q) (y.from, y.to)
+pub yield_in : {sheet : Bytes} {a b : List ℕ} {n i : ℕ} → Roomy a b → (n ≡ 0 → ⊥) → Yields sheet a b n i → TextAsked sheet a b i yield_name_at
+yield_in room z no_yields = absurd (z refl)
+yield_in room z (yield_more f h c) = let y = yield_place room h in record { from = y.from; to = y.to }
 
 -- they end among the records
 pub yields_end : {sheet : Bytes} {a b : List ℕ} {n i : ℕ} → Yields sheet a b n i → (n ≡ 0) ⊎ (i + n ≤ max_records)
@@ -107,10 +106,9 @@ module _ {sheet : Bytes} {a b rest : List ℕ} {base : ℕ} where
   yields_going h = record { some = h; each = λ h. record { others = h; text = λ q r. r } }
 
   pub yields_again :
-      {n i m at s e number : ℕ} {start p q : Page} → Roomy a b → (m ≡ 0 → ⊥) → YieldsGoing sheet a b rest base n i start m at p
-      → s ≡ cell a b at yield_name_at → e ≡ cell a b at (yield_name_at + 1) → number ≡ note_of rest base at → Puts (named_text Keyword.Yield (slice s e sheet) (number ∷ [])) p q → YieldsGoing sheet a b rest base n i start (m - 1) (at + 1) q
-  yields_again {at = at} {number = number} {p = p} {q = q} room z g x y e w =
-      let line : Puts (named_text Keyword.Yield (text_at sheet a b at yield_name_at) (number ∷ [])) p q = rw (x, y) at w in
+      {n i m at number : ℕ} {start p q : Page} → Roomy a b → (m ≡ 0 → ⊥) → YieldsGoing sheet a b rest base n i start m at p
+      → number ≡ note_of rest base at → Puts (named_text Keyword.Yield (text_at sheet a b at yield_name_at) (number ∷ [])) p q → YieldsGoing sheet a b rest base n i start (m - 1) (at + 1) q
+  yields_again room z g e line =
       record {
         some = (yields_step g.some room z g.some (λ q r. r) e line).others;
         each = λ h. let s = g.each h in yields_step h room z s.others s.text e line;

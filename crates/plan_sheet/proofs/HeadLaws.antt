@@ -1,6 +1,6 @@
 -- What the words of a record say of its line in the plan. Assumes nothing: every law is proved.
 use mathlib.Core.Path.{◌≡◌, refl, sym, subst, ◌∙◌}
-use Prim.Native.Nat.{ℕ, ◌+◌, ◌≤◌}
+use Prim.Native.Nat.{ℕ, ◌+◌, ◌≤◌, ◌<◌}
 use native.Mathlib.Omega.{arith}
 use mathlib.Core.Bool.{Bool, true, false, cond, false≢true}
 use mathlib.Core.Logic.{◌⊎◌, inl, inr}
@@ -17,7 +17,7 @@ use Rattle.model.specs.Lower.{Recs, expr_head}
 use Rattle.output.specs.declared.Page.{Page}
 use Rattle.output.specs.Page.{Puts}
 use Rattle.output.specs.Writes.{stay}
-use Rattle.words.specs.Words.{Roomy, cell, kind_of, first_kind, nth, field_of, fields_of, int_of}
+use Rattle.words.specs.Words.{Roomy, cell, kind_of, first_kind, nth, field_of, fields_of, int_of, max_records}
 use Rattle.words.specs.Held.{RecordAt, Texts, PlaceAt}
 use Rattle.words.specs.Places.{kind_at, item_kind, key_kind, entry_kind, null_kind, int_kind, var_kind, fn_kind, pat_kind, list_predicate_kind, unres_kind, undes_kind, name_at, int_low_at, int_high_at, fn_args_at, list_predicate_kind_at, list_predicate_pred_at}
 use Rattle.words.specs.Cells.{cells, part_cells, shown, numbered, number_of}
@@ -26,7 +26,8 @@ use Rattle.plan_line.specs.Keywords.{word}
 use Rattle.plan_line.specs.declared.keyword.Keyword.{Keyword}
 use Rattle.plan_line.specs.Copy.{SomeRecord, Copied}
 use Rattle.plan_line.specs.Row.{row_text, named_text, int_text}
-use Rattle.plan_sheet.specs.Due.{ExprAt, ItemAt, named_rec, item_name, Line, TextAsked, text_at}
+use Rattle.plan_sheet.specs.Due.{ExprAt, ItemAt, named_rec, item_name, Line}
+use Rattle.plan_line.specs.Copy.{TextAsked, text_at}
 use Rattle.plan_line.proofs.RowLaws.{flag_decimal, row_rec, named_rec_law, int_rec, place_escape}
 
 -- ── expressions ──
@@ -93,6 +94,9 @@ module _ {sheet : Bytes} {a b : List ℕ} {i : ℕ} where
   line_record (Line.keyed h) = some_record h
   line_record (Line.aliased h) = some_record h.at
 
+  pub line_low : {recs : Recs} {j : ℕ} → Line sheet a b i recs j → i < max_records
+  line_low l = (line_record l).at.low
+
 module _ {sheet : Bytes} {a b : List ℕ} {i : ℕ} (room : Roomy a b) where
   -- so, read off the words one by one
   pub texts_at : {s : Sort} {k : Kind s} {f : Fields (forms s k)} → RecordAt sheet a b i s k f → Texts (forms s k) sheet (cells a b i) 0
@@ -140,7 +144,7 @@ module _ {sheet : Bytes} {a b : List ℕ} {i : ℕ} (room : Roomy a b) where
     call_place e = at_kind Expr.Call h.kind (λ k f. RecordAt sheet a b i expr k f → PlaceAt text sheet (cell a b i name_at) (cell a b i (name_at + 1))) (kind_is h fn_kind Expr.Call e refl) (λ f at. (texts_at at).0) h.fields h.at
 
     pub call_in : cell a b i kind_at ≡ fn_kind → TextAsked sheet a b i name_at
-    call_in e = let p = call_place e in record { low = h.at.low; from = p.from; to = p.to }
+    call_in e = let p = call_place e in record { from = p.from; to = p.to }
 
     call_fields : PlaceAt text sheet (cell a b i name_at) (cell a b i (name_at + 1)) → (f : Fields (expr_forms Expr.Call)) → RecordAt sheet a b i expr Expr.Call f → spell_rec (expr_head n Expr.Call f) ≡ named_text Keyword.Fn (text_at sheet a b i name_at) (cell a b i fn_args_at ∷ [])
     unfolding keyword plan_keyword plan_expr_keyword word bytes bytes_from spell_fields spell fields_of field_of

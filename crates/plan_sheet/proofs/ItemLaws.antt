@@ -21,7 +21,8 @@ use Rattle.words.specs.Numbers.{same_number, expr_number, Others}
 use Rattle.plan_line.specs.Keywords.{word}
 use Rattle.plan_line.specs.declared.keyword.Keyword.{Keyword}
 use Rattle.plan_line.specs.Row.{named_text}
-use Rattle.plan_sheet.specs.Due.{ExprAt, ItemAt, named_rec, item_name, TextAsked, text_at}
+use Rattle.plan_sheet.specs.Due.{ExprAt, ItemAt, named_rec, item_name}
+use Rattle.plan_line.specs.Copy.{TextAsked, text_at}
 use Rattle.plan_line.proofs.RowLaws.{named_rec_law, place_escape}
 use Rattle.plan_sheet.proofs.HeadLaws.{at_kind, texts_at, number_is, kind_is, call_in, call_place}
 use Rattle.words.specs.Places.{fn_kind, item_alias_at, kind_at, name_at, prop_kind, var_id_at, var_kind}
@@ -105,7 +106,7 @@ module _ {sheet : Bytes} {a b : List ℕ} {i : ℕ} (room : Roomy a b) (h : Expr
   prop_place e = at_kind (Expr.Over Same.Prop) h.kind (λ k f. RecordAt sheet a b i expr k f → PlaceAt text sheet (cell a b i name_at) (cell a b i (name_at + 1))) (kind_is room h prop_kind (Expr.Over Same.Prop) e refl) (λ f at. (texts_at room at).0) h.fields h.at
 
   prop_in : cell a b i kind_at ≡ prop_kind → TextAsked sheet a b i name_at
-  prop_in e = let p = prop_place e in record { low = h.at.low; from = p.from; to = p.to }
+  prop_in e = let p = prop_place e in record { from = p.from; to = p.to }
 
   prop_named : cell a b i kind_at ≡ prop_kind → spell_rec (named_rec (expr_alias h.kind h.fields)) ≡ named_text Keyword.Item (text_at sheet a b i name_at) []
   unfolding kind_of first_kind nth kinds sames same_alias fields_of field_of
@@ -149,7 +150,7 @@ module _ {sheet : Bytes} {a b : List ℕ} {i : ℕ} (room : Roomy a b) (h : Item
   alias_place z = (texts_at room h.at).0 (omega arith)
 
   pub alias_in_law : (cell a b i item_alias_at ≡ 0 → ⊥) → TextAsked sheet a b i item_alias_at
-  alias_in_law z = let p = alias_place z in record { low = h.at.low; from = p.from; to = p.to }
+  alias_in_law z = let p = alias_place z in record { from = p.from; to = p.to }
 
   pub alias_named : (cell a b i item_alias_at ≡ 0 → ⊥) → spell_rec (named_rec (item_name h)) ≡ named_text Keyword.Item (text_at sheet a b i item_alias_at) []
   unfolding alias_or

@@ -1,10 +1,9 @@
 -- How many bytes the first line of an expression has, by its kind, and lines that are only counted. Assumes nothing: every law is proved.
 use mathlib.Core.Path.{◌≡◌, refl, ◌∙◌}
-use Prim.Native.Nat.{ℕ, ◌+◌, ◌-◌, ◌≤◌}
+use Prim.Native.Nat.{ℕ, ◌+◌, ◌≤◌}
 use native.Mathlib.Omega.{arith}
 use mathlib.Core.List.{List, [], ◌∷◌}
 use lib.ListN.{length}
-use lib.Seq.{length-slice}
 use Rattle.model.specs.Text.{Bytes, bytes, bytes_from}
 use Rattle.model.specs.Kind.{expr}
 use Rattle.model.specs.Record.{rec, spell_rec}
@@ -16,10 +15,11 @@ use Rattle.words.specs.Numbers.{Others}
 use Rattle.words.specs.Places.{kind_at, var_kind, fn_kind, pat_kind, list_predicate_kind, unres_kind, undes_kind, name_at, fn_args_at, list_predicate_kind_at, list_predicate_pred_at}
 use Rattle.plan_line.specs.Keywords.{word}
 use Rattle.plan_line.specs.declared.keyword.Keyword.{Keyword}
-use Rattle.plan_line.specs.Copy.{Copied, LineBytes}
+use Rattle.plan_line.specs.Copy.{Copied, LineBytes, TextBytes}
 use Rattle.plan_line.specs.Row.{NumberBytes}
 use Rattle.plan_line.proofs.RowLaws.{row_long, named_long}
-use Rattle.plan_sheet.specs.Due.{ExprAt, text_at}
+use Rattle.plan_sheet.specs.Due.{ExprAt}
+use Rattle.plan_line.specs.Copy.{text_at}
 use Rattle.plan_sheet.specs.Measure.{var_line, fn_line, list_predicate_line, exists_line, null_line, AnyBytes, CallBytes, HeadBytes}
 use Rattle.plan_sheet.proofs.HeadLaws.{renamed, copied_kind, number_is, var_head, exists_head, null_head, any_head, call_in, call_head}
 
@@ -29,14 +29,10 @@ module _ {a b : List ℕ} {i : ℕ} where
   any_bytes {n} ex ez x d z e =
       record { long = rw (← ex, ← ez, row_long Keyword.ListPredicate (_ ∷ n ∷ _ ∷ [])) (omega (arith, e, x.long, d.long, z.long)) }
 
-  pub call_bytes : {s e args d r : ℕ} → s ≡ cell a b i name_at → e ≡ cell a b i (name_at + 1) → args ≡ cell a b i fn_args_at → NumberBytes args d → r ≡ fn_line + (e - s) + d → CallBytes a b i r
+  pub call_bytes : {args n d r : ℕ} → TextBytes a b i name_at n → args ≡ cell a b i fn_args_at → NumberBytes args d → r ≡ fn_line + n + d → CallBytes a b i r
   unfolding word bytes bytes_from
-  call_bytes {s} {e} {args} es ee ea d is =
-      record {
-        long = λ sheet asked.
-            let name : length (text_at sheet a b i name_at) ≡ e - s = rw (es, ee) (length-slice (cell a b i name_at) (cell a b i (name_at + 1)) sheet asked.to) in
-            rw (← ea, named_long Keyword.Fn (text_at sheet a b i name_at) (args ∷ [])) (omega (arith, is, name, d.long));
-      }
+  call_bytes {args} t ea d is =
+      record { long = λ sheet asked. rw (← ea, named_long Keyword.Fn (text_at sheet a b i name_at) (args ∷ [])) (omega (arith, is, t.long sheet asked, d.long)) }
 
 -- ── by the kind ──
 

@@ -25,7 +25,8 @@ use Rattle.plan_line.specs.Keywords.{word}
 use Rattle.plan_line.specs.declared.keyword.Keyword.{Keyword}
 use Rattle.plan_line.specs.Copy.{SomeRecord, Copied}
 use Rattle.plan_line.specs.Row.{row_text, rel_text}
-use Rattle.plan_sheet.specs.Due.{Names, no_names, name_more, names_recs, ElementAt, TextAsked, text_at}
+use Rattle.plan_sheet.specs.Due.{Names, no_names, name_more, names_recs, ElementAt}
+use Rattle.plan_line.specs.Copy.{TextAsked, text_at}
 use Rattle.plan_line.proofs.RowLaws.{flag_decimal, behind_append, place_text, record_line, row_rec}
 use Rattle.plan_sheet.proofs.HeadLaws.{some_record, texts_at}
 use Rattle.words.specs.Places.{kind_at, node_kind, node_labels_at, node_props_at, rel_direction_at, rel_kind, rel_length_at, rel_props_at, rel_types_at}
@@ -148,7 +149,7 @@ module _ {sheet : Bytes} {a b : List ℕ} {i : ℕ} (room : Roomy a b) where
     node_line e = node_fields h.kind h.fields h.at (sym (element_number_law h) ∙ e)
 
     pub rel_in : (cell a b i kind_at ≡ node_kind → ⊥) → TextAsked sheet a b i rel_length_at
-    rel_in e = let p = rel_place h.kind h.fields h.at (λ x. e (element_number_law h ∙ x)) in record { low = h.at.low; from = p.from; to = p.to }
+    rel_in e = let p = rel_place h.kind h.fields h.at (λ x. e (element_number_law h ∙ x)) in record { from = p.from; to = p.to }
 
     pub rel_line : (cell a b i kind_at ≡ node_kind → ⊥) → spell_rec (spec_rec h.kind h.fields) ≡ rel_text (cell a b i rel_types_at) (cell a b i rel_direction_at) (text_at sheet a b i rel_length_at) (cell a b i rel_props_at)
     rel_line e =

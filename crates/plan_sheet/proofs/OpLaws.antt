@@ -29,7 +29,8 @@ use Rattle.lower.specs.Shows.{shift, InBounds, Shows, Stored, OverExpr, ByLabels
 use Rattle.plan_line.specs.Keywords.{word}
 use Rattle.plan_line.specs.declared.keyword.Keyword.{Keyword}
 use Rattle.plan_line.specs.Row.{numbers_text, row_text, call_text}
-use Rattle.plan_sheet.specs.Due.{noted, Near, Tabled, SomePlan, OpShown, WroteFirst, Many, WroteMany, Element, WroteElement, WroteOp, TextAsked, NotesIn, text_at}
+use Rattle.plan_sheet.specs.Due.{noted, Near, Tabled, SomePlan, OpShown, WroteFirst, Many, WroteMany, Element, WroteElement, WroteOp, NotesIn}
+use Rattle.plan_line.specs.Copy.{TextAsked, text_at}
 use Rattle.plan_sheet.specs.Parted.{Items, WroteItems}
 use Rattle.plan_sheet.specs.Asked.{Asked, at_record}
 use Rattle.plan_sheet.specs.declared.write.At.{At}
@@ -256,7 +257,7 @@ module _ {sheet : Bytes} {a b rest : List ℕ} {o : Op} (room : Roomy a b) (h : 
   call_text_law = (texts_at room (of_kind procedure_call_kind e h.stored.shows).at).0
 
   pub procedure_in : TextAsked sheet a b o.idx call_name_at
-  procedure_in = record { low = h.stored.bounded.low; from = call_text_law.from; to = call_text_law.to }
+  procedure_in = record { from = call_text_law.from; to = call_text_law.to }
 
   pub call_line : spell_recs (take 1 h.recs) ≡ call_text (call_input o) (text_at sheet a b o.idx call_name_at) (cell a b o.idx call_args_at) (cell a b o.idx call_yields_at) (cell a b o.idx call_optional_at)
   unfolding spell_rec keyword plan_keyword op_keyword word bytes bytes_from spell_fields spell fields_of field_of call_text numbers_text

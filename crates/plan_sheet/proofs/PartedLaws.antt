@@ -24,7 +24,8 @@ use Rattle.words.specs.Count.{Ends}
 use Rattle.aggregate.specs.Names.{SomeExpr}
 use Rattle.plan_line.specs.Keywords.{word}
 use Rattle.plan_line.specs.declared.keyword.Keyword.{Keyword}
-use Rattle.plan_sheet.specs.Due.{noted, SomePlan, One, Carried, carried_recs, carried_end, Many, WroteOne, WroteMany, WroteFirst, TextAsked, text_at}
+use Rattle.plan_sheet.specs.Due.{noted, SomePlan, One, Carried, carried_recs, carried_end, Many, WroteOne, WroteMany, WroteFirst}
+use Rattle.plan_line.specs.Copy.{TextAsked, text_at}
 use Rattle.plan_sheet.specs.Parted.{agg_text, part_recs, parts_recs, Items, WrotePart, WroteParts, WroteItems}
 use Rattle.plan_line.proofs.RowLaws.{flag_decimal, named_rec_law, place_escape}
 use Rattle.plan_sheet.proofs.HeadLaws.{texts_at}
@@ -127,7 +128,7 @@ module _ {sheet : Bytes} {a b os rest : List ℕ} {below base left i : ℕ} wher
     agg_is = agg sheet a b (shift (noted rest) base) h.first below left i room h.tree h.held h.under (sym (told left h.tree h.held) ∙ e)
 
     pub agg_in : TextAsked sheet a b i name_at
-    agg_in = record { low = agg_is.low; from = agg_is.place.from; to = agg_is.place.to }
+    agg_in = record { from = agg_is.place.from; to = agg_is.place.to }
 
     pub args : {n : ℕ} → n ≡ cell a b i fn_args_at → Many sheet a b os rest below base (left - 1) n (i + 1)
     args q = rw q (record { first = h.first; ops = h.ops; tabled = h.tabled; list = agg_is.list })

@@ -4,10 +4,12 @@ use Rattle.model.specs.Text.{Bytes}
 use Rattle.output.specs.declared.Page.{Page}
 use Rattle.words.specs.Words.{cell}
 use Rattle.words.specs.declared.records.Records.{Records}
-use Rattle.words.specs.Places.{items_at}
+use Rattle.words.specs.declared.records.Record.{Record}
+use Rattle.words.specs.Places.{items_at, with_filter_at, call_args_at}
+use Rattle.plan_line.specs.Copy.{word_of}
 use Rattle.context.specs.declared.op.Op.{Op}
-use Rattle.plan_sheet.specs.Behind.{many_of, first_of, Yields, WroteYields, SomeTail, WroteTail}
-use Rattle.plan_sheet.specs.Due.{Near, ExprAt, ItemAt, SomeLine, ElementAt, Names, OpShown, SomePlan, One, Many, Element, TextAsked, KindAsked, text_at, WroteLine, WroteFirst, WroteMany, WroteElement, WroteOp}
+use Rattle.plan_sheet.specs.Behind.{many_by, first_by, Yields, WroteYields, SomeTail, WroteTail}
+use Rattle.plan_sheet.specs.Due.{Near, ExprAt, ItemAt, SomeLine, ElementAt, Names, OpShown, SomePlan, One, Many, Element, WroteLine, WroteFirst, WroteMany, WroteElement, WroteOp}
 use Rattle.plan_sheet.specs.Path.{Elements, WrotePath}
 use Rattle.plan_sheet.specs.Parted.{agg_text, Items, WrotePart, WroteParts, WroteItems}
 use Rattle.plan_sheet.specs.declared.write.At.{At}
@@ -21,34 +23,25 @@ pub record Asked (base left : ℕ) (Due : Type 0) : Type 0 where
 
 -- ── by the sheet, its records and the notes ──
 
--- word c of record i, and the text whose place begins there
-abbrev pub word_of : Records → (i c : ℕ) → ℕ
-word_of r i c = cell r.a.now r.b.now i c
+abbrev pub agg_text_of : Bytes → Record → Bytes
+agg_text_of sheet r = agg_text sheet r.records.now.a.now r.records.now.b.now r.i
 
-abbrev pub text_of : Bytes → Records → (i c : ℕ) → Bytes
-text_of sheet r i c = text_at sheet r.a.now r.b.now i c
-
-abbrev pub agg_text_of : Bytes → Records → ℕ → Bytes
-agg_text_of sheet r i = agg_text sheet r.a.now r.b.now i
+-- word c of the record of an operator
+abbrev pub op_word : Records → Op → (c : ℕ) → ℕ
+op_word r o c = cell r.a.now r.b.now o.idx c
 
 -- what stands there
-abbrev pub TextIn : Bytes → Records → (i c : ℕ) → Type 0
-TextIn sheet r i c = TextAsked sheet r.a.now r.b.now i c
+abbrev pub ExprIn : Bytes → Record → Type 0
+ExprIn sheet r = ExprAt sheet r.records.now.a.now r.records.now.b.now r.i
 
-abbrev pub KindIn : Records → (i kind : ℕ) → Type 0 → Type 0
-KindIn r i kind X = KindAsked r.a.now r.b.now i kind X
+abbrev pub ItemIn : Bytes → Record → Type 0
+ItemIn sheet r = ItemAt sheet r.records.now.a.now r.records.now.b.now r.i
 
-abbrev pub ExprIn : Bytes → Records → ℕ → Type 0
-ExprIn sheet r i = ExprAt sheet r.a.now r.b.now i
+abbrev pub LineIn : Bytes → Record → Type 0
+LineIn sheet r = SomeLine sheet r.records.now.a.now r.records.now.b.now r.i
 
-abbrev pub ItemIn : Bytes → Records → ℕ → Type 0
-ItemIn sheet r i = ItemAt sheet r.a.now r.b.now i
-
-abbrev pub LineIn : Bytes → Records → ℕ → Type 0
-LineIn sheet r i = SomeLine sheet r.a.now r.b.now i
-
-abbrev pub ElementIn : Bytes → Records → ℕ → Type 0
-ElementIn sheet r i = ElementAt sheet r.a.now r.b.now i
+abbrev pub ElementIn : Bytes → Record → Type 0
+ElementIn sheet r = ElementAt sheet r.records.now.a.now r.records.now.b.now r.i
 
 abbrev pub NamesIn : Bytes → Records → (n i : ℕ) → Type 0
 NamesIn sheet r n i = Names sheet r.a.now r.b.now n i
@@ -66,8 +59,8 @@ abbrev pub TailIn : Bytes → Records → List ℕ → Op → ℕ → Type 0
 TailIn sheet r rest o i = SomeTail sheet r.a.now r.b.now rest o i
 
 -- that it is written
-abbrev pub LineWrote : Bytes → Records → ℕ → Page → ℕ → Page → Type 0
-LineWrote sheet r i p next q = WroteLine sheet r.a.now r.b.now i p next q
+abbrev pub LineWrote : Bytes → Record → Page → ℕ → Page → Type 0
+LineWrote sheet r p next q = WroteLine sheet r.records.now.a.now r.records.now.b.now r.i p next q
 
 abbrev pub YieldsWrote : Bytes → Records → List ℕ → (base n i : ℕ) → Page → Page → Type 0
 YieldsWrote sheet r rest base n i p q = WroteYields sheet r.a.now r.b.now rest base n i p q
@@ -95,11 +88,18 @@ OpWrote s k p q = WroteOp s.sheet.now s.records.a.now s.records.b.now s.ops.now 
 abbrev pub at_record : Op → (i k : ℕ) → At
 at_record o i k = record { base = o.base; i = i; left = o.left; below = k }
 
-abbrev pub exprs_of : List ℕ → List ℕ → Op → (k : ℕ) → Run
-exprs_of a b o k = record { at = at_record o (first_of o) k; n = many_of a b o }
+-- the number of expressions of an operator whose record is r, and the record that they begin at
+abbrev pub many_at : Record → Op → ℕ
+many_at r o = many_by o.kind (word_of r items_at) (word_of r with_filter_at) (word_of r call_args_at) o.x
 
-abbrev pub items_of : List ℕ → List ℕ → Op → (k : ℕ) → Run
-items_of a b o k = record { at = at_record o (o.idx + 1) k; n = cell a b o.idx items_at }
+abbrev pub first_at : Record → Op → ℕ
+first_at r o = first_by o.kind r.i
+
+abbrev pub exprs_of : Record → Op → (k : ℕ) → Run
+exprs_of r o k = record { at = at_record o (first_at r o) k; n = many_at r o }
+
+abbrev pub items_of : Record → Op → (k : ℕ) → Run
+items_of r o k = record { at = at_record o (r.i + 1) k; n = word_of r items_at }
 
 -- ── an expression behind its line, and some of them ──
 

@@ -1,6 +1,5 @@
 -- What is due to be written: expressions that the words hold, each behind a line of its own or not, over operators that the tables show. Assumes nothing: these are definitions.
 use Rattle.std.specs.Prelude.{◌≡◌, ℕ, zero, suc, ◌+◌, ◌≤◌, ◌<◌, List, [], ◌∷◌, ◌++◌, length, get_or, take}
-use Rattle.std.proofs.Math.Seq.{slice}
 use Rattle.model.specs.Text.{Bytes}
 use Rattle.model.specs.Field.{Fields}
 use Rattle.model.specs.Kind.{Expr, PatternElement, projection, order_item, pattern_element, name, entry, expr, in_plan, plan_projection, order_key, plan_entry}
@@ -9,8 +8,7 @@ use Rattle.model.specs.Tree.{Tree}
 use Rattle.model.specs.Lower.{Recs, expr_alias, alias_or}
 use Rattle.output.specs.declared.Page.{Page}
 use Rattle.output.specs.Page.{Puts}
-use Rattle.words.specs.Words.{Roomy, cell, max_records}
-use Rattle.words.specs.Places.{kind_at}
+use Rattle.words.specs.Words.{Roomy, max_records}
 use Rattle.words.specs.Held.{Held, RecordAt, size}
 use Rattle.context.specs.Tables.{op_at, max_stored, second_pass, deepest}
 use Rattle.context.specs.declared.op.Op.{Op}
@@ -44,21 +42,6 @@ pub record NotesIn (rest : List ℕ) (o : Op) : Type 0 where
 pub record Tabled (sheet : Bytes) (a b os rest : List ℕ) (first n : ℕ) (A : Ops) : Type 0 where
   pub few : n ≤ max_stored
   pub stored : (k : ℕ) → first ≤ k → k < n → Stored (side sheet a b first) (noted rest) A k (op_at os k) (A k)
-
--- the text whose place stands in word c of record i and in the next one
-abbrev pub text_at : Bytes → List ℕ → List ℕ → (i c : ℕ) → Bytes
-text_at sheet a b i c = slice (cell a b i c) (cell a b i (c + 1)) sheet
-
--- what a line with such a text asks
-pub record TextAsked (sheet : Bytes) (a b : List ℕ) (i c : ℕ) : Type 0 where
-  pub low : i < max_records
-  pub from : cell a b i c ≤ cell a b i (c + 1)
-  pub to : cell a b i (c + 1) ≤ length sheet
-
--- what the line of a record asks whose kind was read, X being what stands there
-pub record KindAsked (a b : List ℕ) (i kind : ℕ) (X : Type 0) : Type 0 where
-  pub at : X
-  pub told : kind ≡ cell a b i kind_at
 
 -- what a part of an operator asks whose notes are read, X being what is due
 pub record NotedAsked (rest : List ℕ) (o : Op) (X : Type 0) : Type 0 where

@@ -6,8 +6,9 @@ use Rattle.model.specs.Lower.{expr_head}
 use Rattle.words.specs.Words.{cell}
 use Rattle.words.specs.Places.{name_at, fn_args_at, list_predicate_kind_at, list_predicate_pred_at}
 use Rattle.plan_line.specs.declared.keyword.Keyword.{Keyword}
+use Rattle.plan_line.specs.Copy.{TextAsked, text_at}
 use Rattle.plan_line.specs.Row.{row_text, named_text}
-use Rattle.plan_sheet.specs.Due.{ExprAt, TextAsked, text_at}
+use Rattle.plan_sheet.specs.Due.{ExprAt}
 
 -- a keyword and the line feed; of `fn` the tab before its name too
 abbrev pub var_line : ℕ

@@ -13,8 +13,9 @@ use Rattle.words.specs.Places.{name_at, fn_args_at, fn_distinct_at}
 use Rattle.lower.specs.Render.{Notes, Ops, render, BelowOf, is_aggregate, agg_of, key_recs, agg_recs}
 use Rattle.lower.specs.Shows.{shift}
 use Rattle.plan_line.specs.declared.keyword.Keyword.{Keyword}
+use Rattle.plan_line.specs.Copy.{text_at}
 use Rattle.plan_line.specs.Row.{named_text}
-use Rattle.plan_sheet.specs.Due.{noted, text_at, Tabled, One}
+use Rattle.plan_sheet.specs.Due.{noted, Tabled, One}
 
 -- the line of the aggregate at record i
 abbrev pub agg_text : Bytes → List ℕ → List ℕ → ℕ → Bytes

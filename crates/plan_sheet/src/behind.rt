@@ -1,33 +1,28 @@
 // What stands behind the first line of an operator, but for copies: where its expressions, items and elements are, its labels, its path, its yields.
-ghost use Rattle.std.specs.Prelude.{◌≡◌, ◌+◌, ◌<◌};
-ghost use Rattle.words.specs.Words.{max_records};
+ghost use Rattle.std.specs.Prelude.{◌≡◌, ◌+◌};
 ghost use Rattle.words.specs.Places.{call_yields_at};
 ghost use Rattle.plan_sheet.specs.Due.{NotedAsked};
-ghost use Rattle.plan_sheet.specs.Asked.{exprs_of, items_of, at_record, TailIn, TailWrote, YieldsWrote, YieldsIn, word_of};
-ghost use Rattle.plan_sheet.specs.Behind.{many_of, first_of};
+ghost use Rattle.plan_sheet.specs.Asked.{many_at, first_at, exprs_of, items_of, at_record, TailIn, TailWrote, YieldsWrote, YieldsIn, op_word};
 
 use crate::write::{At, Run};
 use context::op;
 use context::op::Op;
 use context::read::note_of;
 use output::Page;
-use plan_line::copy::part;
+use plan_line::copy::text;
 use plan_line::keyword::Keyword;
 use plan_line::row::put_named;
-use words::field;
-use words::records::Records;
+use words::{Record, Records, field};
 
-// How many expressions an operator has.
+// How many expressions an operator has whose record is r.
 #[tactic(auto, using(std::proofs::lemmas::Bool::Decides::nat_tests), unfolding(crate::specs::Behind::many_by))]
-fn many_of(r: &Records<'_>, w: Op) -> usize
-    requires { w.idx < max_records }
-    ensures { result ≡ many_of r.now.a.now r.now.b.now w }
+fn many_of(r: Record<'_>, w: Op) -> usize
+    ensures { result ≡ many_at r.entry w }
 {
     let kind = w.kind;
-    let idx = w.idx as usize;
-    let items = r.count(idx, field::ITEMS);
-    let filter = r.count(idx, field::WITH_FILTER);
-    let args = r.count(idx, field::CALL_ARGS);
+    let items = r.count(field::ITEMS);
+    let filter = r.count(field::WITH_FILTER);
+    let args = r.count(field::CALL_ARGS);
     let x = w.x as usize;
     match kind {
         op::FILTER | op::SKIP | op::LIMIT | op::UNWIND => 1,
@@ -41,15 +36,13 @@ fn many_of(r: &Records<'_>, w: Op) -> usize
 
 // The record that they begin at.
 #[tactic(auto, using(std::proofs::lemmas::Bool::Decides::nat_tests), unfolding(crate::specs::Behind::first_by))]
-fn first_of(w: Op) -> usize
-    requires { w.idx < max_records }
-    ensures { result ≡ first_of w }
+fn first_of(r: Record<'_>, w: Op) -> usize
+    ensures { result ≡ first_at r.entry w }
 {
     let kind = w.kind;
-    let idx = w.idx as usize;
     match kind {
-        op::FILTER | op::ORDER_BY | op::SKIP | op::LIMIT | op::UNWIND => idx,
-        _ => idx + 1,
+        op::FILTER | op::ORDER_BY | op::SKIP | op::LIMIT | op::UNWIND => r.i,
+        _ => r.i + 1,
     }
 }
 
@@ -65,44 +58,48 @@ pub fn at_record(w: Op, i: usize, k: usize) -> At
     }
 }
 
-// The expressions of operator k.
-pub fn exprs_of(r: &Records<'_>, w: Op, k: usize) -> Run
-    requires { w.idx < max_records }
-    ensures { result ≡ exprs_of r.now.a.now r.now.b.now w k }
+// The expressions of operator k, whose record is r.
+pub fn exprs_of(r: Record<'_>, w: Op, k: usize) -> Run
+    ensures { result ≡ exprs_of r.entry w k }
 {
-    let first = first_of(w);
+    let first = first_of(r, w);
     Run {
         at: at_record(w, first, k),
         n: many_of(r, w),
     }
 }
 
-// The items of operator k, which aggregates.
-pub fn items_of(r: &Records<'_>, w: Op, k: usize) -> Run
-    requires { w.idx < max_records }
-    ensures { result ≡ items_of r.now.a.now r.now.b.now w k }
+// The items of operator k, which aggregates and whose record is r.
+pub fn items_of(r: Record<'_>, w: Op, k: usize) -> Run
+    ensures { result ≡ items_of r.entry w k }
 {
-    let idx = w.idx as usize;
-    let first = idx + 1;
+    let first = r.i + 1;
     Run {
         at: at_record(w, first, k),
-        n: r.count(idx, field::ITEMS),
+        n: r.count(field::ITEMS),
     }
 }
 
 // The yields of a `call`, from record i on, with the numbers that are noted at them.
 fn put_yields(page: &mut Page<'_>, sheet: &[u8], r: &Records<'_>, rest: &[u32], w: Op, i: usize)
-    requires { NotedAsked rest.now w (YieldsIn sheet.now r.now (word_of r.now w.idx call_yields_at) i) }
-    ensures { YieldsWrote sheet.now r.now rest.now w.base (word_of r.now w.idx call_yields_at) i page.old page.new }
+    requires { NotedAsked rest.now w (YieldsIn sheet.now r.now (op_word r.now w call_yields_at) i) }
+    ensures { YieldsWrote sheet.now r.now rest.now w.base (op_word r.now w call_yields_at) i page.old page.new }
 {
     let base = w.base as usize;
     let n = r.count(w.idx as usize, field::CALL_YIELDS);
     let end = i + n;
     for at in i..end {
-        let from = r.word(at, field::YIELD_NAME);
-        let to = r.word(at, field::YIELD_NAME + 1);
         let number = note_of(rest, base, at);
-        put_named(page, Keyword::Yield, part(sheet, from, to), [number]);
+        let item = Record {
+            records: &*r,
+            i: at,
+        };
+        put_named(
+            page,
+            Keyword::Yield,
+            text(sheet, item, field::YIELD_NAME),
+            [number],
+        );
     }
 }
 

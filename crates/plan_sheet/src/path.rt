@@ -1,23 +1,21 @@
 // The numbers of a path: every node's, and a rel's where a node stands before it and the next element is a node.
-ghost use Rattle.std.specs.Prelude.{◌<◌};
 ghost use Rattle.model.specs.Record.{spell_recs};
 ghost use Rattle.model.specs.Lower.{path_elements};
 ghost use Rattle.output.specs.Page.{Puts};
-ghost use Rattle.words.specs.Words.{max_records};
-ghost use Rattle.words.specs.Places.{part_elements_at};
+ghost use Rattle.words.specs.Places.{kind_at, part_elements_at};
+ghost use Rattle.plan_line.specs.Copy.{word_of};
 ghost use Rattle.lower.specs.Render.{kept_rel};
 ghost use Rattle.lower.specs.Shows.{shift};
 ghost use Rattle.plan_sheet.specs.Due.{noted, NotedAsked};
 ghost use Rattle.plan_sheet.specs.Path.{waits_of, StepAsked, Stepped};
-ghost use Rattle.plan_sheet.specs.Asked.{PathWrote, ElementsIn, word_of};
+ghost use Rattle.plan_sheet.specs.Asked.{PathWrote, ElementsIn, op_word};
 
 use context::op::Op;
 use context::read::note_of;
 use output::Page;
 use plan_line::keyword::Keyword;
 use plan_line::row::put_row;
-use words::records::Records;
-use words::{field, kind};
+use words::{Record, Records, field, kind};
 
 // So far: whether there was a node, and the record of the rel that waits for its far node, if one does. Neither tells the other: a rel may wait before any node and behind one.
 #[derive(Clone, Copy)]
@@ -40,15 +38,15 @@ fn put_kept(page: &mut Page<'_>, rest: &[u32], base: usize, path: Path)
     }
 }
 
-// The element at record i: a node, or else a rel.
-fn put_step(page: &mut Page<'_>, rest: &[u32], base: usize, i: usize, kind: u32, path: Path) -> Path
-    requires step_asked { StepAsked rest.now base path.waits }
-    requires i_lt_max_records { i < max_records }
-    ensures { Stepped rest.now base i kind path result page.old page.new }
+// The element at a record: a node, or else a rel.
+fn put_step(page: &mut Page<'_>, r: Record<'_>, rest: &[u32], base: usize, path: Path) -> Path
+    requires { StepAsked rest.now base path.waits }
+    ensures { Stepped rest.now base r.entry.i (word_of r.entry kind_at) path result page.old page.new }
 {
+    let kind = r.kind();
     if kind == kind::NODE {
         put_kept(page, rest, base, path);
-        let n = note_of(rest, base, i);
+        let n = note_of(rest, base, r.i);
         put_row(page, Keyword::Element, [n]);
         return Path {
             seen: true,
@@ -57,14 +55,14 @@ fn put_step(page: &mut Page<'_>, rest: &[u32], base: usize, i: usize, kind: u32,
     }
     Path {
         seen: path.seen,
-        waits: Some(i),
+        waits: Some(r.i),
     }
 }
 
 // The elements of a part, from record i on.
 pub fn put_path(page: &mut Page<'_>, sheet: &[u8], r: &Records<'_>, rest: &[u32], w: Op, i: usize)
-    requires { NotedAsked rest.now w (ElementsIn sheet.now r.now (word_of r.now w.idx part_elements_at) i) }
-    ensures { PathWrote sheet.now r.now rest.now w.base (word_of r.now w.idx part_elements_at) i page.old page.new }
+    requires { NotedAsked rest.now w (ElementsIn sheet.now r.now (op_word r.now w part_elements_at) i) }
+    ensures { PathWrote sheet.now r.now rest.now w.base (op_word r.now w part_elements_at) i page.old page.new }
 {
     let base = w.base as usize;
     let mut at = i;
@@ -74,8 +72,11 @@ pub fn put_path(page: &mut Page<'_>, sheet: &[u8], r: &Records<'_>, rest: &[u32]
         waits: None,
     };
     for _ in 0..n {
-        let kind = r.word(at, field::KIND);
-        path = put_step(page, rest, base, at, kind, path);
+        let element = Record {
+            records: &*r,
+            i: at,
+        };
+        path = put_step(page, element, rest, base, path);
         at = r.skip(at);
     }
 }

@@ -9,7 +9,7 @@ use aggregate::is_aggregate;
 use context::op;
 use context::read::note_of;
 use output::Page;
-use words::{field, kind};
+use words::{Record, field, kind};
 
 // What is at record i: its tree is at most `left` deep, the notes of its pass begin at `base`, and it copies operators below `below`.
 #[derive(Clone, Copy)]
@@ -33,10 +33,18 @@ fn write_expr(page: &mut Page<'_>, s: &Source<'_>, at: At) -> usize
     requires { ExprAsked s.now at }
     ensures { ExprWrote s.now at page.old result page.new }
 {
-    let i = crate::head::put_before(page, s.sheet, &s.records, at.i);
-    let kind = s.records.word(i, field::KIND);
+    let first = Record {
+        records: &s.records,
+        i: at.i,
+    };
+    let i = crate::head::put_before(page, s.sheet, first);
+    let r = Record {
+        records: &s.records,
+        i,
+    };
+    let kind = r.kind();
     let n = note_of(s.rest, at.base, i);
-    crate::head::put_expr(page, s.sheet, &s.records, i, kind, n);
+    crate::head::put_expr(page, s.sheet, r, n);
     if kind::is_leaf(kind) {
         return i + 1;
     }
@@ -53,7 +61,7 @@ fn write_expr(page: &mut Page<'_>, s: &Source<'_>, at: At) -> usize
             left,
             ..at
         },
-        n: s.records.children(i),
+        n: r.children(),
     };
     write_exprs(page, s, run)
 }
@@ -82,16 +90,24 @@ fn measure_exprs(page: &mut Page<'_>, s: &Source<'_>, run: Run) -> usize
     let mut i = run.at.i;
     let mut due = run.n;
     while due != 0 {
-        let at = measure_before(page, s.sheet, &s.records, i);
-        let kind = s.records.word(at, field::KIND);
+        let first = Record {
+            records: &s.records,
+            i,
+        };
+        let at = measure_before(page, s.sheet, first);
+        let r = Record {
+            records: &s.records,
+            i: at,
+        };
+        let kind = r.kind();
         let n = note_of(s.rest, run.at.base, at);
-        page.measure(expr_bytes(&s.records, at, kind, n));
+        page.measure(expr_bytes(r, n));
         if kind == kind::PAT {
             write_op(page, s, n as usize);
             i = s.records.skip(at);
             due -= 1;
         } else {
-            let below = s.records.children(at);
+            let below = r.children();
             due = due - 1 + below;
             i = at + 1;
         }
@@ -120,13 +136,13 @@ fn write_element(page: &mut Page<'_>, s: &Source<'_>, at: At)
     requires { ElementAsked s.now at }
     ensures { ElementWrote s.now at page.old page.new }
 {
-    let i = at.i;
-    let kind = s.records.word(i, field::KIND);
-    // a rel's types stand where a node's labels do
-    let names = s.records.count(i, field::NODE_LABELS);
-    let props = crate::op::props_of(&s.records, i, kind);
-    crate::names::put_element(page, s.sheet, &s.records, i, kind);
-    let first = crate::names::put_names(page, s.sheet, &s.records, i + 1, names);
+    let r = Record {
+        records: &s.records,
+        i: at.i,
+    };
+    let below = r.below();
+    crate::names::put_element(page, s.sheet, r);
+    let first = crate::names::put_names(page, s.sheet, &s.records, at.i + 1, below.names);
     let left = at.left - 1;
     let run = Run {
         at: At {
@@ -134,7 +150,7 @@ fn write_element(page: &mut Page<'_>, s: &Source<'_>, at: At)
             left,
             ..at
         },
-        n: props,
+        n: below.props,
     };
     put_exprs(page, s, run);
 }
@@ -146,12 +162,16 @@ fn write_part(page: &mut Page<'_>, s: &Source<'_>, at: At, aggregates: bool) -> 
     ensures { PartWrote s.now at aggregates page.old result page.new }
 {
     let i = at.i;
-    let is = is_aggregate(s.sheet, &s.records, i);
+    let r = Record {
+        records: &s.records,
+        i,
+    };
+    let is = is_aggregate(s.sheet, r);
     if is != aggregates {
         return s.records.skip(i);
     }
     if is {
-        crate::item::put_agg(page, s.sheet, &s.records, i);
+        crate::item::put_agg(page, s.sheet, r);
         let first = i + 1;
         let left = at.left - 1;
         let args = Run {
@@ -160,7 +180,7 @@ fn write_part(page: &mut Page<'_>, s: &Source<'_>, at: At, aggregates: bool) -> 
                 left,
                 ..at
             },
-            n: s.records.count(i, field::FN_ARGS),
+            n: r.count(field::FN_ARGS),
         };
         return put_exprs(page, s, args);
     }
@@ -198,6 +218,10 @@ pub fn write_op(page: &mut Page<'_>, s: &Source<'_>, k: usize)
 {
     let w = op::read_op(s.ops, k);
     crate::op::put_op(page, s.sheet, &s.records, s.rest, w);
+    let r = Record {
+        records: &s.records,
+        i: w.idx as usize,
+    };
     let kind = w.kind;
     match kind {
         op::EXPAND => {
@@ -212,11 +236,11 @@ pub fn write_op(page: &mut Page<'_>, s: &Source<'_>, k: usize)
         }
         op::OPTIONAL_JOIN => write_op(page, s, w.x as usize),
         op::AGGREGATE => {
-            let items = items_of(&s.records, w, k);
+            let items = items_of(r, w, k);
             write_items(page, s, items);
         }
         _ => {
-            let run = exprs_of(&s.records, w, k);
+            let run = exprs_of(r, w, k);
             let next = put_exprs(page, s, run);
             put_tail(page, s.sheet, &s.records, s.rest, w, next);
         }

@@ -211,6 +211,9 @@ module _ {sheet : Bytes} {a b : List ℕ} {n d : ℕ} {Done : ℕ → ℕ → Me
   pub some_child : {c x i g : ℕ} {m : Mem} → c < x → Remaining sheet a b n d Done (x - c) i g m → SomeTree a b expr (d - 1) (i + 1)
   some_child l p = let x = child l p in record { sheet = sheet; tree = x.tree; held = x.is }
 
+  pub child_low : {c x i g : ℕ} {m : Mem} → c < x → Remaining sheet a b n d Done (x - c) i g m → i + 1 < max_records
+  child_low {i = i} l p = let x = child l p in let t = tree_low sheet a b x.tree (d - 1) (i + 1) x.is in omega arith
+
   -- there is room at its expression
   pub child_room : {c x i g : ℕ} {m : Mem} → c < x → Remaining sheet a b n d Done (x - c) i g m → RoomFor (d - 1) (i + 1) m
   child_room {i = i} l p = let x = child l p in let l = tree_low sheet a b x.tree (d - 1) (i + 1) x.is in room_from (omega arith) (omega arith) (omega arith) p.room

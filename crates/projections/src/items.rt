@@ -8,7 +8,7 @@ ghost use Rattle.projections.specs.Promises.{LowersSplit};
 
 use context::{At, LowerCtx, Tables};
 use lower::Reached;
-use words::Records;
+use words::{Record, Records};
 
 // What is reached behind the items, and how many of them are aggregates.
 #[derive(Clone, Copy, Debug, PartialEq, Eq)]
@@ -54,7 +54,8 @@ pub fn split_projections_agg(
     for _ in 0..n {
         let i = cur.next + 1;
         let less = at.left - 1;
-        let agg = aggregate::is_aggregate(sheet, r, i);
+        let expr = Record { records: &*r, i };
+        let agg = aggregate::is_aggregate(sheet, expr);
         let item = At {
             base: 0,
             i,

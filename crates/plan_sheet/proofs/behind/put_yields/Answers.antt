@@ -8,8 +8,8 @@ use Rattle.plan_sheet.proofs.behind.put_yields.Goals as goal
 pub loop-at-init : goal.loop-at-init
 loop-at-init c = rw (add-sub_cancel_left c.args.i c.count-n.result) (BehindLaws.yields_going (rw c.count-n.ensures.0 c.requires.due))
 
-pub part-requires : goal.part-requires
-part-requires c = BehindLaws.yield_in c.args.r.now.roomy c.word-from.ensures c.word-to.ensures (due_yet c.loop-at-test.true) c.loop-at.invariant.some
+pub text-requires : goal.text-requires
+text-requires c = record { words = omega arith; text_in = BehindLaws.yield_in c.args.r.now.roomy (due_yet c.loop-at-test.true) c.loop-at.invariant.some }
 
 pub loop-at-preserved : goal.loop-at-preserved
 loop-at-preserved c =
@@ -19,10 +19,8 @@ loop-at-preserved c =
     c.args.r.now.roomy
     (due_yet c.loop-at-test.true)
     c.loop-at.invariant
-    c.word-from.ensures
-    c.word-to.ensures
     c.note_of-number.ensures
-    (rw c.part.ensures at c.put_named.ensures))
+    (rw c.text.ensures at c.put_named.ensures))
 
 pub returns : goal.returns
 returns c = rw c.count-n.ensures.0 at (BehindLaws.yields_done (omega arith) c.loop-at.invariant)

@@ -8,5 +8,5 @@ unfolding call_text
 returns c =
     c.put_keyword.ensures
     ⨾ c.put_input.ensures
-    ⨾ rw (c.part.ensures, c.word-from.ensures, c.word-to.ensures) at c.put_text.ensures
+    ⨾ rw c.text.ensures at c.put_text.ensures
     ⨾ c.put_counts.ensures

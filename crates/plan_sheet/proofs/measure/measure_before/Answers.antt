@@ -12,13 +12,13 @@ line_bytes-requires c =
 
 pub put_item-requires : goal.put_item-requires
 put_item-requires c =
-    HeadLaws.item_there c.args.r.now.roomy (sym c.word-kind.ensures ∙ c.in-9.is) c.requires.some_line.line
+    HeadLaws.item_there c.args.r.records.now.roomy (sym c.kind-kind.ensures ∙ c.in-9.is) c.requires.some_line.line
 
 pub returns-in-16 : goal.returns-in-16
-returns-in-16 c = λ recs j l. HeadLaws.same_put c.args.r.now.roomy (rw c.word-kind.ensures at c.in-16.is) l (MeasureLaws.counted_line c.line_bytes.ensures c.measure.ensures)
+returns-in-16 c = λ recs j l. HeadLaws.same_put c.args.r.records.now.roomy (rw c.kind-kind.ensures at c.in-16.is) l (MeasureLaws.counted_line c.line_bytes.ensures c.measure.ensures)
 
 pub returns-in-9 : goal.returns-in-9
-returns-in-9 c = λ recs j l. HeadLaws.aliased_put c.args.r.now.roomy (sym c.word-kind.ensures ∙ c.in-9.is) l c.put_item.ensures
+returns-in-9 c = λ recs j l. HeadLaws.aliased_put c.args.r.records.now.roomy (sym c.kind-kind.ensures ∙ c.in-9.is) l c.put_item.ensures
 
 pub returns-in_default : goal.returns-in_default
-returns-in_default c = λ recs j l. HeadLaws.bare_put c.args.r.now.roomy _ c.word-kind.ensures (HeadLaws.others c.word-kind.result HeadLaws.lines (grind (arith, nat_tests))) l
+returns-in_default c = λ recs j l. HeadLaws.bare_put c.args.r.records.now.roomy _ c.kind-kind.ensures (HeadLaws.others c.kind-kind.result HeadLaws.lines (grind (arith, nat_tests))) l

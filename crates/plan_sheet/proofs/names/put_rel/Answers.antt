@@ -9,6 +9,6 @@ returns c =
     c.put_keyword.ensures
     ⨾ rw c.word-types.ensures at c.put_number.ensures
     ⨾ rw c.word-direction.ensures at c.put_number-2.ensures
-    ⨾ rw (c.part.ensures, c.word-from.ensures, c.word-to.ensures) at c.put_text.ensures
+    ⨾ rw c.text.ensures at c.put_text.ensures
     ⨾ rw c.word-props.ensures at c.put_number-3.ensures
     ⨾ c.put_byte.ensures

@@ -2,21 +2,18 @@
 use Rattle.plan_sheet.proofs.PathLaws
 use Rattle.plan_sheet.proofs.DueLaws.{due_yet}
 use Rattle.std.proofs.Math.Nat.{sub-zero, sub-add-eq}
+use Rattle.std.proofs.Common.{refl}
 use native.Mathlib.Omega.{arith}
 use Rattle.plan_sheet.proofs.path.put_path.Goals as goal
 
 pub loop-init : goal.loop-init
 loop-init c = rw (sub-zero c.word-n.result) (PathLaws.walking (rw c.word-n.ensures c.requires.due))
 
-pub word-kind-requires : goal.word-kind-requires
-word-kind-requires c = ((PathLaws.element_starts (due_yet c.loop-test.true) c.loop.invariant.some).1, omega arith)
+pub invariant_of-element : goal.invariant_of-element
+invariant_of-element c = record { stands = (PathLaws.element_starts (due_yet c.loop-test.true) c.loop.invariant.some).1 }
 
 pub put_step-path-requires : goal.put_step-path-requires
-put_step-path-requires c =
-    record {
-      step_asked = record { in_rest = c.requires.notes.in_rest; near = c.requires.notes.near; low = c.loop.invariant.low };
-      i_lt_max_records = (PathLaws.element_starts (due_yet c.loop-test.true) c.loop.invariant.some).1;
-    }
+put_step-path-requires c = record { in_rest = c.requires.notes.in_rest; near = c.requires.notes.near; low = c.loop.invariant.low }
 
 pub skip-at-requires : goal.skip-at-requires
 skip-at-requires c = (PathLaws.element_starts (due_yet c.loop-test.true) c.loop.invariant.some).0
@@ -29,7 +26,7 @@ loop-preserved c =
     c.args.r.now.roomy
     (due_yet c.loop-test.true)
     c.loop.invariant
-    c.word-kind.ensures
+    refl
     c.put_step-path.ensures
     c.skip-at.ensures)
 

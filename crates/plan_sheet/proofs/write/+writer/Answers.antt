@@ -8,16 +8,19 @@ use Rattle.plan_sheet.proofs.FlatLaws
 use Rattle.plan_sheet.proofs.PartedLaws
 use Rattle.plan_sheet.proofs.BehindLaws
 use Rattle.plan_sheet.proofs.OpLaws
-use mathlib.Core.Path.{sym, ◌∙◌}
+use mathlib.Core.Path.{refl, sym, ◌∙◌}
 use native.Mathlib.Omega.{arith}
 use Rattle.std.proofs.lemmas.Bool.Decides.{nat_tests}
-use Rattle.plan_sheet.proofs.HeadLaws.{others}
+use Rattle.plan_sheet.proofs.HeadLaws.{others, line_low}
 use Rattle.plan_sheet.proofs.write.+writer.Goals as goal
 
 -- ── measure_exprs ──
 
 pub measure_exprs-loop-due-init : goal.measure_exprs-loop-due-init
 measure_exprs-loop-due-init t c = DueLaws.going c.requires.exprs_asked.due
+
+pub measure_exprs-invariant_of-first : goal.measure_exprs-invariant_of-first
+measure_exprs-invariant_of-first t c = record { stands = line_low (DueLaws.some_line c.loop-due-test.true c.loop-due.invariant.some).line }
 
 pub measure_exprs-measure_before-at-requires : goal.measure_exprs-measure_before-at-requires
 measure_exprs-measure_before-at-requires t c =
@@ -26,10 +29,8 @@ measure_exprs-measure_before-at-requires t c =
       some_line = DueLaws.some_line c.loop-due-test.true c.loop-due.invariant.some;
     }
 
-pub measure_exprs-word-kind-requires : goal.measure_exprs-word-kind-requires
-measure_exprs-word-kind-requires t c =
-    let one = DueLaws.one_there c.loop-due-test.true c.loop-due.invariant.some c.measure_before-at.ensures in
-    (CycleLaws.one_low one, omega arith)
+pub measure_exprs-invariant_of-r : goal.measure_exprs-invariant_of-r
+measure_exprs-invariant_of-r t c = record { stands = CycleLaws.one_low (DueLaws.one_there c.loop-due-test.true c.loop-due.invariant.some c.measure_before-at.ensures) }
 
 pub measure_exprs-note_of-n-requires : goal.measure_exprs-note_of-n-requires
 measure_exprs-note_of-n-requires t c =
@@ -39,7 +40,7 @@ measure_exprs-note_of-n-requires t c =
 pub measure_exprs-expr_bytes-requires : goal.measure_exprs-expr_bytes-requires
 measure_exprs-expr_bytes-requires t c =
     let one = DueLaws.one_there c.loop-due-test.true c.loop-due.invariant.some c.measure_before-at.ensures in
-    record { at = (_, CycleLaws.one_at one); told = c.word-kind.ensures }
+    (_, CycleLaws.one_at one)
 
 pub measure_exprs-measure-requires : goal.measure_exprs-measure-requires
 measure_exprs-measure-requires t c = DueLaws.line_long c.loop-due-test.true c.loop-due.invariant.some c.measure_before-at.ensures ∙ c.loop-due.invariant.long ∙ c.requires.bytes_len
@@ -47,7 +48,7 @@ measure_exprs-measure-requires t c = DueLaws.line_long c.loop-due-test.true c.lo
 pub measure_exprs-write_op-requires : goal.measure_exprs-write_op-requires
 measure_exprs-write_op-requires t c =
     let one = DueLaws.one_there c.loop-due-test.true c.loop-due.invariant.some c.measure_before-at.ensures in
-    let e = sym c.word-kind.ensures ∙ c.if-kind-eq-PAT.true in (
+    let e = sym c.kind-kind.ensures ∙ c.if-kind-eq-PAT.true in (
       omega (arith, CycleLaws.copy_low c.args.s.now.records.roomy e c.note_of-n.ensures one, c.decreases),
       CycleLaws.copy_plan c.args.s.now.records.roomy e c.note_of-n.ensures one,
     )
@@ -67,7 +68,7 @@ measure_exprs-loop-due-smaller-then-kind-eq-PAT t c =
 
 pub measure_exprs-loop-due-preserved-then-kind-eq-PAT : goal.measure_exprs-loop-due-preserved-then-kind-eq-PAT
 measure_exprs-loop-due-preserved-then-kind-eq-PAT t c =
-    let e = sym c.word-kind.ensures ∙ c.if-kind-eq-PAT.true in
+    let e = sym c.kind-kind.ensures ∙ c.if-kind-eq-PAT.true in
     DueLaws.again
     c.loop-due-test.true
     c.loop-due.invariant
@@ -82,11 +83,6 @@ measure_exprs-loop-due-preserved-then-kind-eq-PAT t c =
     (MeasureLaws.counted_head c.expr_bytes.ensures c.measure.ensures)
     c.write_op.ensures
     c.skip-i.ensures))
-
-pub measure_exprs-children-below-requires : goal.measure_exprs-children-below-requires
-measure_exprs-children-below-requires t c =
-    let one = DueLaws.one_there c.loop-due-test.true c.loop-due.invariant.some c.measure_before-at.ensures in
-    CycleLaws.one_low one
 
 pub measure_exprs-overflow_add-due : goal.measure_exprs-overflow_add-due
 measure_exprs-overflow_add-due t c =
@@ -111,7 +107,7 @@ measure_exprs-loop-due-preserved t c =
     c.loop-due-test.true
     c.measure_before-at.ensures
     c.children-below.ensures.0
-    (λ e. c.if-kind-eq-PAT.false (c.word-kind.ensures ∙ e))
+    (λ e. c.if-kind-eq-PAT.false (c.kind-kind.ensures ∙ e))
     c.note_of-n.ensures
     (MeasureLaws.counted_head c.expr_bytes.ensures c.measure.ensures)
     c.loop-due.invariant
@@ -126,27 +122,18 @@ put_exprs-returns-then-run-eq0 t c = DueLaws.none_wrote c.if-run-eq0.true
 
 -- ── write_element ──
 
-pub write_element-word-kind-requires : goal.write_element-word-kind-requires
-write_element-word-kind-requires t c =
-    ((CycleLaws.element_is c.args.s.now.records.roomy c.requires.due).at.at.low, omega arith)
-
-pub write_element-count-names-requires : goal.write_element-count-names-requires
-write_element-count-names-requires t c =
-    ((CycleLaws.element_is c.args.s.now.records.roomy c.requires.due).at.at.low, omega arith)
-
-pub write_element-props_of-props-requires : goal.write_element-props_of-props-requires
-write_element-props_of-props-requires t c =
-    (CycleLaws.element_is c.args.s.now.records.roomy c.requires.due).at.at.low
+pub write_element-invariant_of-r : goal.write_element-invariant_of-r
+write_element-invariant_of-r t c = record { stands = (CycleLaws.element_is c.args.s.now.records.roomy c.requires.due).at.at.low }
 
 pub write_element-put_element-requires : goal.write_element-put_element-requires
-write_element-put_element-requires t c = record { at = (CycleLaws.element_is c.args.s.now.records.roomy c.requires.due).at; told = c.word-kind.ensures }
+write_element-put_element-requires t c = (CycleLaws.element_is c.args.s.now.records.roomy c.requires.due).at
 
-pub write_element-overflow_add-i : goal.write_element-overflow_add-i
-write_element-overflow_add-i t c = omega (arith, (CycleLaws.element_is c.args.s.now.records.roomy c.requires.due).at.at.low)
+pub write_element-overflow_add-at : goal.write_element-overflow_add-at
+write_element-overflow_add-at t c = omega (arith, (CycleLaws.element_is c.args.s.now.records.roomy c.requires.due).at.at.low)
 
 pub write_element-put_names-first-requires : goal.write_element-put_names-first-requires
 write_element-put_names-first-requires t c =
-    CycleLaws.element_names c.args.s.now.records.roomy c.requires.due c.count-names.ensures.0
+    CycleLaws.element_names c.args.s.now.records.roomy c.requires.due c.below-below.ensures.names
 
 pub write_element-overflow_sub-left : goal.write_element-overflow_sub-left
 write_element-overflow_sub-left t c = omega (arith, (CycleLaws.element_is c.args.s.now.records.roomy c.requires.due).deep)
@@ -159,9 +146,9 @@ write_element-put_exprs-requires t c = (
     due = CycleLaws.element_props
         c.args.s.now.records.roomy
         c.requires.due
-        c.word-kind.ensures
-        c.count-names.ensures.0
-        c.props_of-props.ensures
+        refl
+        c.below-below.ensures.names
+        c.below-below.ensures.props
         c.put_names-first.ensures;
   },
 )
@@ -172,23 +159,24 @@ write_element-returns t c =
     CycleLaws.element_wrote
     c.args.s.now.records.roomy
     h
-    c.word-kind.ensures
-    c.count-names.ensures.0
-    c.props_of-props.ensures
+    refl
+    c.below-below.ensures.names
+    c.below-below.ensures.props
     c.put_names-first.ensures
     c.put_element.ensures
     c.put_exprs.ensures
 
 -- ── write_expr ──
 
+pub write_expr-invariant_of-first : goal.write_expr-invariant_of-first
+write_expr-invariant_of-first t c = record { stands = line_low (DueLaws.first_line c.requires.due).line }
+
 pub write_expr-put_before-i-requires : goal.write_expr-put_before-i-requires
 write_expr-put_before-i-requires t c =
     DueLaws.first_line c.requires.due
 
-pub write_expr-word-kind-requires : goal.write_expr-word-kind-requires
-write_expr-word-kind-requires t c =
-    let one = DueLaws.first_there c.requires.due c.put_before-i.ensures in
-    (CycleLaws.one_low one, omega arith)
+pub write_expr-invariant_of-r : goal.write_expr-invariant_of-r
+write_expr-invariant_of-r t c = record { stands = CycleLaws.one_low (DueLaws.first_there c.requires.due c.put_before-i.ensures) }
 
 pub write_expr-note_of-n-requires : goal.write_expr-note_of-n-requires
 write_expr-note_of-n-requires t c =
@@ -198,7 +186,7 @@ write_expr-note_of-n-requires t c =
 pub write_expr-put_expr-requires : goal.write_expr-put_expr-requires
 write_expr-put_expr-requires t c =
     let one = DueLaws.first_there c.requires.due c.put_before-i.ensures in
-    record { at = CycleLaws.one_at one; told = c.word-kind.ensures }
+    CycleLaws.one_at one
 
 pub write_expr-overflow_add-result : goal.write_expr-overflow_add-result
 write_expr-overflow_add-result t c =
@@ -209,12 +197,12 @@ pub write_expr-returns-then-is_leaf : goal.write_expr-returns-then-is_leaf
 write_expr-returns-then-is_leaf t c =
     DueLaws.lined
     c.put_before-i.ensures
-    (CycleLaws.leaf_wrote c.args.s.now.records.roomy c.word-kind.ensures (sym c.is_leaf.ensures ∙ c.if-is_leaf.true) c.note_of-n.ensures c.put_expr.ensures)
+    (CycleLaws.leaf_wrote c.args.s.now.records.roomy c.kind-kind.ensures (sym c.is_leaf.ensures ∙ c.if-is_leaf.true) c.note_of-n.ensures c.put_expr.ensures)
 
 pub write_expr-write_op-requires : goal.write_expr-write_op-requires
 write_expr-write_op-requires t c =
     let one = DueLaws.first_there c.requires.due c.put_before-i.ensures in
-    let e = sym c.word-kind.ensures ∙ c.if-kind-eq-PAT.true in (
+    let e = sym c.kind-kind.ensures ∙ c.if-kind-eq-PAT.true in (
       omega (arith, CycleLaws.copy_low c.args.s.now.records.roomy e c.note_of-n.ensures one, c.decreases),
       CycleLaws.copy_plan c.args.s.now.records.roomy e c.note_of-n.ensures one,
     )
@@ -226,7 +214,7 @@ write_expr-skip-behind-requires t c =
 
 pub write_expr-returns-then-kind-eq-PAT : goal.write_expr-returns-then-kind-eq-PAT
 write_expr-returns-then-kind-eq-PAT t c =
-    let e = sym c.word-kind.ensures ∙ c.if-kind-eq-PAT.true in
+    let e = sym c.kind-kind.ensures ∙ c.if-kind-eq-PAT.true in
     DueLaws.lined
     c.put_before-i.ensures
     (λ h. CycleLaws.copy_wrote c.args.s.now.records.roomy e c.note_of-n.ensures h c.put_expr.ensures c.write_op.ensures c.skip-behind.ensures)
@@ -241,16 +229,11 @@ write_expr-overflow_sub-left t c =
     let one = DueLaws.first_there c.requires.due c.put_before-i.ensures in
     omega (arith, CycleLaws.one_deep one)
 
-pub write_expr-children-requires : goal.write_expr-children-requires
-write_expr-children-requires t c =
-    let one = DueLaws.first_there c.requires.due c.put_before-i.ensures in
-    CycleLaws.one_low one
-
 pub write_expr-write_exprs-requires : goal.write_expr-write_exprs-requires
 write_expr-write_exprs-requires t c =
     let one = DueLaws.first_there c.requires.due c.put_before-i.ensures in (
       omega (arith, CycleLaws.one_deep one, c.decreases),
-      record { near = CycleLaws.nearer c.requires.near; due = CycleLaws.kids c.args.s.now.records.roomy c.children.ensures.0 (λ e. c.if-kind-eq-PAT.false (c.word-kind.ensures ∙ e)) one },
+      record { near = CycleLaws.nearer c.requires.near; due = CycleLaws.kids c.args.s.now.records.roomy c.children.ensures.0 (λ e. c.if-kind-eq-PAT.false (c.kind-kind.ensures ∙ e)) one },
     )
 
 pub write_expr-returns : goal.write_expr-returns
@@ -261,7 +244,7 @@ write_expr-returns t c =
     CycleLaws.kids_wrote
     c.args.s.now.records.roomy
     c.children.ensures.0
-    (λ e. c.if-kind-eq-PAT.false (c.word-kind.ensures ∙ e))
+    (λ e. c.if-kind-eq-PAT.false (c.kind-kind.ensures ∙ e))
     h
     c.note_of-n.ensures
     c.put_expr.ensures
@@ -312,18 +295,10 @@ write_op-write_op-requires t c = (
   OpLaws.optional_plan _ c.requires c.read_op-w.ensures c.in-7.is,
 )
 
-pub write_op-items_of-items-requires : goal.write_op-items_of-items-requires
-write_op-items_of-items-requires t c =
-    (OpLaws.bounded_at _ c.requires c.read_op-w.ensures).low
-
 pub write_op-write_items-requires : goal.write_op-write_items-requires
 write_op-write_items-requires t c =
     let near = OpLaws.run_near _ c.requires c.read_op-w.ensures c.items_of-items.ensures in
     (omega (arith, c.decreases, near.0, near.1), OpLaws.items_asked _ c.requires c.read_op-w.ensures c.items_of-items.ensures (PartedLaws.items_of _ c.requires c.read_op-w.ensures c.in-10.is))
-
-pub write_op-exprs_of-run-requires : goal.write_op-exprs_of-run-requires
-write_op-exprs_of-run-requires t c =
-    (OpLaws.bounded_at _ c.requires c.read_op-w.ensures).low
 
 pub write_op-put_exprs-next-requires : goal.write_op-put_exprs-next-requires
 write_op-put_exprs-next-requires t c =
@@ -396,6 +371,9 @@ write_op-returns-in_default t c =
 
 -- ── write_part ──
 
+pub write_part-invariant_of-r : goal.write_part-invariant_of-r
+write_part-invariant_of-r t c = record { stands = CycleLaws.one_low c.requires.due }
+
 pub write_part-is_aggregate-is-requires : goal.write_part-is_aggregate-is-requires
 write_part-is_aggregate-is-requires t c =
     PartedLaws.some_expr c.requires.due
@@ -415,10 +393,6 @@ write_part-overflow_add-first t c = omega (arith, CycleLaws.one_low c.requires.d
 
 pub write_part-overflow_sub-left : goal.write_part-overflow_sub-left
 write_part-overflow_sub-left t c = omega (arith, CycleLaws.one_deep c.requires.due)
-
-pub write_part-count-requires : goal.write_part-count-requires
-write_part-count-requires t c =
-    (CycleLaws.one_low c.requires.due, omega arith)
 
 pub write_part-put_exprs-requires : goal.write_part-put_exprs-requires
 write_part-put_exprs-requires t c = (
