@@ -17,7 +17,7 @@ use words::table::limit;
 fn span(c: Cursor<'_>) -> Option<Piece<Words>>
     ensures { FieldHere Form.span c.entry.bytes.now c.entry.at result }
 {
-    let start = number(c, words::MAX_U32)?;
+    let start = number(c, u32::MAX)?;
     let r = start.end;
     if c.bytes[r] != b'\t' {
         return None;
@@ -26,7 +26,7 @@ fn span(c: Cursor<'_>) -> Option<Piece<Words>>
         bytes: c.bytes,
         at: r + 1,
     };
-    let last = number(behind, words::MAX_U32)?;
+    let last = number(behind, u32::MAX)?;
     let first = start.value.first;
     let second = last.value.first;
     if second < first {
@@ -78,7 +78,7 @@ pub fn read_form(p: Place<'_>, form: u32) -> Option<Piece<Words>>
 {
     match form {
         form::FLAG => number(p.cursor, 1),
-        form::VAR => number(p.cursor, words::MAX_U32),
+        form::VAR => number(p.cursor, u32::MAX),
         form::VAR_OR_ABSENT => variable(p.cursor),
         form::INT => int(p.cursor),
         form::FLOAT => float(p.cursor),

@@ -74,15 +74,15 @@ pub fn form_code(kind: usize, g: usize) -> u32
 }
 
 // The last binary operator.
-const LAST_BINARY: u64 = 19;
+const LAST_BINARY: u32 = 19;
 
 // The limits of the numbers, by how far a code is above that of a number.
-pub fn limit(code: u32) -> u64
+pub fn limit(code: u32) -> u32
     requires { code < limit_count }
     ensures { result ≡ get_or limits code 0 }
 {
     match code {
-        0 => crate::MAX_U32,
+        0 => u32::MAX,
         1 => 1,
         2 => 2,
         3 => 3,
