@@ -23,10 +23,6 @@ use Rattle.line.specs.declared.field.Words.{Words}
 -- ── a number ──
 
 module _ (limit : ℕ) (s : Bytes) (n : ℕ) (d : Some n ≡ read (num limit) (s ∷ [])) where
-  number_low : limit ≤ u32 → n < two32
-  unfolding fits
-  number_low l = omega (arith, leb-true n limit (read_spell (num limit) (s ∷ []) n (sym d)).1)
-
   number_is : (sheet : Bytes) → WordsOf (num limit) sheet (s ∷ []) (Some (record { first = n; second = 0 }))
   unfolding field_of
   number_is sheet = record { is = sym d; fit = (tt, tt) }
@@ -34,10 +30,6 @@ module _ (limit : ℕ) (s : Bytes) (n : ℕ) (d : Some n ≡ read (num limit) (s
 -- ── a number or a dash ──
 
 module _ (s : Bytes) (n : ℕ) (d : Some (Some n) ≡ read (num_or_absent u32) (s ∷ [])) where
-  variable_low : n < two32
-  unfolding fits fits_option
-  variable_low = omega (arith, leb-true n u32 (read_spell (num_or_absent u32) (s ∷ []) (Some n) (sym d)).1)
-
   variable_is : (sheet : Bytes) → WordsOf var_or_absent sheet (s ∷ []) (Some (record { first = 1; second = n }))
   unfolding field_of option_of
   variable_is sheet = record { is = var_or_absent_is (s ∷ []) ∙ sym d; fit = (omega arith, tt) }
@@ -78,18 +70,12 @@ float_is s n d r k sheet =
 -- ── in place ──
 
 module _ (limit : ℕ) (sheet : Bytes) (p : ℕ) where
-  pub number_at_low : limit ≤ u32 → (n : Piece ℕ) → NumberAt limit sheet p (Some n) → n.value < two32
-  number_at_low l n d = number_low limit (slice p n.end sheet) n.value (d.is n.end d.ends) l
-
   pub number_at : (n : Piece ℕ) → NumberAt limit sheet p (Some n) → WordsAt (num limit) sheet p (Some (record { value = record { first = n.value; second = 0 }; end = n.end }))
   number_at n d = record { is = λ q h. number_is limit (slice p q sheet) n.value (d.is q h) sheet; ends = d.ends }
 
 module _ (sheet : Bytes) (p : ℕ) where
   module _ (v : Piece (Option ℕ)) (d : OptNumberAt u32 sheet p (Some v)) where
     module _ (n : ℕ) (e : v.value ≡ Some n) where
-      pub variable_at_low : n < two32
-      variable_at_low = variable_low (slice p v.end sheet) n (ap Some (sym e) ∙ d.is v.end d.ends)
-
       pub variable_at : WordsAt var_or_absent sheet p (Some (record { value = record { first = 1; second = n }; end = v.end }))
       variable_at = record { is = λ q h. variable_is (slice p q sheet) n (ap Some (sym e) ∙ d.is q h) sheet; ends = d.ends }
 

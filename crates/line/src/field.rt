@@ -1,8 +1,8 @@
 // The two words of a field of one piece, which begins at a place of a line.
-ghost use Rattle.std.specs.Prelude.{◌≡◌, [], ◌∷◌, ◌+◌, ◌/◌, ◌%◌, ◌<◌, ◌≤◌, Some};
+ghost use Rattle.std.specs.Prelude.{◌≡◌, [], ◌∷◌, ◌+◌, ◌/◌, ◌%◌, ◌<◌, Some};
 ghost use Rattle.std.specs.Fn.{FnReturnsAt};
 ghost use Rattle.model.specs.Text.{Bytes};
-ghost use Rattle.model.specs.Field.{Form, u32};
+ghost use Rattle.model.specs.Field.{Form};
 ghost use Rattle.words.specs.Words.{two32};
 ghost use Rattle.line.specs.FieldRead.{WordsOf, WordsAt, Own, words_value};
 
@@ -28,13 +28,12 @@ const ABSENT: Words = Words {
 };
 
 // A number of at most `limit`.
-pub fn number(c: Cursor<'_>, limit: u64) -> Option<Piece<Words>>
-    requires { limit ≤ u32 }
+pub fn number(c: Cursor<'_>, limit: u32) -> Option<Piece<Words>>
     ensures { WordsAt (Form.num limit) c.entry.bytes.now c.entry.at result }
 {
     let n = decimal_at(c, limit)?;
     let value = Words {
-        first: n.value as u32,
+        first: n.value,
         second: 0,
     };
     Some(Piece { value, end: n.end })
@@ -44,13 +43,13 @@ pub fn number(c: Cursor<'_>, limit: u64) -> Option<Piece<Words>>
 pub fn variable(c: Cursor<'_>) -> Option<Piece<Words>>
     ensures { WordsAt Form.var_or_absent c.entry.bytes.now c.entry.at result }
 {
-    let id = decimal_or_absent_at(c, words::MAX_U32)?;
+    let id = decimal_or_absent_at(c, u32::MAX)?;
     let end = id.end;
     match id.value {
         Some(n) => {
             let value = Words {
                 first: 1,
-                second: n as u32,
+                second: n,
             };
             Some(Piece { value, end })
         }
@@ -58,7 +57,7 @@ pub fn variable(c: Cursor<'_>) -> Option<Piece<Words>>
     }
 }
 
-// A number of 64 bits in two halves, and a number added to the high one.
+// A number of 64 bits in two halves, and a number added to the high one. By `%` and `/`, since a cast has to keep its value: `n as u32` for the low half is refused.
 fn halves(n: u64, top: u32) -> Words
     requires { n / two32 + top < two32 }
     ensures { result ≡ record { first = n % two32; second = n / two32 + top } }

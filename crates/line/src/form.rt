@@ -14,7 +14,7 @@ use words::form::Form;
 fn span(c: Cursor<'_>) -> Option<Piece<Words>>
     ensures { FieldHere Field.span c.entry.bytes.now c.entry.at result }
 {
-    let start = number(c, words::MAX_U32)?;
+    let start = number(c, u32::MAX)?;
     let r = start.end;
     if c.bytes[r] != b'\t' {
         return None;
@@ -23,7 +23,7 @@ fn span(c: Cursor<'_>) -> Option<Piece<Words>>
         bytes: c.bytes,
         at: r + 1,
     };
-    let last = number(behind, words::MAX_U32)?;
+    let last = number(behind, u32::MAX)?;
     let first = start.value.first;
     let second = last.value.first;
     if second < first {
@@ -74,7 +74,7 @@ pub fn read_form(p: Place<'_>, form: Form) -> Option<Piece<Words>>
 {
     match form {
         Form::Flag => number(p.cursor, 1),
-        Form::Var => number(p.cursor, words::MAX_U32),
+        Form::Var => number(p.cursor, u32::MAX),
         Form::VarOrAbsent => variable(p.cursor),
         Form::Int => int(p.cursor),
         Form::Float => float(p.cursor),
@@ -82,6 +82,6 @@ pub fn read_form(p: Place<'_>, form: Form) -> Option<Piece<Words>>
         Form::Alias => alias(p),
         Form::Span => span(p.cursor),
         Form::Length => hops(p),
-        Form::Number(limit) => number(p.cursor, u64::from(limit)),
+        Form::Number(limit) => number(p.cursor, limit),
     }
 }

@@ -156,3 +156,9 @@ module _ (limit : ℕ) (s : Bytes) (p v₀ : ℕ) where
                 let g = along_back s i (i + 1) (along_on s i i (along_start s i) past) q h in
                 sym (byte_on limit v (get_or s i 0) (slice (i + 1) q s) n e) ∙ rw (ends_cons s i q g past) at (d.same q g);
           }
+
+-- the same where the place is told from p on
+pub digits_next : (limit : ℕ) (s : Bytes) (p v₀ v k : ℕ) → Digits limit s p v₀ v (p + k) → (n : ℕ) → digit_value (get_or s (p + k) 0) ≡ Some n → v * 10 + n ≤ limit → Digits limit s p v₀ (v * 10 + n) (p + (k + 1))
+digits_next limit s p v₀ v k d n e l =
+    let q : p + (k + 1) ≡ p + k + 1 = omega arith in
+    rw q (digits_more limit s p v₀ v (p + k) d n e l)

@@ -1,16 +1,16 @@
 -- Signed numbers: what the definition reads, in the terms of the code, and the two steps to a signed word. Assumes nothing.
 use mathlib.Core.Path.{◌≡◌, refl, sym, ap, ◌∙◌}
-use mathlib.Core.Bool.{true}
+use mathlib.Core.Bool.{Bool, true, false}
 use mathlib.Core.List.{[], ◌∷◌}
-use Rattle.std.specs.Prelude.{Option, None, Some, FitsSigned, SomeIff}
+use Rattle.std.specs.Prelude.{Option, None, Some, Result, Ok, Err, FitsSigned, SomeIff, OkIff}
+use Rattle.std.specs.Result.{result_ok}
 use Prim.Native.Nat.{ℕ, zero, suc, ◌≤◌, ◌<◌}
 use native.Mathlib.Omega.{arith}
-use borrow.Author.Tests.{le-leb, leb-true, eqb-false}
+use borrow.Author.Tests.{le-leb, leb-true, leb-false, eqb-false}
+use lib.Dec.{leb}
 use lib.IntN.{ℤ, pos, negsuc, ◌-ℤ◌}
 use lib.ListN.{length, get_or}
 use mir.Syntax.{w64}
-use mir.Val.{to_z}
-use mir.ValLaws.{to_z_pos}
 use Rattle.model.specs.Text.{Bytes, same, same_by, digits, decimal, value, signed, signed_value, minus}
 use Rattle.model.specs.Field.{num, int, u64, i64, read, meaning, piece, spell, fits, fits_int}
 use Rattle.laws.specs.TextLaws.{each_head}
@@ -20,9 +20,6 @@ use Rattle.record.specs.Number.{most_below}
 use Rattle.record.proofs.ReadLaws.{accepted, refused, piece_is}
 
 -- ── a signed word ──
-
-pub word_positive : (k : ℕ) → k < most_below → to_z w64 k ≡ pos k
-word_positive k h = to_z_pos w64 k h
 
 -- zero less a number that is not zero
 below_zero : (k : ℕ) → (pos 0 -ℤ pos (suc k)) ≡ negsuc k
@@ -49,6 +46,10 @@ module _ (limit : ℕ) (s : Bytes) (d : Option ℕ) (p : d ≡ read (num limit) 
       let z : ◌≡◌ {A = ℕ} 0 1 = cc in
       omega arith
 
+-- two numbers that are spelled alike are one
+same_number : (n m : ℕ) → n ≤ u64 → m ≤ u64 → decimal n ≡ decimal m → n ≡ m
+same_number n m h k e = sym (decimal_value n h) ∙ ap value e ∙ decimal_value m k
+
 -- a number begins with no minus sign
 no_minus : (n : ℕ) (s : Bytes) → decimal n ≡ minus ∷ s → ⊥
 no_minus n s e = eqb-false minus minus (each_head (rw e at (decimal_free minus (omega arith) n))) refl
@@ -71,25 +72,31 @@ module _ (s : Bytes) where
       go (pos n) t f = no_minus n s (piece_is t)
       go (negsuc k) t f = g k (leb-true k i64 f) (behind_minus (piece_is t))
 
-  module _ (d : Option ℕ) (p : d ≡ read (num most_below) (s ∷ [])) where
+  module _ (d : Option ℕ) (p : d ≡ read (num u64) (s ∷ [])) where
     pub minus_of : (n : ℕ) → d ≡ Some n → (n ≡ 0 → ⊥) → (o : Option ℤ) → SomeIff o (FitsSigned w64 (pos 0 -ℤ pos n)) (pos 0 -ℤ pos n) → o ≡ read int ((minus ∷ s) ∷ [])
     minus_of zero e h o q = absurd (h refl)
-    minus_of (suc k) e h o q =
-        let b = number_bound most_below s d p (suc k) e in
-        go o q ∙ sym (minus_read k (omega arith) (number_spelled most_below s d p (suc k) e))
+    minus_of (suc k) e h o q = go (leb k i64) refl o q
       where
-        go : (o : Option ℤ) → SomeIff o (FitsSigned w64 (pos 0 -ℤ pos (suc k))) (pos 0 -ℤ pos (suc k)) → o ≡ Some (negsuc k)
-        go None q = absurd (q (word_fits k (omega (arith, number_bound most_below s d p (suc k) e))))
-        go (Some z) q = ap Some (q.1 ∙ below_zero k)
+        b : suc k ≤ u64
+        b = number_bound u64 s d p (suc k) e
+
+        r : decimal (suc k) ≡ s
+        r = number_spelled u64 s d p (suc k) e
+
+        go : (t : Bool) → leb k i64 ≡ t → (o : Option ℤ) → SomeIff o (FitsSigned w64 (pos 0 -ℤ pos (suc k))) (pos 0 -ℤ pos (suc k)) → o ≡ read int ((minus ∷ s) ∷ [])
+        go true l None q = absurd (q (word_fits k (omega (arith, leb-true k i64 l))))
+        go true l (Some z) q = ap Some (q.1 ∙ below_zero k) ∙ sym (minus_read k (leb-true k i64 l) r)
+        go false l None q = rw (minus_none (λ j m t. absurd (omega (arith, leb-false k i64 l, same_number (suc j) (suc k) (omega arith) b (t ∙ sym r)))))
+        go false l (Some z) q = absurd (omega (arith, leb-false k i64 l, (rw (below_zero k) at q.0).sfits))
 
     pub minus_zero : (n : ℕ) → d ≡ Some n → n ≡ 0 → None ≡ read int ((minus ∷ s) ∷ [])
     minus_zero n e h =
-        let b = number_bound most_below s d p n e in
-        let r = number_spelled most_below s d p n e in
-        rw (minus_none (λ k l t. absurd (omega (arith, sym (decimal_value n (omega arith)) ∙ ap value (r ∙ sym t) ∙ decimal_value (suc k) (omega arith)))))
+        let b = number_bound u64 s d p n e in
+        let r = number_spelled u64 s d p n e in
+        rw (minus_none (λ k l t. absurd (omega (arith, same_number n (suc k) b (omega arith) (r ∙ sym t)))))
 
     pub minus_not : d ≡ None → None ≡ read int ((minus ∷ s) ∷ [])
-    minus_not e = rw (minus_none (λ k l t. number_not most_below s d p (omega arith) e (suc k) (omega arith) t))
+    minus_not e = rw (minus_none (λ k l t. number_not u64 s d p (omega arith) e (suc k) (omega arith) t))
 
 -- ── without ──
 
@@ -108,15 +115,22 @@ module _ (s : Bytes) where
         go (pos n) t f = g n (leb-true n i64 f) (piece_is t)
         go (negsuc k) t f = h (sym (ap (λ x. get_or x 0 0) (piece_is t)))
 
-    module _ (d : Option ℕ) (p : d ≡ read (num i64) (s ∷ [])) where
-      pub signed_of_law : (n : ℕ) → d ≡ Some n → Some (to_z w64 n) ≡ read int (s ∷ [])
+    module _ (d : Option ℕ) (p : d ≡ read (num u64) (s ∷ [])) where
+      pub signed_of_law : {E : Type 0} (n : ℕ) → d ≡ Some n → (x : Result ℤ E) → OkIff x (FitsSigned w64 (pos n)) (pos n) → (o : Option ℤ) → o ≡ result_ok x → o ≡ read int (s ∷ [])
       unfolding spell signed fits fits_int limited
-      signed_of_law n e =
-          let low : n < most_below = omega (arith, number_bound i64 s d p n e) in
-          rw (accepted int (s ∷ []) refl (pos n) (ap (λ t. t ∷ []) (number_spelled i64 s d p n e)) (le-leb n i64 (number_bound i64 s d p n e)), word_positive n low)
+      signed_of_law {E} n e x q o h = h ∙ go (leb n i64) refl x q
+        where
+          b : n ≤ u64
+          b = number_bound u64 s d p n e
+
+          r : decimal n ≡ s
+          r = number_spelled u64 s d p n e
+
+          go : (t : Bool) → leb n i64 ≡ t → (x : Result ℤ E) → OkIff x (FitsSigned w64 (pos n)) (pos n) → result_ok x ≡ read int (s ∷ [])
+          go true l (Err z) q = absurd (q (record { sfits = omega (arith, leb-true n i64 l) }))
+          go true l (Ok z) q = rw (accepted int (s ∷ []) refl (pos n) (ap (λ t. t ∷ []) r) l) (ap Some q.1)
+          go false l (Err z) q = rw (plus_none (λ m k t. absurd (omega (arith, leb-false n i64 l, same_number m n (omega arith) b (t ∙ sym r)))))
+          go false l (Ok z) q = absurd (omega (arith, leb-false n i64 l, q.0.sfits))
 
       pub signed_not : d ≡ None → None ≡ read int (s ∷ [])
-      signed_not e = rw (plus_none (λ n l t. number_not i64 s d p (omega arith) e n l t))
-
-pub cast_fits : (s : Bytes) (d : Option ℕ) → d ≡ read (num i64) (s ∷ []) → (n : ℕ) → d ≡ Some n → FitsSigned w64 (pos n)
-cast_fits s d p n e = record { sfits = omega (arith, number_bound i64 s d p n e) }
+      signed_not e = rw (plus_none (λ n l t. number_not u64 s d p (omega arith) e n (omega arith) t))

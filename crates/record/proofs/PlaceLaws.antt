@@ -1,13 +1,15 @@
 -- Going along a piece byte by byte: where it ends, and what of it is left. Assumes nothing.
-use mathlib.Core.Path.{◌≡◌, refl, sym, ◌∙◌}
+use mathlib.Core.Path.{◌≡◌, refl, sym, ap, ◌∙◌}
 use mathlib.Core.Bool.{Bool, true, false, cond, false≢true}
 use mathlib.Core.List.{List, [], ◌∷◌, ◌++◌}
+use Rattle.std.specs.Prelude.{Some, None}
 use Prim.Native.Nat.{ℕ, zero, suc, ◌+◌, ◌-◌, ◌≤◌, ◌<◌}
 use native.Mathlib.Numerals.{add-one}
 use native.Mathlib.Omega.{arith}
 use borrow.Author.Tests.{eq-eqb, ne_eqb, eqb-true, eqb-false, ltb-true, ltb-false}
 use lib.Dec.{eqb, ltb}
-use lib.ListN.{length, take, get_or}
+use lib.ListN.{length, take, drop, get_or}
+use Rattle.std.proofs.lemmas.List.{get_or-drop, get_or-take}
 use lib.Seq.{slice, slice-cons, slice_empty, take-suc, drop-append-le, length-take-le}
 use Rattle.model.specs.Text.{Bytes, tab, line_feed}
 use Rattle.record.specs.Place.{LineEnd, Fed, separates, Ends}
@@ -60,6 +62,28 @@ module _ (s : Bytes) (p : ℕ) (f : Fed s p) where
 
   pub fed_on : (get_or s p 0 ≡ line_feed → ⊥) → Fed s (p + 1)
   fed_on h = record { end = f.end; line = line_on s p f.end f.line h }
+
+-- byte k of what is behind place p
+pub behind_at : {A : Type 0} (f : ℕ → A) (s : Bytes) (p k : ℕ) → Fed s (p + k) → f (get_or s (p + k) 0) ≡ f (get_or (take (length s - p) (drop p s)) k 0)
+behind_at f s p k h =
+    let l = fed_in s (p + k) h in
+    ap f (sym (get_or-take (length s - p) (drop p s) k 0 (omega arith) ∙ get_or-drop p s k 0))
+
+-- ── a dash that is all of its piece ──
+
+pub dash_some : {t : Bool} {p e : ℕ} → cond t (Some p) None ≡ Some e → (t ≡ true) × (e ≡ p)
+dash_some {t} h = go t h
+  where
+    go : (t : Bool) {p e : ℕ} → cond t (Some p) None ≡ Some e → (t ≡ true) × (e ≡ p)
+    go true h = (refl, cc)
+    go false h = cc
+
+pub dash_none : {t : Bool} (p : ℕ) → cond t (Some p) None ≡ None → t ≡ false
+dash_none {t} p h = go t h
+  where
+    go : (t : Bool) → cond t (Some p) None ≡ None → t ≡ false
+    go true h = cc
+    go false h = refl
 
 -- ── a piece ──
 

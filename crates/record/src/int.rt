@@ -5,16 +5,11 @@ ghost use Rattle.model.specs.Field.{read, Form};
 
 use crate::number::decimal;
 
-// The largest signed number, and the size of the smallest.
-const MOST: u64 = 9223372036854775807;
-
-const MOST_BELOW: u64 = 9223372036854775808;
-
 // What follows a minus sign; zero has none.
 fn minus(s: &[u8]) -> Option<i64>
     ensures { result ≡ read Form.int ((minus ∷ s.now) ∷ []) }
 {
-    let n = decimal(s, MOST_BELOW)?;
+    let n = decimal(s, u64::MAX)?;
     if n == 0 {
         return None;
     }
@@ -29,8 +24,8 @@ pub fn signed(s: &[u8]) -> Option<i64>
         [] => None,
         [b'-', rest @ ..] => minus(rest),
         _ => {
-            let n = decimal(s, MOST)?;
-            Some(n as i64)
+            let n = decimal(s, u64::MAX)?;
+            i64::try_from(n).ok()
         }
     }
 }

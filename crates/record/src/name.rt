@@ -5,7 +5,7 @@ ghost use Rattle.record.specs.Place.{separates};
 ghost use Rattle.record.specs.InPlace.{NameAt, AliasReadAt};
 
 use crate::cursor::Cursor;
-use crate::piece::{Piece, separates};
+use crate::piece::{Piece, dash_end, separates};
 
 // Whether a byte may stand behind a backslash.
 fn escaped(b: u8) -> bool
@@ -50,12 +50,8 @@ pub fn alias_at(c: Cursor<'_>) -> Option<Piece<Option<usize>>>
 {
     match c.bytes[c.at] {
         b'-' => {
-            let end = c.at + 1;
-            if separates(c.bytes[end]) {
-                Some(Piece { value: None, end })
-            } else {
-                None
-            }
+            let end = dash_end(c)?;
+            Some(Piece { value: None, end })
         }
         b'=' => {
             let at = c.at + 1;

@@ -1,12 +1,12 @@
 // Numbers of a sheet.
 ghost use Rattle.std.specs.Prelude.{◌≡◌, [], ◌∷◌, ◌≤◌};
-ghost use Rattle.model.specs.Field.{read, Form, u32};
+ghost use Rattle.model.specs.Field.{read, Form};
 ghost use Rattle.model.specs.Text.{same, dash};
 ghost use Rattle.record.specs.Number.{digit_value, digits_on};
 ghost use Rattle.record.specs.InPlace.{DigitsAt, NumberAt, OptNumberAt};
 
 use crate::cursor::Cursor;
-use crate::piece::{Piece, separates};
+use crate::piece::{Piece, dash_end, separates};
 
 // The value of a digit.
 fn digit(b: u8) -> Option<u64>
@@ -65,32 +65,37 @@ pub fn decimal_or_absent(s: &[u8], limit: u64) -> Option<Option<u64>>
 }
 
 // The digits from here on that follow the number `first`, up to the end of their piece. The number with them is at most `limit`, which is small enough that one digit more does not overflow.
-fn gather_at(c: Cursor<'_>, first: u64, limit: u64) -> Option<Piece<u64>>
-    requires { (first ≤ limit) × (limit ≤ u32) }
+fn gather_at(c: Cursor<'_>, first: u32, limit: u32) -> Option<Piece<u32>>
+    requires { first ≤ limit }
     ensures { DigitsAt limit first c.entry.bytes.now c.entry.at result }
 {
-    let mut v = first;
-    let mut i = c.at;
-    // A `while`, since nothing tells where the last digit is before it is met.
-    while let Some(d) = digit(c.bytes[i]) {
+    let most = u64::from(limit);
+    let mut v = u64::from(first);
+    for (k, b) in c.bytes[c.at..].iter().enumerate() {
+        let Some(d) = digit(*b) else {
+            if separates(*b) {
+                let end = c.at + k;
+                return Some(Piece {
+                    value: v as u32,
+                    end,
+                });
+            }
+            return None;
+        };
         v = v * 10 + d;
-        if limit < v {
+        if most < v {
             return None;
         }
-        i += 1;
     }
-    if separates(c.bytes[i]) {
-        return Some(Piece { value: v, end: i });
-    }
+    // never, since a line has its line feed
     None
 }
 
 // The decimal number here, with no spare zero and at most `limit`. Apart from `decimal`, which knows where its piece ends: one function for both would make two tests more for each digit of a sheet.
-pub fn decimal_at(c: Cursor<'_>, limit: u64) -> Option<Piece<u64>>
-    requires { limit ≤ u32 }
+pub fn decimal_at(c: Cursor<'_>, limit: u32) -> Option<Piece<u32>>
     ensures { NumberAt limit c.entry.bytes.now c.entry.at result }
 {
-    let d = digit(c.bytes[c.at])?;
+    let d = digit(c.bytes[c.at])? as u32;
     let behind = c.at + 1;
     if d == 0 {
         if separates(c.bytes[behind]) {
@@ -115,16 +120,12 @@ pub fn decimal_at(c: Cursor<'_>, limit: u64) -> Option<Piece<u64>>
 }
 
 // The decimal number here as above, or a dash.
-pub fn decimal_or_absent_at(c: Cursor<'_>, limit: u64) -> Option<Piece<Option<u64>>>
-    requires { limit ≤ u32 }
+pub fn decimal_or_absent_at(c: Cursor<'_>, limit: u32) -> Option<Piece<Option<u32>>>
     ensures { OptNumberAt limit c.entry.bytes.now c.entry.at result }
 {
     if c.bytes[c.at] == b'-' {
-        let end = c.at + 1;
-        if separates(c.bytes[end]) {
-            return Some(Piece { value: None, end });
-        }
-        return None;
+        let end = dash_end(c)?;
+        return Some(Piece { value: None, end });
     }
     let n = decimal_at(c, limit)?;
     Some(Piece {

@@ -1,5 +1,6 @@
 // Where a piece of a sheet ends.
-ghost use Rattle.std.specs.Prelude.{◌≡◌};
+ghost use Rattle.std.specs.Prelude.{◌≡◌, ◌+◌, cond, get_or, Some, None};
+ghost use Rattle.model.specs.Text.{minus};
 ghost use Rattle.record.specs.Place.{Ends, separates};
 
 use crate::cursor::Cursor;
@@ -28,4 +29,13 @@ pub fn piece_end(c: Cursor<'_>) -> usize
         i += 1;
     }
     i
+}
+
+// The end of the piece that begins with a dash here, if that is all of it.
+pub(crate) fn dash_end(c: Cursor<'_>) -> Option<usize>
+    requires { get_or c.bytes.now c.at 0 ≡ minus }
+    ensures { result ≡ cond (separates (get_or c.entry.bytes.now (c.entry.at + 1) 0)) (Some (c.entry.at + 1)) None }
+{
+    let end = c.at + 1;
+    separates(c.bytes[end]).then_some(end)
 }

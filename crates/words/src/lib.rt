@@ -32,9 +32,6 @@ pub const MAX_DEPTH: usize = 64;
 // A byte has so many values.
 pub const BYTE_VALUES: u64 = 256;
 
-// The largest number of 32 bits.
-pub const MAX_U32: u64 = 4294967295;
-
 // A number of 64 bits is two words: so much is the second one's 1.
 pub const TWO_32: u64 = 4294967296;
 
