@@ -10,7 +10,7 @@ use Rattle.record.specs.AnswerLaws.{var_is}
 use Rattle.words.specs.Words.{field_of}
 use Rattle.words.specs.Forms.{form_is}
 use Rattle.words.specs.declared.form.Form.{Form}
-use Rattle.words.specs.declared.form.Form.TheVariants.{Flag, Var, VarOrAbsent, Int, Float, Text, Alias, Span, Length, Number}
+use Rattle.words.specs.declared.form.Form.TheVariants.{Flag, Var, VarOrAbsent, Int, Float, Text, Alias, Number}
 use Rattle.std.specs.Prelude.{Option, None, Some}
 use Rattle.record.specs.declared.piece.Piece.{Piece}
 use Rattle.record.specs.InPlace.{value_in}

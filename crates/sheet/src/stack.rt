@@ -7,7 +7,7 @@ ghost use Rattle.sheet.specs.Due.{room_below};
 ghost use Rattle.sheet.specs.Stack.{slack, allowed, max_room};
 ghost use Rattle.sheet.specs.Dues.{Stacked, Taken, Pushed, Groups, Space};
 
-use line::group::group_at;
+use line::group::{count_place, group_sort};
 use words::Record;
 use words::sort::Sort;
 use words::table::groups_of;
@@ -88,10 +88,10 @@ impl Stack<'_> {
         ensures { Groups self.old.words.now self.new.words.now kind (part r.entry.records.now.a.now r.entry.records.now.b.now r.entry.i) 0 group_count self.old.groups room self.new.groups }
     {
         for g in (0..groups_of(kind)).rev() {
-            let group = group_at(kind, g);
-            let count = group.count.of(r);
+            let place = count_place(kind, g);
+            let count = place.of(r);
             if count != 0 {
-                let sort = group.sort;
+                let sort = group_sort(kind, g);
                 self.push(Group { sort, count, room });
             }
         }

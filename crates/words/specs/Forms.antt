@@ -1,7 +1,6 @@
 -- The forms of fields as the code has them, by their codes in the table, and the forms of the definitions that they are. Assumes nothing.
-use Rattle.std.specs.Prelude.{◌≡◌, refl, ℕ, zero, suc, ◌<◌, ◌≤◌, [], ◌∷◌, get_or, Option, None, Some}
-use Rattle.std.proofs.Common.{sym, ap, ◌∙◌, arith}
-use Rattle.std.proofs.lemmas.Option.{none-some, same_Some}
+use Rattle.std.specs.Prelude.{◌≡◌, refl, ℕ, zero, suc, ◌<◌, [], ◌∷◌, get_or, Option, None, Some}
+use Rattle.std.proofs.Common.{arith}
 use Rattle.model.specs.Field
 use Rattle.model.specs.Field.{u32}
 use Rattle.words.specs.declared.form.Form.{Form}

@@ -1,7 +1,6 @@
 -- `line::group::Counted::of` meets its contract. Assumes nothing.
-use Rattle.std.proofs.Common.{sym, ap, ◌∙◌}
+use Rattle.std.proofs.Common.{sym, ◌∙◌}
 use Rattle.words.proofs.GroupLaws.{part_cell}
-use Rattle.line.specs.Group.{count_by, OfRecord}
 use Rattle.line.proofs.group.Counted.of.Goals as goal
 
 pub word-requires : goal.word-requires

@@ -9,13 +9,13 @@ pub loop-g-init : goal.loop-g-init
 loop-g-init c = begun c.groups_of-g.ensures
 
 pub of-count-requires : goal.of-count-requires
-of-count-requires c = c.group_at-group.ensures.count.among
+of-count-requires c = c.count_place-place.ensures.among
 
 pub push-requires : goal.push-requires
-push-requires c = rw c.group_at-group.ensures.sort (omega (arith, c.requires.each (c.loop-g.g - 1) (omega arith), c.loop-g.invariant.1.high))
+push-requires c = rw c.group_sort-sort.ensures (omega (arith, c.requires.each (c.loop-g.g - 1) (omega arith), c.loop-g.invariant.1.high))
 
 pub loop-g-preserved-then-count-ne0 : goal.loop-g-preserved-then-count-ne0
-loop-g-preserved-then-count-ne0 c = (omega arith, groups_step (omega arith) c.loop-g.invariant.0 c.loop-g.invariant.1 (rw (c.group_at-group.ensures.sort, c.of-count.ensures, c.group_at-group.ensures.count.is _) at c.push.ensures))
+loop-g-preserved-then-count-ne0 c = (omega arith, groups_step (omega arith) c.loop-g.invariant.0 c.loop-g.invariant.1 (rw (c.group_sort-sort.ensures, c.of-count.ensures, c.count_place-place.ensures.is _) at c.push.ensures))
 
 pub loop-g-preserved : goal.loop-g-preserved
-loop-g-preserved c = (omega arith, groups_pass (omega arith) c.loop-g.invariant.0 c.loop-g.invariant.1 (sym (c.group_at-group.ensures.count.is _) ∙ sym c.of-count.ensures ∙ c.if-count-ne0.false))
+loop-g-preserved c = (omega arith, groups_pass (omega arith) c.loop-g.invariant.0 c.loop-g.invariant.1 (sym (c.count_place-place.ensures.is _) ∙ sym c.of-count.ensures ∙ c.if-count-ne0.false))
