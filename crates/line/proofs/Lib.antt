@@ -1,4 +1,3 @@
-pub mod PackLaws
 pub mod KindLaws
 pub mod PlaceLaws
 pub mod WordLaws
