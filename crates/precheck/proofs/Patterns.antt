@@ -3,10 +3,10 @@ use mathlib.Core.Path.{◌≡◌, refl, sym, ap, ◌∙◌}
 use Prim.Native.Nat.{ℕ, suc, ◌+◌, ◌-◌, ◌<◌, ◌≤◌}
 use native.Mathlib.Nat.{add-zero}
 use native.Mathlib.Omega.{arith}
-use mathlib.Core.Bool.{Bool, true, false}
+use mathlib.Core.Bool.{Bool, true, false, cond}
 use mathlib.Core.List.{List, [], ◌∷◌}
 use lib.Dec.{eqb}
-use borrow.Author.Tests.{eqb-true, eqb-false}
+use borrow.Author.Tests.{eqb-true, eqb-false, eq-eqb, ne_eqb}
 use Rattle.model.specs.Text.{Bytes}
 use Rattle.model.specs.Field.{Span}
 use Rattle.model.specs.Kind.{PatternElement, expr, name, yield_item, pattern_part, pattern_element}
@@ -88,6 +88,15 @@ module _ {a b : List ℕ} (room : Roomy a b) {i c l n : ℕ} {s : HirSpan} (kind
 
   pub inside_rel : (c ≡ node_kind → ⊥) → n ≡ cell a b i rel_props_at → Spans a b i rel_span_at s → Inside a b i (record { first = i + 1 + l; n = n; span = s })
   inside_rel h hn hs = record { each = λ d around v e p. read_off (ap (λ x. i + 1 + x) labels) hn (span_read hs) ((in_element room p).rel (λ z. h (kind ∙ z))) }
+
+-- the same by what `below` tells of an element, and the word at which its span begins
+module _ {a b : List ℕ} (room : Roomy a b) {i c l f n at : ℕ} {s : HirSpan} (kind : c ≡ cell a b i kind_at) (labels : l ≡ cell a b i node_labels_at) (first : f ≡ i + 1 + l)
+    (props : n ≡ cond (eqb (cell a b i kind_at) node_kind) (cell a b i node_props_at) (cell a b i rel_props_at)) (spans : Spans a b i at s) where
+  pub below_node : c ≡ node_kind → at ≡ node_span_at → Inside a b i (record { first = f; n = n; span = s })
+  below_node h e = rw first (inside_node room kind labels h (rw (eq-eqb (cell a b i kind_at) node_kind (sym kind ∙ h)) at props) (rw e at spans))
+
+  pub below_rel : (c ≡ node_kind → ⊥) → at ≡ rel_span_at → Inside a b i (record { first = f; n = n; span = s })
+  below_rel h e = rw first (inside_rel room kind labels h (rw (ne_eqb (cell a b i kind_at) node_kind (λ z. h (kind ∙ z))) at props) (rw e at spans))
 
 -- an element's own span counts, and no span around it
 same_check : (t : Tree pattern_element) (s s' : Span) → check t s ≡ check t s'

@@ -108,9 +108,8 @@ pub record WalkAsked (levels left : ℕ) (P : Type 0) : Type 0 where
   pub deep : levels < left
   pub there : P
 
--- the same of a part of the clause at record i
-pub record ClauseAsked (i left : ℕ) (P : Type 0) : Type 0 where
-  pub low : i < max_records
+-- the same of a part of a clause, under which there is a level more
+pub record ClauseAsked (left : ℕ) (P : Type 0) : Type 0 where
   pub deep : 0 < left
   pub there : P
 

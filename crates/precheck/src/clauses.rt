@@ -10,7 +10,7 @@ ghost use Rattle.precheck.specs.Stands.{At, Standing, span_word, Trailers, Proje
 use crate::Walk;
 use crate::verdict::span_at;
 use crate::walk::{Under, check_exprs, check_pattern};
-use words::{Records, field, kind};
+use words::{Record, Records, field, kind};
 
 // The word of a clause's record at which its span begins.
 fn span_word(kind: u32) -> usize
@@ -27,71 +27,71 @@ fn span_word(kind: u32) -> usize
     }
 }
 
-// Sort keys, then skip, then limit, of the clause at record i, from record at on.
-fn check_order_skip_limit(r: &Records<'_>, i: usize, at: usize, under: Under) -> Walk
-    requires { ClauseAsked i under.left (Exists (Trailers r.now.a.now r.now.b.now i under.left (span_of under.span) at)) }
-    ensures { Walks result (Trailers r.now.a.now r.now.b.now i under.left (span_of under.span) at) }
+// Sort keys, then skip, then limit, of a clause, from record at on.
+fn check_order_skip_limit(c: Record<'_>, at: usize, under: Under) -> Walk
+    requires { ClauseAsked under.left (Exists (Trailers c.records.now.a.now c.records.now.b.now c.i under.left (span_of under.span) at)) }
+    ensures { Walks result (Trailers c.entry.records.now.a.now c.entry.records.now.b.now c.entry.i under.left (span_of under.span) at) }
 {
-    let keys = r.count(i, field::KEYS);
-    let skip = r.count(i, field::SKIP);
-    let limit = r.count(i, field::LIMIT);
+    let keys = c.count(field::KEYS);
+    let skip = c.count(field::SKIP);
+    let limit = c.count(field::LIMIT);
     let less = Under {
         left: under.left - 1,
         ..under
     };
-    let p = check_exprs(r, at, keys, 1, less)?;
-    let q = check_exprs(r, p, skip, 0, under)?;
-    check_exprs(r, q, limit, 0, under)
+    let p = check_exprs(c.records, at, keys, 1, less)?;
+    let q = check_exprs(c.records, p, skip, 0, under)?;
+    check_exprs(c.records, q, limit, 0, under)
 }
 
-// Items, then a filter if there is one, then the rest, of the `with` or `return` at record i.
-fn check_projections(r: &Records<'_>, i: usize, filters: usize, under: Under) -> Walk
-    requires { ClauseAsked i under.left (Exists (Projected r.now.a.now r.now.b.now i filters under.left (span_of under.span))) }
-    ensures { Walks result (Projected r.now.a.now r.now.b.now i filters under.left (span_of under.span)) }
+// Items, then a filter if there is one, then the rest, of a `with` or `return`. How many filters is a number and no flag, as the record table has it: the count of a group.
+fn check_projections(c: Record<'_>, filters: usize, under: Under) -> Walk
+    requires { ClauseAsked under.left (Exists (Projected c.records.now.a.now c.records.now.b.now c.i filters under.left (span_of under.span))) }
+    ensures { Walks result (Projected c.entry.records.now.a.now c.entry.records.now.b.now c.entry.i filters under.left (span_of under.span)) }
 {
-    let items = r.count(i, field::ITEMS);
+    let items = c.count(field::ITEMS);
     let less = Under {
         left: under.left - 1,
         ..under
     };
-    let p = check_exprs(r, i + 1, items, 1, less)?;
-    let q = check_exprs(r, p, filters, 0, under)?;
-    check_order_skip_limit(r, i, q, under)
+    let p = check_exprs(c.records, c.i + 1, items, 1, less)?;
+    let q = check_exprs(c.records, p, filters, 0, under)?;
+    check_order_skip_limit(c, q, under)
 }
 
-// The arguments of the `call` at record i; its yields are passed over.
-fn check_call(r: &Records<'_>, i: usize, under: Under) -> Walk
-    requires { ClauseAsked i under.left (Exists (Called r.now.a.now r.now.b.now i under.left (span_of under.span))) }
-    ensures { Walks result (Called r.now.a.now r.now.b.now i under.left (span_of under.span)) }
+// The arguments of a `call`; its yields are passed over.
+fn check_call(c: Record<'_>, under: Under) -> Walk
+    requires { ClauseAsked under.left (Exists (Called c.records.now.a.now c.records.now.b.now c.i under.left (span_of under.span))) }
+    ensures { Walks result (Called c.entry.records.now.a.now c.entry.records.now.b.now c.entry.i under.left (span_of under.span)) }
 {
-    let args = r.count(i, field::CALL_ARGS);
-    let yields = r.count(i, field::CALL_YIELDS);
-    let at = check_exprs(r, i + 1, args, 0, under)?;
+    let args = c.count(field::CALL_ARGS);
+    let yields = c.count(field::CALL_YIELDS);
+    let at = check_exprs(c.records, c.i + 1, args, 0, under)?;
     Ok(at + yields)
 }
 
-// The clause at record i, at most left deep, under its own span. A `write` has nothing to check.
-fn check_clause(r: &Records<'_>, i: usize, left: usize) -> Walk
-    requires { WalkAsked 1 left (Standing r.now.a.now r.now.b.now clause left no_span i) }
-    ensures { Walks result (At r.now.a.now r.now.b.now clause left no_span i) }
+// A clause, at most left deep, under its own span. A `write` has nothing to check.
+fn check_clause(c: Record<'_>, left: usize) -> Walk
+    requires { WalkAsked 1 left (Standing c.records.now.a.now c.records.now.b.now clause left no_span c.i) }
+    ensures { Walks result (At c.entry.records.now.a.now c.entry.records.now.b.now clause left no_span c.entry.i) }
 {
-    let kind = r.word(i, field::KIND);
+    let kind = c.kind();
     // parts of a `match`, filters of a `with`
-    let n = r.count(i, field::MATCH_PARTS);
+    let n = c.count(field::MATCH_PARTS);
     let at = span_word(kind);
-    let span = span_at(r, i, at);
-    let first = i + 1;
+    let span = span_at(c, at);
+    let first = c.i + 1;
     let less = Under {
         left: left - 1,
         span,
     };
     match kind {
-        kind::MATCH => check_pattern(r, first, n, less),
-        kind::WHERE => check_exprs(r, first, 1, 0, less),
-        kind::WITH => check_projections(r, i, n, less),
-        kind::RETURN => check_projections(r, i, 0, less),
-        kind::UNWIND => check_exprs(r, first, 1, 0, less),
-        kind::CALL => check_call(r, i, less),
+        kind::MATCH => check_pattern(c.records, first, n, less),
+        kind::WHERE => check_exprs(c.records, first, 1, 0, less),
+        kind::WITH => check_projections(c, n, less),
+        kind::RETURN => check_projections(c, 0, less),
+        kind::UNWIND => check_exprs(c.records, first, 1, 0, less),
+        kind::CALL => check_call(c, less),
         // write
         _ => Ok(first),
     }
@@ -104,7 +104,7 @@ pub fn check_clauses(r: &Records<'_>, i: usize, n: usize, left: usize) -> Walk
 {
     let mut at = i;
     for _ in 0..n {
-        at = check_clause(r, at, left)?;
+        at = check_clause(r.at(at), left)?;
     }
     Ok(at)
 }

@@ -10,7 +10,7 @@ ghost use Rattle.precheck.specs.Stands.{At, Standing, Exprs};
 
 use crate::verdict::{expr_verdict, part_verdict, props_of};
 use crate::{HirSpan, Walk};
-use words::{Records, field, kind};
+use words::{Record, Records, field, kind};
 
 // How deep a tree may go, and the span that is reported in it.
 #[derive(Clone, Copy)]
@@ -19,29 +19,29 @@ pub struct Under {
     pub span: HirSpan,
 }
 
-// The expression at record i.
+// The expression at a record.
 #[cycle(expression)]
-fn check_expr(r: &Records<'_>, i: usize, under: Under) -> Walk
-    requires { Standing r.now.a.now r.now.b.now expr under.left (span_of under.span) i }
-    ensures { Walks result (At r.now.a.now r.now.b.now expr under.left (span_of under.span) i) }
+fn check_expr(r: Record<'_>, under: Under) -> Walk
+    requires { Standing r.records.now.a.now r.records.now.b.now expr under.left (span_of under.span) r.i }
+    ensures { Walks result (At r.entry.records.now.a.now r.entry.records.now.b.now expr under.left (span_of under.span) r.entry.i) }
 {
-    let kind = r.word(i, field::KIND);
-    let first = i + 1;
+    let kind = r.kind();
+    let first = r.i + 1;
     if kind::is_leaf(kind) {
         return Ok(first);
     }
-    expr_verdict(r, i, kind, under.span)?;
-    let n = r.children(i);
+    expr_verdict(r, under.span)?;
+    let n = r.children();
     let less = Under {
         left: under.left - 1,
         ..under
     };
     match kind {
         // each expression behind its name
-        kind::MAP => check_exprs(r, first, n, 1, less),
-        kind::PAT => check_pattern(r, first, n, less),
+        kind::MAP => check_exprs(r.records, first, n, 1, less),
+        kind::PAT => check_pattern(r.records, first, n, less),
         // every other has expressions for children, or none
-        _ => check_exprs(r, first, n, 0, less),
+        _ => check_exprs(r.records, first, n, 0, less),
     }
 }
 
@@ -53,7 +53,7 @@ pub fn check_exprs(r: &Records<'_>, i: usize, n: usize, skip: usize, under: Unde
 {
     let mut at = i;
     for _ in 0..n {
-        at = check_expr(r, at + skip, under)?;
+        at = check_expr(r.at(at + skip), under)?;
     }
     Ok(at)
 }
@@ -66,8 +66,9 @@ pub fn check_pattern(r: &Records<'_>, i: usize, n: usize, under: Under) -> Walk
 {
     let mut at = i;
     for _ in 0..n {
-        part_verdict(r, at, under.span)?;
-        let elements = r.count(at, field::PART_ELEMENTS);
+        let part = r.at(at);
+        part_verdict(part, under.span)?;
+        let elements = part.count(field::PART_ELEMENTS);
         at = check_elements(r, at + 1, elements, under.left - 1)?;
     }
     Ok(at)
@@ -81,7 +82,7 @@ fn check_elements(r: &Records<'_>, i: usize, n: usize, left: usize) -> Walk
 {
     let mut at = i;
     for _ in 0..n {
-        let props = props_of(r, at);
+        let props = props_of(r.at(at));
         let less = Under {
             left: left - 1,
             span: props.span,

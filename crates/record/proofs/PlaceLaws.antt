@@ -9,10 +9,11 @@ use native.Mathlib.Omega.{arith}
 use borrow.Author.Tests.{eq-eqb, ne_eqb, eqb-true, eqb-false, ltb-true, ltb-false}
 use lib.Dec.{eqb, ltb}
 use lib.ListN.{length, take, drop, get_or}
-use Rattle.std.proofs.lemmas.List.{get_or-drop, get_or-take}
+use Rattle.std.proofs.lemmas.List.{get_or-drop, get_or-take, take_all}
+use Rattle.std.proofs.Common.{length-drop}
 use lib.Seq.{slice, slice-cons, slice_empty, take-suc, drop-append-le, length-take-le}
 use Rattle.model.specs.Text.{Bytes, tab, line_feed}
-use Rattle.record.specs.Place.{LineEnd, Fed, separates, Ends}
+use Rattle.record.specs.Place.{LineEnd, Fed, FirstSeparator, separates, Ends}
 
 -- ── a byte ──
 
@@ -187,6 +188,38 @@ slice_snoc f i l d h k =
     rw (add-one i, take-suc l i d k) (drop-append-le f (take i l) (get_or l i d ∷ []) (rw (length-take-le i l (omega arith)) h))
 
 -- ── the search for a piece's end ──
+
+module _ (s : Bytes) (p : ℕ) (f : Fed s p) where
+  abbrev rest : Bytes
+  rest = take (length s - p) (drop p s)
+
+  rest_all : rest ≡ drop p s
+  rest_all = take_all (length s - p) (drop p s) (omega (arith, length-drop p s))
+
+  byte_in : (k : ℕ) → separates (get_or s (p + k) 0) ≡ separates (get_or (drop p s) k 0)
+  byte_in k = ap separates (sym (get_or-drop p s k 0))
+
+  -- the first separator of what is behind a place ends the piece there
+  pub first_ends : {z : ℕ} → FirstSeparator rest (Some z) → Ends s p (p + z)
+  first_ends {z} h =
+      let g : FirstSeparator (drop p s) (Some z) = rw rest_all at h in
+      record {
+        from = omega arith;
+        to = omega (arith, g.0, length-drop p s);
+        free = λ j a b.
+            let e : p + (j - p) ≡ j = omega arith in
+            rw e at (byte_in (j - p) ∙ g.2 (j - p) (omega arith));
+        stop = byte_in z ∙ g.1;
+      }
+
+  pub first_none : FirstSeparator rest None → ⊥
+  first_none h =
+      let g : FirstSeparator (drop p s) None = rw rest_all at h in
+      let e : p + (f.end - p) ≡ f.end = omega (arith, f.line.from) in
+      let n : separates (get_or s f.end 0) ≡ false = rw e at (byte_in (f.end - p) ∙ g (f.end - p) (omega (arith, f.line.from, f.line.to, length-drop p s))) in
+      false≢true (sym n ∙ separates_feed (get_or s f.end 0) f.line.feed)
+
+-- ── going on byte by byte until a piece's end ──
 
 pub record Passing (s : Bytes) (p i : ℕ) : Type 0 where
   pub fed : Fed s i

@@ -1,5 +1,5 @@
 -- Places in a sheet: where a line ends, where a piece of it ends, and what is read of the piece at a place. Assumes nothing: these are definitions, and the proof that a line has its line feed in one way.
-use Rattle.std.specs.Prelude.{◌≡◌, Bool, true, false, cond, ℕ, ◌≤◌, ◌<◌, eqb, ltb, length, get_or, Option, None, Some, refl}
+use Rattle.std.specs.Prelude.{◌≡◌, Bool, true, false, cond, ℕ, ◌≤◌, ◌<◌, eqb, ltb, length, get_or, Option, None, Some, refl, MatchOption}
 use Rattle.std.specs.Coded.{le_prop}
 use Rattle.std.proofs.Common.{arith}
 use borrow.Author.Tests.{ltb-true, ltb-false}
@@ -56,6 +56,10 @@ pub record Ends (s : Bytes) (p r : ℕ) : Type 0 where
 abbrev pub EndsAt : Bytes → ℕ → Option ℕ → Type 0
 EndsAt s p None = Unit {0}
 EndsAt s p (Some r) = Ends s p r
+
+-- the first separator of a text stands at r
+abbrev pub FirstSeparator : Bytes → Option ℕ → Type 0
+FirstSeparator s r = MatchOption r ((i : ℕ) → i < length s → separates (get_or s i 0) ≡ false) (λ z. (z < length s) × (separates (get_or s z 0) ≡ true) × ((i : ℕ) → i < z → separates (get_or s i 0) ≡ false))
 
 -- what is said of the piece at p is what is read of it; and where it ends, if that is told
 pub record ReadAt {A : Type 0} (s : Bytes) (p : ℕ) (reads : Bytes → A) (said : A) (place : Option ℕ) : Type 0 where

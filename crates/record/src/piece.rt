@@ -1,7 +1,7 @@
 // Where a piece of a sheet ends.
 ghost use Rattle.std.specs.Prelude.{◌≡◌, ◌+◌, cond, get_or, Some, None};
 ghost use Rattle.model.specs.Text.{minus};
-ghost use Rattle.record.specs.Place.{Ends, separates};
+ghost use Rattle.record.specs.Place.{Ends, FirstSeparator, separates};
 
 use crate::cursor::Cursor;
 
@@ -19,16 +19,22 @@ pub fn separates(b: u8) -> bool
     matches!(b, b'\t' | b'\n')
 }
 
+// How many bytes stand before the first separator.
+fn piece_len(s: &[u8]) -> Option<usize>
+    ensures { FirstSeparator s.now result }
+{
+    s.iter().position(|b| separates(*b))
+}
+
 // The end of the piece that begins here.
 pub fn piece_end(c: Cursor<'_>) -> usize
     ensures { Ends c.entry.bytes.now c.entry.at result }
 {
-    let mut i = c.at;
-    // A `while`, since nothing tells where the separator is before it is met.
-    while !separates(c.bytes[i]) {
-        i += 1;
+    match piece_len(&c.bytes[c.at..]) {
+        Some(n) => c.at + n,
+        // never, since a line has its line feed
+        None => c.at,
     }
-    i
 }
 
 // The end of the piece that begins with a dash here, if that is all of it.

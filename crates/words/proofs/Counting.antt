@@ -10,7 +10,7 @@ use Rattle.model.specs.Field.{Fields}
 use Rattle.model.specs.Kind.{Sort, Kind, Same, Expr, expr}
 use Rattle.model.specs.Record.{Group, forms, children}
 use Rattle.model.specs.Tree.{Tree, Trees, Forest, node, []ᵗ, ◌∷ᵗ◌, end, ◌▸◌}
-use Rattle.words.specs.Words.{max_records, Roomy, cell}
+use Rattle.words.specs.Words.{max_records, two32, Roomy, cell}
 use Rattle.words.specs.Held.{RecordAt, Held, HeldOf, HeldIn, size, size_of, size_in, room_in, total}
 use Rattle.words.specs.Cells.{shown}
 use Rattle.words.specs.Fits.{tree_fits, forest_fits, tree_low}
@@ -112,6 +112,10 @@ module _ {sheet : Bytes} {a b : List ℕ} {e : ℕ} where
 pub record Remaining (a b : List ℕ) (i n at : ℕ) : Type 0 where
   pub same : (sheet : Bytes) (e : ℕ) → Due sheet a b e 1 i → Due sheet a b e n at
 
+-- what a walk from record to record keeps, whatever it does at each
+abbrev pub Walking : (a b : List ℕ) (i n at : ℕ) → Type 0
+Walking a b i n at = (at ≤ max_records) × Remaining a b i n at
+
 pub start_low : {a b : List ℕ} {i : ℕ} → Starts a b i → i < max_records
 start_low {a} {b} {i} z = tree_low z.sheet a b z.tree z.depth i z.held
 
@@ -134,6 +138,16 @@ module _ {a b : List ℕ} where
 
   pub again : {i n at k : ℕ} → Roomy a b → ((n ≡ 0) → ⊥) → k ≡ count_at a b at → Remaining a b i n at → Remaining a b i (n - 1 + k) (at + 1)
   again {i} {n} {at} {k} room h ek l = record { same = λ sheet e d. rw ek (step n at room h (l.same sheet e d)) }
+
+  pub begun : {i : ℕ} → Starts a b i → Walking a b i 1 i
+  begun {i} z = (omega (arith, start_low z), first i)
+
+  pub walked : {i n at k : ℕ} → Roomy a b → Starts a b i → Walking a b i n at → ((n ≡ 0) → ⊥) → k ≡ count_at a b at → Walking a b i (n - 1 + k) (at + 1)
+  walked room z w h ek = let p = in_range z w.1 h in (omega arith, again room h ek w.1)
+
+  -- what is due behind a record fits a word of 64 bits
+  pub due_fits : {i n at k : ℕ} → Starts a b i → Walking a b i n at → k < two32 → n - 1 + k < two32 + two32
+  due_fits z w l = let p = few z w.1 w.0 in omega arith
 
   pub done : {i n at : ℕ} → n ≡ 0 → Remaining a b i n at → Ends a b i at
   done {i} {n} {at} h l = record { each = λ sheet s d t hd. finish n at h (l.same sheet (i + size t) (one_due s d t hd (none_due refl))) }

@@ -58,7 +58,7 @@ impl Records<'_> {
     {
         let mut at = i;
         let mut due = 1;
-        // A `while`, since how many records there are is known only as their counts are read.
+        // A `while`, since how many records there are is known only as their counts are read. The check walks so too (precheck/src/flat.rt): one walk with a test of its own would ask of that test that it may be called at each record of a tree, which is longer than these lines; the law of a step is one (proofs/Counting.walked).
         while due != 0 {
             let n = self.children(at);
             due = due - 1 + n;

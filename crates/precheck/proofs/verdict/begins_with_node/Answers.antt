@@ -4,11 +4,11 @@ use Rattle.precheck.proofs.Patterns.{begins_not, begins_low, begins_by_kind}
 use Rattle.precheck.proofs.verdict.begins_with_node.Goals as goal
 
 pub word-requires : goal.word-requires
-word-requires c = (begins_low c.args.r.now.roomy c.word-elements.ensures c.if-elements-ne0.true c.requires, search rules)
+word-requires c = (begins_low c.args.r.records.now.roomy c.word-elements.ensures c.if-elements-ne0.true c.requires, search rules)
 
 pub returns-then-elements-ne0 : goal.returns-then-elements-ne0
-returns-then-elements-ne0 c = begins_by_kind c.args.r.now.roomy c.word-elements.ensures c.if-elements-ne0.true c.word.ensures
+returns-then-elements-ne0 c = begins_by_kind c.args.r.records.now.roomy c.word-elements.ensures c.if-elements-ne0.true c.word.ensures
 
 pub returns-else-elements-ne0 : goal.returns-else-elements-ne0
 returns-else-elements-ne0 c =
-    rw c.if-elements-ne0.false (begins_not c.args.r.now.roomy c.word-elements.ensures c.if-elements-ne0.false)
+    rw c.if-elements-ne0.false (begins_not c.args.r.records.now.roomy c.word-elements.ensures c.if-elements-ne0.false)
