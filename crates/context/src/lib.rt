@@ -1,4 +1,5 @@
 // The state of the lowering, by value, over tables in lent slices: numbers are issued, noted and looked up, and operators pushed.
+// CanPush, CanNumber and CanMap are asked and are no facts of a type: they relate the state, which document 01 wants by value, with a slice that is lent. What writes or reads one table asks for the length of that slice, since with Tables whole it would have to promise that the other table stays.
 #![tactic(auto)]
 
 ghost use Rattle.std.specs.Prelude.{◌≡◌, ◌+◌, ◌<◌, ◌≤◌, length, None};
@@ -55,6 +56,7 @@ pub struct Tables<'a> {
 }
 
 // Where something is lowered: the records from i on, how deep their trees may be, and where the notes of the pass begin.
+// Their bounds (the pass is one of two, the depth at most `deepest`; Near, in the writer) are asked with the tree that stands there and are no fact of the type: each place that is made on the way down would owe them, and a tree of the depth would be asked still.
 #[derive(Clone, Copy, Debug, PartialEq, Eq)]
 pub struct At {
     pub base: usize,

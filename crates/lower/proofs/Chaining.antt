@@ -16,6 +16,7 @@ use Rattle.model.specs.Lower
 use Rattle.words.specs.Words.{Roomy, cell, option_of, fields_of, field_of, max_records}
 use Rattle.words.specs.Held.{Held, HeldOf, size, size_of}
 use Rattle.context.specs.Tables.{Pushed, Numbers, second_pass, deepest}
+use Rattle.context.specs.declared.At.{At}
 use Rattle.context.specs.declared.LowerCtx.{LowerCtx}
 use Rattle.context.specs.declared.Numbered.{Numbered}
 use Rattle.words.specs.Cells.{shown}
@@ -101,18 +102,18 @@ some_elements room en x = let v = a_part room x.tree x.held in rw (en ∙ sym v.
 abbrev no_chain : Lower.Chain
 no_chain = record { last = None; pending = None; path = [] }
 
-pub start_bounded : (i : ℕ) (c : LowerCtx) → i + 1 ≤ max_records → ChainInBounds (start_chain i c)
-start_bounded i c l = record { from = le_refl _; next = l; last = record { op = λ x e. absurd (none-some x e) }; kept = omega arith }
+pub start_bounded : (at : At) (c : LowerCtx) → at.i + 1 ≤ max_records → ChainInBounds (start_chain at c)
+start_bounded at c l = record { from = le_refl _; next = l; last = record { op = λ x e. absurd (none-some x e) }; kept = omega arith }
 
-pub start_anchored : (a b : List ℕ) (sheet : Bytes) (d i : ℕ) (c : LowerCtx) → Anchored a b d (start_chain i c)
-start_anchored a b sheet d i c = record { sheet = sheet; pending = None; waiting = no_rel_law refl refl }
+pub start_anchored : (a b : List ℕ) (sheet : Bytes) (d : ℕ) (at : At) (c : LowerCtx) → Anchored a b d (start_chain at c)
+start_anchored a b sheet d at c = record { sheet = sheet; pending = None; waiting = no_rel_law refl refl }
 
 -- the last operator of all elements was pushed since
-pub start_since : {a b : List ℕ} {n d base : ℕ} (i : ℕ) {c : LowerCtx} {ch : Chain} {os os' rs rs' : List ℕ} → LowersElements a b n d base (start_chain i c) ch os os' rs rs' → LastSince ch.last c.ops
-start_since i el = el.since _ (le_refl _) (record { op = λ x e. absurd (none-some x e) })
+pub start_since : {a b : List ℕ} {n d base : ℕ} (at : At) {c : LowerCtx} {ch : Chain} {os os' rs rs' : List ℕ} → LowersElements a b n d base (start_chain at c) ch os os' rs rs' → LastSince ch.last c.ops
+start_since at el = el.since _ (le_refl _) (record { op = λ x e. absurd (none-some x e) })
 
-start_same : (sheet : Bytes) (a b : List ℕ) (d i : ℕ) (c : LowerCtx) → SameChain sheet a b d (start_chain i c) no_chain
-start_same sheet a b d i c = record { last = refl; waiting = no_rel_law refl refl; kept = refl }
+start_same : (sheet : Bytes) (a b : List ℕ) (d : ℕ) (at : At) (c : LowerCtx) → SameChain sheet a b d (start_chain at c) no_chain
+start_same sheet a b d at c = record { last = refl; waiting = no_rel_law refl refl; kept = refl }
 
 abbrev after_elements : {n : ℕ} → Trees pattern_element n → State → Lower.Chain × State
 after_elements ts s = lower_elements no_chain (steps_of ts) s
@@ -125,41 +126,41 @@ path_is : (k x x' n n' : ℕ) (path path' : List ℕ) → x ≡ x' → n ≡ n' 
 path_is k x x' n n' path path' ex en ep = rw (ex, en, ep)
 
 module _ {a b : List ℕ} {n base : ℕ} {c : LowerCtx} {ch : Chain} {os os₁ rs rs₁ : List ℕ} {k : ℕ} {m₂ : Mem} (d i : ℕ) (room : Roomy a b) (lb : base ≤ second_pass)
-    (en : n ≡ cell a b i part_elements_at) (el : LowersElements a b n (d - 1) base (start_chain i c) ch os os₁ rs rs₁)
+    (en : n ≡ cell a b i part_elements_at) (el : LowersElements a b n (d - 1) base (start_chain (at_place base i (d - 1)) c) ch os os₁ rs rs₁)
     (sr : OrSource ch.ctx.ops (or_source_all (root_of (last_of ch.last))) k (mem ch.ctx os₁ rs₁) m₂) where
-  chain_next : (sheet : Bytes) (t : Tree pattern_part) → Held sheet a b t d i → ch.next ≡ i + size t
+  chain_next : (sheet : Bytes) (t : Tree pattern_part) → Held sheet a b t d i → ch.at.i ≡ i + size t
   chain_next sheet t hd =
       let v = a_part room t hd in
-      let el' : LowersElements a b v.n (d - 1) base (start_chain i c) ch os os₁ rs rs₁ = rw (en ∙ sym v.many) at el in
+      let el' : LowersElements a b v.n (d - 1) base (start_chain (at_place base i (d - 1)) c) ch os os₁ rs rs₁ = rw (en ∙ sym v.many) at el in
       let x = el'.next sheet v.elements v.held in
       let y = v.sized in
       omega arith
 
   -- elements and source
   pub record Rooting (sheet : Bytes) (first : ℕ) (t : Tree pattern_part) (W : Written) (s : State) (v : IsPart sheet a b d i t) : Type 0 where
-    pub all : ChainedAll (side sheet a b first) W (d - 1) base (start_chain i c) ch v.elements no_chain s (mem c os rs) (mem ch.ctx os₁ rs₁)
-    pub src : Sourced (side sheet a b first) (or_source_all (root_of (last_of ch.last))) k (passed base (start_chain i c) ch W) (after_elements v.elements s).1 (mem ch.ctx os₁ rs₁) m₂
+    pub all : ChainedAll (side sheet a b first) W (d - 1) base (start_chain (at_place base i (d - 1)) c) ch v.elements no_chain s (mem c os rs) (mem ch.ctx os₁ rs₁)
+    pub src : Sourced (side sheet a b first) (or_source_all (root_of (last_of ch.last))) k (passed base (start_chain (at_place base i (d - 1)) c) ch W) (after_elements v.elements s).1 (mem ch.ctx os₁ rs₁) m₂
     pub def : (o : Option ℕ) → lower_chain o (steps_of v.elements) s ≡ bind_path o k (after_elements v.elements s).0.path (or_source_all (root_of (last_of ch.last)) (after_elements v.elements s).1).1
 
-  rooting : (sheet : Bytes) {first : ℕ} (t : Tree pattern_part) (hd : Held sheet a b t d i) (W : Written) (s : State) → Rep (side sheet a b first) W s (mem c os rs) → Blank W (base + suc i) (base + suc ch.next) → Rooting sheet first t W s (a_part room t hd)
+  rooting : (sheet : Bytes) {first : ℕ} (t : Tree pattern_part) (hd : Held sheet a b t d i) (W : Written) (s : State) → Rep (side sheet a b first) W s (mem c os rs) → Blank W (base + suc i) (base + suc ch.at.i) → Rooting sheet first t W s (a_part room t hd)
   rooting sheet t hd W s r bl =
       let v = a_part room t hd in
-      let el' : LowersElements a b v.n (d - 1) base (start_chain i c) ch os os₁ rs rs₁ = rw (en ∙ sym v.many) at el in
-      let y = el'.run sheet v.elements v.held W s no_chain r (start_same sheet a b (d - 1) i c) (blank_within (omega arith) (le_refl _) bl) in
+      let el' : LowersElements a b v.n (d - 1) base (start_chain (at_place base i (d - 1)) c) ch os os₁ rs rs₁ = rw (en ∙ sym v.many) at el in
+      let y = el'.run sheet v.elements v.held W s no_chain r (start_same sheet a b (d - 1) (at_place base i (d - 1)) c) (blank_within (omega arith) (le_refl _) bl) in
       let z = sr.run _ _ _ y.to.rep.from y.to.rep in
       record { all = y; src = z; def = λ o. chain_def o v.elements s _ (ap root_of y.same.last) ∙ ap (λ (x : ℕ). bind_path o x (after_elements v.elements s).0.path (or_source_all (root_of (last_of ch.last)) (after_elements v.elements s).1).1) (sym z.root) }
 
   module _ (so : c.ops ≤ k) (k2 : option_of (cell a b i part_named_at) (cell a b i part_var_at) ≡ None) where
-    unnamed_run : (sheet : Bytes) {first : ℕ} (t : Tree pattern_part) → Held sheet a b t d i → (W : Written) (s : State) → Rep (side sheet a b first) W s (mem c os rs) → Blank W (base + suc i) (base + suc ch.next) → Rooted (side sheet a b first) W (chain_l t) k base (suc i) (suc ch.next) s (mem c os rs) m₂
+    unnamed_run : (sheet : Bytes) {first : ℕ} (t : Tree pattern_part) → Held sheet a b t d i → (W : Written) (s : State) → Rep (side sheet a b first) W s (mem c os rs) → Blank W (base + suc i) (base + suc ch.at.i) → Rooted (side sheet a b first) W (chain_l t) k base (suc i) (suc ch.at.i) s (mem c os rs) m₂
     unfolding bind_path ret
     unnamed_run sheet t hd W s r bl =
         let v = a_part room t hd in
         let x = rooting sheet t hd W s r bl in
         let D = v.chain s ∙ ap (λ (o : Option ℕ). lower_chain o (steps_of v.elements) s) k2 ∙ x.def None in
         let f = el.bounded.from in
-        record { to = rw D (to_wider (sub_within (omega arith) (omega arith) (sub_more (base + suc i, base + suc ch.next) W)) (to_then x.all.to x.src.to)); root = rw D; low = sr.low }
+        record { to = rw D (to_wider (sub_within (omega arith) (omega arith) (sub_more (base + suc i, base + suc ch.at.i) W)) (to_then x.all.to x.src.to)); root = rw D; low = sr.low }
 
-    pub unnamed_law : LowersChain a b d base i ch.next k (mem c os rs) m₂
+    pub unnamed_law : LowersChain a b d base i ch.at.i k (mem c os rs) m₂
     unnamed_law =
         let v = el.moved in
         let f = el.bounded.from in
@@ -174,14 +175,14 @@ module _ {a b : List ℕ} {n base : ℕ} {c : LowerCtx} {ch : Chain} {os os₁ r
   module _ {place id : ℕ} {r₃ : Numbered} {rest₃ os₄ : List ℕ} {c₄ : LowerCtx} (sh : d ≤ deepest) (k2 : option_of (cell a b i part_named_at) (cell a b i part_var_at) ≡ Some id) (ep : place ≡ base + (i + 1))
       (nm : Numbers (map_var id) place m₂.ctx m₂.rest rest₃ r₃) (lr : length rest₃ ≡ length m₂.rest)
       (pp : Pushed r₃.ctx c₄ m₂.ops os₄ (bind_path_op (at_place base i (d - 1)) k ch.kept r₃.number)) (lo : length os₄ ≡ length m₂.ops) where
-    named_run : (sheet : Bytes) {first : ℕ} (t : Tree pattern_part) → Held sheet a b t d i → (W : Written) (s : State) → Rep (side sheet a b first) W s (mem c os rs) → Blank W (base + suc i) (base + suc ch.next) → Rooted (side sheet a b first) W (chain_l t) r₃.ctx.ops base (suc i) (suc ch.next) s (mem c os rs) (mem c₄ os₄ rest₃)
+    named_run : (sheet : Bytes) {first : ℕ} (t : Tree pattern_part) → Held sheet a b t d i → (W : Written) (s : State) → Rep (side sheet a b first) W s (mem c os rs) → Blank W (base + suc i) (base + suc ch.at.i) → Rooted (side sheet a b first) W (chain_l t) r₃.ctx.ops base (suc i) (suc ch.at.i) s (mem c os rs) (mem c₄ os₄ rest₃)
     unfolding bind_path ◌>>=◌ push
     named_run sheet {first} t hd W s r bl =
         let v = a_part room t hd in
         let x = rooting sheet t hd W s r bl in
         let f = el.bounded.from in
         let g₀ = el.ahead in
-        let W₁ : Written = passed base (start_chain i c) ch W in
+        let W₁ : Written = passed base (start_chain (at_place base i (d - 1)) c) ch W in
         let s₂ : State = (or_source_all (root_of (last_of ch.last)) (after_elements v.elements s).1).1 in
         let path : List ℕ = (after_elements v.elements s).0.path in
         let D = v.chain s ∙ ap (λ (o : Option ℕ). lower_chain o (steps_of v.elements) s) k2 ∙ x.def (Some id) in
@@ -199,10 +200,10 @@ module _ {a b : List ℕ} {n base : ℕ} {c : LowerCtx} {ch : Chain} {os os₁ r
             is = path_is k (map_var id s₂).0 r₃.number (length path) ch.kept path _ (sym g.number) x.all.same.kept (x.all.path N A (back x.src.to (back g.to fu)));
           });
         }) in
-        let u : Sub ((base + suc i, base + suc i + 1) ∷ W₁) ((base + suc i, base + suc ch.next) ∷ W) = sub_within (le_refl _) (omega arith) (sub_within (omega arith) (omega arith) (sub_more (base + suc i, base + suc ch.next) W)) in
+        let u : Sub ((base + suc i, base + suc i + 1) ∷ W₁) ((base + suc i, base + suc ch.at.i) ∷ W) = sub_within (le_refl _) (omega arith) (sub_within (omega arith) (omega arith) (sub_more (base + suc i, base + suc ch.at.i) W)) in
         record { to = rw D (to_wider u (to_then x.all.to (to_then x.src.to (to_then g.to y)))); root = rw D g.to.rep.count; low = let e : c₄.ops ≡ r₃.ctx.ops + 1 = pp.count in omega arith }
 
-    pub named_law : LowersChain a b d base i ch.next r₃.ctx.ops (mem c os rs) (mem c₄ os₄ rest₃)
+    pub named_law : LowersChain a b d base i ch.at.i r₃.ctx.ops (mem c os rs) (mem c₄ os₄ rest₃)
     named_law =
         let v = el.moved in
         let f = el.bounded.from in

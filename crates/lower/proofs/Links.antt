@@ -16,11 +16,13 @@ use Rattle.lower.specs.Rep.{State, mem, Written, Sub, Blank, Rep, RoomFor}
 use Rattle.lower.specs.Pieces.{SomeTree}
 use Rattle.lower.specs.Patterns.{SomeTrees}
 use Rattle.lower.specs.Chains.{from, step_of, SameChain, ChainInBounds, Anchored, ChainedAll, LowersElement, LowersElements}
+use Rattle.lower.specs.Asked.{ChainAsked}
+use Rattle.context.specs.Tables.{second_pass, deepest}
 use Rattle.lower.specs.declared.Chain.{Chain}
 use Rattle.lower.specs.State.{sub_more, sub_within, blank_within, blank_behind, back, to_refl, to_then, to_wider}
 use Rattle.lower.specs.Exprs.{moved_refl, moved_then, room_after, narrow}
 
-none_size : (ch : Chain) (ts : Trees pattern_element 0) → ch.next ≡ ch.next + size_of ts
+none_size : (ch : Chain) (ts : Trees pattern_element 0) → ch.at.i ≡ ch.at.i + size_of ts
 unfolding size
 none_size ch []ᵗ = omega arith
 
@@ -35,21 +37,22 @@ module _ {a b : List ℕ} (d base : ℕ) (ch : Chain) (os rs : List ℕ) where
     bounded = st;
     anchored = an;
     ahead = le_refl _;
+    stays = (refl, refl);
     since = λ n l h. h;
     next = λ sheet ts hd. none_size ch ts;
     run = λ sheet ts hd W s c r l bl. none_run sheet ts W s c r l;
   }
 
 module _ {a b : List ℕ} {n d base : ℕ} {ch ch₁ ch₂ : Chain} {os os₁ os₂ rs rs₁ rs₂ : List ℕ} (st : ChainInBounds ch) (p : LowersElement a b d base ch ch₁ os os₁ rs rs₁) (q : LowersElements a b n d base ch₁ ch₂ os₁ os₂ rs₁ rs₂) where
-  both_next : (sheet : Bytes) (ts : Trees pattern_element (suc n)) → HeldOf sheet a b ts d ch.next → ch₂.next ≡ ch.next + size_of ts
+  both_next : (sheet : Bytes) (ts : Trees pattern_element (suc n)) → HeldOf sheet a b ts d ch.at.i → ch₂.at.i ≡ ch.at.i + size_of ts
   unfolding Held size
   both_next sheet (t ∷ᵗ ts) h =
       let x = p.next sheet t h.0 in
       let y = q.next sheet ts (rw x h.1) in
       omega arith
 
-  both_run : (sheet : Bytes) {first : ℕ} (ts : Trees pattern_element (suc n)) → HeldOf sheet a b ts d ch.next → (W : Written) (s : State) (c : Lower.Chain) → Rep (side sheet a b first) W s (mem ch.ctx os rs) →
-      SameChain sheet a b d ch c → Blank W (base + suc (from ch)) (base + suc ch₂.next) → ChainedAll (side sheet a b first) W d base ch ch₂ ts c s (mem ch.ctx os rs) (mem ch₂.ctx os₂ rs₂)
+  both_run : (sheet : Bytes) {first : ℕ} (ts : Trees pattern_element (suc n)) → HeldOf sheet a b ts d ch.at.i → (W : Written) (s : State) (c : Lower.Chain) → Rep (side sheet a b first) W s (mem ch.ctx os rs) →
+      SameChain sheet a b d ch c → Blank W (base + suc (from ch)) (base + suc ch₂.at.i) → ChainedAll (side sheet a b first) W d base ch ch₂ ts c s (mem ch.ctx os rs) (mem ch₂.ctx os₂ rs₂)
   unfolding Held lower_elements ◌>>=◌ to_list fold
   both_run sheet (t ∷ᵗ ts) h W s c r l bl =
       let x = p.next sheet t h.0 in
@@ -68,16 +71,17 @@ module _ {a b : List ℕ} {n d base : ℕ} {ch ch₁ ch₂ : Chain} {os os₁ os
       }
 
   pub more_law : LowersElements a b (suc n) d base ch ch₂ os os₂ rs rs₂
-  more_law = record { moved = moved_then p.moved q.moved; bounded = q.bounded; anchored = q.anchored; ahead = let x = p.ahead in let y = q.ahead in omega arith; since = λ n l h. q.since n (le_trans l p.moved.grow) (p.since n l h); next = both_next; run = both_run }
+  more_law = record { moved = moved_then p.moved q.moved; bounded = q.bounded; anchored = q.anchored; ahead = let x = p.ahead in let y = q.ahead in omega arith; stays = (q.stays.0 ∙ p.stays.0, q.stays.1 ∙ p.stays.1); since = λ n l h. q.since n (le_trans l p.moved.grow) (p.since n l h); next = both_next; run = both_run }
 
 -- ── the loop ──
 
 -- k elements remain, and once they are lowered from here, all is done
 pub record Remaining (a b : List ℕ) (d base : ℕ) (Done : Chain → List ℕ → List ℕ → Type 0) (k : ℕ) (ch : Chain) (os rs : List ℕ) : Type 0 where
-  pub some : SomeTrees a b pattern_element k d ch.next
+  pub some : SomeTrees a b pattern_element k d ch.at.i
   pub room_for : RoomFor d (from ch) (mem ch.ctx os rs)
   pub bounded : ChainInBounds ch
   pub anchored : Anchored a b d ch
+  pub stays : (ch.at.base ≡ base) × (ch.at.left ≡ d)
   pub finish : (ch' : Chain) (os' rs' : List ℕ) → LowersElements a b k d base ch ch' os os' rs rs' → Done ch' os' rs'
 
 child_by : {a b : List ℕ} {d : ℕ} (i : ℕ) (sheet : Bytes) {k : ℕ} (ts : Trees pattern_element k) → ((k ≡ 0) → ⊥) → HeldOf sheet a b ts d i → SomeTree a b pattern_element d i
@@ -85,7 +89,7 @@ unfolding Held
 child_by i sheet []ᵗ h hd = absurd (h refl)
 child_by i sheet (t ∷ᵗ ts) h hd = record { sheet = sheet; tree = t; held = hd.0 }
 
-behind : {a b : List ℕ} {d base : ℕ} {ch ch₁ : Chain} {os os₁ rs rs₁ : List ℕ} (sheet : Bytes) {k : ℕ} (ts : Trees pattern_element (suc k)) → LowersElement a b d base ch ch₁ os os₁ rs rs₁ → HeldOf sheet a b ts d ch.next → SomeTrees a b pattern_element k d ch₁.next
+behind : {a b : List ℕ} {d base : ℕ} {ch ch₁ : Chain} {os os₁ rs rs₁ : List ℕ} (sheet : Bytes) {k : ℕ} (ts : Trees pattern_element (suc k)) → LowersElement a b d base ch ch₁ os os₁ rs rs₁ → HeldOf sheet a b ts d ch.at.i → SomeTrees a b pattern_element k d ch₁.at.i
 unfolding Held
 behind sheet (t ∷ᵗ ts) p hd = record { sheet = sheet; trees = ts; held = rw (p.next sheet t hd.0) hd.1 }
 
@@ -94,8 +98,8 @@ module _ {a b : List ℕ} {d base : ℕ} {Done : Chain → List ℕ → List ℕ
   pub begun : {n : ℕ} {ch : Chain} {os rs : List ℕ} → Remaining a b d base Done n ch os rs → Remaining a b d base Done (n - 0) ch os rs
   begun {n} {ch} {os} {rs} p = let e : n ≡ n - 0 = omega arith in subst (λ (k : ℕ). Remaining a b d base Done k ch os rs) e p
 
-  pub child : {n x : ℕ} {ch : Chain} {os rs : List ℕ} → x < n → Remaining a b d base Done (n - x) ch os rs → SomeTree a b pattern_element d ch.next
-  child {n} {x} {ch} l p = child_by ch.next p.some.sheet p.some.trees (λ (z : n - x ≡ 0). absurd (omega arith)) p.some.held
+  pub child : {n x : ℕ} {ch : Chain} {os rs : List ℕ} → x < n → Remaining a b d base Done (n - x) ch os rs → SomeTree a b pattern_element d ch.at.i
+  child {n} {x} {ch} l p = child_by ch.at.i p.some.sheet p.some.trees (λ (z : n - x ≡ 0). absurd (omega arith)) p.some.held
 
   again_by : {k k' : ℕ} {ch ch₁ : Chain} {os os₁ rs rs₁ : List ℕ} → k ≡ suc k' → Remaining a b d base Done k ch os rs → LowersElement a b d base ch ch₁ os os₁ rs rs₁ → Remaining a b d base Done k' ch₁ os₁ rs₁
   again_by {k' = k'} {ch = ch} {os = os} {rs = rs} e p q =
@@ -105,11 +109,25 @@ module _ {a b : List ℕ} {d base : ℕ} {Done : Chain → List ℕ → List ℕ
         room_for = room_after q.moved p'.room_for;
         bounded = q.bounded;
         anchored = q.anchored;
+        stays = (q.stays.0 ∙ p'.stays.0, q.stays.1 ∙ p'.stays.1);
         finish = λ ch' os' rs' r. p'.finish ch' os' rs' (more_law p'.bounded q r);
       }
 
-  pub again : {n x : ℕ} {ch ch₁ : Chain} {os os₁ rs rs₁ : List ℕ} → x < n → Remaining a b d base Done (n - x) ch os rs → LowersElement a b d base ch ch₁ os os₁ rs rs₁ → Remaining a b d base Done (n - (x + 1)) ch₁ os₁ rs₁
-  again {n} {x} l p q = again_by {k = n - x} {k' = n - (x + 1)} (omega arith) p q
+  -- the chain has the depth and the pass of the whole part
+  pub asked : {n x : ℕ} {ch : Chain} {os rs : List ℕ} → x < n → d ≤ deepest → base ≤ second_pass → Remaining a b d base Done (n - x) ch os rs → ChainAsked a b ch os rs
+  asked {ch = ch} l ld lb p = record {
+    tree = rw p.stays.1 (child l p);
+    room = rw p.stays.1 p.room_for;
+    depth = rw p.stays.1 ld;
+    pass = rw p.stays.0 lb;
+    bounded = p.bounded;
+    anchored = subst (λ (x : ℕ). Anchored a b x ch) (sym p.stays.1) p.anchored;
+  }
+
+  pub again : {n x : ℕ} {ch ch₁ : Chain} {os os₁ rs rs₁ : List ℕ} → x < n → Remaining a b d base Done (n - x) ch os rs → LowersElement a b ch.at.left ch.at.base ch ch₁ os os₁ rs rs₁ → Remaining a b d base Done (n - (x + 1)) ch₁ os₁ rs₁
+  again {n} {x} {ch} {ch₁} {os} {os₁} {rs} {rs₁} l p q =
+      let q' = subst (λ (x : ℕ). LowersElement a b x ch.at.base ch ch₁ os os₁ rs rs₁) p.stays.1 q in
+      again_by {k = n - x} {k' = n - (x + 1)} (omega arith) p (subst (λ (x : ℕ). LowersElement a b d x ch ch₁ os os₁ rs rs₁) p.stays.0 q')
 
   pub done : {n x : ℕ} {ch : Chain} {os rs : List ℕ} → n ≤ x → Remaining a b d base Done (n - x) ch os rs → Done ch os rs
   done {n} {x} {ch} {os} {rs} l p = let e : n - x ≡ 0 = omega arith in p.finish ch os rs (rw e (none_law d base ch os rs p.bounded p.anchored))

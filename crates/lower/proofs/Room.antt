@@ -51,7 +51,7 @@ bounds g = record { low = low g.tree; deep = deep g.tree; shallow = g.depth; nea
 pub element_bounds : {kind : ℕ} {a b : List ℕ} {at : At} {m : Mem} → ElementAsked kind a b at m → Bounds at
 element_bounds g = record { low = low g.tree.tree; deep = deep g.tree.tree; shallow = g.depth; near = g.pass }
 
-pub chain_bounds : {a b : List ℕ} {base left : ℕ} {ch : Chain} {os rs : List ℕ} → ChainAsked a b base left ch os rs → Bounds (at_place base ch.next left)
+pub chain_bounds : {a b : List ℕ} {ch : Chain} {os rs : List ℕ} → ChainAsked a b ch os rs → Bounds ch.at
 chain_bounds g = record { low = low g.tree; deep = deep g.tree; shallow = g.depth; near = g.pass }
 
 -- what is asked for a part of what stands at a place
@@ -138,14 +138,14 @@ module _ {a b : List ℕ} {d : ℕ} {ch : Chain} {rel : PendingRel} (room : Room
       let w = rel_waits w1 x.waiting in
       record { tree = record { sheet = x.sheet; tree = w.tree; held = w.held }; is = rel_kind_law room x.sheet d rel.i w.tree w.step w.held w.is }
 
-  pub waiting_end : {base e : ℕ} {c : LowerCtx} {os rest : List ℕ} {m' : Mem} → LowersRel a b d base rel.i e c os rest m' → e ≡ ch.next
+  pub waiting_end : {base e : ℕ} {c : LowerCtx} {os rest : List ℕ} {m' : Mem} → LowersRel a b d base rel.i e c os rest m' → e ≡ ch.at.i
   waiting_end p =
       let w = rel_waits w1 x.waiting in
       rel_end room d rel.i waiting_rel.is p x.sheet w.tree w.held ∙ sym w.ends
 
 -- the record from which on nothing is lowered, where a rel waits
 pub from_rel : (ch : Chain) {rel : PendingRel} → ch.pending ≡ Some rel → from ch ≡ rel.i
-from_rel ch e = ap (λ (p : Option PendingRel). from_of p ch.next) e
+from_rel ch e = ap (λ (p : Option PendingRel). from_of p ch.at.i) e
 
 -- behind a rel
 pub after_rel : {a b : List ℕ} {d base i e : ℕ} {c : LowerCtx} {os rest : List ℕ} {m' : Mem} (j : ℕ) → RoomFor (d - 1) i (mem c os rest) → LowersRel a b d base i e c os rest m' → e ≤ j → j ≤ max_records → RoomFor (d - 1) j m'

@@ -63,25 +63,25 @@ pub record SpecialAsked (a b : List ℕ) (at : At) (ends : NodeRelNode) (between
   pub to : ReadAt a b ends.far node_props_at ends.to
 
 -- the next element of a chain
-pub record ChainAsked (a b : List ℕ) (base left : ℕ) (ch : Chain) (os rs : List ℕ) : Type 0 where
-  pub tree : SomeTree a b pattern_element left ch.next
-  pub room : RoomFor left (from ch) (mem ch.ctx os rs)
-  pub depth : left ≤ deepest
-  pub pass : base ≤ second_pass
+pub record ChainAsked (a b : List ℕ) (ch : Chain) (os rs : List ℕ) : Type 0 where
+  pub tree : SomeTree a b pattern_element ch.at.left ch.at.i
+  pub room : RoomFor ch.at.left (from ch) (mem ch.ctx os rs)
+  pub depth : ch.at.left ≤ deepest
+  pub pass : ch.at.base ≤ second_pass
   pub bounded : ChainInBounds ch
-  pub anchored : Anchored a b left ch
+  pub anchored : Anchored a b ch.at.left ch
 
 -- it is a node, at the start or with no rel pending
-pub record StartAsked (a b : List ℕ) (base left : ℕ) (ch : Chain) (node : Read) (os rs : List ℕ) : Type 0 where
-  pub chain : ChainAsked a b base left ch os rs
-  pub is : cell a b ch.next kind_at ≡ node_kind
-  pub read : ReadAt a b ch.next node_props_at node
+pub record StartAsked (a b : List ℕ) (ch : Chain) (node : Read) (os rs : List ℕ) : Type 0 where
+  pub chain : ChainAsked a b ch os rs
+  pub is : cell a b ch.at.i kind_at ≡ node_kind
+  pub read : ReadAt a b ch.at.i node_props_at node
   pub anew : StartsAnew ch
 
 -- it is a node behind a rel
-pub record ExpandAsked (a b : List ℕ) (base left : ℕ) (ch : Chain) (link : Link) (os rs : List ℕ) : Type 0 where
-  pub chain : ChainAsked a b base left ch os rs
-  pub is : cell a b ch.next kind_at ≡ node_kind
-  pub read : ReadAt a b ch.next node_props_at link.node
+pub record ExpandAsked (a b : List ℕ) (ch : Chain) (link : Link) (os rs : List ℕ) : Type 0 where
+  pub chain : ChainAsked a b ch os rs
+  pub is : cell a b ch.at.i kind_at ≡ node_kind
+  pub read : ReadAt a b ch.at.i node_props_at link.node
   pub waits : ch.pending ≡ Some link.rel
   pub has : ch.last ≡ Some link.origin

@@ -11,9 +11,10 @@ use Rattle.words.specs.Held.{Held, HeldOf, size, size_of}
 use Rattle.lower.specs.Side.{Side, side}
 use Rattle.lower.specs.Render.{Notes, Ops, kept_from}
 use Rattle.lower.specs.Shows.{shift}
-use Rattle.lower.specs.Rep.{State, Mem, mem, Written, Blank, Future, Rep, To, Rooted, Moved}
+use Rattle.lower.specs.Rep.{State, Mem, mem, Written, Blank, Future, Rep, To, Rooted, Moved, at_place}
 use Rattle.lower.specs.Pieces.{LowersExprs}
 use Rattle.context.specs.Tables.{Numbers}
+use Rattle.context.specs.declared.At.{At}
 use Rattle.context.specs.declared.LowerCtx.{LowerCtx}
 use Rattle.context.specs.declared.Numbered.{Numbered}
 use Rattle.lower.specs.declared.Chain.{Chain}
@@ -46,7 +47,7 @@ from_of (Some p) next = p.i
 
 -- the record from which on nothing is lowered yet
 abbrev pub from : Chain → ℕ
-from ch = from_of ch.pending ch.next
+from ch = from_of ch.pending ch.at.i
 
 abbrev pub step_of : Tree pattern_element → Step
 step_of t = fold Lowered made t
@@ -60,7 +61,7 @@ pub record ReadAt (a b : List ℕ) (i c : ℕ) (x : Read) : Type 0 where
 -- the rel that waits, whose records end where the next element stands
 pub data Waiting (sheet : Bytes) (a b : List ℕ) (d : ℕ) (ch : Chain) (o : Option RelStep) : Type 0 where
   no_rel_law : ch.pending ≡ None → o ≡ None → Waiting sheet a b d ch o
-  a_rel : (rel : PendingRel) → ch.pending ≡ Some rel → ReadAt a b rel.i rel_props_at rel.read → (t : Tree pattern_element) (r : RelStep) → Held sheet a b t d rel.i → step_of t ≡ of_rel r → ch.next ≡ rel.i + size t → o ≡ Some r → Waiting sheet a b d ch o
+  a_rel : (rel : PendingRel) → ch.pending ≡ Some rel → ReadAt a b rel.i rel_props_at rel.read → (t : Tree pattern_element) (r : RelStep) → Held sheet a b t d rel.i → step_of t ≡ of_rel r → ch.at.i ≡ rel.i + size t → o ≡ Some r → Waiting sheet a b d ch o
 
 -- the chain as the code has it is the one that the definition has
 pub record SameChain (sheet : Bytes) (a b : List ℕ) (d : ℕ) (ch : Chain) (c : Lower.Chain) : Type 0 where
@@ -78,10 +79,10 @@ pub record LastSince (l : Option LastNode) (n : ℕ) : Type 0 where
 
 -- what a chain has whatever the state
 pub record ChainInBounds (ch : Chain) : Type 0 where
-  pub from : from ch ≤ ch.next
-  pub next : ch.next ≤ max_records
+  pub from : from ch ≤ ch.at.i
+  pub next : ch.at.i ≤ max_records
   pub last : LastUnder ch.last ch.ctx.ops
-  pub kept : ch.kept ≤ 2 * ch.next
+  pub kept : ch.kept ≤ 2 * ch.at.i
 
 -- some rel waits, or none
 pub record Anchored (a b : List ℕ) (d : ℕ) (ch : Chain) : Type 0 where
@@ -103,10 +104,11 @@ pub record LowersElement (a b : List ℕ) (d base : ℕ) (ch ch' : Chain) (os os
   pub moved : Moved (from ch) (from ch') (mem ch.ctx os rs) (mem ch'.ctx os' rs')
   pub bounded : ChainInBounds ch'
   pub anchored : Anchored a b d ch'
-  pub ahead : ch.next ≤ ch'.next
+  pub ahead : ch.at.i ≤ ch'.at.i
+  pub stays : (ch'.at.base ≡ ch.at.base) × (ch'.at.left ≡ ch.at.left)
   pub since : (n : ℕ) → n ≤ ch.ctx.ops → LastSince ch.last n → LastSince ch'.last n
-  pub next : (sheet : Bytes) (t : Tree pattern_element) → Held sheet a b t d ch.next → ch'.next ≡ ch.next + size t
-  pub run : (sheet : Bytes) {first : ℕ} (t : Tree pattern_element) → Held sheet a b t d ch.next → (W : Written) (s : State) (c : Lower.Chain) → Rep (side sheet a b first) W s (mem ch.ctx os rs) → SameChain sheet a b d ch c → Blank W (base + suc (from ch)) (base + suc ch'.next) → Chained (side sheet a b first) W d base ch ch' t (step_of t) c s (mem ch.ctx os rs) (mem ch'.ctx os' rs')
+  pub next : (sheet : Bytes) (t : Tree pattern_element) → Held sheet a b t d ch.at.i → ch'.at.i ≡ ch.at.i + size t
+  pub run : (sheet : Bytes) {first : ℕ} (t : Tree pattern_element) → Held sheet a b t d ch.at.i → (W : Written) (s : State) (c : Lower.Chain) → Rep (side sheet a b first) W s (mem ch.ctx os rs) → SameChain sheet a b d ch c → Blank W (base + suc (from ch)) (base + suc ch'.at.i) → Chained (side sheet a b first) W d base ch ch' t (step_of t) c s (mem ch.ctx os rs) (mem ch'.ctx os' rs')
 
 abbrev pub steps_of : {n : ℕ} → Trees pattern_element n → List Step
 steps_of {n} ts = to_list n (fold_of Lowered made ts)
@@ -121,10 +123,11 @@ pub record LowersElements (a b : List ℕ) (n d base : ℕ) (ch ch' : Chain) (os
   pub moved : Moved (from ch) (from ch') (mem ch.ctx os rs) (mem ch'.ctx os' rs')
   pub bounded : ChainInBounds ch'
   pub anchored : Anchored a b d ch'
-  pub ahead : ch.next ≤ ch'.next
+  pub ahead : ch.at.i ≤ ch'.at.i
+  pub stays : (ch'.at.base ≡ ch.at.base) × (ch'.at.left ≡ ch.at.left)
   pub since : (n : ℕ) → n ≤ ch.ctx.ops → LastSince ch.last n → LastSince ch'.last n
-  pub next : (sheet : Bytes) (ts : Trees pattern_element n) → HeldOf sheet a b ts d ch.next → ch'.next ≡ ch.next + size_of ts
-  pub run : (sheet : Bytes) {first : ℕ} (ts : Trees pattern_element n) → HeldOf sheet a b ts d ch.next → (W : Written) (s : State) (c : Lower.Chain) → Rep (side sheet a b first) W s (mem ch.ctx os rs) → SameChain sheet a b d ch c → Blank W (base + suc (from ch)) (base + suc ch'.next) → ChainedAll (side sheet a b first) W d base ch ch' ts c s (mem ch.ctx os rs) (mem ch'.ctx os' rs')
+  pub next : (sheet : Bytes) (ts : Trees pattern_element n) → HeldOf sheet a b ts d ch.at.i → ch'.at.i ≡ ch.at.i + size_of ts
+  pub run : (sheet : Bytes) {first : ℕ} (ts : Trees pattern_element n) → HeldOf sheet a b ts d ch.at.i → (W : Written) (s : State) (c : Lower.Chain) → Rep (side sheet a b first) W s (mem ch.ctx os rs) → SameChain sheet a b d ch c → Blank W (base + suc (from ch)) (base + suc ch'.at.i) → ChainedAll (side sheet a b first) W d base ch ch' ts c s (mem ch.ctx os rs) (mem ch'.ctx os' rs')
 
 -- the operators of a node that is numbered, at record i: a source, and a filter by its props
 abbrev pub start_l : ℕ → NodeStep → Lowering ℕ
@@ -188,8 +191,8 @@ pub data ElementAt (a b : List ℕ) (i : ℕ) (r : Element) : Type 0 where
   rel_at : (x : Read) → r ≡ element.Rel x → ((cell a b i kind_at ≡ node_kind) → ⊥) → ReadAt a b i rel_props_at x → ElementAt a b i r
 
 -- no element yet, of the part at record i
-abbrev pub start_chain : ℕ → LowerCtx → Chain
-start_chain i c = record { next = i + 1; ctx = c; last = None; pending = None; kept = 0 }
+abbrev pub start_chain : At → LowerCtx → Chain
+start_chain at c = record { at = at_place at.base (at.i + 1) at.left; ctx = c; last = None; pending = None; kept = 0 }
 
 -- no rel waits, or there is no operator before
 abbrev pub StartsAnew : Chain → Type 0

@@ -123,6 +123,7 @@ pub record RoomFor (d i : ℕ) (m : Mem) : Type 0 where
   pub low : m.ctx.numbers + d ≤ max_before + i
   pub met : m.ctx.mapped + d ≤ max_met + i
   pub here : i ≤ max_records
+  -- Tables says the lengths too. Here they are of the lists alone, since that is what the laws of pushes and numbers speak of: without them each law, and each call of one, would take them beside the room.
   pub in_ops : work_words ≤ length m.ops
   pub in_rest : work_words ≤ length m.rest
   pub index : Indexes m

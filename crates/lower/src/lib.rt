@@ -1,4 +1,5 @@
 // The lowering of a statement that the words hold: operators, notes and variables into the tables. r holds the records; a place says at which record, how deep a tree may be, and where the pass's notes begin.
+// The four are parameters of their own: the records are only read, the tables written, the state goes by value, as document 01 has it, and the place is another one at each call; in one struct, lent to be written, each function would have to promise that the records stay.
 #![tactic(auto)]
 
 ghost use Rattle.std.specs.Prelude.{◌≡◌, ℕ, ◌+◌, ◌-◌, ◌<◌, List};
@@ -29,7 +30,7 @@ pub struct LastNode {
     pub number: u32,
 }
 
-// What is read of an element: its variable, the record behind its names, and how many props it has there, one or none.
+// What is read of an element: its variable, the record behind its names, and how many props it has there, one or none: a number and no flag, since it is the count of a group, as the record table has it, and the expressions there are lowered by their count.
 #[derive(Clone, Copy, Debug, PartialEq, Eq)]
 pub struct Read {
     pub bind: Option<u32>,
@@ -44,10 +45,10 @@ pub struct PendingRel {
     pub read: Read,
 }
 
-// Elements of a part, so far: the next one's record; the last operator, if there is one; the rel that waits, from which on nothing is lowered yet, if one does; how many numbers the path has.
+// Elements of a part, so far: where the next one stands; the last operator, if there is one; the rel that waits, from which on nothing is lowered yet, if one does; how many numbers the path has.
 #[derive(Clone, Copy, Debug, PartialEq, Eq)]
 pub struct Chain {
-    pub next: usize,
+    pub at: At,
     pub ctx: LowerCtx,
     pub last: Option<LastNode>,
     pub pending: Option<PendingRel>,
@@ -142,6 +143,7 @@ fn read_element(r: Record<'_>) -> Element
 }
 
 // The operator before, or a source of everything, which names the next number and does not take it.
+// That the operator is one that was pushed is asked and no fact of Lowered, which is one struct for a root and for an operator or none: the fact would be another for each.
 pub fn or_source_all(ops: &mut [u32], ctx: LowerCtx, current: Option<u32>, next: usize) -> Root
     requires { CanPush ctx ops.old × Under current ctx.ops }
     ensures { SourceLeft current next result.next result.op ctx result.ctx ops.old ops.new }
@@ -348,7 +350,7 @@ fn lower_chain(r: &Records<'_>, tables: &mut Tables<'_>, ctx: LowerCtx, at: At) 
     let below = At { left: less, ..at };
     let ch = lower_elements(r, tables, ctx, below, n);
     let root = root_of(ch.last);
-    let q = or_source_all(tables.ops, ch.ctx, root, ch.next);
+    let q = or_source_all(tables.ops, ch.ctx, root, ch.at.i);
     let Some(id) = read_bind(r.at(i)) else {
         return q;
     };
@@ -370,75 +372,64 @@ fn lower_elements(
     n: usize,
 ) -> Chain
     requires { BehindAsked pattern_element r.now.a.now r.now.b.now n at (in_tables ctx tables.old) }
-    ensures lowered { LowersElements r.now.a.now r.now.b.now n at.left at.base (start_chain at.i ctx) result tables.old.ops.now tables.new.ops.now tables.old.rest.now tables.new.rest.now }
+    ensures lowered { LowersElements r.now.a.now r.now.b.now n at.left at.base (start_chain at ctx) result tables.old.ops.now tables.new.ops.now tables.old.rest.now tables.new.rest.now }
     ensures same { SameTables tables.old tables.new }
 {
     let first = at.i + 1;
     let mut ch = Chain {
-        next: first,
+        at: At { i: first, ..at },
         ctx,
         last: None,
         pending: None,
         kept: 0,
     };
     for _ in 0..n {
-        ch = lower_element(r, tables, ch, at.base, at.left);
+        ch = lower_element(r, tables, ch);
     }
     ch
 }
 
 // The next element of a chain: a rel waits, in place of one that waited; a node starts or ends an expand.
 #[cycle(lowering)]
-fn lower_element(
-    r: &Records<'_>,
-    tables: &mut Tables<'_>,
-    ch: Chain,
-    base: usize,
-    left: usize,
-) -> Chain
-    requires { ChainAsked r.now.a.now r.now.b.now base left ch tables.old.ops.now tables.old.rest.now }
-    ensures lowered { LowersElement r.now.a.now r.now.b.now left base ch result tables.old.ops.now tables.new.ops.now tables.old.rest.now tables.new.rest.now }
+fn lower_element(r: &Records<'_>, tables: &mut Tables<'_>, ch: Chain) -> Chain
+    requires { ChainAsked r.now.a.now r.now.b.now ch tables.old.ops.now tables.old.rest.now }
+    ensures lowered { LowersElement r.now.a.now r.now.b.now ch.at.left ch.at.base ch result tables.old.ops.now tables.new.ops.now tables.old.rest.now tables.new.rest.now }
     ensures same { SameTables tables.old tables.new }
 {
-    let i = ch.next;
+    let i = ch.at.i;
     match read_element(r.at(i)) {
         Element::Rel(read) => {
             let end = r.skip(i);
             Chain {
-                next: end,
+                at: At { i: end, ..ch.at },
                 pending: Some(PendingRel { i, read }),
                 ..ch
             }
         }
         Element::Node(node) => {
             let (Some(rel), Some(origin)) = (ch.pending, ch.last) else {
-                return start_chain(r, tables, ch, base, left, node);
+                return start_chain(r, tables, ch, node);
             };
-            expand_to(r, tables, ch, base, left, Link { node, rel, origin })
+            expand_to(r, tables, ch, Link { node, rel, origin })
         }
     }
 }
 
 // A node at the start, or with no rel pending.
 #[cycle(lowering)]
-fn start_chain(
-    r: &Records<'_>,
-    tables: &mut Tables<'_>,
-    ch: Chain,
-    base: usize,
-    left: usize,
-    node: Read,
-) -> Chain
-    requires { StartAsked r.now.a.now r.now.b.now base left ch node tables.old.ops.now tables.old.rest.now }
-    ensures lowered { LowersElement r.now.a.now r.now.b.now left base ch result tables.old.ops.now tables.new.ops.now tables.old.rest.now tables.new.rest.now }
+fn start_chain(r: &Records<'_>, tables: &mut Tables<'_>, ch: Chain, node: Read) -> Chain
+    requires { StartAsked r.now.a.now r.now.b.now ch node tables.old.ops.now tables.old.rest.now }
+    ensures lowered { LowersElement r.now.a.now r.now.b.now ch.at.left ch.at.base ch result tables.old.ops.now tables.new.ops.now tables.old.rest.now tables.new.rest.now }
     ensures same { SameTables tables.old tables.new }
 {
-    let i = ch.next;
-    let m = ch.ctx.endpoint_var(tables.rest, node.bind, base + (i + 1));
-    let q = start_node(r, tables, m.ctx, At { base, i, left }, m.number, node);
+    let i = ch.at.i;
+    let m = ch
+        .ctx
+        .endpoint_var(tables.rest, node.bind, ch.at.base + (i + 1));
+    let q = start_node(r, tables, m.ctx, ch.at, m.number, node);
     let kept = ch.kept + 1;
     Chain {
-        next: q.next,
+        at: At { i: q.next, ..ch.at },
         ctx: q.ctx,
         last: Some(LastNode {
             op: q.op,
@@ -451,33 +442,27 @@ fn start_chain(
 
 // A node behind a rel: it is numbered before the rel.
 #[cycle(lowering)]
-fn expand_to(
-    r: &Records<'_>,
-    tables: &mut Tables<'_>,
-    ch: Chain,
-    base: usize,
-    left: usize,
-    link: Link,
-) -> Chain
-    requires { ExpandAsked r.now.a.now r.now.b.now base left ch link tables.old.ops.now tables.old.rest.now }
-    ensures lowered { LowersElement r.now.a.now r.now.b.now left base ch result tables.old.ops.now tables.new.ops.now tables.old.rest.now tables.new.rest.now }
+fn expand_to(r: &Records<'_>, tables: &mut Tables<'_>, ch: Chain, link: Link) -> Chain
+    requires { ExpandAsked r.now.a.now r.now.b.now ch link tables.old.ops.now tables.old.rest.now }
+    ensures lowered { LowersElement r.now.a.now r.now.b.now ch.at.left ch.at.base ch result tables.old.ops.now tables.new.ops.now tables.old.rest.now tables.new.rest.now }
     ensures same { SameTables tables.old tables.new }
 {
-    let i = ch.next;
+    let i = ch.at.i;
     let node = link.node;
     let origin = link.origin;
-    let m = ch.ctx.endpoint_var(tables.rest, node.bind, base + (i + 1));
+    let m = ch
+        .ctx
+        .endpoint_var(tables.rest, node.bind, ch.at.base + (i + 1));
     let place = At {
-        base,
         i: link.rel.i,
-        left,
+        ..ch.at
     };
     let s = lower_rel_element(r, tables, m.ctx, place, link.rel.read);
-    let less = left - 1;
+    let less = ch.at.left - 1;
     let below = At {
-        base,
         i: node.first,
         left: less,
+        ..ch.at
     };
     let t = lower_exprs(r, tables, s.ctx, below, node.props, 0);
     let z = t.push(
@@ -486,7 +471,7 @@ fn expand_to(
     );
     let kept = ch.kept + 2;
     Chain {
-        next: z.next,
+        at: At { i: z.next, ..ch.at },
         ctx: z.ctx,
         last: Some(LastNode {
             op: z.op,

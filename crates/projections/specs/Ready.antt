@@ -21,6 +21,7 @@ pub record Ready (i : ℕ) (m : Mem) : Type 0 where
   pub low : m.ctx.numbers ≤ max_start + record_numbers * i
   pub met : m.ctx.mapped + record_numbers ≤ record_numbers * i
   pub here : i ≤ max_records
+  -- beside what Tables says, as in lower/specs/Rep.RoomFor, and for the same reason
   pub in_ops : work_words ≤ length m.ops
   pub in_rest : work_words ≤ length m.rest
   pub index : Indexes m

@@ -316,23 +316,14 @@ lower_elements-loop-init t c =
         room_for = Exprs.room_from (le_refl _) (omega arith) (omega arith) c.requires.room;
         bounded = Chaining.start_bounded _ _ (omega arith);
         anchored = Chaining.start_anchored c.args.r.now.a.now c.args.r.now.b.now c.requires.tree.trees.sheet _ _ _;
+        stays = (refl, refl);
         finish = λ ch' os' rs' q. q;
       }),
       same_refl,
     )
 
 pub lower_elements-lower_element-ch-requires : goal.lower_elements-lower_element-ch-requires
-lower_elements-lower_element-ch-requires t c = (
-  omega arith,
-  record {
-    tree = Links.child c.loop-test.true c.loop.invariant.0;
-    room = c.loop.invariant.0.room_for;
-    depth = c.requires.depth;
-    pass = c.requires.pass;
-    bounded = c.loop.invariant.0.bounded;
-    anchored = c.loop.invariant.0.anchored;
-  },
-)
+lower_elements-lower_element-ch-requires t c = (omega (arith, c.loop.invariant.0.stays.1), Links.asked c.loop-test.true c.requires.depth c.requires.pass c.loop.invariant.0)
 
 pub lower_elements-loop-preserved : goal.lower_elements-loop-preserved
 lower_elements-loop-preserved t c = (Links.again c.loop-test.true c.loop.invariant.0 c.lower_element-ch.ensures.lowered, same_then c.loop.invariant.1 c.lower_element-ch.ensures.same)

@@ -10,13 +10,13 @@ use Rattle.context.specs.Lent.{SameTables}
 use Rattle.lower.proofs.+lowering.Given as goal
 
 abbrev pub decreases-expand_to : goal.decreases-expand_to
-decreases-expand_to l = 8 * l.left + 2
+decreases-expand_to l = 8 * l.ch.at.left + 2
 
 abbrev pub decreases-lower_chain : goal.decreases-lower_chain
 decreases-lower_chain l = 8 * l.at.left + 1
 
 abbrev pub decreases-lower_element : goal.decreases-lower_element
-decreases-lower_element l = 8 * l.left + 3
+decreases-lower_element l = 8 * l.ch.at.left + 3
 
 abbrev pub decreases-lower_elements : goal.decreases-lower_elements
 decreases-lower_elements l = 8 * l.at.left + 4
@@ -40,13 +40,13 @@ abbrev pub decreases-lower_shortest_path_part : goal.decreases-lower_shortest_pa
 decreases-lower_shortest_path_part l = 8 * l.at.left + 1
 
 abbrev pub decreases-start_chain : goal.decreases-start_chain
-decreases-start_chain l = 8 * l.left + 2
+decreases-start_chain l = 8 * l.ch.at.left + 2
 
 abbrev pub decreases-start_node : goal.decreases-start_node
 decreases-start_node l = 8 * l.at.left + 1
 
 abbrev pub invariant-lower_elements-loop : goal.invariant-lower_elements-loop
-invariant-lower_elements-loop l = Links.Remaining l.r.a.now l.r.b.now l.at.left l.at.base (λ ch' os' rs'. LowersElements l.r.a.now l.r.b.now l.n l.at.left l.at.base l.initial.ch ch' l.initial.tables.ops.now os' l.initial.tables.rest.now rs') (l.n - l.counter) l.ch l.tables.ops.now l.tables.rest.now × SameTables l.initial.tables l.tables
+invariant-lower_elements-loop l = Links.Remaining l.r.a.now l.r.b.now l.fn.at.left l.fn.at.base (λ ch' os' rs'. LowersElements l.r.a.now l.r.b.now l.n l.fn.at.left l.fn.at.base l.initial.ch ch' l.initial.tables.ops.now os' l.initial.tables.rest.now rs') (l.n - l.counter) l.ch l.tables.ops.now l.tables.rest.now × SameTables l.initial.tables l.tables
 
 abbrev pub invariant-lower_exprs-loop : goal.invariant-lower_exprs-loop
 invariant-lower_exprs-loop l = Exprs.Remaining l.r.a.now l.r.b.now l.gap l.at.left l.at.base (λ e m'. LowersExprs l.r.a.now l.r.b.now l.n l.gap l.at.left l.at.base l.at.i e (mem l.initial.cur.ctx l.initial.tables.ops.now l.initial.tables.rest.now) m') (l.n - l.counter) l.cur.next (mem l.cur.ctx l.tables.ops.now l.tables.rest.now) × SameTables l.initial.tables l.tables

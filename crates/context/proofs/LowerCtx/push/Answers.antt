@@ -3,6 +3,7 @@ use mathlib.Core.Path.{refl}
 use native.Mathlib.Omega.{arith}
 use Rattle.std.proofs.lemmas.Grind.{common_steps}
 use Rattle.context.specs.Tables.{op_at}
+use Rattle.context.proofs.Storing
 use Rattle.context.proofs.LowerCtx.push.Goals as goal
 
 pub returns : goal.returns
@@ -12,6 +13,6 @@ returns c =
       count = refl;
       numbers = refl;
       mapped = refl;
-      here = λ l. grind (arith, common_steps);
+      here = λ l. Storing.stored_here _ _ _ l c.requires.long;
       other = λ k l l'. grind (arith, common_steps);
     }
