@@ -1,5 +1,5 @@
 -- `clauses::pair::lower_union_pair` meets its contract.
-use Rattle.std.proofs.Common.{arith}
+use Rattle.std.proofs.Common.{refl, arith}
 use Rattle.clauses.proofs.Whole
 use Rattle.clauses.proofs.Pairing
 use Rattle.clauses.proofs.pair.lower_union_pair.Goals as goal
@@ -12,3 +12,6 @@ lower_from-r-requires c = Pairing.right_asked c.requires c.lower_from-l.ensures.
 
 pub returns-clause-lowered : goal.returns-clause-lowered
 returns-clause-lowered c = Pairing.pair_law c.requires c.lower_from-l.ensures.lowered c.lower_from-r.ensures.lowered _ (c.unite-z.ensures _)
+
+pub returns-clause-same_left : goal.returns-clause-same_left
+returns-clause-same_left c = record { sheet = refl; records = refl; tables = c.lower_from-l.ensures.same }
