@@ -1,10 +1,10 @@
 // The calls of `library` on the list of cases from standard input: a label, a digit that says which slice is short, a plan slice's length or the word `size`, and a sheet, each ended by a bar. For each case a line: the label, the call, what it returned, and the words of the answer slice, which is full of sevens before the call and has two words more than an answer; of a lowering then the plan slice, which is full of `#` before the call.
 #![tactic(auto)]
 
-ghost use Rattle.std.specs.Prelude.{◌≤◌, ◌<◌, length, IfOk};
-ghost use Rattle.model.specs.Call.{max_bytes, work_words};
+ghost use Rattle.std.specs.Prelude.{◌≤◌, ◌<◌, length, IfSome};
+ghost use Rattle.model.specs.Call.{work_words};
 
-use gate_cases::text::{build_sheet, next};
+use gate_cases::text::{build_sheet, cut};
 use input::read_full;
 use library::{dresserhawk_lower, dresserhawk_size};
 use record::number::decimal;
@@ -28,8 +28,86 @@ const UNTOUCHED: usize = 7;
 
 const SHORT_ANSWER: usize = 5;
 
-// Behind a label stand a bar, the digit and another bar.
-const DIGIT_BYTES: usize = 3;
+// What is shorter than a call wants it: one work slice, by a word; all of them, which have no words; or the answer slice, which has no room for an answer.
+#[derive(Clone, Copy, PartialEq, Eq)]
+enum Short {
+    Nothing,
+    First,
+    Second,
+    Third,
+    Fourth,
+    Works,
+    Answer,
+}
+
+impl Short {
+    // What the digit of a case says.
+    fn of_digit(digit: &[u8]) -> Short {
+        match digit {
+            b"1" => Short::First,
+            b"2" => Short::Second,
+            b"3" => Short::Third,
+            b"4" => Short::Fourth,
+            b"5" => Short::Works,
+            b"6" => Short::Answer,
+            _ => Short::Nothing,
+        }
+    }
+
+    // How many words a work slice is lent with, of which `slice` says that it alone is short.
+    fn lent(self, slice: Short) -> usize
+        ensures { result ≤ work_words }
+    {
+        if self == Short::Works {
+            return 0;
+        }
+        if self == slice {
+            SHORT
+        } else {
+            words::WORK_WORDS
+        }
+    }
+
+    // How many words the answer slice is lent with.
+    fn answer_words(self) -> usize
+        ensures { result ≤ 8 }
+    {
+        if self == Short::Answer {
+            SHORT_ANSWER
+        } else {
+            ANSWER_WORDS
+        }
+    }
+}
+
+// A label, what is short, the plan slice's length or another word, and the text that a sheet is made of.
+#[derive(Drop)]
+struct Case<'a> {
+    label: &'a [u8],
+    short: Short,
+    room: &'a [u8],
+    text: &'a [u8],
+}
+
+// The first case of a list, and what stands behind it.
+fn first_case(list: &[u8]) -> Option<(Case<'_>, &[u8])>
+    ensures { IfSome result (λ p. length p.1.now < length list.now) }
+{
+    let (label, behind) = cut(list, b'|')?;
+    let (digit, behind) = cut(behind, b'|')?;
+    let (room, behind) = cut(behind, b'|')?;
+    let (text, rest) = cut(behind, b'|')?;
+    let short = Short::of_digit(digit);
+    Some((
+        Case {
+            label,
+            short,
+            room,
+            text,
+        },
+        rest,
+    ))
+}
 
 // All of a slice, a blank before each word.
 fn say_words<W: Write>(out: &mut W, words: &[usize]) -> io::Result<()> {
@@ -60,140 +138,32 @@ fn say_slice<W: Write>(out: &mut W, slice: &[u8]) -> io::Result<()> {
     out.write_all(b"\n")
 }
 
-// The lowering call on a sheet, and what it left in the plan slice.
-fn show_lower<W: Write>(
-    out: &mut W,
-    label: &[u8],
-    sheet: &[u8],
-    work: &mut Work<'_>,
-    plan: &mut [u8],
-    answer: &mut [usize],
-) -> io::Result<()> {
-    let written = dresserhawk_lower(sheet, work, plan, answer);
-    say(out, label, b" lower", written, answer)?;
-    say_slice(out, plan)
-}
-
-// The call that a case asks for by what stands before its sheet: a label, a digit, and the length of the plan slice or another word.
+// The call that a case asks for on its sheet, and of a lowering what it left in the plan slice.
 fn show<W: Write>(
     out: &mut W,
-    head: &[u8],
+    case: &Case<'_>,
     sheet: &[u8],
     work: &mut Work<'_>,
     plan: &mut [u8],
-    answer: &mut [usize],
 ) -> io::Result<()> {
-    let end = next(head, 0, b'|');
-    let from = end + DIGIT_BYTES;
-    if from > head.len() {
-        return Ok(());
-    }
-    let label = &head[..end];
-    let Some(bytes) = decimal(&head[from..], PAGE as u64) else {
+    let mut words = [UNTOUCHED; ANSWER_WORDS];
+    let answer = &mut words[..case.short.answer_words()];
+    let Some(bytes) = decimal(case.room, PAGE as u64) else {
         let written = dresserhawk_size(sheet, work, answer);
-        return say(out, label, b" size", written, answer);
+        return say(out, case.label, b" size", written, answer);
     };
     let n = bytes as usize;
     if n > plan.len() {
         return Ok(());
     }
-    plan[..n].fill(b'#');
-    show_lower(out, label, sheet, work, &mut plan[..n], answer)
+    let plan = &mut plan[..n];
+    plan.fill(b'#');
+    let written = dresserhawk_lower(sheet, work, plan, answer);
+    say(out, case.label, b" lower", written, answer)?;
+    say_slice(out, plan)
 }
 
-// A work slice that is long enough. The four are lent one by one, since parts of slices that stand in one struct cannot be lent at once.
-type Slice = [u32; words::WORK_WORDS];
-
-// How many words the work slice of a digit is lent with: a word less if it is the short one, and none in the case of 5.
-fn lent(short: u8, slice: u8) -> usize
-    ensures { result ≤ work_words }
-{
-    if short == b'5' {
-        return 0;
-    }
-    if short == slice {
-        SHORT
-    } else {
-        words::WORK_WORDS
-    }
-}
-
-// The same with what is short: from 1 to 4 a work slice, by a word; 5 all of them, which have no words; 6 the answer slice, which has no room for an answer.
-fn show_with<W: Write>(
-    out: &mut W,
-    short: u8,
-    head: &[u8],
-    sheet: &[u8],
-    a: &mut Slice,
-    b: &mut Slice,
-    c: &mut Slice,
-    d: &mut Slice,
-    plan: &mut [u8],
-) -> io::Result<()> {
-    let mut work = Work {
-        a: &mut a[..lent(short, b'1')],
-        b: &mut b[..lent(short, b'2')],
-        c: &mut c[..lent(short, b'3')],
-        d: &mut d[..lent(short, b'4')],
-    };
-    let mut answer = [UNTOUCHED; ANSWER_WORDS];
-    let n = if short == b'6' {
-        SHORT_ANSWER
-    } else {
-        ANSWER_WORDS
-    };
-    show(out, head, sheet, &mut work, plan, &mut answer[..n])
-}
-
-// The case that begins at `at`; and where the next one does.
-fn show_case<W: Write>(
-    out: &mut W,
-    list: &[u8],
-    at: usize,
-    page: &mut [u8],
-    a: &mut Slice,
-    b: &mut Slice,
-    c: &mut Slice,
-    d: &mut Slice,
-    plan: &mut [u8],
-) -> io::Result<usize>
-    requires { (at < length list.now) × (length list.now ≤ max_bytes) }
-    ensures { IfOk result (λ next. at < next) }
-{
-    let label = next(list, at, b'|');
-    let room = next(list, label + DIGIT_BYTES, b'|');
-    let end = next(list, room + 1, b'|');
-    let after = end + 1;
-    if end >= list.len() {
-        return Ok(after);
-    }
-    let n = build_sheet(&list[room + 1..end], page).unwrap_or(0);
-    let short = list[label + 1];
-    show_with(out, short, &list[at..room], &page[..n], a, b, c, d, plan)?;
-    Ok(after)
-}
-
-// All of the list, with a page for a sheet, the work slices and a slice for the plan.
-fn show_list<W: Write>(
-    out: &mut W,
-    list: &[u8],
-    page: &mut [u8],
-    a: &mut Slice,
-    b: &mut Slice,
-    c: &mut Slice,
-    d: &mut Slice,
-    plan: &mut [u8],
-) -> io::Result<()>
-    requires { length list.now ≤ max_bytes }
-{
-    let mut at = 0;
-    // A `while`, since where the next one begins is known only when a case has been taken off.
-    while at < list.len() {
-        at = show_case(out, list, at, page, a, b, c, d, plan)?;
-    }
-    Ok(())
-}
-
+// All of the list. The work slices are lent here, where they stand, since parts of slices that stand in one struct cannot be lent at once.
 fn main(rt: HostRuntime) -> io::Result<()> {
     let mut list = [0u8; words::MAX_BYTES];
     let mut page = [0u8; PAGE];
@@ -203,14 +173,18 @@ fn main(rt: HostRuntime) -> io::Result<()> {
     let mut d = [0u32; words::WORK_WORDS];
     let mut plan = [0u8; PAGE];
     let n = read_full(&mut rt.stdin(), &mut list)?;
-    show_list(
-        &mut rt.stdout(),
-        &list[..n],
-        &mut page,
-        &mut a,
-        &mut b,
-        &mut c,
-        &mut d,
-        &mut plan,
-    )
+    let mut out = rt.stdout();
+    let mut left = &list[..n];
+    while let Some((case, rest)) = first_case(left) {
+        let k = build_sheet(case.text, &mut page).unwrap_or(0);
+        let mut work = Work {
+            a: &mut a[..case.short.lent(Short::First)],
+            b: &mut b[..case.short.lent(Short::Second)],
+            c: &mut c[..case.short.lent(Short::Third)],
+            d: &mut d[..case.short.lent(Short::Fourth)],
+        };
+        show(&mut out, &case, &page[..k], &mut work, &mut plan)?;
+        left = rest;
+    }
+    Ok(())
 }

@@ -1,13 +1,9 @@
 -- What a text of a list of cases stands for. Assumes nothing: these are definitions.
-use Rattle.std.specs.Prelude.{◌==◌, cond, [], ◌∷◌, ◌++◌, ℕ, zero, suc, ◌+◌, ◌-◌, ltb, length, take, drop, Option, None, Some}
+use Rattle.std.specs.Prelude.{◌≡◌, ◌==◌, cond, [], ◌∷◌, ◌++◌, ℕ, zero, suc, ◌+◌, ◌-◌, ltb, length, take, drop, Option, None, Some}
 use Rattle.std.specs.List.{position_or_len}
 use Rattle.model.specs.Text.{Bytes}
 use Rattle.model.specs.Field.{Form, read}
 use Rattle.model.specs.Call.{max_bytes}
-
--- how long a file of cases may be
-abbrev pub max_file : ℕ
-max_file = 262144
 
 -- a text so many times
 unfoldable pub again : ℕ → Bytes → Bytes
@@ -17,6 +13,22 @@ again (suc n) t = again n t ++ t
 -- where a byte stands next, or where the text ends; behind a text it stands everywhere
 unfoldable pub place : ℕ → ℕ → Bytes → ℕ
 place b at t = cond (ltb (length t) at) at (at + position_or_len (λ x. x == b) (drop at t))
+
+-- a text is cut at the first such byte: what stands before it, and behind it
+abbrev pub Cut : ℕ → (text before behind : Bytes) → Type 0
+Cut b t before behind = (t ≡ before ++ (b ∷ behind)) × (length before ≡ place b 0 t)
+
+-- a text where the byte does not stand
+abbrev pub Uncut : ℕ → Bytes → Type 0
+Uncut b t = place b 0 t ≡ length t
+
+abbrev pub line_feed : ℕ
+line_feed = 10
+
+-- no text, or one that ends with a line
+abbrev pub WholeLines : Bytes → Type 0
+WholeLines [] = Unit {0}
+WholeLines (b ∷ t) = (lines : Bytes) × (b ∷ t ≡ lines ++ (line_feed ∷ []))
 
 abbrev pub star : ℕ
 star = 42

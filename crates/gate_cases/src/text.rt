@@ -1,9 +1,8 @@
 // The texts of a list. Between three stars stand a number and a part of the sheet that is there so many times.
-ghost use Rattle.std.specs.Prelude.{◌≡◌, ◌+◌, ◌≤◌, length};
-ghost use Rattle.model.specs.Call.{max_bytes};
+ghost use Rattle.std.specs.Prelude.{◌≡◌, ◌+◌, ◌∷◌, ◌++◌, length, IfSome, MatchOption};
 ghost use Rattle.output.specs.Page.{Puts};
 ghost use Rattle.output.specs.Whole.{Begins};
-ghost use Rattle.gate_cases.specs.Text.{again, max_file, place, sheet_of};
+ghost use Rattle.gate_cases.specs.Text.{again, Cut, line_feed, sheet_of, Uncut, WholeLines};
 
 use output::Page;
 use record::number::decimal;
@@ -11,34 +10,25 @@ use record::number::decimal;
 // How long a file of cases may be.
 pub const MAX_FILE: usize = 262144;
 
-// Where a byte stands next, from `at` on; behind a text it stands everywhere.
-pub fn next(text: &[u8], at: usize, byte: u8) -> usize
-    ensures value { result ≡ place byte at text.now }
-    ensures lower_bound { (at ≤ result) × (result ≤ at + length text.now) }
+// What stands before the first such byte, and what stands behind it.
+pub fn cut(text: &[u8], byte: u8) -> Option<(&[u8], &[u8])>
+    ensures cases { MatchOption result (Uncut byte text.now) (λ p. Cut byte text.now p.0.now p.1.now) }
+    ensures lengths { IfSome result (λ p. (length p.0.now + length p.1.now) + 1 ≡ length text.now) }
 {
-    if at > text.len() {
-        return at;
-    }
-    match text[at..].iter().position(|b| *b == byte) {
-        Some(n) => at + n,
-        None => text.len(),
-    }
+    let n = text.iter().position(|b| *b == byte)?;
+    Some((&text[..n], &text[n + 1..]))
 }
 
-// Where the sheet that begins at `at` ends: at the next empty line, or with the file.
-pub fn sheet_end(file: &[u8], at: usize) -> usize
-    requires { (at ≤ length file.now) × (length file.now ≤ max_file) }
-    ensures { (at ≤ result) × (result ≤ length file.now) }
+// The first sheet of a file, and what stands behind the empty line that ends it.
+pub fn first_sheet(file: &[u8]) -> Option<(&[u8], &[u8])>
+    ensures parts { IfSome result (λ p. (file.now ≡ p.0.now ++ (line_feed ∷ p.1.now)) × WholeLines p.0.now) }
+    ensures lengths { IfSome result (λ p. (length p.0.now + length p.1.now) + 1 ≡ length file.now) }
 {
-    let mut line = at;
-    // A `while`, since it goes from line to line.
-    while line < file.len() {
-        if file[line] == b'\n' {
-            return line;
-        }
-        line = next(file, line, b'\n') + 1;
+    if let [b'\n', rest @ ..] = file {
+        return Some((&[], rest));
     }
-    file.len()
+    let n = file.windows(2).position(|w| w == b"\n\n".as_slice())?;
+    Some((&file[..n + 1], &file[n + 2..]))
 }
 
 // A text so many times.
@@ -50,30 +40,46 @@ fn put_times(page: &mut Page<'_>, text: &[u8], times: u64)
     }
 }
 
+// A text with stars: what stands before them, the number, the part that is there so many times, and what stands behind them.
+#[derive(Drop)]
+struct Stars<'a> {
+    head: &'a [u8],
+    times: u64,
+    part: &'a [u8],
+    tail: &'a [u8],
+}
+
+// A text taken apart at its stars, if it has three and a number between the first two.
+fn starred(text: &[u8]) -> Option<Stars<'_>>
+    ensures { MatchOption result (sheet_of text.now ≡ text.now) (λ s. sheet_of text.now ≡ (s.head.now ++ again s.times s.part.now) ++ s.tail.now) }
+{
+    let (head, rest) = cut(text, b'*')?;
+    let (number, behind) = cut(rest, b'*')?;
+    let (part, tail) = cut(behind, b'*')?;
+    let times = decimal(number, words::MAX_BYTES as u64)?;
+    Some(Stars {
+        head,
+        times,
+        part,
+        tail,
+    })
+}
+
 // The sheet that a text of the list stands for.
 fn put_sheet(page: &mut Page<'_>, text: &[u8])
-    requires { length text.now ≤ max_bytes }
     ensures { Puts (sheet_of text.now) page.old page.new }
 {
-    let head = next(text, 0, b'*');
-    let number = next(text, head + 1, b'*');
-    let part = next(text, number + 1, b'*');
-    if part >= text.len() {
-        page.put_part(text);
-        return;
-    }
-    let Some(n) = decimal(&text[head + 1..number], words::MAX_BYTES as u64) else {
+    let Some(s) = starred(text) else {
         page.put_part(text);
         return;
     };
-    page.put_part(&text[0..head]);
-    put_times(page, &text[number + 1..part], n);
-    page.put_part(&text[part + 1..])
+    page.put_part(s.head);
+    put_times(page, s.part, s.times);
+    page.put_part(s.tail)
 }
 
 // The same at the start of a slice, and how long it is, if it fits.
 pub fn build_sheet(text: &[u8], bytes: &mut [u8]) -> Option<usize>
-    requires { length text.now ≤ max_bytes }
     ensures { Begins (sheet_of text.now) bytes.old bytes.new result }
 {
     let mut page = Page { bytes, out: 0 };

@@ -1,10 +1,7 @@
 // The lowering call on the sheets of a file from standard input, an empty line behind each. For each: the number, line, start, end, kind and length of the answer, and the plan. What the gate feeds it and what it has to print, the Rust's answers, are made by `compare sample` (rust/README.md).
 #![tactic(auto)]
 
-ghost use Rattle.std.specs.Prelude.{◌≤◌, length};
-ghost use Rattle.gate_cases.specs.Text.{max_file};
-
-use gate_cases::text::{MAX_FILE, sheet_end};
+use gate_cases::text::{MAX_FILE, first_sheet};
 use input::read_full;
 use statement::Work;
 use std::io;
@@ -42,15 +39,12 @@ fn show_all<W: Write>(
     file: &[u8],
     work: &mut Work<'_>,
     plan: &mut [u8],
-) -> io::Result<()>
-    requires { length file.now ≤ max_file }
-{
-    let mut at = 0;
-    // A `while`, since where the next one begins is known only when a sheet has been taken off.
-    while at < file.len() {
-        let end = sheet_end(file, at);
-        show(out, &file[at..end], work, plan)?;
-        at = end + 1;
+) -> io::Result<()> {
+    let mut left = file;
+    while !left.is_empty() {
+        let (sheet, rest) = first_sheet(left).unwrap_or((left, &[]));
+        show(out, sheet, work, plan)?;
+        left = rest;
     }
     Ok(())
 }
