@@ -1,4 +1,4 @@
-// The lowering of a `with` or a `return` into the tables. r holds the records; cur is what stands before the clause: its record, the operator before, if there is one, and the state. The clause's tree is at most so deep.
+// The lowering of a `with` or a `return` into the tables. r holds the records; cur is where a clause begins: its record, the operator before it, if there is one, and the state. How deep the clause's tree may be is beside it.
 #![tactic(auto)]
 
 ghost use Rattle.std.specs.Prelude.{◌≡◌, List, ℕ, Some};
