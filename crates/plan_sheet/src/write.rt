@@ -34,11 +34,11 @@ fn write_expr(page: &mut Page<'_>, s: &Source<'_>, at: At) -> usize
     requires { ExprAsked s.now at }
     ensures { ExprWrote s.now at page.old result page.new }
 {
-    let first = Record {
+    let line = Record {
         records: &s.records,
         i: at.i,
     };
-    let i = crate::head::put_before(page, s.sheet, first);
+    let i = crate::head::put_before(page, s.sheet, line);
     let r = Record {
         records: &s.records,
         i,
@@ -91,11 +91,11 @@ fn measure_exprs(page: &mut Page<'_>, s: &Source<'_>, run: Run) -> usize
     let mut i = run.at.i;
     let mut due = run.n;
     while due != 0 {
-        let first = Record {
+        let line = Record {
             records: &s.records,
             i,
         };
-        let at = measure_before(page, s.sheet, first);
+        let at = measure_before(page, s.sheet, line);
         let r = Record {
             records: &s.records,
             i: at,
