@@ -16,7 +16,7 @@ use plan_line::keyword::{Keyword, put_keyword};
 use plan_line::row::put_row;
 use words::{Record, Records, field, kind};
 
-// The n names from record i on. Answers the record behind them.
+// The n names from record i on, all records and a place, since where there are none no record need stand. Answers the record behind them.
 pub fn put_names(page: &mut Page<'_>, sheet: &[u8], r: &Records<'_>, i: usize, n: usize) -> usize
     requires { NamesIn sheet.now r.now n i }
     ensures { (h : NamesIn sheet.now r.now n i) → (result ≡ i + n) × Puts (spell_recs (names_recs h)) page.old page.new }

@@ -12,6 +12,7 @@ use output::Page;
 use words::{Record, field, kind};
 
 // What is at record i: its tree is at most `left` deep, the notes of its pass begin at `base`, and it copies operators below `below`.
+// The three of `context::At` and one more, and no struct that holds it: then each step to another record would write one struct inside another, `At { place: context::At { i, ..at.place }, ..at }`, and each read go through both.
 #[derive(Clone, Copy)]
 pub struct At {
     pub base: usize,
@@ -33,11 +34,11 @@ fn write_expr(page: &mut Page<'_>, s: &Source<'_>, at: At) -> usize
     requires { ExprAsked s.now at }
     ensures { ExprWrote s.now at page.old result page.new }
 {
-    let first = Record {
+    let line = Record {
         records: &s.records,
         i: at.i,
     };
-    let i = crate::head::put_before(page, s.sheet, first);
+    let i = crate::head::put_before(page, s.sheet, line);
     let r = Record {
         records: &s.records,
         i,
@@ -90,11 +91,11 @@ fn measure_exprs(page: &mut Page<'_>, s: &Source<'_>, run: Run) -> usize
     let mut i = run.at.i;
     let mut due = run.n;
     while due != 0 {
-        let first = Record {
+        let line = Record {
             records: &s.records,
             i,
         };
-        let at = measure_before(page, s.sheet, first);
+        let at = measure_before(page, s.sheet, line);
         let r = Record {
             records: &s.records,
             i: at,
@@ -115,7 +116,7 @@ fn measure_exprs(page: &mut Page<'_>, s: &Source<'_>, run: Run) -> usize
     i
 }
 
-// Expressions, each behind its line if it has one: written, or on an empty part of the slice only counted.
+// Expressions, each behind its line if it has one: written, or on an empty part of the slice only counted. Which of the two is asked of the slice and of no flag beside it, which would say again whether it is empty; either puts the same text.
 #[cycle(writer)]
 fn put_exprs(page: &mut Page<'_>, s: &Source<'_>, run: Run) -> usize
     requires { ExprsAsked s.now run }

@@ -1,4 +1,5 @@
 // The plan sheet of two sheets, each with tables of its own: measured first, and written only if it fits.
+// Counts go out as u32 by `as`: the tables hold fewer, so that nothing is lost, and `try_from` would make an error that never comes.
 ghost use Rattle.plan_writer.specs.Pair.{tables_in, PairAsked, WrotePairSheet, WrotePair};
 
 use crate::{write_ops, write_vars};

@@ -19,8 +19,8 @@ use Rattle.plan_sheet.proofs.write.+writer.Goals as goal
 pub measure_exprs-loop-due-init : goal.measure_exprs-loop-due-init
 measure_exprs-loop-due-init t c = DueLaws.going c.requires.exprs_asked.due
 
-pub measure_exprs-invariant_of-first : goal.measure_exprs-invariant_of-first
-measure_exprs-invariant_of-first t c = record { stands = line_low (DueLaws.some_line c.loop-due-test.true c.loop-due.invariant.some).line }
+pub measure_exprs-invariant_of-line : goal.measure_exprs-invariant_of-line
+measure_exprs-invariant_of-line t c = record { stands = line_low (DueLaws.some_line c.loop-due-test.true c.loop-due.invariant.some).line }
 
 pub measure_exprs-measure_before-at-requires : goal.measure_exprs-measure_before-at-requires
 measure_exprs-measure_before-at-requires t c =
@@ -168,8 +168,8 @@ write_element-returns t c =
 
 -- ── write_expr ──
 
-pub write_expr-invariant_of-first : goal.write_expr-invariant_of-first
-write_expr-invariant_of-first t c = record { stands = line_low (DueLaws.first_line c.requires.due).line }
+pub write_expr-invariant_of-line : goal.write_expr-invariant_of-line
+write_expr-invariant_of-line t c = record { stands = line_low (DueLaws.first_line c.requires.due).line }
 
 pub write_expr-put_before-i-requires : goal.write_expr-put_before-i-requires
 write_expr-put_before-i-requires t c =
