@@ -1,11 +1,10 @@
 // The calls as numbers and slices, with the answer as six words: `library_c` exports them to programs in other languages.
 #![tactic(auto)]
 
-ghost use Rattle.std.specs.Prelude.{◌≡◌, ◌≤◌, length};
+ghost use Rattle.std.specs.Prelude.{◌≡◌, ◌≤◌, ◌++◌, length};
 ghost use Rattle.model.specs.Call.{SizeCall, lower_call};
 ghost use Rattle.model.specs.Pair.{pair_call};
-ghost use Rattle.statement.specs.Work.{sizes, Kept};
-ghost use Rattle.union_pair.specs.PairCall.{works};
+ghost use Rattle.statement.specs.Work.{lengths, Kept};
 ghost use Rattle.values.specs.Told.{told};
 ghost use Rattle.library.specs.Told.{answer_words, noted, Told, Lowers};
 
@@ -27,7 +26,7 @@ fn put_answer(answer: &mut [usize], v: Values)
 
 // The sizing call. False, with nothing written, if the answer has no room for six words.
 pub fn dresserhawk_size(sheet: &[u8], work: &mut Work<'_>, answer: &mut [usize]) -> bool
-    ensures answer_after { Told (SizeCall (sizes work.old.a.now work.old.b.now work.old.c.now work.old.d.now) sheet.now) answer.old answer.new result }
+    ensures answer_after { Told (SizeCall (lengths work.old) sheet.now) answer.old answer.new result }
     ensures kept { Kept work.old work.new }
 {
     if answer.len() < ANSWER_WORDS {
@@ -44,7 +43,7 @@ pub fn dresserhawk_lower(
     plan: &mut [u8],
     answer: &mut [usize],
 ) -> bool
-    ensures answer_after { Lowers (lower_call (sizes work.old.a.now work.old.b.now work.old.c.now work.old.d.now) sheet.now plan.old) plan.old plan.new answer.old answer.new result }
+    ensures answer_after { Lowers (lower_call (lengths work.old) sheet.now plan.old) plan.old plan.new answer.old answer.new result }
     ensures kept { Kept work.old work.new }
 {
     if answer.len() < ANSWER_WORDS {
@@ -64,7 +63,7 @@ pub fn dresserhawk_lower_pair(
     plan: &mut [u8],
     answer: &mut [usize],
 ) -> bool
-    ensures answer_after { Lowers (pair_call (works l.old.a.now l.old.b.now l.old.c.now l.old.d.now r.old.a.now r.old.b.now r.old.c.now r.old.d.now) left.now right.now all plan.old) plan.old plan.new answer.old answer.new result }
+    ensures answer_after { Lowers (pair_call (lengths l.old ++ lengths r.old) left.now right.now all plan.old) plan.old plan.new answer.old answer.new result }
     ensures left_kept { Kept l.old l.new }
     ensures right_kept { Kept r.old r.new }
 {

@@ -3,10 +3,10 @@
 
 use input::read_full;
 use statement::Work;
+use statement::lowering::lower_statement;
 use std::io;
 use std::io::Write;
-use values::call::lower;
-use values::refusal;
+use values::Values;
 use values::text::write_refusal;
 
 // The plan, or a refusal, parted as a sheet's fields are; a refusal leaves the plan's slice free for its line.
@@ -16,12 +16,12 @@ fn show<W: Write>(
     work: &mut Work<'_>,
     plan: &mut [u8],
 ) -> io::Result<()> {
-    let v = lower(sheet, work, plan);
-    if v.number == refusal::ACCEPTED {
-        return out.write_all(&plan[..v.length]);
+    let answer = lower_statement(sheet, work, plan);
+    if let Ok(n) = answer {
+        return out.write_all(&plan[..n]);
     }
     out.write_all(b"refused")?;
-    if let Some(n) = write_refusal(plan, b'\t', v) {
+    if let Some(n) = write_refusal(plan, b'\t', Values::from(answer)) {
         out.write_all(&plan[..n])?;
     }
     out.write_all(b"\n")

@@ -15,10 +15,10 @@ use Rattle.precheck.specs.Answer.{Says, error_of}
 use Rattle.precheck.specs.declared.PlanLowerError.{PlanLowerError}
 use Rattle.sheet.specs.Reader.{read_only, Reads}
 use Rattle.sheet.specs.declared.reader.ReadError.{ReadError}
-use Rattle.sides.specs.declared.Fault.{Fault}
+use Rattle.statement.specs.declared.Fault.{Fault}
 use Rattle.sides.specs.declared.Side.{Side}
 use Rattle.sides.specs.declared.SideFault.{SideFault}
-use Rattle.sides.specs.Fault.{fault_of}
+use Rattle.statement.specs.Answer.{fault_of}
 use Rattle.demands.proofs.WriteFound.{WriteFound, write_found}
 use Rattle.sides.specs.Sides.{Found, Tested, each_of, read_of, FailsOn, CheckFinds, ChecksSheet, check_sides, read_sides, BothRead, ReadBoth, BothTested, TestedBoth}
 
@@ -104,12 +104,12 @@ module _ (left right : Bytes) where
     right_unread f e' = record { unresolved = []; is = rw (each_right read left right t e (fault_of f []) e') }
 
     module _ (u : Tree statement) (e' : read right ≡ pass u) where
-      left_writes : (l : ℕ) → first_write t ≡ Some l → FailsOn (record { side = Side.Left; fault = Fault.WriteClause l }) (read_sides left right)
+      left_writes : (l : ℕ) → first_write t ≡ Some l → FailsOn (record { side = Side.Left; fault = Fault.Unread (ReadError.WriteClause l) }) (read_sides left right)
       unfolding read_sides then_sides test_write
       left_writes l w = record { unresolved = []; is = rw (each_both read left right t e u e', each_left (λ t. test_write t (first_write t)) t u (Refusal.WriteClause l) (rw w)) }
 
       module _ (w : first_write t ≡ None) where
-        right_writes : (l : ℕ) → first_write u ≡ Some l → FailsOn (record { side = Side.Right; fault = Fault.WriteClause l }) (read_sides left right)
+        right_writes : (l : ℕ) → first_write u ≡ Some l → FailsOn (record { side = Side.Right; fault = Fault.Unread (ReadError.WriteClause l) }) (read_sides left right)
         unfolding read_sides then_sides test_write
         right_writes l w' = record { unresolved = []; is = rw (each_both read left right t e u e', each_right (λ t. test_write t (first_write t)) t u t (rw w) (Refusal.WriteClause l) (rw w')) }
 
@@ -124,12 +124,12 @@ found sheet a b l e = write_found max_depth sheet l e
 
 module _ (left right : Bytes) (la lb ra rb : List ℕ) where
   pub read_law : (l r : Result ℕ ReadError) → Reads max_depth left la lb l → Reads max_depth right ra rb r → ReadBoth left la lb right ra rb (read_of l r)
-  read_law (Err (ReadError.BadLine l)) r p q = left_unread left right (Fault.BadLine l) (bad_unread left l p)
-  read_law (Err (ReadError.BigTree l)) r p q = left_unread left right (Fault.BigTree l) (big_unread left l p)
-  read_law (Ok n) (Err (ReadError.BadLine l)) p q = right_unread left right p.0 (read_only_law left p.0 p.1).0 (Fault.BadLine l) (bad_unread right l q)
-  read_law (Ok n) (Err (ReadError.BigTree l)) p q = right_unread left right p.0 (read_only_law left p.0 p.1).0 (Fault.BigTree l) (big_unread right l q)
-  read_law (Err (ReadError.WriteClause n)) (Err (ReadError.BadLine l)) p q = let x = found left la lb n p in right_unread left right x.tree x.reads (Fault.BadLine l) (bad_unread right l q)
-  read_law (Err (ReadError.WriteClause n)) (Err (ReadError.BigTree l)) p q = let x = found left la lb n p in right_unread left right x.tree x.reads (Fault.BigTree l) (big_unread right l q)
+  read_law (Err (ReadError.BadLine l)) r p q = left_unread left right (Fault.Unread (ReadError.BadLine l)) (bad_unread left l p)
+  read_law (Err (ReadError.BigTree l)) r p q = left_unread left right (Fault.Unread (ReadError.BigTree l)) (big_unread left l p)
+  read_law (Ok n) (Err (ReadError.BadLine l)) p q = right_unread left right p.0 (read_only_law left p.0 p.1).0 (Fault.Unread (ReadError.BadLine l)) (bad_unread right l q)
+  read_law (Ok n) (Err (ReadError.BigTree l)) p q = right_unread left right p.0 (read_only_law left p.0 p.1).0 (Fault.Unread (ReadError.BigTree l)) (big_unread right l q)
+  read_law (Err (ReadError.WriteClause n)) (Err (ReadError.BadLine l)) p q = let x = found left la lb n p in right_unread left right x.tree x.reads (Fault.Unread (ReadError.BadLine l)) (bad_unread right l q)
+  read_law (Err (ReadError.WriteClause n)) (Err (ReadError.BigTree l)) p q = let x = found left la lb n p in right_unread left right x.tree x.reads (Fault.Unread (ReadError.BigTree l)) (big_unread right l q)
   read_law (Err (ReadError.WriteClause n)) (Ok k) p q = let x = found left la lb n p in left_writes left right x.tree x.reads q.0 (read_only_law right q.0 q.1).0 n x.first
   read_law (Err (ReadError.WriteClause n)) (Err (ReadError.WriteClause k)) p q =
       let x = found left la lb n p in

@@ -6,14 +6,15 @@ use Rattle.model.specs.Tree.{Tree, Many}
 use Rattle.model.specs.Sheet.{read_sheet, first_write}
 use Rattle.model.specs.Side.{left_side}
 use Rattle.model.specs.Check.{precheck_statement}
-use Rattle.model.specs.Call.{Test, refuse, pass, test_reading, test_write, test_check, max_depth}
+use Rattle.model.specs.Call.{pass, test_reading, test_write, test_check, max_depth}
 use Rattle.model.specs.Pair.{SideTest, refuse_side, pass_side, then_sides, each}
 use Rattle.words.specs.Held.{Held}
 use Rattle.sheet.specs.declared.reader.ReadError.{ReadError}
-use Rattle.sides.specs.declared.Fault.{Fault}
+use Rattle.statement.specs.declared.Fault.{Fault}
+use Rattle.statement.specs.Tests.{Fails}
 use Rattle.sides.specs.declared.Side.{Side}
 use Rattle.sides.specs.declared.SideFault.{SideFault}
-use Rattle.sides.specs.Fault.{fault_of, on_side_of}
+use Rattle.sides.specs.Fault.{on_side_of}
 
 -- ── what the code finds ──
 
@@ -40,26 +41,22 @@ each_of left right = or_next (found_on Side.Left left) (found_on Side.Right righ
 -- tests 3 and 4, and test 5, of the reader's answer
 abbrev pub unread_of : Result ℕ ReadError → Found
 unread_of (Ok n) = Ok tt
-unread_of (Err (ReadError.BadLine l)) = Err (Fault.BadLine l)
-unread_of (Err (ReadError.BigTree l)) = Err (Fault.BigTree l)
+unread_of (Err (ReadError.BadLine l)) = Err (Fault.Unread (ReadError.BadLine l))
+unread_of (Err (ReadError.BigTree l)) = Err (Fault.Unread (ReadError.BigTree l))
 unread_of (Err (ReadError.WriteClause l)) = Ok tt
 
 abbrev pub writes_of : Result ℕ ReadError → Found
 writes_of (Ok n) = Ok tt
 writes_of (Err (ReadError.BadLine l)) = Ok tt
 writes_of (Err (ReadError.BigTree l)) = Ok tt
-writes_of (Err (ReadError.WriteClause l)) = Err (Fault.WriteClause l)
+writes_of (Err (ReadError.WriteClause l)) = Err (Fault.Unread (ReadError.WriteClause l))
 
 abbrev pub read_of : Result ℕ ReadError → Result ℕ ReadError → Tested
 read_of left right = or_next (each_of (unread_of left) (unread_of right)) (each_of (writes_of left) (writes_of right))
 
 -- ── what that says ──
 
--- a test that refuses a sheet for a fault, or two sheets for a fault of a side
-pub record Fails {A : Type 0} (f : Fault) (m : Test A) : Type 0 where
-  pub unresolved : Bytes
-  pub is : m ≡ refuse (fault_of f unresolved)
-
+-- a test that refuses two sheets for a fault of a side
 pub record FailsOn {A : Type 0} (f : SideFault) (m : SideTest A) : Type 0 where
   pub unresolved : Bytes
   pub is : m ≡ refuse_side (on_side_of f unresolved)

@@ -8,30 +8,12 @@ ghost use Rattle.model.specs.Call.{max_depth};
 ghost use Rattle.words.specs.Held.{HeldSome};
 ghost use Rattle.words.specs.Lent.{SameSlices};
 ghost use Rattle.sheet.specs.Reader.{ReaderAsked};
-ghost use Rattle.sides.specs.declared.Fault.TheVariants.{Refused};
 ghost use Rattle.sides.specs.Sides.{found_on, each_of, unread_of, writes_of, read_of, ChecksSheet, TestedBoth};
 
-use precheck::{PlanLowerError, precheck_statement};
+use precheck::precheck_statement;
 use sheet::reader::{ReadError, read_sheet};
+use statement::Fault;
 use words::{Records, RecordsMut};
-
-// What is wrong with a sheet: a refusal of the tests 2 to 8 with what it carries.
-#[derive(Clone, Copy, Debug, PartialEq, Eq)]
-pub enum Fault {
-    LongSheet,
-    BadLine(u32),
-    BigTree(u32),
-    WriteClause(u32),
-    Refused(PlanLowerError),
-}
-
-impl From<PlanLowerError> for Fault {
-    ghost from_gives = { λ e f. f ≡ Refused e };
-
-    fn from(e: PlanLowerError) -> Fault {
-        Fault::Refused(e)
-    }
-}
 
 // The sheet of a pair that a fault is of, with the numbers that document 01 tells them by; 0 is the call as a whole.
 #[derive(Clone, Copy, Debug, PartialEq, Eq)]
@@ -57,7 +39,7 @@ pub struct SideFault {
 }
 
 // One test on both sheets: the left's fault is reported first.
-fn each(left: Result<(), Fault>, right: Result<(), Fault>) -> Result<(), SideFault>
+pub fn each(left: Result<(), Fault>, right: Result<(), Fault>) -> Result<(), SideFault>
     ensures { result ≡ each_of left right }
 {
     Side::Left.of(left)?;
@@ -69,9 +51,8 @@ fn unread(read: Result<usize, ReadError>) -> Result<(), Fault>
     ensures { result ≡ unread_of read }
 {
     match read {
-        Err(ReadError::BadLine(l)) => Err(Fault::BadLine(l)),
-        Err(ReadError::BigTree(l)) => Err(Fault::BigTree(l)),
-        _ => Ok(()),
+        Ok(_) | Err(ReadError::WriteClause(_)) => Ok(()),
+        Err(e) => Err(Fault::Unread(e)),
     }
 }
 
@@ -80,7 +61,7 @@ fn writes(read: Result<usize, ReadError>) -> Result<(), Fault>
     ensures { result ≡ writes_of read }
 {
     match read {
-        Err(ReadError::WriteClause(l)) => Err(Fault::WriteClause(l)),
+        Err(ReadError::WriteClause(l)) => Err(Fault::Unread(ReadError::WriteClause(l))),
         _ => Ok(()),
     }
 }

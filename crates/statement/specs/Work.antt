@@ -7,6 +7,10 @@ use Rattle.statement.specs.declared.work.Work.{Work}
 abbrev pub sizes : (a b c d : List ℕ) → List ℕ
 sizes a b c d = length a ∷ length b ∷ length c ∷ length d ∷ []
 
+-- of a work's slices
+abbrev pub lengths : Work → List ℕ
+lengths w = sizes w.a.now w.b.now w.c.now w.d.now
+
 -- the same lent slice, as long as before
 pub record SameSlice (s s' : MutBor (List ℕ)) : Type 0 where
   pub same : s'.ghost_name ≡ s.ghost_name

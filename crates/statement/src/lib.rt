@@ -1,12 +1,14 @@
 // The calls: a statement sheet, four work slices, an answer.
 #![tactic(auto)]
 
-ghost use Rattle.std.specs.Prelude.{◌≡◌, false, List, ℕ, ◌≤◌, length};
-ghost use Rattle.model.specs.Call.{SizeCall, short, work_words};
-ghost use Rattle.statement.specs.declared.Refusal.TheVariants.{Refused};
-ghost use Rattle.statement.specs.Answer.{answer_of, unread_of};
-ghost use Rattle.words.specs.Words.{Roomy};
-ghost use Rattle.statement.specs.Work.{sizes, Kept};
+ghost use Rattle.std.specs.Prelude.{◌≡◌, ◌≤◌, length};
+ghost use Rattle.model.specs.Call.{SizeCall, work_words};
+ghost use Rattle.words.specs.Lent.{SameSlices};
+ghost use Rattle.statement.specs.declared.Fault.TheVariants.{Unread, Refused};
+ghost use Rattle.statement.specs.declared.Refusal.TheVariants.{OfSheet};
+ghost use Rattle.statement.specs.Answer.{answer_of};
+ghost use Rattle.statement.specs.Tests.{bytes_of, TestsSheet};
+ghost use Rattle.statement.specs.Work.{lengths, Kept};
 
 pub use work::Work;
 
@@ -20,66 +22,84 @@ use words::RecordsMut;
 // A plan has at most so many operators for each record of its sheet (crate bounds).
 const RECORD_OPERATORS: usize = 4;
 
-// How a call refuses a sheet: a refusal of document 01's table with what it carries. A name is not carried: its record is that of the line.
+// What is wrong with a sheet: a refusal of the tests 2 to 8 with what it carries. A name is not carried: its record is that of the line.
 #[derive(Clone, Copy, Debug, PartialEq, Eq)]
-pub enum Refusal {
-    ShortWork,
+pub enum Fault {
     LongSheet,
-    BadLine(u32),
-    BigTree(u32),
-    WriteClause(u32),
+    Unread(ReadError),
     Refused(PlanLowerError),
+}
+
+impl From<ReadError> for Fault {
+    ghost from_gives = { λ e f. f ≡ Unread e };
+
+    fn from(e: ReadError) -> Fault {
+        Fault::Unread(e)
+    }
+}
+
+impl From<PlanLowerError> for Fault {
+    ghost from_gives = { λ e f. f ≡ Refused e };
+
+    fn from(e: PlanLowerError) -> Fault {
+        Fault::Refused(e)
+    }
+}
+
+// How a call refuses. F is what is wrong with a sheet: a `Fault` where there is one sheet, and a fault with its side where there are two.
+#[derive(Clone, Copy, Debug, PartialEq, Eq)]
+pub enum Refusal<F> {
+    ShortWork,
+    OfSheet(F),
     PlanFull,
     NoRoom,
 }
 
-impl From<ReadError> for Refusal {
-    ghost from_gives = { λ e r. r ≡ unread_of e };
+impl<F> From<F> for Refusal<F> {
+    ghost from_gives = { λ f r. r ≡ OfSheet f };
 
-    fn from(e: ReadError) -> Refusal {
-        match e {
-            ReadError::BadLine(l) => Refusal::BadLine(l),
-            ReadError::BigTree(l) => Refusal::BigTree(l),
-            ReadError::WriteClause(l) => Refusal::WriteClause(l),
-        }
+    fn from(f: F) -> Refusal<F> {
+        Refusal::OfSheet(f)
     }
 }
 
-impl From<PlanLowerError> for Refusal {
-    ghost from_gives = { λ e r. r ≡ Refused e };
-
-    fn from(e: PlanLowerError) -> Refusal {
-        Refusal::Refused(e)
-    }
-}
-
-// Tests 2 to 8 and the figure, with work slices that are long enough.
-fn size_read(
-    sheet: &[u8],
-    a: &mut [u32],
-    b: &mut [u32],
-    stack: &mut [u32],
-) -> Result<usize, Refusal>
-    requires roomy { Roomy a.old b.old }
-    requires long { work_words ≤ length stack.old }
-    ensures { (work : List ℕ) → short work ≡ false → SizeCall work sheet.now (answer_of result) }
+// Test 2.
+pub fn test_bytes(sheet: &[u8]) -> Result<(), Fault>
+    ensures { result ≡ bytes_of sheet.now }
 {
     if words::MAX_BYTES < sheet.len() {
-        return Err(Refusal::LongSheet);
+        return Err(Fault::LongSheet);
     }
-    let mut records = RecordsMut { a, b };
-    let n = read_sheet(sheet, &mut records, stack, words::MAX_DEPTH)?;
+    Ok(())
+}
+
+// Tests 2 to 8, and the number of records; what passes stands in the words. The stack is the reader's.
+fn test_sheet(sheet: &[u8], records: &mut RecordsMut<'_>, stack: &mut [u32]) -> Result<usize, Fault>
+    requires { work_words ≤ length stack.old }
+    ensures same { SameSlices records.old records.new }
+    ensures tested { TestsSheet sheet.now records.new.a.now records.new.b.now result }
+{
+    test_bytes(sheet)?;
+    let n = read_sheet(sheet, records, stack, words::MAX_DEPTH)?;
     precheck_statement(&records.shared(), words::MAX_DEPTH)?;
-    Ok(n * RECORD_OPERATORS)
+    Ok(n)
 }
 
 // The sizing call: tests 1 to 8, and a figure that is at least the plan's operator count and at most four times the record count.
-pub fn size_statement(sheet: &[u8], work: &mut Work<'_>) -> Result<usize, Refusal>
-    ensures sized { SizeCall (sizes work.old.a.now work.old.b.now work.old.c.now work.old.d.now) sheet.now (answer_of result) }
+pub fn size_statement(sheet: &[u8], work: &mut Work<'_>) -> Result<usize, Refusal<Fault>>
+    ensures sized { SizeCall (lengths work.old) sheet.now (answer_of result) }
     ensures kept { Kept work.old work.new }
 {
     if !work.long_enough() {
         return Err(Refusal::ShortWork);
     }
-    size_read(sheet, work.a, work.b, work.c)
+    let n = test_sheet(
+        sheet,
+        &mut RecordsMut {
+            a: work.a,
+            b: work.b,
+        },
+        work.c,
+    )?;
+    Ok(n * RECORD_OPERATORS)
 }

@@ -1,7 +1,7 @@
 // The four work slices of a call.
 ghost use Rattle.std.specs.Prelude.{◌≡◌, not};
 ghost use Rattle.model.specs.Call.{short};
-ghost use Rattle.statement.specs.Work.{sizes};
+ghost use Rattle.statement.specs.Work.{lengths};
 
 // What a call is lent to work in: two slices for the records, one for the reader's stack and then the operators, and one for the lowering's notes and variables.
 #[derive(Drop)]
@@ -15,7 +15,7 @@ pub struct Work<'a> {
 impl Work<'_> {
     // Whether each has as many words as a call needs.
     pub fn long_enough(&self) -> bool
-        ensures { result ≡ not (short (sizes self.now.a.now self.now.b.now self.now.c.now self.now.d.now)) }
+        ensures { result ≡ not (short (lengths self.now)) }
     {
         ![self.a.len(), self.b.len(), self.c.len(), self.d.len()]
             .iter()

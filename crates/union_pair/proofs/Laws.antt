@@ -1,17 +1,16 @@
 -- The call with two sheets: its tests in order, from what both sides' tests, the lowering and the writer answer. Assumes nothing: these are laws with their proofs.
 use Rattle.std.proofs.Math.Path.{◌≡◌}
-use Rattle.std.specs.Prelude.{refl, ℕ, ◌<◌, ◌≤◌, Bool, true, false, ◌||◌, List, [], ◌∷◌, ◌++◌, cond, ltb, Option, None, Some, ok_or, Result, Ok, Err}
+use Rattle.std.specs.Prelude.{refl, ℕ, ◌<◌, ◌≤◌, Bool, true, false, ◌||◌, List, [], ◌∷◌, ◌++◌, cond, ltb, Option, ok_or, Result, Ok, Err}
 use Rattle.std.proofs.Common.{sym, ap, subst, ◌∙◌, arith}
 use Rattle.std.proofs.Math.Bool.{or-true, or_assoc}
 use Rattle.std.proofs.lemmas.Bool.{ltb-true, ltb-false}
 use borrow.Author.Tests.{lt-ltb, le-ltb}
 use Rattle.std.proofs.Math.ListN.{length}
 use Rattle.model.specs.Text.{Bytes}
-use Rattle.model.specs.Refusal.{Refusal, Answer as Values}
+use Rattle.model.specs.Refusal.{Refusal as Refuses, Answer as Values}
 use Rattle.model.specs.Side.{side_values, whole_call, left_side, right_side}
 use Rattle.model.specs.Lower.{at, lower_pair}
-use Rattle.model.specs.Plan.{plan_sheet}
-use Rattle.model.specs.Call.{short, test_work, test_bytes, test_plan, Outcome, written, max_bytes, max_depth, max_plan, work_words}
+use Rattle.model.specs.Call.{short, test_work, test_bytes, test_plan, Outcome, max_bytes, max_depth, max_plan, work_words}
 use Rattle.model.specs.Pair.{refuse_side, then_sides, on_side, each, checked_sides, planned_pair, sides_outcome, pair_call}
 use Rattle.context.specs.Tables.{max_vars}
 use Rattle.lower.specs.Rep.{State, mem}
@@ -21,17 +20,19 @@ use Rattle.plan_sheet.specs.Due.{Tabled}
 use Rattle.plan_writer.specs.PairPromise.{tabled_as}
 use Rattle.plan_writer.specs.Pair.{SideTables, side_tables, PairTables, WrotePair}
 use Rattle.plan_writer.specs.Pair
-use Rattle.plan_writer.specs.Whole
 use Rattle.plan_writer.specs.declared.pair.Counts.{Counts}
 use Rattle.precheck.specs.declared.PlanLowerError.{PlanLowerError}
-use Rattle.sides.specs.declared.Fault.{Fault}
+use Rattle.statement.specs.declared.Fault.{Fault}
+use Rattle.statement.specs.declared.Refusal.{Refusal}
+use Rattle.statement.specs.Tests.{bytes_of}
+use Rattle.statement.specs.PlanTest.{full_of, plan_full, plan_fits, as_written}
+use Rattle.sheet.specs.declared.reader.ReadError.{ReadError}
 use Rattle.sides.specs.declared.Side.{Side}
 use Rattle.sides.specs.declared.SideFault.{SideFault}
-use Rattle.union_pair.specs.declared.PairRefusal.{PairRefusal}
 use Rattle.union_pair.specs.PairAnswer.{fault_values, pair_answer_of}
 use Rattle.sides.specs.Fault.{on_side_of}
-use Rattle.sides.specs.Sides.{FailsOn, BothTested, read_sides, check_sides}
-use Rattle.union_pair.specs.PairCall.{PairGives, Stand, LoweredBoth, bytes_of, behind_bytes}
+use Rattle.sides.specs.Sides.{Tested, each_of, FailsOn, BothTested, read_sides, check_sides}
+use Rattle.union_pair.specs.PairCall.{PairGives, Stand, LoweredBoth, behind_bytes}
 
 -- ── test 9, and the plan ──
 
@@ -39,25 +40,12 @@ use Rattle.union_pair.specs.PairCall.{PairGives, Stand, LoweredBoth, bytes_of, b
 abbrev pub counts_of : Sides → Counts
 counts_of sides = record { first = sides.first; ops = sides.ctx.ops; mapped = sides.ctx.mapped }
 
-as_written : (p : Option ℕ) → pair_answer_of (ok_or p PairRefusal.NoRoom) ≡ Whole.answer_of p
-unfolding Whole.answer_of
-as_written None = refl
-as_written (Some n) = refl
-
 module _ {L R : SideTables} {sides : Sides} {s : State} (t : Stand L R sides s) where
   ops_count : sides.ctx.ops ≡ length s.ops
   ops_count = t.on_right.count
 
   numbers_count : sides.ctx.numbers ≡ s.scope.next_var
   numbers_count = ap (λ (z : State). z.scope.next_var) t.on_right.state
-
-  pub full_ops : (slice : Bytes) → max_plan < sides.ctx.ops → PairGives slice slice (Err PairRefusal.PlanFull) (on_side whole_call (test_plan s))
-  unfolding test_plan on_side sides_outcome
-  full_ops slice h = let l : max_plan < length s.ops = rw ops_count at h in rw (lt-ltb max_plan (length s.ops) l)
-
-  pub full_numbers : (slice : Bytes) → max_plan < sides.ctx.numbers → PairGives slice slice (Err PairRefusal.PlanFull) (on_side whole_call (test_plan s))
-  unfolding test_plan on_side sides_outcome
-  full_numbers slice h = let l : max_plan < s.scope.next_var = rw numbers_count at h in rw (lt-ltb max_plan s.scope.next_var l, or-true (ltb max_plan (length s.ops)))
 
   module _ (ops : sides.ctx.ops ≤ max_plan) (met : sides.ctx.mapped ≤ max_vars) where
     left_tabled : Tabled L.sheet L.a L.b L.ops L.rest 0 sides.first (λ k. at s.ops k)
@@ -76,19 +64,23 @@ module _ {L R : SideTables} {sides : Sides} {s : State} (t : Stand L R sides s) 
       few = met;
     }
 
-    module _ (few_numbers : sides.ctx.numbers ≤ max_plan) (slice slice' : Bytes) (p : Option ℕ) (w : WrotePair L R (counts_of sides) slice slice' p) where
-      told : (x : Result ℕ PairRefusal) → pair_answer_of x ≡ Whole.answer_of p → PairGives slice slice' x (on_side whole_call (test_plan s))
-      unfolding test_plan on_side sides_outcome
-      told x e =
-          let h : length s.ops ≤ max_plan = rw ops_count at ops in
-          let h' : s.scope.next_var ≤ max_plan = rw numbers_count at few_numbers in
-          rw (le-ltb max_plan (length s.ops) h, le-ltb max_plan s.scope.next_var h') (subst (λ (z : Values). ◌≡◌ {A = Outcome} (record { answer = z; slice = slice' }) (written (plan_sheet s) slice)) (sym e) (w s pair_tables))
+  -- test 9, by its outcome
+  module _ {f : Result (Unit {0}) (Refusal SideFault)} (e : f ≡ full_of sides.ctx.ops sides.ctx.numbers) where
+    pub full : (slice : Bytes) {x : Refusal SideFault} → f ≡ Err x → PairGives slice slice (Err x) (on_side whole_call (test_plan s))
+    unfolding on_side sides_outcome
+    full slice z = let p = plan_full s ops_count numbers_count e z in rw (p.0, p.1) refl
 
-      pub answered : (x : Result ℕ PairRefusal) → x ≡ ok_or p PairRefusal.NoRoom → PairGives slice slice' x (on_side whole_call (test_plan s))
-      answered x e = told x (rw e (as_written p))
+    pub answered : {u : Unit {0}} → f ≡ Ok u → sides.ctx.mapped ≤ max_vars → (slice slice' : Bytes) (p : Option ℕ) → WrotePair L R (counts_of sides) slice slice' p → (x : Result ℕ (Refusal SideFault)) → x ≡ ok_or p Refusal.NoRoom → PairGives slice slice' x (on_side whole_call (test_plan s))
+    unfolding on_side sides_outcome
+    answered z met slice slice' p w x q =
+        let g = plan_fits s ops_count numbers_count e z in
+        rw (g.1, q, as_written fault_values p) (w s (pair_tables g.0 met))
 
-pub asked : {L R : SideTables} {sides : Sides} → LoweredBoth L R sides → sides.ctx.ops ≤ max_plan → Pair.PairAsked L R (counts_of sides)
-asked l h = record { state = l.state; tables = pair_tables l.stand h l.met }
+    pub few_operators : {u : Unit {0}} → f ≡ Ok u → sides.ctx.ops ≤ max_plan
+    few_operators z = (plan_fits s ops_count numbers_count e z).0
+
+pub asked : {L R : SideTables} {sides : Sides} {f : Result (Unit {0}) (Refusal SideFault)} {u : Unit {0}} → LoweredBoth L R sides → f ≡ full_of sides.ctx.ops sides.ctx.numbers → f ≡ Ok u → Pair.PairAsked L R (counts_of sides)
+asked l e z = record { state = l.state; tables = pair_tables l.stand (few_operators l.stand e z) l.met }
 
 -- ── the lowering of both ──
 
@@ -112,34 +104,34 @@ module _ {left right : Bytes} {la lb ra rb : List ℕ} (b : BothTested left la l
 -- no value tells the name
 nameless : (side : Side) (f : Fault) (unresolved : Bytes) → side_values (on_side_of (record { side = side; fault = f }) unresolved) ≡ fault_values (record { side = side; fault = f })
 nameless side Fault.LongSheet unresolved = refl
-nameless side (Fault.BadLine l) unresolved = refl
-nameless side (Fault.BigTree l) unresolved = refl
-nameless side (Fault.WriteClause l) unresolved = refl
+nameless side (Fault.Unread (ReadError.BadLine l)) unresolved = refl
+nameless side (Fault.Unread (ReadError.BigTree l)) unresolved = refl
+nameless side (Fault.Unread (ReadError.WriteClause l)) unresolved = refl
 nameless side (Fault.Refused (PlanLowerError.UnresolvedName line span)) unresolved = refl
 nameless side (Fault.Refused (PlanLowerError.UndesugaredExpr line span kind)) unresolved = refl
 nameless side (Fault.Refused (PlanLowerError.EmptyPatternPart line span)) unresolved = refl
 
 module _ (left right : Bytes) (all : Bool) (slice : Bytes) where
-  pub failed : (f : SideFault) → FailsOn f (read_sides left right) → PairGives slice slice (Err (PairRefusal.OfSide f)) (behind_bytes left right all)
+  pub failed : (f : SideFault) → FailsOn f (read_sides left right) → PairGives slice slice (Err (Refusal.OfSheet f)) (behind_bytes left right all)
   unfolding sides_outcome then_sides
   failed f h = rw h.is (ap (λ (a : Values). record { answer = a; slice = slice }) (sym (nameless f.side f.fault h.unresolved)))
 
-  pub passed : {la lb ra rb : List ℕ} {slice' : Bytes} (b : BothTested left la lb right ra rb) (x : Result ℕ PairRefusal) → PairGives slice slice' x (on_side whole_call (test_plan (lower_pair b.held.tree b.held.tree₂ all))) → PairGives slice slice' x (behind_bytes left right all)
+  pub passed : {la lb ra rb : List ℕ} {slice' : Bytes} (b : BothTested left la lb right ra rb) (x : Result ℕ (Refusal SideFault)) → PairGives slice slice' x (on_side whole_call (test_plan (lower_pair b.held.tree b.held.tree₂ all))) → PairGives slice slice' x (behind_bytes left right all)
   unfolding then_sides
   passed b x g = rw b.passes g
 
 module _ (work : List ℕ) (left right : Bytes) (all : Bool) where
-  pub pair_short : short work ≡ true → planned_pair max_depth work left right all ≡ refuse_side (record { side = whole_call; refusal = Refusal.ShortWork })
+  pub pair_short : short work ≡ true → planned_pair max_depth work left right all ≡ refuse_side (record { side = whole_call; refusal = Refuses.ShortWork })
   unfolding planned_pair checked_sides on_side then_sides test_work
   pair_short e = rw e
 
   module _ (e : short work ≡ false) where
-    pub long_left : max_bytes < length left → planned_pair max_depth work left right all ≡ refuse_side (record { side = left_side; refusal = Refusal.LongSheet })
+    pub long_left : max_bytes < length left → planned_pair max_depth work left right all ≡ refuse_side (record { side = left_side; refusal = Refuses.LongSheet })
     unfolding planned_pair checked_sides each on_side then_sides test_work test_bytes
     long_left h = rw (e, lt-ltb max_bytes (length left) h)
 
     module _ (a : length left ≤ max_bytes) where
-      pub long_right : max_bytes < length right → planned_pair max_depth work left right all ≡ refuse_side (record { side = right_side; refusal = Refusal.LongSheet })
+      pub long_right : max_bytes < length right → planned_pair max_depth work left right all ≡ refuse_side (record { side = right_side; refusal = Refuses.LongSheet })
       unfolding planned_pair checked_sides each on_side then_sides test_work test_bytes
       long_right h = rw (e, le-ltb max_bytes (length left) a, lt-ltb max_bytes (length right) h)
 
@@ -165,41 +157,45 @@ none_short v w e f = short_append v w ∙ rw (e, f)
 
 -- ── the call ──
 
--- test 2 of one side, by its outcome
-module _ (side : Side) (sheet : Bytes) where
-  pub not_long : (r : Result (Unit {0}) SideFault) {x : Unit {0}} → r ≡ bytes_of side sheet → r ≡ Ok x → length sheet ≤ max_bytes
-  not_long r e z = go (ltb max_bytes (length sheet)) refl (sym e ∙ z)
-    where
-      go : (b : Bool) {x : Unit {0}} → ltb max_bytes (length sheet) ≡ b → cond {A = Result (Unit {0}) SideFault} b (Err (record { side = side; fault = Fault.LongSheet })) (Ok tt) ≡ Ok x → length sheet ≤ max_bytes
-      go true k z = cc
-      go false k z = ltb-false max_bytes (length sheet) k
-
-  pub sheet_long : (r : Result (Unit {0}) SideFault) {f : SideFault} → r ≡ bytes_of side sheet → r ≡ Err f → (max_bytes < length sheet) × (f ≡ record { side = side; fault = Fault.LongSheet })
-  sheet_long r e z = go (ltb max_bytes (length sheet)) refl (sym e ∙ z)
-    where
-      go : (b : Bool) {f : SideFault} → ltb max_bytes (length sheet) ≡ b → cond {A = Result (Unit {0}) SideFault} b (Err (record { side = side; fault = Fault.LongSheet })) (Ok tt) ≡ Err f → (max_bytes < length sheet) × (f ≡ record { side = side; fault = Fault.LongSheet })
-      go true k z = (ltb-true max_bytes (length sheet) k, cc)
-      go false k z = cc
-
 module _ (work : List ℕ) (left right : Bytes) (all : Bool) (plan : Bytes) where
   -- the call's answer and slice
-  abbrev pub Answers : Result ℕ PairRefusal → Bytes → Type 0
+  abbrev pub Answers : Result ℕ (Refusal SideFault) → Bytes → Type 0
   Answers x slice = ◌≡◌ {A = Outcome} (record { answer = pair_answer_of x; slice = slice }) (pair_call work left right all plan)
 
-  pub refused_first : short work ≡ true → Answers (Err PairRefusal.ShortWork) plan
+  pub refused_first : short work ≡ true → Answers (Err Refusal.ShortWork) plan
   unfolding pair_call sides_outcome
   refused_first e = rw (pair_short work left right all e)
 
   module _ (e : short work ≡ false) where
-    pub left_long : max_bytes < length left → Answers (Err (PairRefusal.OfSide (record { side = Side.Left; fault = Fault.LongSheet }))) plan
+    left_long : max_bytes < length left → Answers (Err (Refusal.OfSheet (record { side = Side.Left; fault = Fault.LongSheet }))) plan
     unfolding pair_call sides_outcome
     left_long l = rw (long_left work left right all e l)
 
-    module _ (a : length left ≤ max_bytes) where
-      pub right_long : max_bytes < length right → Answers (Err (PairRefusal.OfSide (record { side = Side.Right; fault = Fault.LongSheet }))) plan
-      unfolding pair_call sides_outcome
-      right_long l = rw (long_right work left right all e a l)
+    right_long : length left ≤ max_bytes → max_bytes < length right → Answers (Err (Refusal.OfSheet (record { side = Side.Right; fault = Fault.LongSheet }))) plan
+    unfolding pair_call sides_outcome
+    right_long a l = rw (long_right work left right all e a l)
 
-      pub called : length right ≤ max_bytes → (slice : Bytes) (x : Result ℕ PairRefusal) → PairGives plan slice x (behind_bytes left right all) → Answers x slice
-      unfolding pair_call
-      called l slice x q = rw (behind_bytes_law work left right all e a l) q
+    pub called : (length left ≤ max_bytes) × (length right ≤ max_bytes) → (slice : Bytes) (x : Result ℕ (Refusal SideFault)) → PairGives plan slice x (behind_bytes left right all) → Answers x slice
+    unfolding pair_call
+    called l slice x q = rw (behind_bytes_law work left right all e l.0 l.1) q
+
+    pub one_long : {r : Tested} {f : SideFault} → r ≡ each_of (bytes_of left) (bytes_of right) → r ≡ Err f → Answers (Err (Refusal.OfSheet f)) plan
+    one_long q z = go (ltb max_bytes (length left)) (ltb max_bytes (length right)) refl refl (sym q ∙ z)
+      where
+        go : (b d : Bool) {f : SideFault} → ltb max_bytes (length left) ≡ b → ltb max_bytes (length right) ≡ d → each_of (cond b (Err Fault.LongSheet) (Ok tt)) (cond d (Err Fault.LongSheet) (Ok tt)) ≡ Err f → Answers (Err (Refusal.OfSheet f)) plan
+        go true d {f} k m z = let y : record { side = Side.Left; fault = Fault.LongSheet } ≡ f = cc in subst (λ (x : SideFault). Answers (Err (Refusal.OfSheet x)) plan) y (left_long (ltb-true max_bytes (length left) k))
+        go false true {f} k m z = let y : record { side = Side.Right; fault = Fault.LongSheet } ≡ f = cc in subst (λ (x : SideFault). Answers (Err (Refusal.OfSheet x)) plan) y (right_long (ltb-false max_bytes (length left) k) (ltb-true max_bytes (length right) m))
+        go false false k m z = cc
+
+-- test 2 on both, passed
+pub both_short : (left right : Bytes) {r : Tested} {x : Unit {0}} → r ≡ each_of (bytes_of left) (bytes_of right) → r ≡ Ok x → (length left ≤ max_bytes) × (length right ≤ max_bytes)
+both_short left right q z = go (ltb max_bytes (length left)) (ltb max_bytes (length right)) refl refl (sym q ∙ z)
+  where
+    go : (b d : Bool) {x : Unit {0}} → ltb max_bytes (length left) ≡ b → ltb max_bytes (length right) ≡ d → each_of (cond b (Err Fault.LongSheet) (Ok tt)) (cond d (Err Fault.LongSheet) (Ok tt)) ≡ Ok x → (length left ≤ max_bytes) × (length right ≤ max_bytes)
+    go true d k m z = cc
+    go false true k m z = cc
+    go false false k m z = (ltb-false max_bytes (length left) k, ltb-false max_bytes (length right) m)
+
+-- what test 2 found, of what it is made of
+pub bytes_each : (left right : Bytes) {l r : Result (Unit {0}) Fault} {o : Tested} → o ≡ each_of l r → l ≡ bytes_of left → r ≡ bytes_of right → o ≡ each_of (bytes_of left) (bytes_of right)
+bytes_each left right e p q = rw (sym p, sym q) e

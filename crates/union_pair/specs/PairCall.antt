@@ -1,26 +1,24 @@
 -- The call with two sheets: what its parts ask and promise. Assumes nothing: these are definitions.
 use Rattle.std.proofs.Math.Path.{◌≡◌}
-use Rattle.std.specs.Prelude.{ℕ, ◌≤◌, Bool, cond, ltb, List, [], ◌∷◌, Result, Ok, Err}
+use Rattle.std.specs.Prelude.{ℕ, ◌≤◌, Bool, List, [], ◌∷◌, Result}
 use Rattle.std.proofs.Math.ListN.{length}
 use Rattle.model.specs.Text.{Bytes}
 use Rattle.model.specs.Side.{whole_call}
 use Rattle.model.specs.Lower.{LowerCtx, lower_pair}
-use Rattle.model.specs.Call.{test_plan, max_bytes, Outcome}
+use Rattle.model.specs.Call.{test_plan, Outcome}
 use Rattle.model.specs.Pair.{SideTest, then_sides, on_side, sides_outcome}
 use Rattle.context.specs.Tables.{max_vars}
 use Rattle.lower.specs.Rep.{State, mem}
 use Rattle.clauses.specs.Pair.{TwoTables}
 use Rattle.clauses.specs.declared.pair.Sides.{Sides}
 use Rattle.plan_writer.specs.Pair.{SideTables}
-use Rattle.sides.specs.declared.Fault.{Fault}
-use Rattle.sides.specs.declared.Side.{Side}
 use Rattle.sides.specs.declared.SideFault.{SideFault}
-use Rattle.union_pair.specs.declared.PairRefusal.{PairRefusal}
+use Rattle.statement.specs.declared.Refusal.{Refusal}
 use Rattle.union_pair.specs.PairAnswer.{pair_answer_of}
 use Rattle.sides.specs.Sides.{read_sides}
 
 -- the answer and the slice are those of a test of two sides
-abbrev pub PairGives : Bytes → Bytes → Result ℕ PairRefusal → SideTest LowerCtx → Type 0
+abbrev pub PairGives : Bytes → Bytes → Result ℕ (Refusal SideFault) → SideTest LowerCtx → Type 0
 PairGives slice slice' x m = ◌≡◌ {A = Outcome} (record { answer = pair_answer_of x; slice = slice' }) (sides_outcome slice m)
 
 -- the tables of two sheets stand for the state s
@@ -32,10 +30,6 @@ pub record LoweredBoth (L R : SideTables) (sides : Sides) : Type 0 where
   pub met : sides.ctx.mapped ≤ max_vars
   pub state : State
   pub stand : Stand L R sides state
-
--- test 2 of one side
-abbrev pub bytes_of : Side → Bytes → Result (Unit {0}) SideFault
-bytes_of side sheet = cond (ltb max_bytes (length sheet)) (Err (record { side = side; fault = Fault.LongSheet })) (Ok tt)
 
 -- what test 2 leaves
 abbrev pub behind_bytes : (left right : Bytes) (all : Bool) → SideTest LowerCtx

@@ -1,7 +1,7 @@
 // The lowering call with its answer as values, whose length lies within the plan slice.
 ghost use Rattle.std.specs.Prelude.{◌≡◌, ◌≤◌, length};
 ghost use Rattle.model.specs.Call.{lower_call};
-ghost use Rattle.statement.specs.Work.{sizes, Kept};
+ghost use Rattle.statement.specs.Work.{lengths, Kept};
 ghost use Rattle.values.specs.Told.{told};
 
 use crate::Values;
@@ -9,7 +9,7 @@ use statement::Work;
 use statement::lowering::lower_statement;
 
 pub fn lower(sheet: &[u8], work: &mut Work<'_>, plan: &mut [u8]) -> Values
-    ensures plan_after { record { answer = told result; slice = plan.new } ≡ lower_call (sizes work.old.a.now work.old.b.now work.old.c.now work.old.d.now) sheet.now plan.old }
+    ensures plan_after { record { answer = told result; slice = plan.new } ≡ lower_call (lengths work.old) sheet.now plan.old }
     ensures length_in_bounds { result.length ≤ length plan.new }
     ensures kept { Kept work.old work.new }
 {

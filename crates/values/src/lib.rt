@@ -4,19 +4,18 @@
 ghost use Rattle.std.specs.Prelude.{◌≡◌};
 ghost use Rattle.model.specs.Refusal.{line_refusal, tree_refusal, accepted as accepts};
 ghost use Rattle.precheck.specs.Answer.{span_of};
-ghost use Rattle.sides.specs.Fault.{side_number};
-ghost use Rattle.statement.specs.Answer.{answer_of, error_answer, refusal_answer};
-ghost use Rattle.union_pair.specs.PairAnswer.{fault_values, pair_refusal_answer, pair_answer_of};
-ghost use Rattle.values.specs.Told.{told, words_of, refusal_of, kind_on};
+ghost use Rattle.statement.specs.Answer.{error_answer, fault_answer, answer_of};
+ghost use Rattle.union_pair.specs.PairAnswer.{fault_values, pair_answer_of};
+ghost use Rattle.values.specs.Told.{told, words_of, kind_on, AnswerTold};
 
 pub mod call;
 pub mod refusal;
 pub mod text;
 
 use precheck::{HirSpan, PlanLowerError};
-use sides::{Fault, Side, SideFault};
-use statement::Refusal;
-use union_pair::PairRefusal;
+use sheet::reader::ReadError;
+use sides::SideFault;
+use statement::{Fault, Refusal};
 
 // What a side adds to the kind of a form.
 const SIDE_STEP: usize = 10;
@@ -94,40 +93,26 @@ fn error_values(e: PlanLowerError) -> Values
     }
 }
 
-fn refusal_values(r: Refusal) -> Values
-    ensures { told result ≡ refusal_answer r }
-{
-    match r {
-        Refusal::ShortWork => at_line(refusal::SHORT_WORK, 0),
-        Refusal::LongSheet => at_line(refusal::LONG_SHEET, 0),
-        Refusal::BadLine(line) => at_line(refusal::BAD_LINE, line),
-        Refusal::BigTree(line) => at_line(refusal::BIG_TREE, line),
-        Refusal::WriteClause(line) => at_line(refusal::WRITE_CLAUSE, line),
-        Refusal::Refused(e) => error_values(e),
-        Refusal::PlanFull => at_line(refusal::PLAN_FULL, 0),
-        Refusal::NoRoom => at_line(refusal::NO_ROOM, 0),
-    }
-}
+impl From<Fault> for Values {
+    ghost from_gives = { λ f v. told v ≡ fault_answer f };
 
-// A sheet's fault as a single sheet is refused for it.
-fn as_refusal(fault: Fault) -> Refusal
-    ensures { result ≡ refusal_of fault }
-{
-    match fault {
-        Fault::LongSheet => Refusal::LongSheet,
-        Fault::BadLine(line) => Refusal::BadLine(line),
-        Fault::BigTree(line) => Refusal::BigTree(line),
-        Fault::WriteClause(line) => Refusal::WriteClause(line),
-        Fault::Refused(e) => Refusal::Refused(e),
+    fn from(fault: Fault) -> Values {
+        match fault {
+            Fault::LongSheet => at_line(refusal::LONG_SHEET, 0),
+            Fault::Unread(ReadError::BadLine(line)) => at_line(refusal::BAD_LINE, line),
+            Fault::Unread(ReadError::BigTree(line)) => at_line(refusal::BIG_TREE, line),
+            Fault::Unread(ReadError::WriteClause(line)) => at_line(refusal::WRITE_CLAUSE, line),
+            Fault::Refused(e) => error_values(e),
+        }
     }
 }
 
 // The kind of a side's fault: it tells the side, in its tens where a form has a kind of its own.
-fn side_kind(side: Side, fault: Fault) -> usize
-    ensures { result ≡ kind_on side fault }
+fn side_kind(f: SideFault) -> usize
+    ensures { result ≡ kind_on f.side f.fault }
 {
-    let side = side as usize;
-    match fault {
+    let side = f.side as usize;
+    match f.fault {
         Fault::Refused(PlanLowerError::UndesugaredExpr { kind, .. }) => {
             SIDE_STEP * side + kind as usize
         }
@@ -135,17 +120,14 @@ fn side_kind(side: Side, fault: Fault) -> usize
     }
 }
 
-fn pair_refusal_values(r: PairRefusal) -> Values
-    ensures { told result ≡ pair_refusal_answer r }
-{
-    match r {
-        PairRefusal::ShortWork => at_line(refusal::SHORT_WORK, 0),
-        PairRefusal::OfSide(SideFault { side, fault }) => Values {
-            kind: side_kind(side, fault),
-            ..refusal_values(as_refusal(fault))
-        },
-        PairRefusal::PlanFull => at_line(refusal::PLAN_FULL, 0),
-        PairRefusal::NoRoom => at_line(refusal::NO_ROOM, 0),
+impl From<SideFault> for Values {
+    ghost from_gives = { λ f v. told v ≡ fault_values f };
+
+    fn from(f: SideFault) -> Values {
+        Values {
+            kind: side_kind(f),
+            ..Values::from(f.fault)
+        }
     }
 }
 
@@ -159,25 +141,35 @@ fn accepted(length: usize) -> Values
     }
 }
 
-impl From<Result<usize, Refusal>> for Values {
+// The answer of a call with one sheet, or with two: F is what may be wrong with a sheet.
+// A function, and no impl of `From` for all F: that impl's own bound would have to be solved by it again.
+fn answer_values<F>(answer: Result<usize, Refusal<F>>) -> Values
+where
+    Values: From<F>,
+    ensures { AnswerTold ⟦<Values as From<F>>⟧.from_gives answer result }
+{
+    match answer {
+        Ok(n) => accepted(n),
+        Err(Refusal::ShortWork) => at_line(refusal::SHORT_WORK, 0),
+        Err(Refusal::OfSheet(f)) => Values::from(f),
+        Err(Refusal::PlanFull) => at_line(refusal::PLAN_FULL, 0),
+        Err(Refusal::NoRoom) => at_line(refusal::NO_ROOM, 0),
+    }
+}
+
+impl From<Result<usize, Refusal<Fault>>> for Values {
     ghost from_gives = { λ r v. told v ≡ answer_of r };
 
-    fn from(answer: Result<usize, Refusal>) -> Values {
-        match answer {
-            Ok(n) => accepted(n),
-            Err(r) => refusal_values(r),
-        }
+    fn from(answer: Result<usize, Refusal<Fault>>) -> Values {
+        answer_values(answer)
     }
 }
 
 // The kind tells the side too.
-impl From<Result<usize, PairRefusal>> for Values {
+impl From<Result<usize, Refusal<SideFault>>> for Values {
     ghost from_gives = { λ r v. told v ≡ pair_answer_of r };
 
-    fn from(answer: Result<usize, PairRefusal>) -> Values {
-        match answer {
-            Ok(n) => accepted(n),
-            Err(r) => pair_refusal_values(r),
-        }
+    fn from(answer: Result<usize, Refusal<SideFault>>) -> Values {
+        answer_values(answer)
     }
 }

@@ -1,16 +1,13 @@
--- `write_lowered` meets its contract: test 9 by the counts, and then the writer's answer. Assumes nothing.
-use Rattle.union_pair.proofs.Laws.{full_ops, full_numbers, asked, answered}
-use native.Mathlib.Omega.{arith}
+-- `write_lowered` meets its contract: test 9, and then the writer's answer. Assumes nothing.
+use Rattle.precheck.proofs.Laws.{handed_on}
+use Rattle.union_pair.proofs.Laws.{full, asked, answered}
 use Rattle.union_pair.proofs.write_lowered.Goals as goal
 
-pub returns-then-ctx-gt-MAX_OPERATORS : goal.returns-then-ctx-gt-MAX_OPERATORS
-returns-then-ctx-gt-MAX_OPERATORS c = λ s t. full_ops t _ (omega (arith, c.if-ctx-gt-MAX_OPERATORS.true))
-
-pub returns-then-ctx-gt-MAX_NUMBERS : goal.returns-then-ctx-gt-MAX_NUMBERS
-returns-then-ctx-gt-MAX_NUMBERS c = λ s t. full_numbers t _ c.if-ctx-gt-MAX_NUMBERS.true
+pub returns-in_err-test_plan : goal.returns-in_err-test_plan
+returns-in_err-test_plan c = λ s t. rw (handed_on c.from_residual.ensures.1) (full t c.test_plan.ensures _ c.in_err-test_plan.was)
 
 pub write_pair-requires : goal.write_pair-requires
-write_pair-requires c = asked c.requires c.if-ctx-gt-MAX_OPERATORS.false
+write_pair-requires c = asked c.requires c.test_plan.ensures c.in_ok-test_plan.was
 
 pub returns : goal.returns
-returns c = λ s t. answered t c.if-ctx-gt-MAX_OPERATORS.false c.requires.met c.if-ctx-gt-MAX_NUMBERS.false _ _ _ c.write_pair.ensures _ c.ok_or.ensures.value
+returns c = λ s t. answered t c.test_plan.ensures c.in_ok-test_plan.was c.requires.met _ _ _ c.write_pair.ensures _ c.ok_or.ensures.value
