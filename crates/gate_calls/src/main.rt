@@ -4,6 +4,7 @@
 ghost use Rattle.std.specs.Prelude.{◌≤◌, ◌<◌, length, IfSome};
 ghost use Rattle.model.specs.Call.{work_words};
 
+use gate_answers::shown;
 use gate_cases::text::{build_sheet, cut};
 use input::read_full;
 use library::{dresserhawk_lower, dresserhawk_size};
@@ -11,9 +12,6 @@ use record::number::decimal;
 use statement::Work;
 use std::io;
 use std::io::Write;
-
-// So many bytes of a plan slice are printed at most.
-const SHOWN: usize = 2048;
 
 // A page for a sheet, and the longest plan slice.
 const PAGE: usize = 65536;
@@ -134,7 +132,7 @@ fn say<W: Write>(
 
 // The first bytes of a slice.
 fn say_slice<W: Write>(out: &mut W, slice: &[u8]) -> io::Result<()> {
-    out.write_all(&slice[..slice.len().min(SHOWN)])?;
+    out.write_all(shown(slice))?;
     out.write_all(b"\n")
 }
 

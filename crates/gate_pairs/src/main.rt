@@ -3,6 +3,7 @@
 
 ghost use Rattle.std.specs.Prelude.{◌<◌, length, IfSome};
 
+use gate_answers::{say_answer, shown};
 use gate_cases::text::{MAX_FILE, build_sheet, first_sheet};
 use input::read_full;
 use statement::Work;
@@ -10,16 +11,9 @@ use std::io;
 use std::io::Write;
 use union_pair::lower_union_pair;
 use values::Values;
-use values::text::write_values;
-
-// Room for the six values of an answer, each behind a blank.
-const VALUES_BYTES: usize = 160;
 
 // A page for a sheet, and the plan's slice.
 const PAGE: usize = 65536;
-
-// So many bytes of a plan are printed at most.
-const SHOWN: usize = 2048;
 
 // Whether all rows are kept, and two sheets, or the texts that they are made of.
 #[derive(Drop)]
@@ -44,11 +38,12 @@ fn first_pair(file: &[u8]) -> Option<(Pair<'_>, &[u8])>
 
 // A plan, or its first bytes and a line feed.
 fn say_plan<W: Write>(out: &mut W, plan: &[u8]) -> io::Result<()> {
-    if plan.len() > SHOWN {
-        out.write_all(&plan[0..SHOWN])?;
-        return out.write_all(b"\n");
+    let first = shown(plan);
+    out.write_all(first)?;
+    if first.len() < plan.len() {
+        out.write_all(b"\n")?;
     }
-    out.write_all(plan)
+    Ok(())
 }
 
 // The answer to a pair and its plan, which is empty for a refused one.
@@ -61,12 +56,7 @@ fn show<W: Write>(
 ) -> io::Result<()> {
     let v = Values::from(lower_union_pair(pair.left, pair.right, pair.all, l, r, plan));
     let n = v.length;
-    let mut line = [0u8; VALUES_BYTES];
-    out.write_all(b"answer")?;
-    if let Some(k) = write_values(&mut line, b' ', v) {
-        out.write_all(&line[..k])?;
-    }
-    out.write_all(b"\n")?;
+    say_answer(out, v)?;
     if n <= plan.len() {
         return say_plan(out, &plan[..n]);
     }

@@ -1,16 +1,13 @@
 // The lowering call on the sheets of a file from standard input, an empty line behind each. For each: the number, line, start, end, kind and length of the answer, and the plan. What the gate feeds it and what it has to print, the Rust's answers, are made by `compare sample` (rust/README.md).
 #![tactic(auto)]
 
+use gate_answers::say_answer;
 use gate_cases::text::{MAX_FILE, first_sheet};
 use input::read_full;
 use statement::Work;
 use std::io;
 use std::io::Write;
 use values::call::lower;
-use values::text::write_values;
-
-// Room for the six values of an answer, each behind a blank.
-const VALUES_BYTES: usize = 160;
 
 // The plan's slice.
 const PLAN_BYTES: usize = 65536;
@@ -24,12 +21,7 @@ fn show<W: Write>(
 ) -> io::Result<()> {
     let v = lower(sheet, work, plan);
     let n = v.length;
-    let mut line = [0u8; VALUES_BYTES];
-    out.write_all(b"answer")?;
-    if let Some(k) = write_values(&mut line, b' ', v) {
-        out.write_all(&line[..k])?;
-    }
-    out.write_all(b"\n")?;
+    say_answer(out, v)?;
     out.write_all(&plan[..n])
 }
 
