@@ -24,7 +24,7 @@ pub returns-in-Alias : goal.returns-in-Alias
 returns-in-Alias c = arm_alias c.in-Alias.is c.alias.ensures
 
 pub returns-in-Number : goal.returns-in-Number
-returns-in-Number c = arm_number c.in-Number.is (rw c.from.ensures at c.number-in-Number.ensures)
+returns-in-Number c = arm_number c.in-Number.is c.number-in-Number.ensures
 
 pub returns-in-Span : goal.returns-in-Span
 returns-in-Span c = rw c.in-Span.is c.span.ensures
