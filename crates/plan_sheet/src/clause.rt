@@ -37,12 +37,12 @@ fn put_project(page: &mut Page<'_>, r: Record<'_>, input: u32)
 
 // The input of a procedure, or that it has none.
 #[tactic(auto, unfolding(model::specs::Field::spell_option))]
-fn put_input(page: &mut Page<'_>, input: Option<usize>)
+fn put_input(page: &mut Page<'_>, input: Option<u32>)
     ensures { Puts (tab ∷ spell_option input) page.old page.new }
 {
     match input {
         None => page.put_part(b"\t-"),
-        Some(k) => page.put_tabbed(k as u64),
+        Some(k) => page.put_tabbed(u64::from(k)),
     }
 }
 
@@ -57,7 +57,7 @@ fn put_counts(page: &mut Page<'_>, r: Record<'_>)
 }
 
 // A `call`: its input, its procedure's name, and its numbers.
-fn put_procedure(page: &mut Page<'_>, sheet: &[u8], r: Record<'_>, input: Option<usize>)
+fn put_procedure(page: &mut Page<'_>, sheet: &[u8], r: Record<'_>, input: Option<u32>)
     requires { TextIn sheet.now r call_name_at }
     ensures { Puts (call_text input (text_of sheet.now r.entry call_name_at) (word_of r.entry call_args_at) (word_of r.entry call_yields_at) (word_of r.entry call_optional_at)) page.old page.new }
 {
