@@ -1,3 +1,4 @@
+pub mod PackLaws
 pub mod KindLaws
 pub mod PlaceLaws
 pub mod WordLaws

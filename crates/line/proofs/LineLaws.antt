@@ -1,5 +1,5 @@
 -- A line from its keyword and its fields. Assumes nothing.
-use mathlib.Core.Path.{◌≡◌, sym, ap, ◌∙◌}
+use mathlib.Core.Path.{◌≡◌, refl, sym, ap, ◌∙◌}
 use Prim.Native.Nat.{ℕ, ◌+◌, ◌%◌, ◌<◌}
 use mathlib.Core.List.{List, ◌∷◌}
 use Rattle.std.specs.Prelude.{Option, None, Some}
@@ -16,9 +16,11 @@ use Rattle.words.specs.Held.{total}
 use Rattle.words.specs.Table.{sort_of, groups_of}
 use Rattle.words.specs.TableLaws.{Row, tabled, kind_row}
 use Rattle.record.specs.Place.{LineEnd, Fed, Ends}
-use Rattle.line.specs.Kinds.{kind_found, Named}
+use Rattle.line.specs.declared.kind.Keyword.{Keyword}
+use Rattle.line.specs.Kinds.{KeywordAt, kind_found, Named}
 use Rattle.line.specs.Place.{pieces_at}
 use Rattle.line.specs.LineRead.{Alike, FieldsRead, FieldsHere, Got, LineHere}
+use Rattle.line.proofs.KindLaws.{untold}
 use Rattle.line.proofs.CountLaws.{same_total}
 use Rattle.line.proofs.PlaceLaws.{piece_at, line_at, pieces_from, some_left}
 
@@ -142,3 +144,7 @@ module _ (sheet : Bytes) (p m r : ℕ) (low : m < sort_count) (ends : Ends sheet
             answer = (ap (λ x. x + 1) (at_end_law e₁ o many counts e l), got e₁ o many counts e l);
             long = length-set (set ws₁ children_at many) line_end_at (e₁ + 1) ∙ length-set ws₁ children_at many ∙ (read e₁ o many counts e l).long;
           }
+
+-- a keyword longer than all others
+pub line_keyless : (sheet : Bytes) (p m : ℕ) → m < sort_count → (k : Keyword) → k.word ≡ None → KeywordAt sheet p k → (ws : List ℕ) → length ws ≡ record_words → LineHere (sort_of m) sheet p ws None
+line_keyless sheet p m low k none key ws n = line_unnamed sheet p m k.end low key.ends None (untold m (slice p k.end sheet) low (rw none at key.packed)) refl ws n

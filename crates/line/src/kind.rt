@@ -1,93 +1,131 @@
 // The kind that a keyword names among those of a sort.
-ghost use Rattle.std.specs.Prelude.{◌≡◌, cond, Some, None};
-ghost use Rattle.model.specs.Text.{same};
-ghost use Rattle.model.specs.Kind.{clause, pattern_element, expr};
+ghost use Rattle.std.specs.Prelude.{◌≡◌, cond, eqb, Some, None};
+ghost use Rattle.words.specs.Places.{clause_sort, pattern_element_sort, expr_sort};
 ghost use Rattle.words.specs.Sorts.{sort_is};
-ghost use Rattle.line.specs.Kinds.{numbered};
+ghost use Rattle.model.specs.Text.{Bytes};
+ghost use Rattle.line.specs.Kinds.{Packed, KeywordAt, Named, keyed};
 
-use words::kind;
+use record::cursor::Cursor;
+use record::piece::{piece_end, separates};
 use words::sort::Sort;
+use words::{BYTE_VALUES, key, kind};
+
+// No keyword has more bytes, so that the number fits 64 bits.
+const MAX_KEYWORD: usize = 7;
+
+// A keyword: its bytes as one number behind a leading 1, if they are at most seven; and where it ends, however long it is.
+#[derive(Clone, Copy)]
+pub struct Keyword {
+    pub word: Option<u64>,
+    pub end: usize,
+}
+
+// The keyword here.
+pub fn read_keyword(c: Cursor<'_>) -> Keyword
+    ensures { KeywordAt c.entry.bytes.now c.entry.at result }
+{
+    let most = c.at + MAX_KEYWORD;
+    let mut v: u64 = 1;
+    let mut i = c.at;
+    // A `while`, since nothing tells where the separator is before it is met.
+    while !separates(c.bytes[i]) {
+        if i == most {
+            let end = piece_end(Cursor {
+                bytes: c.bytes,
+                at: i,
+            });
+            return Keyword { word: None, end };
+        }
+        let b = u64::from(c.bytes[i]);
+        v = v * BYTE_VALUES + b;
+        i += 1;
+    }
+    Keyword {
+        word: Some(v),
+        end: i,
+    }
+}
 
 // The kind of a sort that has only this one.
-fn only(word: &[u8], keyword: &[u8], kind: u32) -> Option<u32>
-    ensures { result ≡ cond (same word.now keyword.now) (Some kind) None }
+fn only(w: u64, key: u64, kind: u32) -> Option<u32>
+    ensures { result ≡ cond (eqb key w) (Some kind) None }
 {
-    (word == keyword).then_some(kind)
+    (key == w).then_some(kind)
 }
 
-#[tactic(auto, using(crate::proofs::KindLaws::spelled), unfolding(crate::specs::Kinds::numbered, crate::specs::Kinds::numbered_from, words::specs::Words::first_kind, model::specs::Record::kinds, model::specs::Record::keyword, model::specs::Record::clause_keyword, model::specs::Text::bytes, model::specs::Text::bytes_from, model::specs::Text::same, model::specs::Text::same_by))]
-fn clause_kind(word: &[u8]) -> Option<u32>
-    ensures { result ≡ numbered clause word.now }
+#[tactic(auto, using(crate::proofs::KindLaws::none_keyed), unfolding(crate::specs::Kinds::keyed, crate::specs::Kinds::keyed_from))]
+fn clause_kind(w: u64) -> Option<u32>
+    ensures { result ≡ keyed clause_sort w }
 {
-    match word {
-        b"match" => Some(kind::MATCH),
-        b"where" => Some(kind::WHERE),
-        b"with" => Some(kind::WITH),
-        b"return" => Some(kind::RETURN),
-        b"unwind" => Some(kind::UNWIND),
-        b"call" => Some(kind::CALL),
-        b"write" => Some(kind::WRITE),
+    match w {
+        key::MATCH => Some(kind::MATCH),
+        key::WHERE => Some(kind::WHERE),
+        key::WITH => Some(kind::WITH),
+        key::RETURN => Some(kind::RETURN),
+        key::UNWIND => Some(kind::UNWIND),
+        key::CALL => Some(kind::CALL),
+        key::WRITE => Some(kind::WRITE),
         _ => None,
     }
 }
 
-#[tactic(auto, using(crate::proofs::KindLaws::spelled), unfolding(crate::specs::Kinds::numbered, crate::specs::Kinds::numbered_from, words::specs::Words::first_kind, model::specs::Record::kinds, model::specs::Record::keyword, model::specs::Record::element_keyword, model::specs::Text::bytes, model::specs::Text::bytes_from, model::specs::Text::same, model::specs::Text::same_by))]
-fn element_kind(word: &[u8]) -> Option<u32>
-    ensures { result ≡ numbered pattern_element word.now }
+#[tactic(auto, using(crate::proofs::KindLaws::none_keyed), unfolding(crate::specs::Kinds::keyed, crate::specs::Kinds::keyed_from))]
+fn element_kind(w: u64) -> Option<u32>
+    ensures { result ≡ keyed pattern_element_sort w }
 {
-    match word {
-        b"node" => Some(kind::NODE),
-        b"rel" => Some(kind::REL),
+    match w {
+        key::NODE => Some(kind::NODE),
+        key::REL => Some(kind::REL),
         _ => None,
     }
 }
 
-#[tactic(auto, using(crate::proofs::KindLaws::spelled), unfolding(crate::specs::Kinds::numbered, crate::specs::Kinds::numbered_from, words::specs::Words::first_kind, model::specs::Record::kinds, model::specs::Record::keyword, model::specs::Record::sames, model::specs::Record::expr_keyword, model::specs::Record::same_keyword, model::specs::Text::bytes, model::specs::Text::bytes_from, model::specs::Text::same, model::specs::Text::same_by))]
-fn expr_kind(word: &[u8]) -> Option<u32>
-    ensures { result ≡ numbered expr word.now }
+#[tactic(auto, using(crate::proofs::KindLaws::none_keyed), unfolding(crate::specs::Kinds::keyed, crate::specs::Kinds::keyed_from))]
+fn expr_kind(w: u64) -> Option<u32>
+    ensures { result ≡ keyed expr_sort w }
 {
-    match word {
-        b"null" => Some(kind::NULL),
-        b"bool" => Some(kind::BOOL),
-        b"int" => Some(kind::INT),
-        b"float" => Some(kind::FLOAT),
-        b"str" => Some(kind::STR),
-        b"param" => Some(kind::PARAM),
-        b"prop" => Some(kind::PROP),
-        b"index" => Some(kind::INDEX),
-        b"slice" => Some(kind::SLICE),
-        b"list" => Some(kind::LIST),
-        b"bin" => Some(kind::BIN),
-        b"un" => Some(kind::UN),
-        b"case" => Some(kind::CASE),
-        b"isnull" => Some(kind::IS_NULL),
-        b"in" => Some(kind::IN),
-        b"var" => Some(kind::VAR),
-        b"map" => Some(kind::MAP),
-        b"fn" => Some(kind::FN),
-        b"pat" => Some(kind::PAT),
-        b"listp" => Some(kind::LIST_PREDICATE),
-        b"unres" => Some(kind::UNRES),
-        b"undes" => Some(kind::UNDES),
+    match w {
+        key::NULL => Some(kind::NULL),
+        key::BOOL => Some(kind::BOOL),
+        key::INT => Some(kind::INT),
+        key::FLOAT => Some(kind::FLOAT),
+        key::STR => Some(kind::STR),
+        key::PARAM => Some(kind::PARAM),
+        key::PROP => Some(kind::PROP),
+        key::INDEX => Some(kind::INDEX),
+        key::SLICE => Some(kind::SLICE),
+        key::LIST => Some(kind::LIST),
+        key::BIN => Some(kind::BIN),
+        key::UN => Some(kind::UN),
+        key::CASE => Some(kind::CASE),
+        key::IS_NULL => Some(kind::IS_NULL),
+        key::IN => Some(kind::IN),
+        key::VAR => Some(kind::VAR),
+        key::MAP => Some(kind::MAP),
+        key::FN => Some(kind::FN),
+        key::PAT => Some(kind::PAT),
+        key::LIST_PREDICATE => Some(kind::LIST_PREDICATE),
+        key::UNRES => Some(kind::UNRES),
+        key::UNDES => Some(kind::UNDES),
         _ => None,
     }
 }
 
-// The kind of the sort whose keyword this is.
-pub fn kind_named(word: &[u8], sort: Sort) -> Option<u32>
-    ensures { result ≡ numbered (sort_is sort) word.now }
+// The kind whose keyword has the number w among those of the sort.
+pub fn kind_named(w: u64, sort: Sort) -> Option<u32>
+    ensures { (s : Bytes) → Packed s w → Named (sort_is sort) s result }
 {
     match sort {
-        Sort::Statement => only(word, b"stmt", kind::STMT),
-        Sort::UnionArm => only(word, b"arm", kind::ARM),
-        Sort::Clause => clause_kind(word),
-        Sort::Projection => only(word, b"item", kind::ITEM),
-        Sort::OrderItem => only(word, b"key", kind::KEY),
-        Sort::PatternPart => only(word, b"part", kind::PART),
-        Sort::PatternElement => element_kind(word),
-        Sort::Name => only(word, b"name", kind::NAME),
-        Sort::YieldItem => only(word, b"yield", kind::YIELD),
-        Sort::Entry => only(word, b"name", kind::ENTRY),
-        Sort::Expr => expr_kind(word),
+        Sort::Statement => only(w, key::STMT, kind::STMT),
+        Sort::UnionArm => only(w, key::ARM, kind::ARM),
+        Sort::Clause => clause_kind(w),
+        Sort::Projection => only(w, key::ITEM, kind::ITEM),
+        Sort::OrderItem => only(w, key::KEY, kind::KEY),
+        Sort::PatternPart => only(w, key::PART, kind::PART),
+        Sort::PatternElement => element_kind(w),
+        Sort::Name => only(w, key::NAME, kind::NAME),
+        Sort::YieldItem => only(w, key::YIELD, kind::YIELD),
+        Sort::Entry => only(w, key::NAME, kind::ENTRY),
+        Sort::Expr => expr_kind(w),
     }
 }

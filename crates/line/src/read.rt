@@ -7,10 +7,10 @@ ghost use Rattle.words.specs.Sorts.{sort_is};
 
 use crate::form::read_form;
 use crate::group::children_of;
-use crate::kind::kind_named;
+use crate::kind::{kind_named, read_keyword};
 use crate::place::Place;
 use record::cursor::Cursor;
-use record::piece::{Piece, piece_end};
+use record::piece::Piece;
 use words::field;
 use words::records::RecordsMut;
 use words::sort::Sort;
@@ -65,15 +65,13 @@ pub fn read_line(p: Place<'_>, sort: Sort, part: &mut [u32]) -> Option<Piece<u32
     requires { length part.old ≡ record_words }
     ensures { LineHere (sort_is sort) p.entry.cursor.bytes.now p.entry.cursor.at part.new result }
 {
-    let line = p.cursor;
-    let end = piece_end(line);
-    let keyword = &line.bytes[line.at..end];
-    let k = kind_named(keyword, sort)?;
-    part[field::LINE_START] = line.at as u32;
+    let key = read_keyword(p.cursor);
+    let k = kind_named(key.word?, sort)?;
+    part[field::LINE_START] = p.cursor.at as u32;
     part[field::KIND] = k;
     let fields = Cursor {
-        bytes: line.bytes,
-        at: end,
+        bytes: p.cursor.bytes,
+        at: key.end,
     };
     let e = read_fields(Place { cursor: fields }, k, part)?;
     part[field::CHILDREN] = children_of(part, k);

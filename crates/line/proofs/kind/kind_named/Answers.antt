@@ -1,51 +1,52 @@
--- `line::kind::kind_named` meets its contract: what each arm finds among the kinds of its sort. Assumes nothing.
-use Rattle.words.specs.Table.{sorts, sort_of}
-use Rattle.words.specs.Words.{first_kind}
-use Rattle.model.specs.Record.{kinds, keyword}
-use Rattle.model.specs.Text.{bytes, bytes_from}
-use Rattle.line.specs.Kinds.{numbered, numbered_from}
+-- `line::kind::kind_named` meets its contract: the number that a keyword has among the kinds of the sort is that of the kind it names. Assumes nothing.
+use Rattle.std.proofs.Common.{ap}
+use native.Mathlib.Omega.{arith}
+use Rattle.words.specs.Places.{statement_sort, union_arm_sort, clause_sort, projection_sort, order_item_sort, pattern_part_sort, pattern_element_sort, name_sort, yield_item_sort, entry_sort, expr_sort}
+use Rattle.words.specs.Sorts.{sort_number}
+use Rattle.line.specs.Kinds.{keyed, keyed_from}
+use Rattle.line.proofs.KindLaws.{keyed_named}
 use Rattle.line.proofs.kind.kind_named.Goals as goal
 
 pub returns-in-Statement : goal.returns-in-Statement
-unfolding sorts sort_of numbered numbered_from first_kind kinds keyword bytes bytes_from
-returns-in-Statement c = rw c.in-Statement.is c.only.ensures
+unfolding keyed keyed_from
+returns-in-Statement c s k = keyed_named statement_sort (ap (λ x. sort_number x) c.in-Statement.is) (omega arith) k c.only.ensures
 
 pub returns-in-UnionArm : goal.returns-in-UnionArm
-unfolding sorts sort_of numbered numbered_from first_kind kinds keyword bytes bytes_from
-returns-in-UnionArm c = rw c.in-UnionArm.is c.only-in-UnionArm.ensures
+unfolding keyed keyed_from
+returns-in-UnionArm c s k = keyed_named union_arm_sort (ap (λ x. sort_number x) c.in-UnionArm.is) (omega arith) k c.only-in-UnionArm.ensures
 
 pub returns-in-Clause : goal.returns-in-Clause
-unfolding sorts sort_of numbered numbered_from first_kind kinds keyword bytes bytes_from
-returns-in-Clause c = rw c.in-Clause.is c.clause_kind.ensures
+unfolding keyed keyed_from
+returns-in-Clause c s k = keyed_named clause_sort (ap (λ x. sort_number x) c.in-Clause.is) (omega arith) k c.clause_kind.ensures
 
 pub returns-in-Projection : goal.returns-in-Projection
-unfolding sorts sort_of numbered numbered_from first_kind kinds keyword bytes bytes_from
-returns-in-Projection c = rw c.in-Projection.is c.only-in-Projection.ensures
+unfolding keyed keyed_from
+returns-in-Projection c s k = keyed_named projection_sort (ap (λ x. sort_number x) c.in-Projection.is) (omega arith) k c.only-in-Projection.ensures
 
 pub returns-in-OrderItem : goal.returns-in-OrderItem
-unfolding sorts sort_of numbered numbered_from first_kind kinds keyword bytes bytes_from
-returns-in-OrderItem c = rw c.in-OrderItem.is c.only-in-OrderItem.ensures
+unfolding keyed keyed_from
+returns-in-OrderItem c s k = keyed_named order_item_sort (ap (λ x. sort_number x) c.in-OrderItem.is) (omega arith) k c.only-in-OrderItem.ensures
 
 pub returns-in-PatternPart : goal.returns-in-PatternPart
-unfolding sorts sort_of numbered numbered_from first_kind kinds keyword bytes bytes_from
-returns-in-PatternPart c = rw c.in-PatternPart.is c.only-in-PatternPart.ensures
+unfolding keyed keyed_from
+returns-in-PatternPart c s k = keyed_named pattern_part_sort (ap (λ x. sort_number x) c.in-PatternPart.is) (omega arith) k c.only-in-PatternPart.ensures
 
 pub returns-in-PatternElement : goal.returns-in-PatternElement
-unfolding sorts sort_of numbered numbered_from first_kind kinds keyword bytes bytes_from
-returns-in-PatternElement c = rw c.in-PatternElement.is c.element_kind.ensures
+unfolding keyed keyed_from
+returns-in-PatternElement c s k = keyed_named pattern_element_sort (ap (λ x. sort_number x) c.in-PatternElement.is) (omega arith) k c.element_kind.ensures
 
 pub returns-in-Name : goal.returns-in-Name
-unfolding sorts sort_of numbered numbered_from first_kind kinds keyword bytes bytes_from
-returns-in-Name c = rw c.in-Name.is c.only-in-Name.ensures
+unfolding keyed keyed_from
+returns-in-Name c s k = keyed_named name_sort (ap (λ x. sort_number x) c.in-Name.is) (omega arith) k c.only-in-Name.ensures
 
 pub returns-in-YieldItem : goal.returns-in-YieldItem
-unfolding sorts sort_of numbered numbered_from first_kind kinds keyword bytes bytes_from
-returns-in-YieldItem c = rw c.in-YieldItem.is c.only-in-YieldItem.ensures
+unfolding keyed keyed_from
+returns-in-YieldItem c s k = keyed_named yield_item_sort (ap (λ x. sort_number x) c.in-YieldItem.is) (omega arith) k c.only-in-YieldItem.ensures
 
 pub returns-in-Entry : goal.returns-in-Entry
-unfolding sorts sort_of numbered numbered_from first_kind kinds keyword bytes bytes_from
-returns-in-Entry c = rw c.in-Entry.is c.only-in-Entry.ensures
+unfolding keyed keyed_from
+returns-in-Entry c s k = keyed_named entry_sort (ap (λ x. sort_number x) c.in-Entry.is) (omega arith) k c.only-in-Entry.ensures
 
 pub returns-in-Expr : goal.returns-in-Expr
-unfolding sorts sort_of numbered numbered_from first_kind kinds keyword bytes bytes_from
-returns-in-Expr c = rw c.in-Expr.is c.expr_kind.ensures
+unfolding keyed keyed_from
+returns-in-Expr c s k = keyed_named expr_sort (ap (λ x. sort_number x) c.in-Expr.is) (omega arith) k c.expr_kind.ensures
