@@ -31,7 +31,7 @@ pub fn unite(ops: &mut [u32], ctx: LowerCtx, both: Operands, i: usize) -> United
     let s = lower::or_source_all(ops, q.ctx, both.right, i);
     let x = op::union(i as u32, q.op, s.op, both.all);
     United {
-        op: s.ctx.ops,
+        op: s.ctx.ops as u32,
         ctx: s.ctx.push(ops, x),
     }
 }
@@ -47,7 +47,7 @@ pub struct Side<'s, 'a, 't> {
 // How many operators the left statement has, and the state of both: the right's begin there.
 #[derive(Clone, Copy, Debug, PartialEq, Eq)]
 pub struct Sides {
-    pub first: u32,
+    pub first: usize,
     pub ctx: LowerCtx,
 }
 

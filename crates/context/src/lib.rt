@@ -42,7 +42,7 @@ pub const HALF_WORD: u32 = 65536;
 // How many operators, variable numbers and named variables there are. By value, as document 01 has it: `map_var` hands back number and state. The operators' count goes on beyond their table.
 #[derive(Clone, Copy, Debug, PartialEq, Eq)]
 pub struct LowerCtx {
-    pub ops: u32,
+    pub ops: usize,
     pub numbers: u32,
     pub mapped: usize,
 }
@@ -154,11 +154,8 @@ impl LowerCtx {
         requires { CanPush self ops.old }
         ensures { Pushed self result ops.old ops.new op }
     {
-        let more = LowerCtx {
-            ops: self.ops + 1,
-            ..self
-        };
-        let k = self.ops as usize;
+        let k = self.ops;
+        let more = LowerCtx { ops: k + 1, ..self };
         if k >= MAX_STORED {
             return more;
         }

@@ -107,7 +107,7 @@ impl Reached {
     {
         Lowered {
             next: self.next,
-            op: self.ctx.ops,
+            op: self.ctx.ops as u32,
             ctx: self.ctx.push(ops, op),
         }
     }

@@ -15,12 +15,12 @@ use plan_sheet::source::Source;
 pub mod pair;
 
 // The operators from number `first` on and below `end`.
-fn write_ops(page: &mut Page<'_>, s: &Source<'_>, first: u32, end: u32)
+fn write_ops(page: &mut Page<'_>, s: &Source<'_>, first: usize, end: usize)
     requires { PlanIn s.now first end }
     ensures { WroteOps s.now.sheet.now s.now.records.a.now s.now.records.b.now s.now.ops.now s.now.rest.now first end page.old page.new }
 {
     for k in first..end {
-        plan_sheet::write::write_op(page, s, k as usize);
+        plan_sheet::write::write_op(page, s, k);
     }
 }
 
@@ -36,7 +36,7 @@ fn write_vars(page: &mut Page<'_>, s: &Source<'_>, n: usize)
 }
 
 // The plan sheet of the tables of one sheet: no operator of it stands in a table to the left.
-pub fn write_plan(bytes: &mut [u8], s: &Source<'_>, n: u32, mapped: usize) -> Option<usize>
+pub fn write_plan(bytes: &mut [u8], s: &Source<'_>, n: usize, mapped: usize) -> Option<usize>
     requires { SomeTables s.now.sheet.now s.now.records.a.now s.now.records.b.now s.now.ops.now s.now.rest.now n mapped }
     ensures { WrotePlan s.now.sheet.now s.now.records.a.now s.now.records.b.now s.now.ops.now s.now.rest.now n mapped bytes.old bytes.new result }
 {

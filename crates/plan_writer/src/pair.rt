@@ -11,8 +11,8 @@ use plan_sheet::source::Source;
 // How many operators a plan has, the number of the first that is in the right's table, and how many named variables there are.
 #[derive(Clone, Copy)]
 pub struct Counts {
-    pub first: u32,
-    pub ops: u32,
+    pub first: usize,
+    pub ops: usize,
     pub mapped: usize,
 }
 
@@ -21,7 +21,7 @@ fn write_sheet(page: &mut Page<'_>, left: &Source<'_>, right: &Source<'_>, n: Co
     requires { PairAsked (tables_in left.now) (tables_in right.now) n }
     ensures { WrotePairSheet (tables_in left.now) (tables_in right.now) n page.old page.new }
 {
-    put_row(page, Keyword::Plan, [n.ops, n.mapped as u32]);
+    put_row(page, Keyword::Plan, [n.ops as u32, n.mapped as u32]);
     write_ops(page, left, 0, n.first);
     write_ops(page, right, n.first, n.ops);
     write_vars(page, right, n.mapped);

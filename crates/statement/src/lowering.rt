@@ -19,7 +19,7 @@ use plan_writer::write_plan;
 use words::RecordsMut;
 
 // A plan has at most so many operators.
-pub const MAX_OPERATORS: u32 = 2048;
+pub const MAX_OPERATORS: usize = 2048;
 // And as many variable numbers.
 pub const MAX_NUMBERS: u32 = 2048;
 
