@@ -22,6 +22,7 @@ const FIXED_SOURCES: u32 = 3;
 const SOURCE_SHIFT: usize = 4;
 
 // The sort of group g of a kind. Not one with `count_place`: together, as a struct, they were tried, are then no longer put in place, and cost 70 instructions a record more, a tenth of a lowering.
+// Nor is the kind's row a struct that both read: tried, with the row looked up once, it cost 17 instructions a record more. So both ask that g is one of a row's groups.
 pub fn group_sort(kind: u32, g: usize) -> Sort
     requires { g < group_count }
     ensures { sort_is result ≡ sort_of (group_sort kind g) }
@@ -76,7 +77,7 @@ impl Counted {
 }
 
 // How many children a record of a kind has by its words, as far as a word holds it: no sheet that is read has more.
-// The words are a slice with its length in the contract; read.rt says why they are no array.
+// The record's words are a slice with its length in the contract: an array made of a part of a slice was tried (read.rt), and nothing then tells what the slice holds behind the loan.
 pub fn children_of(part: &[u32], kind: u32) -> u32
     requires { length part.now ≡ record_words }
     ensures { result ≡ total (groups_of kind part.now) % two32 }

@@ -22,6 +22,11 @@ unfoldable pub dues : List ℕ → ℕ → List Due
 dues w zero = []
 dues w (suc m) = group w m ∷ dues w m
 
+pub dues_length : (w : List ℕ) (m : ℕ) → length (dues w m) ≡ m
+unfolding dues
+dues_length w zero = refl
+dues_length w (suc m) = ap suc (dues_length w m)
+
 -- words behind group m do not matter
 dues_same : (w w' : List ℕ) (m : ℕ) → ((j : ℕ) → j < m * due_words → get_or w' j 0 ≡ get_or w j 0) → dues w' m ≡ dues w m
 unfolding dues
