@@ -6,13 +6,13 @@ use native.Mathlib.Omega.{arith}
 use mathlib.Core.Bool.{Bool, true, false}
 use mathlib.Core.List.{List, [], ◌∷◌}
 use Rattle.words.specs.Places.{map_kind, pat_kind, unres_kind, undes_kind, kind_at, part_elements_at, undes_kind_at}
-use Rattle.std.specs.Prelude.{Result, Ok, Err}
+use Rattle.std.specs.Prelude.{Result, Ok, Err, IsErrAnd}
 use Rattle.model.specs.Field.{Span}
 use Rattle.model.specs.Kind.{Sort, expr, pattern_part, pattern_element}
 use Rattle.model.specs.Check.{Verdict, fine, no_span}
 use Rattle.words.specs.Words.{Roomy, cell, fields_of, field_of}
 use Rattle.precheck.specs.Answer.{span_of}
-use Rattle.precheck.specs.Steps.{Stage, Exists, Ends, Walks, Run}
+use Rattle.precheck.specs.Steps.{Stage, Exists, Ends, Walks, Run, Then}
 use Rattle.words.specs.Numbers.{Others, expr_number_law}
 use Rattle.words.specs.Count.{count_at, is_leaf}
 use Rattle.words.proofs.Counting.{leaf_not, leaf_count}
@@ -21,7 +21,7 @@ use Rattle.precheck.specs.declared.HirSpan.{HirSpan}
 use Rattle.precheck.specs.declared.PlanLowerError.{PlanLowerError}
 use Rattle.precheck.specs.declared.PlanLowerError.TheVariants.{UnresolvedName, UndesugaredExpr, EmptyPatternPart}
 use Rattle.precheck.specs.declared.verdict.Props.{Props}
-use Rattle.precheck.proofs.Laws.{Remaining, child, first_met, closed, last_of, map_run}
+use Rattle.precheck.proofs.Laws.{Remaining, child, first_met, closed, last_of, map_run, then_walks, then_stopped, stopped_as}
 use Rattle.precheck.proofs.Opened.{Opened, in_turn_law, kids_of, open_at, open_held}
 use Rattle.precheck.proofs.Counting.{one_group}
 use Rattle.precheck.proofs.Expressions.{Seen, plain, entries, pattern, see, of_entry, in_expr}
@@ -57,6 +57,14 @@ module _ {P : ℕ → Stage} {n m i : ℕ} (e : n ≡ m) where
 
   pub walks_counted : {r : Result ℕ PlanLowerError} → Walks r (Run P n i) → Walks r (Run P m i)
   walks_counted h = rw e at h
+
+  -- the same as the first of two stages: a walk that goes on behind it, and one that is stopped in it
+  module _ {Q : ℕ → Stage} where
+    pub counted_on : {k : ℕ} {q : Result ℕ PlanLowerError} → Walks (Ok k) (Run P n i) → Walks q (Q k) → Walks q (Then (Run P m i) Q)
+    counted_on h w = then_walks (walks_counted h) w
+
+    pub counted_stopped : {r : Result ℕ PlanLowerError} {x : PlanLowerError} → IsErrAnd r (λ y. y ≡ x) → Walks (Err x) (Run P n i) → Walks r (Then (Run P m i) Q)
+    counted_stopped g h = stopped_as g (then_stopped (walks_counted h))
 
 -- ── the verdict at a record ──
 

@@ -1,7 +1,7 @@
 // The check of an expression and that of a pattern, which call each other.
 //
 // Tree walks recurse, the depth left falling, and kinds of records stay the numbers that the words hold: rules of the project.
-// The loops here and in `clauses` differ in their step, each with its own contract. One loop over a step of a trait would put the recursion behind a bound, and is no plainer for two lines.
+// The five loops here and in `clauses` differ in their step. One loop over a closure would have to ask that the step may be called wherever a stage stands and walks as that stage says, for a stage that no argument gives: a longer contract than the two lines that the loops share.
 ghost use Rattle.model.specs.Kind.{expr, pattern_part, pattern_element};
 ghost use Rattle.model.specs.Check.{no_span};
 ghost use Rattle.precheck.specs.Answer.{span_of};

@@ -91,7 +91,7 @@ fn gather_at(c: Cursor<'_>, first: u32, limit: u32) -> Option<Piece<u32>>
     None
 }
 
-// The decimal number here, with no spare zero and at most `limit`. Apart from `decimal`, which knows where its piece ends: one function for both would make two tests more for each digit of a sheet.
+// The decimal number here, with no spare zero and at most `limit`. Apart from `decimal`, which knows where its piece ends: by `piece_end` and then `decimal` it proves too, and each digit of a sheet is then gone over twice and tested against a multiplication that does not fit.
 pub fn decimal_at(c: Cursor<'_>, limit: u32) -> Option<Piece<u32>>
     ensures { NumberAt limit c.entry.bytes.now c.entry.at result }
 {
@@ -119,7 +119,7 @@ pub fn decimal_at(c: Cursor<'_>, limit: u32) -> Option<Piece<u32>>
     )
 }
 
-// The decimal number here as above, or a dash.
+// The decimal number here as above, or a dash. Apart from `decimal_or_absent` as `decimal_at` is from `decimal`.
 pub fn decimal_or_absent_at(c: Cursor<'_>, limit: u32) -> Option<Piece<Option<u32>>>
     ensures { OptNumberAt limit c.entry.bytes.now c.entry.at result }
 {

@@ -1,23 +1,13 @@
 -- `check_order_skip_limit` meets its contract: keys, then skip, then limit. Assumes nothing.
-use Rattle.precheck.proofs.Checks.{some_counted, walks_counted}
-use Rattle.precheck.proofs.Laws.{first_of_law, after, then_walks, then_stopped, stopped_as}
+use Rattle.precheck.proofs.Checks.{some_counted, walks_counted, counted_on, counted_stopped}
+use Rattle.precheck.proofs.Laws.{first_of_law, after, then_walks, stopped_as}
 use Rattle.precheck.proofs.clauses.check_order_skip_limit.Goals as goal
 
 pub returns-in_err-p : goal.returns-in_err-p
-returns-in_err-p c = stopped_as c.from_residual.ensures.1 (then_stopped (walks_counted c.count-keys.ensures.0 c.in_err-p.ensures))
+returns-in_err-p c = counted_stopped c.count-keys.ensures.0 c.from_residual.ensures.1 c.in_err-p.ensures
 
 pub returns-in_err-q : goal.returns-in_err-q
-returns-in_err-q c =
-    stopped_as
-    c.from_residual-in_err-q.ensures.1
-    (then_walks
-    (walks_counted c.count-keys.ensures.0 c.in_ok-p.ensures)
-    (then_stopped (walks_counted c.count-skip.ensures.0 c.in_err-q.ensures)))
+returns-in_err-q c = counted_on c.count-keys.ensures.0 c.in_ok-p.ensures (counted_stopped c.count-skip.ensures.0 c.from_residual-in_err-q.ensures.1 c.in_err-q.ensures)
 
 pub returns : goal.returns
-returns c =
-    then_walks
-    (walks_counted c.count-keys.ensures.0 c.in_ok-p.ensures)
-    (then_walks
-    (walks_counted c.count-skip.ensures.0 c.in_ok-q.ensures)
-    (walks_counted c.count-limit.ensures.0 c.check_exprs-3.ensures))
+returns c = counted_on c.count-keys.ensures.0 c.in_ok-p.ensures (counted_on c.count-skip.ensures.0 c.in_ok-q.ensures (walks_counted c.count-limit.ensures.0 c.check_exprs-3.ensures))
