@@ -85,6 +85,7 @@ impl Page<'_> {
     }
 
     // A number behind a tab: with one test for both, since each field of a line is put so, and a shorter way for the many numbers that have one digit.
+    // As `put_byte` and `put_decimal`, with `digit_count` in place of `count_wide`, a plan cost 28 instructions a record more (3.8 in a hundred), and that of a chain 139 (11 in a hundred).
     pub fn put_tabbed(&mut self, n: u64)
         ensures { Puts (tab ∷ decimal n) self.old self.new }
     {
