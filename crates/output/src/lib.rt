@@ -85,6 +85,7 @@ impl Page<'_> {
     }
 
     // A number behind a tab: with one test for both, since each field of a line is put so, and a shorter way for the many numbers that have one digit.
+    // As `put_byte` and `put_decimal` a plan cost 30 instructions a record more (3.9 in a hundred), and that of a chain 139 (11 in a hundred).
     pub fn put_tabbed(&mut self, n: u64)
         ensures { Puts (tab ∷ decimal n) self.old self.new }
     {
@@ -143,25 +144,13 @@ fn count_short(n: u64) -> Option<usize>
     if n < FIVE_DIGITS { Some(STEP) } else { None }
 }
 
-// The same of a number of more than four: apart from `digit_count`, so that small numbers go no way through a loop.
-fn count_wide(n: u64) -> usize
-    requires { least step ≤ n }
-    ensures { Counted n result }
-{
-    let first = n / FIVE_DIGITS;
-    match count_short(first) {
-        Some(few) => few + STEP,
-        None => count_wide(first) + STEP,
-    }
-}
-
-// How many decimal digits a number has.
+// How many decimal digits a number has, by four at a time.
 pub fn digit_count(n: u64) -> usize
     ensures { Counted n result }
 {
     match count_short(n) {
         Some(few) => few,
-        None => count_wide(n),
+        None => digit_count(n / FIVE_DIGITS) + STEP,
     }
 }
 

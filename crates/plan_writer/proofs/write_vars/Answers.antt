@@ -1,6 +1,5 @@
 -- `write_vars` meets its contract. Assumes nothing.
 use Rattle.plan_writer.proofs.WholeLaws
-use native.Mathlib.Omega.{arith}
 use Rattle.plan_writer.proofs.write_vars.Goals as goal
 
 pub loop-k-init : goal.loop-k-init
