@@ -1,4 +1,5 @@
 // The keywords of the kinds, each as one number: its bytes as digits behind a leading 1: no numbers in place of kinds, but the bytes themselves, so that a keyword is gathered and matched once.
+// Tried: the bytes matched as they are (`match word { b"match" => .. }` on the piece's slice), proved and measured: 20 instructions a record more, 2.7 in a hundred of a lowering of 2,048 records.
 
 // stmt
 pub const STMT: u64 = 0x173746d74;
