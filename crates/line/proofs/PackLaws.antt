@@ -9,13 +9,14 @@ use borrow.Author.Tests.{lt-ltb, le-ltb, ltb-true, leb-true, le-leb, eqb-true, e
 use lib.Dec.{ltb, leb, eqb}
 use lib.ListN.{length, get_or}
 use lib.Seq.{slice, slice_empty, length-slice}
-use Rattle.std.specs.Prelude.{None, Some}
+use Rattle.std.specs.Prelude.{Option, Some}
+use Rattle.std.specs.Bool.{then_some}
 use Rattle.model.specs.Text.{Bytes, same}
 use Rattle.laws.specs.TextLaws.{and_left, and_right, same_sound, same_refl}
 use Rattle.words.specs.Table.{byte_values, max_keyword, pack_on, packed}
 use Rattle.words.specs.TableLaws.{each_below, short}
 use Rattle.record.specs.Place.{Fed, separates, Ends}
-use Rattle.record.proofs.PlaceLaws.{fed_in, along_back, ends_later, Passing, pass_start, pass_on, pass_done, slice_snoc}
+use Rattle.record.proofs.PlaceLaws.{fed_in, along_back, Passing, pass_start, pass_on, pass_done, slice_snoc}
 use Rattle.line.specs.Kinds.{Packed, KeywordAt}
 
 -- ── unpacking ──
@@ -142,12 +143,6 @@ module _ (s : Bytes) (p v i : ℕ) (g : Packing s p v i) (t : Bool) (e : t ≡ s
   -- ── it goes on ──
 
   module _ (z : t ≡ false) where
-    -- with more than seven bytes
-    pub pack_long : i ≡ p + max_keyword → (r : ℕ) → Ends s i r → KeywordAt s p (record { word = None; end = r })
-    pack_long q r h =
-        let on : i < r = ends_later s i r h (sym e ∙ z) in
-        record { ends = along_back s p i g.pass.along r h; packed = long_tells (slice p r s) (omega (arith, length-slice p r s (omega (arith, h.to)))) }
-
     module _ (n : i ≡ p + max_keyword → ⊥) where
       pub pack_room : v < 2 * byte_values ^ (max_keyword - 1)
       pack_room =
@@ -167,3 +162,16 @@ module _ (s : Bytes) (p v i : ℕ) (g : Packing s p v i) (t : Bool) (e : t ≡ s
             bytes = rw one (bytes_append (slice p i s) _ g.bytes (rw (← q, lt-ltb _ _ l)));
             low = rw (sum, pow-suc) (omega (arith, g.low, q));
           }
+
+-- behind seven bytes: the piece ends there, or it is longer than every keyword
+pub pack_behind : (s : Bytes) (p v i : ℕ) → Packing s p v i → i ≡ p + max_keyword → (r : ℕ) → Ends s (p + max_keyword) r → (w : Option ℕ) → w ≡ then_some (eqb r (p + max_keyword)) v → KeywordAt s p (record { word = w; end = r })
+pack_behind s p v i g q r h w z = rw z (go (eqb r (p + max_keyword)) refl)
+  where
+    go : (t : Bool) → eqb r (p + max_keyword) ≡ t → KeywordAt s p (record { word = then_some t v; end = r })
+    go true e =
+        let at : r ≡ i = eqb-true r (p + max_keyword) e ∙ sym q in
+        rw at (pack_done s p v i g true (rw (← at) (sym h.stop)) refl)
+    go false e =
+        let other = eqb-false r (p + max_keyword) e in
+        let here : Ends s i r = rw q h in
+        record { ends = along_back s p i g.pass.along r here; packed = long_tells (slice p r s) (omega (arith, length-slice p r s (omega (arith, h.to)), h.from, other)) }

@@ -24,25 +24,26 @@ pub struct Keyword {
 pub fn read_keyword(c: Cursor<'_>) -> Keyword
     ensures { KeywordAt c.entry.bytes.now c.entry.at result }
 {
-    let most = c.at + MAX_KEYWORD;
     let mut v: u64 = 1;
-    let mut i = c.at;
-    // A `while`, since nothing tells where the separator is before it is met.
-    while !separates(c.bytes[i]) {
-        if i == most {
-            let end = piece_end(Cursor {
-                bytes: c.bytes,
-                at: i,
-            });
-            return Keyword { word: None, end };
+    for k in 0..MAX_KEYWORD {
+        let i = c.at + k;
+        if separates(c.bytes[i]) {
+            return Keyword {
+                word: Some(v),
+                end: i,
+            };
         }
         let b = u64::from(c.bytes[i]);
         v = v * BYTE_VALUES + b;
-        i += 1;
     }
+    let most = c.at + MAX_KEYWORD;
+    let end = piece_end(Cursor {
+        bytes: c.bytes,
+        at: most,
+    });
     Keyword {
-        word: Some(v),
-        end: i,
+        word: (end == most).then_some(v),
+        end,
     }
 }
 

@@ -1,11 +1,7 @@
 -- `line::kind::read_keyword` meets its contract. The loop's invariant: the bytes passed are packed. Assumes nothing.
-use Prim.Native.Nat.{◌-◌}
-use lib.ListN.{length}
+use Prim.Native.Nat.{◌+◌}
 use Rattle.line.proofs.PackLaws.{Packing}
 use Rattle.line.proofs.kind.read_keyword.Given as goal
 
-abbrev pub invariant-loop-end : goal.invariant-loop-end
-invariant-loop-end l = Packing l.c.bytes.now l.c.at l.v l.i
-
-abbrev pub decreases-loop-end : goal.decreases-loop-end
-decreases-loop-end l = length l.c.bytes.now - l.i
+abbrev pub invariant-loop-k : goal.invariant-loop-k
+invariant-loop-k l = Packing l.c.bytes.now l.c.at l.v (l.c.at + l.k)
