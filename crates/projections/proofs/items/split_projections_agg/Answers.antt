@@ -12,7 +12,7 @@ pub overflow_sub-less : goal.overflow_sub-less
 overflow_sub-less c = PartLaws.deep c.loop-test.true c.loop.invariant.0
 
 pub invariant_of-expr : goal.invariant_of-expr
-invariant_of-expr c = record { stands = PartLaws.child_low c.loop-test.true c.loop.invariant }
+invariant_of-expr c = record { stands = PartLaws.child_low c.loop-test.true c.loop.invariant.0 }
 
 pub is_aggregate-agg-requires : goal.is_aggregate-agg-requires
 is_aggregate-agg-requires c = record { depth = _; held = PartLaws.child c.loop-test.true c.loop.invariant.0 }
