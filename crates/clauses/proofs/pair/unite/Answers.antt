@@ -9,6 +9,12 @@ or_source_all-s-requires c =
     let q = c.or_source_all-q.ensures.source [] in
     (record { few = omega (arith, c.requires.few, q.few); long = rw c.or_source_all-q.auto.ops c.requires.long }, under_more q.grow c.requires.right)
 
+pub overflow_cast-result : goal.overflow_cast-result
+overflow_cast-result c =
+    let q = c.or_source_all-q.ensures.source [] in
+    let s = c.or_source_all-s.ensures.source [] in
+    omega (arith, c.requires.few, q.few, s.few)
+
 pub push-requires : goal.push-requires
 push-requires c =
     let q = c.or_source_all-q.ensures.source [] in
