@@ -6,10 +6,11 @@ ghost use Rattle.sheet.specs.Reader.{ReaderAsked};
 
 use gate_cases::text::{build_sheet, cut};
 use input::read_full;
-use sheet::reader::{ReadError, read_sheet};
+use sheet::reader::read_sheet;
+use statement::Fault;
 use std::io;
 use std::io::Write;
-use values::refusal;
+use values::{Values, refusal};
 use words::RecordsMut;
 
 // A label, and the text that a sheet is made of.
@@ -40,9 +41,10 @@ fn show<W: Write>(
 {
     let (number, line) = match read_sheet(sheet, records, stack, words::MAX_DEPTH) {
         Ok(n) => (refusal::ACCEPTED, n),
-        Err(ReadError::BadLine(l)) => (refusal::BAD_LINE, l as usize),
-        Err(ReadError::BigTree(l)) => (refusal::BIG_TREE, l as usize),
-        Err(ReadError::WriteClause(l)) => (refusal::WRITE_CLAUSE, l as usize),
+        Err(e) => {
+            let v = Values::from(Fault::from(e));
+            (v.number, v.line as usize)
+        }
     };
     out.write_all(label)?;
     writeln!(out, " {number} {line}")
