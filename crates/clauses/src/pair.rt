@@ -29,7 +29,8 @@ pub fn unite(ops: &mut [u32], ctx: LowerCtx, both: Operands, i: usize) -> United
 {
     let q = lower::or_source_all(ops, ctx, both.left, i);
     let s = lower::or_source_all(ops, q.ctx, both.right, i);
-    let x = op::union(i as u32, q.op, s.op, both.all);
+    let all = u32::from(both.all);
+    let x = op::union(i as u32, q.op, s.op, all);
     United {
         op: s.ctx.ops as u32,
         ctx: s.ctx.push(ops, x),

@@ -24,7 +24,6 @@
 // Its kind is a number and no enum: it stands in a lent word, and document 01 has kinds told apart by a match on a small number.
 ghost use Rattle.std.specs.Prelude.{◌≡◌, ◌<◌, ◌≤◌, length};
 ghost use Rattle.model.specs.Call.{work_words};
-ghost use Rattle.model.specs.Record.{one};
 ghost use Rattle.context.specs.Tables.{op_at, max_stored};
 ghost use Rattle.context.specs.Ops.{Fits, op_over, op_alone, source_op, expand_op, shortest_path_op, bind_path_op, optional_join_op, aggregate_op, order_by_op, distinct_op, unwind_op, union_op, procedure_call_op, call_input};
 
@@ -202,10 +201,11 @@ pub fn unwind(at: At, input: u32, bind: u32) -> Op
     Op::at_place(UNWIND, at, input, bind, 0)
 }
 
-pub fn union(i: u32, input: u32, right: u32, all: bool) -> Op
-    ensures { result ≡ union_op i input right (one all) }
+// `all` is the word that is stored, whatever it is, so that it is no bool.
+pub fn union(i: u32, input: u32, right: u32, all: u32) -> Op
+    ensures { result ≡ union_op i input right all }
 {
-    Op::at_record(UNION, i, input, right, u32::from(all))
+    Op::at_record(UNION, i, input, right, all)
 }
 
 #[tactic(auto, unfolding(crate::specs::Ops::procedure_call_op))]

@@ -40,14 +40,14 @@ enum Short {
 
 impl Short {
     // What the digit of a case says.
-    fn of_digit(digit: &[u8]) -> Short {
+    fn of_digit(digit: u8) -> Short {
         match digit {
-            b"1" => Short::First,
-            b"2" => Short::Second,
-            b"3" => Short::Third,
-            b"4" => Short::Fourth,
-            b"5" => Short::Works,
-            b"6" => Short::Answer,
+            b'1' => Short::First,
+            b'2' => Short::Second,
+            b'3' => Short::Third,
+            b'4' => Short::Fourth,
+            b'5' => Short::Works,
+            b'6' => Short::Answer,
             _ => Short::Nothing,
         }
     }
@@ -92,10 +92,13 @@ fn first_case(list: &[u8]) -> Option<(Case<'_>, &[u8])>
     ensures { IfSome result (λ p. length p.1.now < length list.now) }
 {
     let (label, behind) = cut(list, b'|')?;
-    let (digit, behind) = cut(behind, b'|')?;
+    // the digit, and the bar behind it
+    let [digit, _, behind @ ..] = behind else {
+        return None;
+    };
     let (room, behind) = cut(behind, b'|')?;
     let (text, rest) = cut(behind, b'|')?;
-    let short = Short::of_digit(digit);
+    let short = Short::of_digit(*digit);
     Some((
         Case {
             label,

@@ -2,6 +2,7 @@
 use Rattle.std.specs.Prelude.{◌≡◌, refl, ℕ, ◌*◌, ◌<◌, ◌≤◌, Bool, true, false, List, [], ◌∷◌, ltb, length, Ok, ◌||◌, not}
 use Rattle.std.specs.List.{list_any}
 use Rattle.std.proofs.Common.{sym, ap, ◌∙◌}
+use Rattle.std.proofs.Math.Bool.{or-true}
 use Rattle.std.proofs.lemmas.Bool.{ltb-false, not-false, not-true}
 use borrow.Author.Tests.{lt-ltb, le-ltb}
 use Rattle.model.specs.Text.{Bytes}
@@ -25,6 +26,28 @@ pub short_any : (ws : List ℕ) → short ws ≡ list_any (λ n. ltb n work_word
 unfolding short
 short_any [] = refl
 short_any (w ∷ ws) = ap (λ s. ltb w work_words || s) (short_any ws)
+
+-- one slice is too short
+module _ (a b c d : ℕ) where
+  pub short_a : a < work_words → short (a ∷ b ∷ c ∷ d ∷ []) ≡ true
+  unfolding short
+  short_a h = rw (lt-ltb a work_words h)
+
+  pub short_b : b < work_words → short (a ∷ b ∷ c ∷ d ∷ []) ≡ true
+  unfolding short
+  short_b h = rw (lt-ltb b work_words h) (or-true (ltb a work_words))
+
+  pub short_c : c < work_words → short (a ∷ b ∷ c ∷ d ∷ []) ≡ true
+  unfolding short
+  short_c h = rw (lt-ltb c work_words h, or-true (ltb b work_words)) (or-true (ltb a work_words))
+
+  pub short_d : d < work_words → short (a ∷ b ∷ c ∷ d ∷ []) ≡ true
+  unfolding short
+  short_d h = rw (lt-ltb d work_words h, or-true (ltb c work_words), or-true (ltb b work_words)) (or-true (ltb a work_words))
+
+  pub none_short : (work_words ≤ a) × (work_words ≤ b) × (work_words ≤ c) × (work_words ≤ d) → short (a ∷ b ∷ c ∷ d ∷ []) ≡ false
+  unfolding short
+  none_short h = rw (le-ltb a work_words h.0, le-ltb b work_words h.1, le-ltb c work_words h.2, le-ltb d work_words h.3)
 
 -- the test's outcome, as the code asks for it
 module _ (ws : List ℕ) (r : Bool) (h : r ≡ not (short ws)) where

@@ -23,5 +23,5 @@ push-requires c =
 
 pub returns : goal.returns
 returns c =
-    let pushed = pushed_as c.union-x.ensures c.push.ensures in
+    let pushed = pushed_as (rw c.from-all.ensures at c.union-x.ensures) c.push.ensures in
     λ rest. unite_law _ _ _ c.requires.here (c.or_source_all-q.ensures.source rest) (c.or_source_all-s.ensures.source rest) pushed c.push.auto.ops
