@@ -37,7 +37,7 @@ clause_turn t o = λ s. lower_clause t o s
 abbrev pub LowersClauses : (sheet : Bytes) (a b : List ℕ) (n d i e : ℕ) (before after : Option ℕ) (m m' : Mem) → Type 0
 LowersClauses = LowersTurns clause clause_turn
 
--- one round of `lower_arms`
+-- one round of the definition's `lower_arms`
 unfoldable pub lower_arm : Tree union_arm → Option ℕ → Lowering (Option ℕ)
 lower_arm (node union_arm line k (all, _) (cs ▸ end)) root = do
   below ← lower_clauses cs None

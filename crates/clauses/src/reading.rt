@@ -1,4 +1,4 @@
-// The clauses that read, each behind the operator before it. Notes stand at the records' own lines. cur is where a clause begins: its record, the operator before it, if there is one, and the state. How deep the clause's tree may be is beside it.
+// The clauses that read, each behind the operator before it. Notes stand at the records' own lines. cur is where a clause begins: its record, the operator before it, if there is one, and the state. How deep the clause's tree may be is beside it: the same for all clauses of a statement, where cur is another one each time.
 ghost use Rattle.std.specs.Prelude.{ℕ, ◌≡◌, List, Some};
 ghost use Rattle.model.specs.Text.{Bytes};
 ghost use Rattle.model.specs.Lower.{optional_join};

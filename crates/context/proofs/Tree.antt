@@ -86,13 +86,6 @@ go_on {vs = vs} d e (here z h) = absurd (d (ap (λ i. id_of vs i) z ∙ h))
 go_on {vs = vs} {id = id} {bits = bits} {q = q} {j = j} d e (on {q = q'} d' e' x) = let z : q' ≡ q = omega (arith, e, e') in subst (λ i. Leads vs id (bits / 2) i j) z x
 
 module _ (n : ℕ) (vs : List ℕ) (id : ℕ) (x : Treed n vs) where
-  pub descends_start : 0 < n → Descends vs n id 0 id
-  descends_start h = record {
-    low = h;
-    all = λ j l e. subst (λ i. Leads vs i i 0 j) e (x.leads j l);
-    back = λ vs' j k w. w;
-  }
-
   descends_child : (p bits q : ℕ) → Descends vs n id p bits → ((id_of vs p ≡ id) → ⊥) → child_of vs p bits ≡ suc q → Descends vs n id q (bits / 2)
   descends_child p bits q w d e = record {
     low = (x.later p bits q w.low e).1;

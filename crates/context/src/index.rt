@@ -1,5 +1,6 @@
 // The variables' index in the work slice: a digital search tree, in which the bits of an id, the last one first, say the way down.
-// That the index is right for the first variables is asked by each function, and no ghost field of their words and count: a way down is a family (specs/Tables.Leads), so that antt finds no proof that the fact is a proposition, and cut down to one it no longer gives a way.
+// That the index is right for the first variables is asked by each function, and no ghost field of their words and count: a way down is a family (specs/Tables.Leads), so that antt finds no proof that the fact is a proposition, and cut down to one it no longer gives a way. Their count is in the state, which goes by value, so that it stands beside the slice and is not in one struct with it.
+// That an id has no number yet is asked where one gets its place: it relates the id with the slice.
 ghost use Rattle.std.specs.Prelude.{◌≡◌, ◌+◌, ◌<◌, ◌≤◌, length, get_or, set, None};
 ghost use Rattle.model.specs.Lower.{lookup};
 ghost use Rattle.context.specs.Tables.{max_vars, max_indexed, links_at, var_words, half_word, vars_of, child_of, linked, with_half, IndexHeld, Descended, Joined, Entered};

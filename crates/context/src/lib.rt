@@ -64,7 +64,7 @@ pub struct At {
     pub left: usize,
 }
 
-// A number issued, and the state behind it.
+// A number issued, and the state behind it. A variable's number; of an operator's with the state crate clauses has `United`, and crate lower `Lowered`, which tells the next record too.
 #[derive(Clone, Copy, Debug, PartialEq, Eq)]
 pub struct Numbered {
     pub number: u32,

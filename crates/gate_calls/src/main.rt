@@ -29,7 +29,6 @@ const SHORT_ANSWER: usize = 5;
 // What is shorter than a call wants it: one work slice, by a word; all of them, which have no words; or the answer slice, which has no room for an answer.
 #[derive(Clone, Copy, PartialEq, Eq)]
 enum Short {
-    Nothing,
     First,
     Second,
     Third,
@@ -39,42 +38,42 @@ enum Short {
 }
 
 impl Short {
-    // What the digit of a case says.
-    fn of_digit(digit: u8) -> Short {
+    // What the digit of a case says, if anything is short.
+    fn of_digit(digit: u8) -> Option<Short> {
         match digit {
-            b'1' => Short::First,
-            b'2' => Short::Second,
-            b'3' => Short::Third,
-            b'4' => Short::Fourth,
-            b'5' => Short::Works,
-            b'6' => Short::Answer,
-            _ => Short::Nothing,
+            b'1' => Some(Short::First),
+            b'2' => Some(Short::Second),
+            b'3' => Some(Short::Third),
+            b'4' => Some(Short::Fourth),
+            b'5' => Some(Short::Works),
+            b'6' => Some(Short::Answer),
+            _ => None,
         }
     }
+}
 
-    // How many words a work slice is lent with, of which `slice` says that it alone is short.
-    fn lent(self, slice: Short) -> usize
-        ensures { result ≤ work_words }
-    {
-        if self == Short::Works {
-            return 0;
-        }
-        if self == slice {
-            SHORT
-        } else {
-            words::WORK_WORDS
-        }
+// How many words a work slice is lent with, of which `slice` says that it alone is short.
+fn lent(short: Option<Short>, slice: Short) -> usize
+    ensures { result ≤ work_words }
+{
+    if short == Some(Short::Works) {
+        return 0;
     }
+    if short == Some(slice) {
+        SHORT
+    } else {
+        words::WORK_WORDS
+    }
+}
 
-    // How many words the answer slice is lent with.
-    fn answer_words(self) -> usize
-        ensures { result ≤ 8 }
-    {
-        if self == Short::Answer {
-            SHORT_ANSWER
-        } else {
-            ANSWER_WORDS
-        }
+// How many words the answer slice is lent with.
+fn answer_words(short: Option<Short>) -> usize
+    ensures { result ≤ 8 }
+{
+    if short == Some(Short::Answer) {
+        SHORT_ANSWER
+    } else {
+        ANSWER_WORDS
     }
 }
 
@@ -82,7 +81,7 @@ impl Short {
 #[derive(Drop)]
 struct Case<'a> {
     label: &'a [u8],
-    short: Short,
+    short: Option<Short>,
     room: &'a [u8],
     text: &'a [u8],
 }
@@ -148,7 +147,7 @@ fn show<W: Write>(
     plan: &mut [u8],
 ) -> io::Result<()> {
     let mut words = [UNTOUCHED; ANSWER_WORDS];
-    let answer = &mut words[..case.short.answer_words()];
+    let answer = &mut words[..answer_words(case.short)];
     let Some(bytes) = decimal(case.room, PAGE as u64) else {
         let written = dresserhawk_size(sheet, work, answer);
         return say(out, case.label, b" size", written, answer);
@@ -179,10 +178,10 @@ fn main(rt: HostRuntime) -> io::Result<()> {
     while let Some((case, rest)) = first_case(left) {
         let k = build_sheet(case.text, &mut page).unwrap_or(0);
         let mut work = Work {
-            a: &mut a[..case.short.lent(Short::First)],
-            b: &mut b[..case.short.lent(Short::Second)],
-            c: &mut c[..case.short.lent(Short::Third)],
-            d: &mut d[..case.short.lent(Short::Fourth)],
+            a: &mut a[..lent(case.short, Short::First)],
+            b: &mut b[..lent(case.short, Short::Second)],
+            c: &mut c[..lent(case.short, Short::Third)],
+            d: &mut d[..lent(case.short, Short::Fourth)],
         };
         show(&mut out, &case, &page[..k], &mut work, &mut plan)?;
         left = rest;

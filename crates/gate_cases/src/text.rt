@@ -1,4 +1,5 @@
 // The texts of a list. Between three stars stand a number and a part of the sheet that is there so many times.
+// How a list's cases are parted is each program's own, since each has other parts; a sheet that does not fit its page is an empty one there, since no list has such a sheet.
 ghost use Rattle.std.specs.Prelude.{◌≡◌, ◌+◌, ◌∷◌, ◌++◌, length, IfSome, MatchOption};
 ghost use Rattle.output.specs.Page.{Puts};
 ghost use Rattle.output.specs.Whole.{Begins};

@@ -63,7 +63,7 @@ fn show<W: Write>(
     Ok(())
 }
 
-// The same of a pair of texts, with two slices for their sheets: one by one, since nothing that one reference leads to is read while another part of it is lent. A text that is longer than a sheet may be is passed over.
+// The same of a pair of texts, with two slices for their sheets: one by one; a struct of both was tried, and nothing that one reference leads to is read while another part of it is lent. A text that is longer than a sheet may be is passed over.
 fn show_texts<W: Write>(
     out: &mut W,
     texts: &Pair<'_>,

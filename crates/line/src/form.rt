@@ -10,6 +10,7 @@ use record::length::length;
 use record::piece::{Piece, piece_end};
 use words::form::Form;
 
+// A tab between the pieces of one field is asked for where it stands, here and in `hops`: a function for it would be given the sheet and the place and give back the place behind, as many words as the test.
 // A span: two numbers, the start at most the end.
 fn span(c: Cursor<'_>) -> Option<Piece<Words>>
     ensures { FieldHere Field.span c.entry.bytes.now c.entry.at result }

@@ -141,9 +141,6 @@ other_kind {d = d} {i = i} room x h = other_element room x.sheet d i x.tree x.he
 pub starts : {a b : List ℕ} {d i : ℕ} → SomeTree a b pattern_element d i → Starts a b i
 starts {d = d} x = record { sheet = x.sheet; sort = pattern_element; depth = d; tree = x.tree; held = x.held }
 
-pub low_at : {a b : List ℕ} {d i : ℕ} → SomeTree a b pattern_element d i → i < max_records
-low_at {a} {b} {d} {i} x = let f = tree_fits x.sheet a b x.tree d i x.held in omega arith
-
 -- the first of three elements
 pub first_some : {a b : List ℕ} (d i : ℕ) (room : Roomy a b) → cell a b i part_elements_at ≡ special_elements → SomeTree a b pattern_part d i → SomeTree a b pattern_element (d - 1) (i + 1)
 first_some {a} {b} d i room k6 x =

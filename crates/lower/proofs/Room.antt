@@ -77,9 +77,6 @@ module _ {d i : ℕ} {c : LowerCtx} {os rs : List ℕ} (g : RoomFor d i (mem c o
 pub room_at : {d i j : ℕ} {m : Mem} → i ≡ j → RoomFor d i m → RoomFor d j m
 room_at e g = rw e at g
 
-pub few_ops : {d i : ℕ} {m : Mem} → RoomFor d i m → m.ctx.ops ≤ max_before + pass_operators * max_records
-few_ops g = let x = g.few in let y = g.here in omega arith
-
 pub prop_some : {a b : List ℕ} {d i : ℕ} → Roomy a b → SomeTree a b pattern_element d i → cell a b i kind_at ≡ rel_kind → (n j : ℕ) → n ≡ cell a b i rel_props_at → j ≡ i + 1 + cell a b i rel_types_at → SomeCarried a b n 0 (d - 1) j
 prop_some {a} {b} {d} {i} room x k n j en ej =
     let v = (Elements.a_rel room x.tree x.held k).el in

@@ -1,5 +1,5 @@
 // The lowering of a statement that the words hold: operators, notes and variables into the tables. r holds the records; a place says at which record, how deep a tree may be, and where the pass's notes begin.
-// The four are parameters of their own: the records are only read, the tables written, the state goes by value, as document 01 has it, and the place is another one at each call; in one struct, lent to be written, each function would have to promise that the records stay.
+// The four are parameters of their own: the records are only read, the tables written, the state goes by value, as document 01 has it, and the place is another one at each call; in one struct, lent to be written, each function would have to promise that the records stay. How many stand there is beside the place where more than one may: as a struct it would be made at each call and taken apart at once.
 #![tactic(auto)]
 
 ghost use Rattle.std.specs.Prelude.{◌≡◌, ℕ, ◌+◌, ◌-◌, ◌<◌, List};

@@ -13,6 +13,7 @@ pub struct Page<'a> {
     pub out: usize,
 }
 
+// The five methods that store test for room by the same lines. A function that lends the part to be stored (`room(n) -> Option<&mut [u8]>`) would have to promise how the page ends once that loan does, which is longer than the lines.
 impl Page<'_> {
     // One byte.
     pub fn put_byte(&mut self, b: u8)
@@ -39,7 +40,7 @@ impl Page<'_> {
         self.out = end;
     }
 
-    // So many bytes of whatever text, on an empty part of a slice.
+    // So many bytes of whatever text, on an empty part of a slice. That it is empty is asked here and by the two that measure expressions: a page that only measures is no type of its own, since the same code writes.
     pub fn measure(&mut self, n: usize)
         requires { length self.old.bytes.now ≡ 0 }
         ensures { (t : Bytes) → n ≡ length t → Puts t self.old self.new }
@@ -128,7 +129,7 @@ const FIVE_DIGITS: u64 = 10000;
 // The digits that a number loses if it is divided by the least of five.
 const STEP: usize = 4;
 
-// How many decimal digits a number has, if they are at most four. Tests and no `checked_ilog10`, since most numbers of a plan have one digit or two, and the library's way costs more instructions for those.
+// How many decimal digits a number has, if they are at most four. Four tests and no `checked_ilog10`, which is no plainer: it counts one less, answers none for 0, and says what it counts by powers of ten. It was tried too and cost more for numbers of one digit or two (docs/PROVING.md; the figure was not kept).
 fn count_short(n: u64) -> Option<usize>
     ensures { MatchOption result (least step ≤ n) (λ r. Counted n r) }
 {

@@ -136,42 +136,12 @@ yields_made sheet a b N A d (node yield_item line k f end ∷ᵗ ts) i h =
 -- ── the tail ──
 
 module _ {sheet : Bytes} {a b rest : List ℕ} {o : Op} {i : ℕ} where
-  tail_labels : {recs : Recs} → o.kind ≡ source_kind → Tail sheet a b rest o i recs → Names sheet a b (cell a b o.idx node_labels_at) i
-  tail_labels e (Behind.nothing x y z) = absurd (x e)
-  tail_labels e (Behind.labels q h) = h
-  tail_labels e (Behind.path q h) = absurd (omega arith)
-  tail_labels e (Behind.yields q h) = absurd (omega arith)
-
-  tail_path : {recs : Recs} → o.kind ≡ bind_path_kind → Tail sheet a b rest o i recs → Elements sheet a b (cell a b o.idx part_elements_at) i
-  tail_path e (Behind.nothing x y z) = absurd (y e)
-  tail_path e (Behind.labels q h) = absurd (omega arith)
-  tail_path e (Behind.path q h) = h
-  tail_path e (Behind.yields q h) = absurd (omega arith)
-
-  tail_yields : {recs : Recs} → o.kind ≡ procedure_call_kind → Tail sheet a b rest o i recs → Yields sheet a b (cell a b o.idx call_yields_at) i
-  tail_yields e (Behind.nothing x y z) = absurd (z e)
-  tail_yields e (Behind.labels q h) = absurd (omega arith)
-  tail_yields e (Behind.path q h) = absurd (omega arith)
-  tail_yields e (Behind.yields q h) = h
-
   module _ {g g' : Page} where
     labels_put : {recs : Recs} → o.kind ≡ source_kind → Tail sheet a b rest o i recs → ((h : Names sheet a b (cell a b o.idx node_labels_at) i) → Puts (spell_recs (names_recs h)) g g') → Puts (spell_recs recs) g g'
     labels_put e (Behind.nothing x y z) w = absurd (x e)
     labels_put e (Behind.labels q h) w = w h
     labels_put e (Behind.path q h) w = absurd (omega arith)
     labels_put e (Behind.yields q h) w = absurd (omega arith)
-
-    path_put : {recs : Recs} → o.kind ≡ bind_path_kind → Tail sheet a b rest o i recs → WrotePath sheet a b rest o.base (cell a b o.idx part_elements_at) i g g' → Puts (spell_recs recs) g g'
-    path_put e (Behind.nothing x y z) w = absurd (y e)
-    path_put e (Behind.labels q h) w = absurd (omega arith)
-    path_put e (Behind.path q h) w = w h
-    path_put e (Behind.yields q h) w = absurd (omega arith)
-
-    yields_put : {recs : Recs} → o.kind ≡ procedure_call_kind → Tail sheet a b rest o i recs → WroteYields sheet a b rest o.base (cell a b o.idx call_yields_at) i g g' → Puts (spell_recs recs) g g'
-    yields_put e (Behind.nothing x y z) w = absurd (z e)
-    yields_put e (Behind.labels q h) w = absurd (omega arith)
-    yields_put e (Behind.path q h) w = absurd (omega arith)
-    yields_put e (Behind.yields q h) w = w h
 
     pub labels_wrote : {n next : ℕ} → o.kind ≡ source_kind → n ≡ cell a b o.idx node_labels_at → ((h : Names sheet a b n i) → (next ≡ i + n) × Puts (spell_recs (names_recs h)) g g') → WroteTail sheet a b rest o i g g'
     labels_wrote {n} {next} e q w recs t =

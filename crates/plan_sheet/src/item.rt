@@ -61,6 +61,7 @@ pub fn put_item(page: &mut Page<'_>, sheet: &[u8], r: Record<'_>)
     requires { ItemIn sheet.now r }
     ensures { (h : ItemIn sheet.now r.entry) → Puts (spell_rec (named_rec (item_name h))) page.old page.new }
 {
+    // no name stands at the place 0, and the word is one of a lent slice
     let alias = r.word(field::ITEM_ALIAS);
     if alias != 0 {
         return put_own_name(page, sheet, r);

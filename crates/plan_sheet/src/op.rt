@@ -19,7 +19,7 @@ use plan_line::keyword::Keyword;
 use plan_line::row::put_row;
 use words::{Record, Records, field};
 
-// A part that asks for all shortest paths, and not for one.
+// A part that asks for all shortest paths, and not for one: the word of its record as it stands.
 const ALL_SHORTEST: u32 = 2;
 
 // The first line of an expand, whose numbers are noted at the rel and its far node.

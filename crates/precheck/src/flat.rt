@@ -3,7 +3,7 @@ ghost use Rattle.words.specs.Count.{Starts};
 ghost use Rattle.precheck.specs.Stands.{Tells, Taken, NoneRefused};
 
 use crate::verdict::begins_with_node;
-use words::{Record, Records, kind};
+use words::{MAX_RECORDS, Record, Records, kind};
 
 // Whether the lowering takes a record, whatever stands around it.
 fn record_taken(r: Record<'_>) -> bool
@@ -18,19 +18,20 @@ fn record_taken(r: Record<'_>) -> bool
     kind < kind::UNRES
 }
 
-// Whether the lowering takes every record. How many there are is known only as their counts are read, `due` being those still to come, so that a `for` would need a pass before it. The walk of `Records::skip`, with a test at each record: words/src/records.rt says why they are two.
+// Whether the lowering takes every record, `due` being those still to come. Apart from `Records::skip`, which walks alike (words/src/records.rt says why).
 pub fn nothing_refused(r: &Records<'_>) -> bool
     requires { Starts r.now.a.now r.now.b.now 0 }
     ensures { Tells result (NoneRefused r.now.a.now r.now.b.now) }
 {
-    let mut i = 0;
     let mut due = 1;
-    while due != 0 {
+    for i in 0..MAX_RECORDS {
+        if due == 0 {
+            break;
+        }
         if !record_taken(r.at(i)) {
             return false;
         }
         due = due - 1 + r.children(i);
-        i += 1;
     }
     true
 }

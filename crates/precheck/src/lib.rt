@@ -26,7 +26,7 @@ pub struct HirSpan {
     pub end: u32,
 }
 
-// What the check finds that the lowering does not take, with the line of its record. It has no Display: nothing here prints it, since a refusal goes out as six values.
+// What the check finds that the lowering does not take, with the line of its record. It has no Display, and so have the errors of the reader and of the calls none: nothing here prints them, since a refusal goes out as six values.
 #[derive(Clone, Copy, Debug, PartialEq, Eq)]
 pub enum PlanLowerError {
     UnresolvedName { line: u32, span: HirSpan },

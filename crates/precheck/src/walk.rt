@@ -1,7 +1,7 @@
 // The check of an expression and that of a pattern, which call each other.
 //
 // Tree walks recurse, the depth left falling, and kinds of records stay the numbers that the words hold: rules of the project.
-// The five loops here and in `clauses` differ in their step. One loop over a closure would have to ask that the step may be called wherever a stage stands and walks as that stage says, for a stage that no argument gives: a longer contract than the two lines that the loops share.
+// The five loops here and in `clauses` differ in their step, and share two lines. One loop over a closure would have to ask that the step may be called wherever a stage stands and walks as that stage says, for a stage that no argument gives. A trait with ghost members would give it, as crate clauses has one for its two loops; here it is no plainer: the trait, and a unit struct and an impl for each step, are longer than the loops, and three of the five are in a cycle.
 ghost use Rattle.model.specs.Kind.{expr, pattern_part, pattern_element};
 ghost use Rattle.model.specs.Check.{no_span};
 ghost use Rattle.precheck.specs.Answer.{span_of};

@@ -9,7 +9,7 @@ use context::{At, Tables, op};
 use lower::Root;
 use words::{Records, field};
 
-// Order, skip and limit of the clause at record i, behind its root, whose trees are at most so deep; each that has no keys or no expression leaves the operator that it would stand over.
+// Order, skip and limit of the clause at record i, behind its root, whose trees are at most so deep; each that has no keys or no expression leaves the operator that it would stand over. How many there are of each is a count and no flag, as the record table has it: the count of a group.
 pub fn lower_trailers(
     r: &Records<'_>,
     tables: &mut Tables<'_>,

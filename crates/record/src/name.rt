@@ -33,7 +33,7 @@ pub fn text_at(c: Cursor<'_>) -> Option<usize>
     ensures { NameAt c.entry.bytes.now c.entry.at result }
 {
     let mut i = c.at;
-    // A `while`, since nothing tells where the separator is before it is met, and a character may have two bytes.
+    // A `while`, since a character has one byte or two: how far a step goes shows itself in it.
     while !separates(c.bytes[i]) {
         let n = char_len(Cursor {
             bytes: c.bytes,

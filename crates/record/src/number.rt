@@ -8,7 +8,7 @@ ghost use Rattle.record.specs.InPlace.{DigitsAt, NumberAt, OptNumberAt};
 use crate::cursor::Cursor;
 use crate::piece::{Piece, dash_end, separates};
 
-// The value of a digit.
+// The value of a digit. Apart from that of a float (hex.rt), which has letters, other definitions for its digits and no limit.
 fn digit(b: u8) -> Option<u64>
     ensures { result ≡ digit_value b }
 {

@@ -53,6 +53,7 @@ fn lines_end(sheet: &[u8]) -> usize
 
 // The line behind what is read, which has its line feed, as a record of the topmost group.
 // The depth stands in clauses as `(depth : ℕ) ×` and `→`: as a `ghost` parameter it was tried, and those are picked from a call's arguments, of which it is none.
+// The place is in `at`, which changes, so that the sheet stands beside it, and not both as a `Place`; what is asked of a sheet and a stack relates two slices that are lent apart.
 // How far the sheet is read goes by `&mut`: given back and assigned whole in the loop it was tried, and the loop then sees it without its ghost field.
 fn read_next(
     sheet: &[u8],

@@ -22,7 +22,7 @@ use words::RecordsMut;
 // A plan has at most so many operators for each record of its sheet (crate bounds).
 const RECORD_OPERATORS: usize = 4;
 
-// What is wrong with a sheet: a refusal of the tests 2 to 8 with what it carries. A name is not carried: its record is that of the line.
+// What is wrong with a sheet, an error enum: a refusal of the tests 2 to 8 with what it carries. A name is not carried: its record is that of the line.
 #[derive(Clone, Copy, Debug, PartialEq, Eq)]
 pub enum Fault {
     LongSheet,

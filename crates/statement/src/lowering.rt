@@ -33,7 +33,7 @@ pub fn test_plan<F>(ctx: LowerCtx) -> Result<(), Refusal<F>>
     Ok(())
 }
 
-// Test 9, and then the plan of the tables.
+// Test 9, and then the plan of the tables. The call with two sheets has these two lines too, over the writer of two tables.
 fn write_lowered(s: &Source<'_>, ctx: LowerCtx, plan: &mut [u8]) -> Result<usize, Refusal<Fault>>
     requires { Lowered s.now.sheet.now s.now.records.a.now s.now.records.b.now (mem ctx s.now.ops.now s.now.rest.now) }
     ensures { (W : Written) (t : State) → Rep (side s.now.sheet.now s.now.records.a.now s.now.records.b.now 0) W t (mem ctx s.now.ops.now s.now.rest.now) → Gives plan.old plan.new result (tests_plan t) }
@@ -42,7 +42,7 @@ fn write_lowered(s: &Source<'_>, ctx: LowerCtx, plan: &mut [u8]) -> Result<usize
     write_plan(plan, s, ctx.ops, ctx.mapped).ok_or(Refusal::NoRoom)
 }
 
-// Tests 2 to 10. The slices of the lowering come one by one, since the first is the reader's stack before.
+// Tests 2 to 10. The slices of the lowering come one by one, since the first is the reader's stack before; tried: the `Work` taken apart here, which the borrow checker does not cover, since a slice behind one reference stays lent while another is used.
 fn lower_read(
     sheet: &[u8],
     records: &mut RecordsMut<'_>,

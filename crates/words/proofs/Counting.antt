@@ -149,5 +149,9 @@ module _ {a b : List ℕ} where
   pub due_fits : {i n at k : ℕ} → Starts a b i → Walking a b i n at → k < two32 → n - 1 + k < two32 + two32
   due_fits z w l = let p = few z w.1 w.0 in omega arith
 
+  -- behind the last record that there may be nothing is due
+  pub spent : {i n at : ℕ} → Starts a b i → Walking a b i n at → max_records ≤ at → (n ≡ 0) × (at ≡ max_records)
+  spent {i} {n} {at} z w l = let p = enough n at (w.1.same z.sheet (i + size z.tree) (starts_due z)) w.0 in (omega arith, omega (arith, w.0))
+
   pub done : {i n at : ℕ} → n ≡ 0 → Remaining a b i n at → Ends a b i at
   done {i} {n} {at} h l = record { each = λ sheet s d t hd. finish n at h (l.same sheet (i + size t) (one_due s d t hd (none_due refl))) }

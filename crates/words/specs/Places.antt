@@ -1,4 +1,4 @@
--- The kinds and sorts of records and the forms of fields by number, and the places of their fields among a record's words, under the names that the code has for them (src/kind.rt, src/sort.rt, src/form.rt, src/field.rt). Assumes nothing: these are definitions.
+-- The kinds of records and the places of their fields among a record's words, under the names that the code has for them (src/kind.rt, src/field.rt), and the numbers that sorts and forms have in the record table. Assumes nothing: these are definitions.
 use Rattle.std.specs.Prelude.{ℕ}
 
 -- ── kinds ──

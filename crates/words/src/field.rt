@@ -1,4 +1,5 @@
 // Where a record's fields stand among its words: field g is words 2g + 2 and 2g + 3. A text's second word is its end, that of a span too; a variable that may be absent has a flag first.
+// Flags are 0 or 1, a variable that may be absent is a flag and an id, and a part's `shortest` is 0, 1 or 2 (all), since these are words of the work slices, which C lends.
 
 // of every record: its kind, where its line begins in the sheet and where it ends, behind its line feed, and how many children it has
 pub const KIND: usize = 0;

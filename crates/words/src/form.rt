@@ -1,6 +1,6 @@
 // The forms of fields.
 
-// A number has a limit.
+// Forms of one rank, of which a number has a limit: neither an Option nor a Result.
 #[derive(Clone, Copy, Debug, PartialEq, Eq)]
 pub enum Form {
     Flag,

@@ -1,4 +1,5 @@
 // Words that hold records: where a record's words stand.
+// Here and in all crates a u32 becomes a usize by `as`, and a number that fits a word a u32: std has no `From` between these, and a cast has to keep its value.
 #![tactic(auto)]
 
 pub use records::{Below, Record, Records, RecordsMut};
@@ -26,7 +27,7 @@ pub const MAX_BYTES: usize = 32768;
 // Each work slice has at least so many words.
 pub const WORK_WORDS: usize = 16384;
 
-// The first lowering takes trees of at most this depth; `stmt` has depth 1.
+// The calls take trees of at most this depth; `stmt` has depth 1.
 pub const MAX_DEPTH: usize = 64;
 
 // A byte has so many values.

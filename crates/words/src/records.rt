@@ -4,7 +4,7 @@ ghost use Rattle.words.specs.Words.{Roomy, cell, max_records, record_words, two3
 ghost use Rattle.words.specs.Count.{count_at, Starts, Ends};
 ghost use Rattle.words.specs.Places.{kind_at, node_kind, node_labels_at, node_props_at, rel_props_at};
 
-use crate::{FIRST_RECORDS, RECORD_WORDS, field, kind};
+use crate::{FIRST_RECORDS, MAX_RECORDS, RECORD_WORDS, field, kind};
 
 // The words of all records: the first 1,024 records in one slice, the others in the second. That both are long enough goes with them.
 // Two slices and no list of records, since they are work slices that C lends.
@@ -24,7 +24,7 @@ impl Records<'_> {
         Record { records: self, i }
     }
 
-    // Word c of record i.
+    // Word c of record i. That c is one of a record's words is asked here and by what calls it: nearly always it is a constant of field.rt, for which the check finds it.
     pub fn word(&self, i: usize, c: usize) -> u32
         requires { (i < max_records) × (c < record_words) }
         ensures { result ≡ cell self.now.a.now self.now.b.now i c }
@@ -51,20 +51,20 @@ impl Records<'_> {
         self.count(i, field::CHILDREN)
     }
 
-    // The record behind the tree that stands at record i.
+    // The record behind the tree that stands at record i. The check walks so too (precheck/src/flat.rt): one walk with a test of its own would ask of that test that it may be called at each record of a tree, which is longer than these lines; the law of a step is one (proofs/Counting.walked).
     pub fn skip(&self, i: usize) -> usize
         requires { Starts self.now.a.now self.now.b.now i }
         ensures { Ends self.now.a.now self.now.b.now i result }
     {
-        let mut at = i;
         let mut due = 1;
-        // A `while`, since how many records there are is known only as their counts are read. The check walks so too (precheck/src/flat.rt): one walk with a test of its own would ask of that test that it may be called at each record of a tree, which is longer than these lines; the law of a step is one (proofs/Counting.walked).
-        while due != 0 {
-            let n = self.children(at);
-            due = due - 1 + n;
-            at += 1;
+        for at in i..MAX_RECORDS {
+            if due == 0 {
+                return at;
+            }
+            due = due - 1 + self.children(at);
         }
-        at
+        // the last tree ends with the last record that there may be
+        MAX_RECORDS
     }
 }
 

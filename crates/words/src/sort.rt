@@ -2,7 +2,7 @@
 ghost use Rattle.std.specs.Prelude.{◌≡◌};
 ghost use Rattle.words.specs.Sorts.{sort_number, sort_at};
 
-// The record table and the stack of due groups hold a sort as its number.
+// The record table and the stack of due groups hold a sort as its number. Two methods and no `From`: a `From<u32>` would say that any number is a sort.
 #[derive(Clone, Copy, Debug, PartialEq, Eq)]
 pub enum Sort {
     Statement,

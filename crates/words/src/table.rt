@@ -1,5 +1,5 @@
 // The record table: of each kind the forms of its fields and its groups of children. Kinds are numbered sort by sort, as words hold them. A new record is a row here and in specs/Table.antt.
-// Tables are matches with constant arms, since the compiler reads those from constant data and writes an array anew at each use.
+// Tables are matches with constant arms: an array constant was tried with the older kit, whose compiler wrote it anew at each use (docs/PROVING.md); with today's it was not tried again.
 // A number that is no kind's has a row of no field and no group.
 ghost use Rattle.std.specs.Prelude.{◌≡◌, [], ◌<◌, get_or};
 ghost use Rattle.words.specs.Table.{codes, groups, group_numbers, field_count, entry_count, code_at, in_digits};
@@ -8,7 +8,7 @@ ghost use Rattle.words.specs.Forms.{form_coded, form_at};
 use crate::form::Form;
 use crate::kind;
 
-// A row has its entries as digits of four bits each, the first one topmost: one number a row is read from constant data, and a list of them is written anew at each use.
+// A row has its entries as digits of four bits each, the first one topmost: one number a row is read from constant data. Its digit is taken at two places, each with its own topmost one: what a function for both would ask of the two is longer than the line.
 const DIGIT_BITS: usize = 4;
 
 const DIGITS: u64 = 16;

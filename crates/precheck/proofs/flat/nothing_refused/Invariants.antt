@@ -1,12 +1,7 @@
 -- `nothing_refused` meets its contract: what is due from a record on is the whole tree, and the records before it are taken. Assumes nothing.
-use Prim.Native.Nat.{◌-◌}
-use Rattle.words.specs.Words.{max_records}
 use Rattle.words.proofs.Counting
 use Rattle.precheck.proofs.FlatLaws.{TakenTo}
 use Rattle.precheck.proofs.flat.nothing_refused.Given as goal
 
-abbrev pub invariant-loop-due : goal.invariant-loop-due
-invariant-loop-due l = Counting.Walking l.r.a.now l.r.b.now 0 l.due l.i × TakenTo l.r.a.now l.r.b.now l.i
-
-abbrev pub decreases-loop-due : goal.decreases-loop-due
-decreases-loop-due l = max_records - l.i
+abbrev pub invariant-loop-i : goal.invariant-loop-i
+invariant-loop-i l = Counting.Walking l.r.a.now l.r.b.now 0 l.due l.i × TakenTo l.r.a.now l.r.b.now l.i
