@@ -4,7 +4,7 @@ ghost use Rattle.words.specs.Words.{Roomy, cell, max_records, record_words, two3
 ghost use Rattle.words.specs.Count.{count_at, Starts, Ends};
 ghost use Rattle.words.specs.Places.{kind_at, node_kind, node_labels_at, node_props_at, rel_props_at};
 
-use crate::{FIRST_RECORDS, MAX_RECORDS, RECORD_WORDS, field, kind};
+use crate::{FIRST_RECORDS, RECORD_WORDS, field, kind};
 
 // The words of all records: the first 1,024 records in one slice, the others in the second. That both are long enough goes with them.
 // Two slices and no list of records, since they are work slices that C lends.
@@ -56,15 +56,15 @@ impl Records<'_> {
         requires { Starts self.now.a.now self.now.b.now i }
         ensures { Ends self.now.a.now self.now.b.now i result }
     {
+        let mut at = i;
         let mut due = 1;
-        for at in i..MAX_RECORDS {
-            if due == 0 {
-                return at;
-            }
-            due = due - 1 + self.children(at);
+        // A `while`: a `for` over the records that there may be, which leaves when nothing is due, proves too (the check has one), and costs 16 instructions a record more, 2.2 in a hundred of a lowering.
+        while due != 0 {
+            let n = self.children(at);
+            due = due - 1 + n;
+            at += 1;
         }
-        // the last tree ends with the last record that there may be
-        MAX_RECORDS
+        at
     }
 }
 
