@@ -97,6 +97,7 @@ fn show_all<W: Write>(
     plan: &mut [u8],
 ) -> io::Result<()> {
     let mut pairs = file;
+    // A `while`: where the next one begins is what the step before answers.
     while let Some((texts, rest)) = first_pair(pairs) {
         show_texts(out, &texts, left, right, l, r, plan)?;
         pairs = rest;

@@ -64,6 +64,7 @@ fn main(rt: HostRuntime) -> io::Result<()> {
     let n = read_full(&mut rt.stdin(), &mut list)?;
     let mut out = rt.stdout();
     let mut left = &list[..n];
+    // A `while`: where the next one begins is what the step before answers.
     while let Some((case, rest)) = first_case(left) {
         let k = build_sheet(case.text, &mut sheet).unwrap_or(0);
         show(&mut out, case.label, &sheet[..k], &mut records, &mut stack)?;

@@ -33,6 +33,7 @@ fn show_all<W: Write>(
     plan: &mut [u8],
 ) -> io::Result<()> {
     let mut left = file;
+    // A `while`: where the next one begins is what the step before answers.
     while !left.is_empty() {
         let (sheet, rest) = first_sheet(left).unwrap_or((left, &[]));
         show(out, sheet, work, plan)?;

@@ -1,4 +1,4 @@
-// The calls as numbers and slices, with the answer as six words: `library_c` exports them to programs in other languages. They answer a bool, which C is handed; each tests the answer's room before it calls.
+// The calls as numbers and slices, with the answer as six words: `library_c` exports them to programs in other languages. They answer a bool, which C is handed; each tests the answer's room itself, since that has to come before its call.
 #![tactic(auto)]
 
 ghost use Rattle.std.specs.Prelude.{◌≡◌, ◌≤◌, ◌++◌, length};

@@ -80,7 +80,7 @@ pub fn items_of(r: Record<'_>, w: Op, k: usize) -> Run
     }
 }
 
-// The yields of a `call`, from record i on, with the numbers that are noted at them.
+// The yields of a `call`, from record i on, with the numbers that are noted at them. All records and a place, since where there are none no record need stand (names.rt).
 fn put_yields(page: &mut Page<'_>, sheet: &[u8], r: &Records<'_>, rest: &[u32], w: Op, i: usize)
     requires { NotedAsked rest.now w (YieldsIn sheet.now r.now (op_word r.now w call_yields_at) i) }
     ensures { YieldsWrote sheet.now r.now rest.now w.base (op_word r.now w call_yields_at) i page.old page.new }
@@ -103,7 +103,7 @@ fn put_yields(page: &mut Page<'_>, sheet: &[u8], r: &Records<'_>, rest: &[u32], 
     }
 }
 
-// What is behind the expressions of an operator, from record i on.
+// What is behind the expressions of an operator, from record i on: all records and a place, as in `put_names`.
 pub fn put_tail(page: &mut Page<'_>, sheet: &[u8], r: &Records<'_>, rest: &[u32], w: Op, i: usize)
     requires { NotedAsked rest.now w (TailIn sheet.now r.now rest.now w i) }
     ensures { TailWrote sheet.now r.now rest.now w i page.old page.new }

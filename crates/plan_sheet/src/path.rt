@@ -59,7 +59,7 @@ fn put_step(page: &mut Page<'_>, r: Record<'_>, rest: &[u32], base: usize, path:
     }
 }
 
-// The elements of a part, from record i on.
+// The elements of a part, from record i on: all records and a place, as in `put_names`.
 pub fn put_path(page: &mut Page<'_>, sheet: &[u8], r: &Records<'_>, rest: &[u32], w: Op, i: usize)
     requires { NotedAsked rest.now w (ElementsIn sheet.now r.now (op_word r.now w part_elements_at) i) }
     ensures { PathWrote sheet.now r.now rest.now w.base (op_word r.now w part_elements_at) i page.old page.new }

@@ -27,7 +27,7 @@ fn span_word(kind: u32) -> usize
     }
 }
 
-// Sort keys, then skip, then limit, of a clause, from record at on.
+// Sort keys, then skip, then limit, of a clause, from record at on. How many of each is a number, as of filters below.
 fn check_order_skip_limit(c: Record<'_>, at: usize, under: Under) -> Walk
     requires { ClauseAsked under.left (Exists (Trailers c.records.now.a.now c.records.now.b.now c.i under.left (span_of under.span) at)) }
     ensures { Walks result (Trailers c.entry.records.now.a.now c.entry.records.now.b.now c.entry.i under.left (span_of under.span) at) }

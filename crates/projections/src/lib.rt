@@ -1,4 +1,4 @@
-// The lowering of a `with` or a `return` into the tables. r holds the records; cur is where a clause begins: its record, the operator before it, if there is one, and the state. How deep the clause's tree may be is beside it.
+// The lowering of a `with` or a `return` into the tables. r holds the records; cur is where a clause begins: its record, the operator before it, if there is one, and the state. How deep the clause's tree may be is beside it: the same for all clauses of a statement, where cur is another one each time.
 #![tactic(auto)]
 
 ghost use Rattle.std.specs.Prelude.{◌≡◌, List, ℕ, Some};
@@ -34,7 +34,7 @@ fn push_if(ops: &mut [u32], s: Reached, wanted: bool, x: Op, input: u32) -> Root
     s.push(ops, x)
 }
 
-// The `with` that stands next, behind the operator before it.
+// The `with` that stands next, behind the operator before it. How many filters it has is a number, as the record table has it (trailers.rt).
 pub fn lower_with(r: &Records<'_>, tables: &mut Tables<'_>, cur: Current, left: usize) -> Root
     requires { ClauseAsked with_kind r.now.a.now r.now.b.now left cur.next cur.op (in_tables cur.ctx tables.old) }
     ensures lowered { (sheet : List ℕ) → LowersClause sheet r.now.a.now r.now.b.now left cur.next result.next cur.op (Some result.op) (in_tables cur.ctx tables.old) (in_tables result.ctx tables.new) }

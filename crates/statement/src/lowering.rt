@@ -42,7 +42,7 @@ fn write_lowered(s: &Source<'_>, ctx: LowerCtx, plan: &mut [u8]) -> Result<usize
     write_plan(plan, s, ctx.ops, ctx.mapped).ok_or(Refusal::NoRoom)
 }
 
-// Tests 2 to 10. The slices of the lowering come one by one, since the first is the reader's stack before; tried: the `Work` taken apart here, which the borrow checker does not cover, since a slice behind one reference stays lent while another is used.
+// Tests 2 to 10. The slices of the lowering come one by one, since the first is the reader's stack before; tried: the `Work` taken apart here, or by four loans, or by value, the pairs by value, and a pair made in place beside the other; the borrow checker covers none of the five, since a slice behind one reference stays lent while another is used.
 fn lower_read(
     sheet: &[u8],
     records: &mut RecordsMut<'_>,

@@ -44,7 +44,7 @@ fn write_lowered<'a>(
     write_pair(plan, left, right, n).ok_or(Refusal::NoRoom)
 }
 
-// Tests 3 to 10, with sheets that are not too long and work slices that are long enough. The slices of the lowering come one by one, since the first of each side is the reader's stack before.
+// Tests 3 to 10, with sheets that are not too long and work slices that are long enough. The slices of the lowering come one by one, since the first of each side is the reader's stack before; tried as in crate statement (lowering.rt).
 fn lower_tested(
     left: &[u8],
     right: &[u8],

@@ -142,7 +142,7 @@ fn accepted(length: usize) -> Values
 }
 
 // The answer of a call with one sheet, or with two: F is what may be wrong with a sheet.
-// A function, and no impl of `From` for all F: that impl's own bound would have to be solved by it again.
+// A function, and no impl of `From` for all F: tried, and that impl's own bound would have to be solved by it again.
 fn answer_values<F>(answer: Result<usize, Refusal<F>>) -> Values
 where
     Values: From<F>,

@@ -1,4 +1,5 @@
 -- `check_clause` meets its contract: by the number of the kind. Assumes nothing.
+-- Thirteen answers by search: an attribute with using(..) in their place was tried, and finds one of them.
 use borrow.Author.Rules.{rules}
 use Rattle.precheck.proofs.ClauseLaws.{as_match, as_where, as_with, as_return, as_unwind, as_call, as_write}
 use Rattle.precheck.proofs.Checks.{some_turned, walks_turned}
