@@ -1,13 +1,13 @@
 -- A part by its shape: a chain, unless it is a shortest part of exactly node, rel, node. Assumes nothing.
 use mathlib.Core.Path.{◌≡◌, sym, ap, ◌∙◌}
-use Prim.Native.Nat.{ℕ, ◌+◌, ◌-◌, ◌<◌}
+use Prim.Native.Nat.{ℕ, ◌+◌, ◌-◌}
 use native.Mathlib.Omega.{arith}
 use mathlib.Core.List.{List, [], ◌∷◌}
 use Rattle.model.specs.Text.{Bytes}
 use Rattle.model.specs.Kind.{pattern_part, pattern_element}
 use Rattle.model.specs.Tree.{Tree}
 use Rattle.model.specs.Lower.{Step, NodeStep, RelStep, of_node, of_rel, other, shape_of}
-use Rattle.words.specs.Words.{Roomy, cell, max_records}
+use Rattle.words.specs.Words.{Roomy, cell}
 use Rattle.words.specs.Held.{Held, size}
 use Rattle.words.specs.Count.{Starts, Ends}
 use Rattle.lower.specs.Rep.{State, Mem}
@@ -17,7 +17,6 @@ use Rattle.lower.specs.Chains.{special_elements, steps_of, chain_l, LowersChain,
 use Rattle.lower.specs.declared.Element.{Element}
 use Rattle.lower.specs.declared.Element.TheVariants as element
 use Rattle.lower.specs.declared.Read.{Read}
-use Rattle.words.specs.Fits.{tree_fits}
 use Rattle.lower.proofs.Elements.{a_node, a_rel, other_element}
 use Rattle.lower.proofs.Chaining.{IsPart, a_part}
 use Rattle.lower.proofs.Shortest.{Three, three, plain_part, other_part, shape_not_three, steps_length}

@@ -31,7 +31,7 @@ use Rattle.plan_line.specs.declared.keyword.Keyword.{Keyword}
 use Rattle.plan_line.specs.Row.{named_text}
 use Rattle.plan_sheet.specs.Due.{noted, SomePlan, Names, names_recs, Carried, carried_recs, carried_end, Many, WroteMany, WroteFirst}
 use Rattle.plan_line.specs.Copy.{TextAsked, text_at}
-use Rattle.plan_sheet.specs.Path.{Elements, WrotePath}
+use Rattle.plan_sheet.specs.Path.{Elements}
 use Rattle.plan_sheet.specs.Behind.{many_by, many_of, first_by, first_of, Yields, no_yields, yield_more, yields_recs, WroteYields, Tail, SomeTail, WroteTail}
 use Rattle.plan_sheet.specs.Due
 use Rattle.plan_sheet.specs.Behind

@@ -2,7 +2,7 @@
 use native.Mathlib.Omega.{arith}
 use Rattle.precheck.proofs.ClauseLaws.{as_statement, held_at, some_held}
 use Rattle.precheck.proofs.Checks.{some_turned, walks_turned, walk_fine}
-use Rattle.precheck.proofs.FlatLaws.{starts_held, fine_statement}
+use Rattle.precheck.proofs.FlatLaws.{fine_statement}
 use Rattle.precheck.proofs.Laws.{first_of_law, after, then_walks, then_stopped, handed_on, some_none}
 use Rattle.precheck.proofs.precheck_statement.Goals as goal
 

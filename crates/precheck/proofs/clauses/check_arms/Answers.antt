@@ -3,7 +3,7 @@ use native.Mathlib.Omega.{arith}
 use borrow.Author.Rules.{rules}
 use Rattle.precheck.proofs.ClauseLaws.{as_arm}
 use Rattle.precheck.proofs.Checks.{some_turned, walks_turned, next_standing}
-use Rattle.precheck.proofs.Laws.{whole, child, again, stop, done, stopped_as}
+use Rattle.precheck.proofs.Laws.{child, again, stop, done, stopped_as}
 use Rattle.precheck.proofs.clauses.check_arms.Goals as goal
 
 pub count-clauses-requires : goal.count-clauses-requires

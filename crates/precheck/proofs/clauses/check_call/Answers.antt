@@ -1,7 +1,5 @@
 -- `check_call` meets its contract: the arguments, then the yields, which are passed over by their count. Assumes nothing.
-use native.Mathlib.Omega.{arith}
-use Rattle.precheck.proofs.Checks.{some_counted, counted_on, counted_stopped}
-use Rattle.precheck.proofs.Laws.{first_of_law, after}
+use Rattle.precheck.proofs.Checks.{counted_on, counted_stopped}
 use Rattle.precheck.proofs.clauses.check_call.Goals as goal
 
 pub returns-in_err-at : goal.returns-in_err-at

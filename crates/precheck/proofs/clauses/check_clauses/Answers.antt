@@ -1,6 +1,6 @@
 -- `check_clauses` meets its contract: the invariant says that what remains has the verdict of the whole. Assumes nothing.
 use Rattle.precheck.proofs.Checks.{next_standing}
-use Rattle.precheck.proofs.Laws.{whole, again, stop, done, stopped_as}
+use Rattle.precheck.proofs.Laws.{again, stop, done, stopped_as}
 use Rattle.precheck.proofs.clauses.check_clauses.Goals as goal
 
 pub at-requires : goal.at-requires

@@ -1,6 +1,5 @@
 -- `check_order_skip_limit` meets its contract: keys, then skip, then limit. Assumes nothing.
-use Rattle.precheck.proofs.Checks.{some_counted, walks_counted, counted_on, counted_stopped}
-use Rattle.precheck.proofs.Laws.{first_of_law, after, then_walks, stopped_as}
+use Rattle.precheck.proofs.Checks.{walks_counted, counted_on, counted_stopped}
 use Rattle.precheck.proofs.clauses.check_order_skip_limit.Goals as goal
 
 pub returns-in_err-p : goal.returns-in_err-p

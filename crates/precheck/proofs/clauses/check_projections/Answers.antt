@@ -1,6 +1,6 @@
 -- `check_projections` meets its contract: items, then filters, then the rest. Assumes nothing.
-use Rattle.precheck.proofs.Checks.{some_counted, walks_counted, counted_on, counted_stopped}
-use Rattle.precheck.proofs.Laws.{first_of_law, after, then_walks, then_stopped, stopped_as}
+use Rattle.precheck.proofs.Checks.{counted_on, counted_stopped}
+use Rattle.precheck.proofs.Laws.{then_walks, then_stopped, stopped_as}
 use Rattle.precheck.proofs.clauses.check_projections.Goals as goal
 
 pub returns-in_err-p : goal.returns-in_err-p

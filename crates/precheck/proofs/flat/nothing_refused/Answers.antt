@@ -1,8 +1,7 @@
 -- `nothing_refused` meets its contract: what is due from a record on is the whole tree, and the records before it are taken. Assumes nothing.
-use mathlib.Core.Bool.{false≢true}
 use native.Mathlib.Omega.{arith}
 use Rattle.words.proofs.Counting
-use Rattle.precheck.proofs.FlatLaws.{none_yet, one_more, all_taken}
+use Rattle.precheck.proofs.FlatLaws.{one_more, all_taken}
 use Rattle.precheck.proofs.flat.nothing_refused.Goals as goal
 
 pub at-requires : goal.at-requires

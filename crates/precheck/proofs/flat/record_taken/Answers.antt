@@ -1,8 +1,6 @@
 -- `record_taken` meets its contract: a part has to begin with a node, and every other record is told by its kind. Assumes nothing.
 use native.Mathlib.Omega.{arith}
-use borrow.Author.Rules.{rules}
 use borrow.Author.Tests.{ltb-true}
-use Rattle.words.proofs.Counting.{start_low}
 use Rattle.precheck.proofs.FlatLaws.{some_part, part_taken, other_taken}
 use Rattle.precheck.proofs.flat.record_taken.Goals as goal
 

@@ -2,7 +2,7 @@
 use native.Mathlib.Omega.{arith}
 use borrow.Author.Rules.{rules}
 use mathlib.Core.Path.{sym, ◌∙◌}
-use Rattle.precheck.proofs.Laws.{whole, child, again, stop, done, stopped_as}
+use Rattle.precheck.proofs.Laws.{child, again, stop, done, stopped_as}
 use Rattle.precheck.proofs.Checks.{some_turned, walks_turned, standing, next_standing, some_at, as_props, own_refused, as_leaf, as_entries, as_pattern, as_plain, as_elements}
 use Rattle.precheck.proofs.walk.+expression.Goals as goal
 
