@@ -1,7 +1,8 @@
 -- What the calls' answers mean: the six values of the refusal that has the same name and carries the same. Assumes nothing: these are definitions.
-use Rattle.std.specs.Prelude.{[], ℕ, Result, Ok, Err}
+use Rattle.std.specs.Prelude.{◌≡◌, Bool, true, false, List, [], ◌∷◌, ℕ, ◌≤◌, length, Result, Ok, Err}
 use Rattle.model.specs.Text.{Bytes}
 use Rattle.model.specs.Refusal.{Refusal as Refuses, Answer as Values, accepted, values_of}
+use Rattle.model.specs.Call.{short, work_words}
 use Rattle.precheck.specs.Answer.{error_of}
 use Rattle.precheck.specs.declared.PlanLowerError.{PlanLowerError}
 use Rattle.sheet.specs.Reader.{refusal_of as read_refusal}
@@ -37,3 +38,8 @@ call_answer of_sheet (Err r) = refusal_answer of_sheet r
 -- the answer of a call with one sheet
 abbrev pub answer_of : Result ℕ (Refusal Fault) → Values
 answer_of x = call_answer fault_answer x
+
+-- whether four slices are long enough
+abbrev pub Long : List ℕ → List ℕ → List ℕ → List ℕ → Bool → Type 0
+Long a b c d true = (work_words ≤ length a) × (work_words ≤ length b) × (work_words ≤ length c) × (work_words ≤ length d)
+Long a b c d false = short (length a ∷ length b ∷ length c ∷ length d ∷ []) ≡ true

@@ -6,13 +6,16 @@ use Rattle.model.specs.Text.{Bytes}
 use Rattle.model.specs.Kind.{statement}
 use Rattle.model.specs.Tree.{Tree}
 use Rattle.model.specs.Refusal.{Answer as Values}
+use Rattle.model.specs.Check.{precheck_statement}
 use Rattle.model.specs.Lower.{LowerCtx, lower_statement}
-use Rattle.model.specs.Call.{Test, pass, then, short, test_plan, planned, Outcome, outcome, lower_call}
+use Rattle.model.specs.Call.{Test, pass, then, short, test_check, test_plan, planned, Outcome, outcome, lower_call}
+use Rattle.precheck.specs.Answer.{Says}
+use Rattle.precheck.specs.declared.PlanLowerError.{PlanLowerError}
 use Rattle.statement.specs.declared.Refusal.{Refusal}
 use Rattle.statement.specs.declared.Fault.{Fault}
 use Rattle.statement.specs.Answer.{answer_of}
 use Rattle.statement.specs.Fits.{answer_fits}
-use Rattle.statement.specs.Tests.{sheet_tests, Fails, nameless}
+use Rattle.statement.specs.Tests.{sheet_tests, Fails, tree_fails, tree_passes, nameless}
 use Rattle.statement.specs.Sizing.{short_first, tests_second}
 
 -- the answer and the slice are those of a test
@@ -22,6 +25,22 @@ Gives slice slice' x t = ◌≡◌ {A = Outcome} (record { answer = answer_of x;
 -- what is behind test 1
 abbrev pub behind_work : Bytes → Test LowerCtx
 behind_work sheet = then (sheet_tests sheet) λ t. test_plan (lower_statement t)
+
+-- what is behind the reader: the check of a tree, and test 9 of its plan
+abbrev pub behind : Tree statement → Test LowerCtx
+behind t = then (test_check t (precheck_statement t)) λ u. test_plan (lower_statement u)
+
+-- ── the check, of any tree ──
+
+pub tree_refused : (slice : Bytes) (t : Tree statement) (x : PlanLowerError) → Says (Err x) (precheck_statement t) → Gives slice slice (Err (Refusal.OfSheet (Fault.Refused x))) (behind t)
+unfolding then outcome
+tree_refused slice t x s =
+    let f = tree_fails t x s in
+    rw f.is (ap (λ (a : Values). record { answer = a; slice = slice }) (sym (nameless (Fault.Refused x) f.unresolved)))
+
+pub tree_fine : (slice slice' : Bytes) (t : Tree statement) (x : Result ℕ (Refusal Fault)) → Says (Ok tt) (precheck_statement t) → Gives slice slice' x (test_plan (lower_statement t)) → Gives slice slice' x (behind t)
+unfolding then
+tree_fine slice slice' t x s g = rw (tree_passes t s) g
 
 -- ── tests 2 to 8 ──
 

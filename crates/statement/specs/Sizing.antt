@@ -1,5 +1,5 @@
 -- The sizing call's tests in order, from what the reader and the check answer. Assumes nothing.
-use Rattle.std.specs.Prelude.{◌≡◌, refl, ℕ, ◌*◌, ◌<◌, ◌≤◌, Bool, true, false, List, [], ◌∷◌, ltb, length, Ok, ◌||◌, not}
+use Rattle.std.specs.Prelude.{◌≡◌, refl, ℕ, ◌*◌, ◌<◌, ◌≤◌, Bool, true, false, List, [], ◌∷◌, ltb, length, Ok, Err, ◌||◌, not}
 use Rattle.std.specs.List.{list_any}
 use Rattle.std.proofs.Common.{sym, ap, ◌∙◌}
 use Rattle.std.proofs.Math.Bool.{or-true}
@@ -16,8 +16,10 @@ use Rattle.words.specs.Held.{Held, HeldSome}
 use Rattle.sheet.specs.Reader.{read_only, Reads}
 use Rattle.statement.specs.Work.{sizes}
 use Rattle.statement.specs.declared.Fault.{Fault}
-use Rattle.statement.specs.Answer.{fault_answer}
-use Rattle.statement.specs.Tests.{sheet_tests, Fails, nameless}
+use Rattle.precheck.specs.Answer.{Says}
+use Rattle.precheck.specs.declared.PlanLowerError.{PlanLowerError}
+use Rattle.statement.specs.Answer.{error_answer, fault_answer, Long}
+use Rattle.statement.specs.Tests.{sheet_tests, Fails, tree_fails, nameless}
 
 -- ── test 1 ──
 
@@ -82,6 +84,15 @@ enough a b c d h =
       fourth = ltb-false (length d) work_words s.0;
     }
 
+-- the same of the four one by one
+pub long_of : (a b c d : List ℕ) (r : Bool) → r ≡ not (short (sizes a b c d)) → Long a b c d r
+long_of a b c d true h = let e = enough a b c d (is_long _ true h refl) in (e.first, e.second, e.third, e.fourth)
+long_of a b c d false h = is_short _ false h refl
+
+pub long_tells : (a b c d : List ℕ) (r : Bool) → Long a b c d r → r ≡ not (short (sizes a b c d))
+long_tells a b c d true l = rw (none_short (length a) (length b) (length c) (length d) l) refl
+long_tells a b c d false s = rw s refl
+
 -- ── the tests in order ──
 
 then_assoc : {A B C : Type 0} (m : Test A) (f : A → Test B) (g : B → Test C) → then (then m f) g ≡ then m (λ a. then (f a) g)
@@ -105,6 +116,12 @@ read_third work sheet e h = rw (e, le-ltb max_bytes (length sheet) h) (sym (then
 pub tests_second : (work : List ℕ) (sheet : Bytes) → short work ≡ false → checked max_depth work sheet ≡ sheet_tests sheet
 unfolding checked then test_work sheet_tests read_only
 tests_second work sheet e = rw e (ap (λ (m : Test (Tree statement)). then (test_bytes sheet) (λ _. m)) (sym (then_assoc (test_reading (read_sheet max_depth sheet)) _ _)))
+
+-- ── the check ──
+
+-- of any tree, also of one that no sheet has
+pub check_refused : (t : Tree statement) (x : PlanLowerError) → Says (Err x) (precheck_statement t) → Sized (test_check t (precheck_statement t)) (error_answer x)
+check_refused t x s = let f = tree_fails t x s in rw f.is (rw (sym (nameless (Fault.Refused x) f.unresolved)) refusal)
 
 -- ── the call ──
 

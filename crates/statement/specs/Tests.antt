@@ -64,6 +64,17 @@ held_few sheet a b d =
     let g = passed sheet d.0 (read_sheet max_depth sheet) d.1 in
     omega (arith, (sheet_sound max_depth sheet d.0 g.0 g.1).0.few, d.2)
 
+-- ── tests 6 to 8, of any tree ──
+
+module _ (t : Tree statement) where
+  pub tree_fails : (x : PlanLowerError) → Says (Err x) (precheck_statement t) → Fails (Fault.Refused x) (test_check t (precheck_statement t))
+  unfolding test_check
+  tree_fails x s = record { unresolved = s.unresolved; is = rw s.is refl }
+
+  pub tree_passes : Says (Ok tt) (precheck_statement t) → test_check t (precheck_statement t) ≡ pass t
+  unfolding test_check
+  tree_passes s = rw s refl
+
 -- ── test 2 ──
 
 module _ (sheet : Bytes) where
@@ -96,12 +107,12 @@ module _ (sheet : Bytes) where
 
     module _ {t : Tree statement} (q : read_only max_depth sheet ≡ pass t) where
       pub check_fails : (x : PlanLowerError) → Says (Err x) (precheck_statement t) → Fails (Fault.Refused x) (sheet_tests sheet)
-      unfolding sheet_tests then test_bytes test_check
-      check_fails x s = record { unresolved = s.unresolved; is = rw (le-ltb max_bytes (length sheet) h, q, s.is) refl }
+      unfolding sheet_tests then test_bytes
+      check_fails x s = let f = tree_fails t x s in record { unresolved = f.unresolved; is = rw (le-ltb max_bytes (length sheet) h, q) f.is }
 
       pub check_passes : Says (Ok tt) (precheck_statement t) → sheet_tests sheet ≡ pass t
-      unfolding sheet_tests then test_bytes test_check
-      check_passes s = rw (le-ltb max_bytes (length sheet) h, q, s) refl
+      unfolding sheet_tests then test_bytes
+      check_passes s = rw (le-ltb max_bytes (length sheet) h, q) (tree_passes t s)
 
   pub all_pass : {a b : List ℕ} {n : ℕ} → length sheet ≤ max_bytes → (d : Reads max_depth sheet a b (Ok n)) → Says (Ok tt) (precheck_statement d.0) → Passes sheet a b n
   all_pass {a} {b} h d s = record { tree = d.0; is = check_passes h d.1 s; count = d.2; held = d.3; few = held_few sheet a b d }

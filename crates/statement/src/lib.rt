@@ -10,7 +10,7 @@ ghost use Rattle.statement.specs.Answer.{answer_of};
 ghost use Rattle.statement.specs.Tests.{bytes_of, TestsSheet};
 ghost use Rattle.statement.specs.Work.{lengths, Kept};
 
-pub use work::Work;
+pub use work::{Work, long_enough};
 
 pub mod lowering;
 pub mod work;
