@@ -21,7 +21,7 @@ use Rattle.context.specs.declared.LowerCtx.{LowerCtx}
 use Rattle.lower.specs.Side.{Side, side}
 use Rattle.lower.specs.Rep.{State, Mem, mem, Written, Rep}
 use Rattle.lower.specs.Clauses.{both_passes, BothBlank, Leaves}
-use Rattle.projections.specs.Ready.{max_start}
+use Rattle.projections.specs.Ready.{max_start, Ready}
 use Rattle.lower.specs.State.{to_then, to_wider}
 use Rattle.projections.specs.Room.{twice_then}
 use Rattle.projections.specs.Passes.{sub_turns, both_within, both_behind}
@@ -93,11 +93,19 @@ start = record { ops = 0; numbers = 0; mapped = 0 }
 abbrev pub Long : (os rs : List ℕ) → Type 0
 Long os rs = (work_words ≤ length os) × (work_words ≤ length rs)
 
--- with no variables there is room for a statement, also behind another one's operators and numbers, over tables of its own
+-- with no variables there is room for a statement, also behind another one
+pub start_ready : (c : LowerCtx) (os rs : List ℕ) → c.ops ≤ max_start → c.numbers ≤ max_start → work_words ≤ length os → work_words ≤ length rs → Ready 1 (mem (forgetting c) os rs)
+start_ready c os rs lc ln lo lr = record { few = omega arith; low = omega arith; met = omega arith; here = omega arith; in_ops = lo; in_rest = lr; index = none_indexed (drop vars_at rs) }
+
+-- so behind one statement from nothing, over tables of its own
+pub ready_behind : {sheet : Bytes} {a b : List ℕ} {d e : ℕ} {o : Option ℕ} {os rs : List ℕ} {m : Mem} (os' rs' : List ℕ) → LowersFrom sheet a b d e o (mem start os rs) m → work_words ≤ length os' → work_words ≤ length rs' → Ready 1 (mem (forgetting m.ctx) os' rs')
+ready_behind {m = m} os' rs' p lo lr = let v = p.moved in start_ready m.ctx os' rs' (omega (arith, v.few, v.here)) (omega (arith, v.low, v.here)) lo lr
+
+-- what a statement wants there
 pub asked : {sheet : Bytes} {a b : List ℕ} (c : LowerCtx) (os rs : List ℕ) → HeldSome sheet a b statement max_depth 0 → c.ops ≤ max_start → c.numbers ≤ max_start → Long os rs → StatementAsked sheet a b max_depth (mem (forgetting c) os rs)
 asked c os rs h lc ln l = record {
   held = h;
-  ready = record { few = omega arith; low = omega arith; met = omega arith; here = omega arith; in_ops = l.0; in_rest = l.1; index = none_indexed (drop vars_at rs) };
+  ready = start_ready c os rs lc ln l.0 l.1;
   depth = omega arith;
 }
 
