@@ -4,13 +4,16 @@
 ghost use Rattle.std.specs.Prelude.{◌<◌, length, IfSome};
 
 use gate_answers::{say_answer, shown};
-use gate_cases::text::{MAX_FILE, build_sheet, first_sheet};
+use gate_cases::text::{build_sheet, first_sheet};
 use input::read_full;
 use statement::Work;
 use std::io;
 use std::io::Write;
 use union_pair::lower_union_pair;
 use values::Values;
+
+// How long a file of pairs may be; what is behind that is not read.
+const FILE_BYTES: usize = 131072;
 
 // A page for a sheet, and the plan's slice.
 const PAGE: usize = 65536;
@@ -106,7 +109,7 @@ fn show_all<W: Write>(
 }
 
 fn main(rt: HostRuntime) -> io::Result<()> {
-    let mut file = [0u8; MAX_FILE];
+    let mut file = [0u8; FILE_BYTES];
     let mut left = [0u8; PAGE];
     let mut right = [0u8; PAGE];
     let mut la = [0u32; words::WORK_WORDS];
