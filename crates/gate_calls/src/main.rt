@@ -8,6 +8,7 @@ use gate_answers::shown;
 use gate_cases::text::{build_sheet, cut};
 use input::read_full;
 use library::{dresserhawk_lower, dresserhawk_size};
+use output::Page;
 use record::number::decimal;
 use statement::Work;
 use std::io;
@@ -25,6 +26,9 @@ const ANSWER_WORDS: usize = 8;
 const UNTOUCHED: usize = 7;
 
 const SHORT_ANSWER: usize = 5;
+
+// A page for a word and the blank before it.
+const WORD_PAGE: usize = 32;
 
 // What is shorter than a call wants it: one work slice, by a word; all of them, which have no words; or the answer slice, which has no room for an answer.
 #[derive(Clone, Copy, PartialEq, Eq)]
@@ -109,10 +113,19 @@ fn first_case(list: &[u8]) -> Option<(Case<'_>, &[u8])>
     ))
 }
 
-// All of a slice, a blank before each word.
+// All of a slice, a blank before each word: a word and its blank in one write, which `write!` would make two.
 fn say_words<W: Write>(out: &mut W, words: &[usize]) -> io::Result<()> {
     for word in words {
-        write!(out, " {word}")?;
+        let mut bytes = [0u8; WORD_PAGE];
+        let mut page = Page {
+            bytes: &mut bytes,
+            out: 0,
+        };
+        page.put_byte(b' ');
+        page.put_decimal(*word as u64);
+        if let Some(n) = page.used() {
+            out.write_all(&bytes[..n])?;
+        }
     }
     Ok(())
 }
@@ -127,7 +140,8 @@ fn say<W: Write>(
 ) -> io::Result<()> {
     out.write_all(label)?;
     out.write_all(call)?;
-    write!(out, " {written}")?;
+    let told: &[u8] = if written { b" true" } else { b" false" };
+    out.write_all(told)?;
     say_words(out, answer)?;
     out.write_all(b"\n")
 }
