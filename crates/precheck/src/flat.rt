@@ -23,15 +23,17 @@ pub fn nothing_refused(r: &Records<'_>) -> bool
     requires { Starts r.now.a.now r.now.b.now 0 }
     ensures { Tells result (NoneRefused r.now.a.now r.now.b.now) }
 {
+    // A copy, so that where the slices stand is looked up once and not at each record.
+    let records = *r;
     let mut due = 1;
     for i in 0..MAX_RECORDS {
         if due == 0 {
             break;
         }
-        if !record_taken(r.at(i)) {
+        if !record_taken(records.at(i)) {
             return false;
         }
-        due = due - 1 + r.children(i);
+        due = due - 1 + records.children(i);
     }
     true
 }
