@@ -82,11 +82,10 @@ fn float_words(s: &[u8]) -> Option<Words>
 fn signed_words(v: i64) -> Words
     ensures { (sheet : Bytes) → words_value Form.int sheet (Some result) ≡ Some v }
 {
-    let size = v.unsigned_abs();
     if v < 0 {
-        return halves(size - 1, words::TOP_BIT);
+        return halves(v.unsigned_abs() - 1, words::TOP_BIT);
     }
-    halves(size, 0)
+    halves(v.unsigned_abs(), 0)
 }
 
 // A signed number, from its piece.
