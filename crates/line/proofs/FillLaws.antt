@@ -148,7 +148,7 @@ width_up Field.length = omega arith
 -- the fields up to place `at`, where the last of them ends
 pub record Filling (n : ℕ) (sheet : Bytes) (p e : ℕ) (ws₀ ws : List ℕ) (at g : ℕ) : Type 0 where
   pub long : length ws ≡ record_words
-  pub room : g + length (forms_from n g) ≤ max_fields
+  pub room : g + length (forms_from n g) ≡ length (forms_at n)
   pub kept : Kept ws₀ ws
   pub from : p ≤ at
   pub to : at ≤ e
@@ -164,7 +164,7 @@ unfolding forms_at
 fill_start n sheet p ws l s e line =
     record {
       long = l;
-      room = omega (arith, few_forms n);
+      room = omega arith;
       kept = λ c h. refl;
       from = omega arith;
       to = line.from;
@@ -183,7 +183,7 @@ module _ (n : ℕ) (sheet : Bytes) (p e : ℕ) (line : LineEnd sheet p e) (ws₀
         row_more (get_or codes n []) g (λ z. omega (arith, some.0, z)) ∙ ap (λ x. x ∷ forms_in (drop (suc g) (get_or codes n []))) (sym some.1)
 
     fill_room : g < max_fields
-    fill_room = omega (arith, f.room, ap length rest_is)
+    fill_room = omega (arith, few_forms n, f.room, ap length rest_is)
 
     form_going : Going sheet (forms_at n) (pieces_at sheet (p + 1) e) (form_is form ∷ forms_from n (suc g)) (pieces_at sheet (at + 1) e) ws g
     form_going = rw rest_is at f.going
@@ -232,13 +232,13 @@ module _ (n : ℕ) (sheet : Bytes) (p e : ℕ) (line : LineEnd sheet p e) (ws₀
   -- ── no form is left ──
 
   -- the row ends here
-  pub no_form : g < max_fields → form_at n g ≡ None → forms_from n g ≡ []
+  pub no_form : g < length (forms_at n) → form_at n g ≡ None → forms_from n g ≡ []
   unfolding forms_from
-  no_form l h = row_end (get_or codes n []) g (form_none n g (omega arith) h)
+  no_form l h = row_end (get_or codes n []) g (form_none n g (omega (arith, few_forms n, l)) h)
 
-  -- or there are as many forms as a record may have
-  pub all_forms : max_fields ≤ g → forms_from n g ≡ []
-  all_forms l = none_of (forms_from n g) (omega (arith, f.room))
+  -- or all forms are read
+  pub all_forms : length (forms_at n) ≤ g → forms_from n g ≡ []
+  all_forms l = none_of (forms_from n g) (omega (arith, f.room, l))
     where
       none_of : (l : List Field.Form) → length l ≡ 0 → l ≡ []
       none_of [] e = refl
@@ -252,7 +252,7 @@ module _ (n : ℕ) (sheet : Bytes) (p e : ℕ) (line : LineEnd sheet p e) (ws₀
     unfolding read_fields fields_of
     fill_yes z =
         record {
-          answer = (done, λ vs a. last_going.some_so vs (λ i q. a i (omega (arith, f.room))) (rw (none_left sheet (at + 1) e (omega (arith, done)))) tt tt);
+          answer = (done, λ vs a. last_going.some_so vs (λ i q. a i (omega (arith, few_forms n, f.room))) (rw (none_left sheet (at + 1) e (omega (arith, done)))) tt tt);
           kept = f.kept;
           long = f.long;
         }

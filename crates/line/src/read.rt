@@ -1,9 +1,10 @@
 // A line read into the sixteen words of a record.
-ghost use Rattle.std.specs.Prelude.{◌≡◌, ◌<◌, length};
+ghost use Rattle.std.specs.Prelude.{◌≡◌, ◌<◌, ◌≤◌, length};
 ghost use Rattle.line.specs.LineRead.{FieldsAsked, FieldsHere, LineHere, IntoHere};
 ghost use Rattle.words.specs.Words.{max_records, record_words};
 ghost use Rattle.words.specs.Lent.{SameSlices};
 ghost use Rattle.words.specs.Sorts.{sort_is};
+ghost use Rattle.words.specs.Table.{max_fields, forms_at};
 
 use crate::form::read_form;
 use crate::group::children_of;
@@ -11,18 +12,64 @@ use crate::kind::{kind_named, read_keyword};
 use crate::place::Place;
 use record::cursor::Cursor;
 use record::piece::Piece;
-use words::field;
 use words::records::RecordsMut;
 use words::sort::Sort;
 use words::table::form_at;
+use words::{field, kind};
 
 // Where the two words of the first field stand; each field behind it has the next two.
 const FIRST_WORD: usize = 2;
 
 const SECOND_WORD: usize = 3;
 
-// A record has at most so many fields.
-const MAX_FIELDS: usize = 6;
+// How many fields a kind has.
+#[tactic(auto, unfolding(words::specs::Table::forms_at, words::specs::Table::forms_from, words::specs::Table::forms_in))]
+fn fields_of(kind: u32) -> usize
+    ensures { (result ≡ length (forms_at kind)) × (result ≤ max_fields) }
+{
+    match kind {
+        kind::STMT => 2,
+        kind::ARM => 2,
+        kind::MATCH => 3,
+        kind::WHERE => 1,
+        kind::WITH => 6,
+        kind::RETURN => 6,
+        kind::UNWIND => 2,
+        kind::CALL => 5,
+        kind::WRITE => 1,
+        kind::ITEM => 1,
+        kind::KEY => 1,
+        kind::PART => 3,
+        kind::NODE => 4,
+        kind::REL => 6,
+        kind::NAME => 1,
+        kind::YIELD => 2,
+        kind::ENTRY => 1,
+        kind::NULL => 0,
+        kind::BOOL => 1,
+        kind::INT => 1,
+        kind::FLOAT => 1,
+        kind::STR => 1,
+        kind::PARAM => 1,
+        kind::PROP => 1,
+        kind::INDEX => 0,
+        kind::SLICE => 2,
+        kind::LIST => 1,
+        kind::BIN => 1,
+        kind::UN => 1,
+        kind::CASE => 3,
+        kind::IS_NULL => 1,
+        kind::IN => 0,
+        kind::VAR => 1,
+        kind::MAP => 1,
+        kind::FN => 3,
+        kind::PAT => 1,
+        kind::LIST_PREDICATE => 3,
+        kind::UNRES => 1,
+        kind::UNDES => 1,
+        _ => 0,
+    }
+}
 
 // A record's words are lent as a slice with its length in the contracts, not as an array: an array made of a part of a slice (`try_from`, `as_mut_array`) was tried, and nothing then tells what the slice holds behind the loan.
 
@@ -33,7 +80,7 @@ fn read_fields(p: Place<'_>, kind: u32, part: &mut [u32]) -> Option<usize>
 {
     let sheet = p.cursor.bytes;
     let mut at = p.cursor.at;
-    for g in 0..MAX_FIELDS {
+    for g in 0..fields_of(kind) {
         let Some(form) = form_at(kind, g) else {
             break;
         };

@@ -21,10 +21,10 @@ pub returns-then-sheet-at-eq10 : goal.returns-then-sheet-at-eq10
 returns-then-sheet-at-eq10 c =
     λ e h.
     let f = c.loop-g.invariant e h in
-    fill_yes _ _ _ _ h _ _ _ _ f (elim c.loop-g-test.branch [ else-loop-g-test w ↦ all_forms _ _ _ _ h _ _ _ _ f (omega (arith, w.loop-g-test.false)) | then-loop-g-test+in_default w ↦ no_form _ _ _ _ h _ _ _ _ f (omega (arith, w.loop-g-test.true)) (sym w.form_at.ensures ∙ w.in_default.is) ]) c.if-sheet-at-eq10.true
+    fill_yes _ _ _ _ h _ _ _ _ f (elim c.loop-g-test.branch [ else-loop-g-test w ↦ all_forms _ _ _ _ h _ _ _ _ f (omega (arith, w.loop-g-test.false, c.fields_of-g-end.ensures)) | then-loop-g-test+in_default w ↦ no_form _ _ _ _ h _ _ _ _ f (omega (arith, w.loop-g-test.true, c.fields_of-g-end.ensures)) (sym w.form_at.ensures ∙ w.in_default.is) ]) c.if-sheet-at-eq10.true
 
 pub returns : goal.returns
 returns c =
     λ e h.
     let f = c.loop-g.invariant e h in
-    fill_no _ _ _ _ h _ _ _ _ f (elim c.loop-g-test.branch [ else-loop-g-test w ↦ all_forms _ _ _ _ h _ _ _ _ f (omega (arith, w.loop-g-test.false)) | then-loop-g-test+in_default w ↦ no_form _ _ _ _ h _ _ _ _ f (omega (arith, w.loop-g-test.true)) (sym w.form_at.ensures ∙ w.in_default.is) ]) c.if-sheet-at-eq10.false
+    fill_no _ _ _ _ h _ _ _ _ f (elim c.loop-g-test.branch [ else-loop-g-test w ↦ all_forms _ _ _ _ h _ _ _ _ f (omega (arith, w.loop-g-test.false, c.fields_of-g-end.ensures)) | then-loop-g-test+in_default w ↦ no_form _ _ _ _ h _ _ _ _ f (omega (arith, w.loop-g-test.true, c.fields_of-g-end.ensures)) (sym w.form_at.ensures ∙ w.in_default.is) ]) c.if-sheet-at-eq10.false
