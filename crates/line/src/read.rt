@@ -22,7 +22,7 @@ const FIRST_WORD: usize = 2;
 
 const SECOND_WORD: usize = 3;
 
-// How many fields a kind has.
+// How many fields a kind has: a new record is a row here too. The loop over them ends by it, so that a record with none has no turn; up to where `form_at` gives none it was 18 instructions a record more.
 #[tactic(auto, unfolding(words::specs::Table::forms_at, words::specs::Table::forms_from, words::specs::Table::forms_in))]
 fn fields_of(kind: u32) -> usize
     ensures { (result ≡ length (forms_at kind)) × (result ≤ max_fields) }
