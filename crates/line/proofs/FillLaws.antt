@@ -232,9 +232,9 @@ module _ (n : ℕ) (sheet : Bytes) (p e : ℕ) (line : LineEnd sheet p e) (ws₀
   -- ── no form is left ──
 
   -- the row ends here
-  pub no_form : g < length (forms_at n) → form_at n g ≡ None → forms_from n g ≡ []
+  pub no_form : g < max_fields → form_at n g ≡ None → forms_from n g ≡ []
   unfolding forms_from
-  no_form l h = row_end (get_or codes n []) g (form_none n g (omega (arith, few_forms n, l)) h)
+  no_form l h = row_end (get_or codes n []) g (form_none n g (omega arith) h)
 
   -- or all forms are read
   pub all_forms : length (forms_at n) ≤ g → forms_from n g ≡ []
